@@ -1,7 +1,7 @@
 -- A clone of a map of byte strings has the same bytes.
 use Rattle.std.proofs.Common.{◌≡◌, List, [], ◌∷◌, refl}
 use Rattle.std.specs.List.{AllZip}
-use Rattle.schnellru.specs.Clones.{IsPairClone}
+use Rattle.lru_model.specs.Clones.{IsPairClone}
 use Rattle.lru_c.specs.Bytes.{Bytes, texts}
 
 module _ (same : Bytes → Bytes → Type 0) (has_bytes : (x y : Bytes) → same x y → y.items ≡ x.items) where

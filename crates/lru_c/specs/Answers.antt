@@ -3,8 +3,8 @@ use Rattle.std.specs.Prelude.{◌≡◌, ℕ, suc, Bool, true, false, Option, No
 use Rattle.std.specs.Prelude.{if◌then◌else◌, nat_eq}
 use Rattle.std.specs.declared.alloc.AllocError.{AllocError}
 use Rattle.lru_limits.specs.Limiters.{length_rules, length_offers}
-use Rattle.schnellru.specs.HandedOver.{InsertHands}
-use Rattle.schnellru.specs.Lists.{lookup}
+use Rattle.lru_model.specs.HandedOver.{InsertHands}
+use Rattle.lru_model.specs.Lists.{lookup}
 use Rattle.lru_c.specs.Handle.{Map, hash_of}
 use Rattle.lru_c.specs.declared.answers.Entry.{Entry}
 use Rattle.lru_c.specs.declared.answers.Found.{Found}

@@ -17,11 +17,11 @@ use Rattle.lru_limits.specs.Mixing.{Mixer}
 use Rattle.lru_limits.specs.Rules.{Rules, Offers}
 use Rattle.lru_limits.specs.contracts.hasher.DefaultHasherHasher.TheImpl as default_hashes
 use Rattle.lru_limits.specs.contracts.hasher.RandomStateBuildHasher.TheImpl as random_builds
-use Rattle.schnellru.specs.Calls.{Remove, PopOldest}
-use Rattle.schnellru.specs.Inserts.{Insert}
-use Rattle.schnellru.specs.Lists.{last, lookup}
-use Rattle.schnellru.specs.Reservations.{Reserve}
-use Rattle.schnellru.specs.State.{State, room}
+use Rattle.lru_model.specs.Calls.{Remove, PopOldest}
+use Rattle.lru_model.specs.Inserts.{Insert}
+use Rattle.lru_model.specs.Lists.{last, lookup}
+use Rattle.lru_model.specs.Reservations.{Reserve}
+use Rattle.lru_model.specs.State.{State, room}
 use Rattle.lru_c.specs.declared.bytes.answers.Popped.{Popped}
 use Rattle.lru_c.specs.declared.bytes.answers.Value.{Value}
 

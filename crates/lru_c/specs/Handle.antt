@@ -20,7 +20,7 @@ use Rattle.lru_limits.specs.contracts.hasher.RandomState as random_state
 use Rattle.lru_limits.specs.contracts.hasher.RandomStateBuildHasher.TheImpl as random_builds
 use Rattle.lru_limits.specs.contracts.limiters.by_length.ByLength as by_length
 use Rattle.lru_limits.specs.contracts.limiters.by_length.ByLengthLimiter.TheImpl as length_limits
-use Rattle.schnellru.specs.State.{State}
+use Rattle.lru_model.specs.State.{State}
 use Rattle.schnellru.specs.contracts.map.LruMap as lru_map
 
 -- a map of numbers under a maximum length, as contracts see it

@@ -1,10 +1,10 @@
 //! The calls on a map that return structs for C.
 ghost use Rattle.std.specs.Prelude.{◌≡◌, ℕ, nat_eq, false, List, None, IfOk, OnErr, IfSome};
 ghost use Rattle.lru_limits.specs.Limiters.{length_rules, length_offers};
-ghost use Rattle.schnellru.specs.Calls.{Remove, PopOldest, promoted};
-ghost use Rattle.schnellru.specs.Lists.{lookup, first, last};
-ghost use Rattle.schnellru.specs.HandedOver.{InsertHands};
-ghost use Rattle.schnellru.specs.Inserts.{kept_of};
+ghost use Rattle.lru_model.specs.Calls.{Remove, PopOldest, promoted};
+ghost use Rattle.lru_model.specs.Lists.{lookup, first, last};
+ghost use Rattle.lru_model.specs.HandedOver.{InsertHands};
+ghost use Rattle.lru_model.specs.Inserts.{kept_of};
 ghost use Rattle.lru_c.specs.Answers.{found_value, found_pair, noted_pair, filled, fitting, first_other, Inserts};
 ghost use Rattle.lru_c.specs.Handle.{hash_of};
 

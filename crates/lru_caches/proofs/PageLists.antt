@@ -9,8 +9,8 @@ use Rattle.std.proofs.lemmas.List.Elements.{Contains-push}
 use Rattle.std.proofs.lemmas.Map.Views.{lookup-from_Contains}
 use Rattle.std.specs.List.{Contains, IsDistinct}
 use Rattle.std.specs.Map.{lookup, set_value, keys_of}
-use Rattle.schnellru.specs.Lists.{lookup_entry, without, after, front, last, without_last}
-use Rattle.schnellru.proofs.CallerLemmas.{found_named, length-front_pairs}
+use Rattle.lru_model.specs.Lists.{lookup_entry, without, after, front, last, without_last}
+use Rattle.lru_model.proofs.CallerLemmas.{found_named, length-front_pairs}
 
 module _ {X : Type 0} where
   -- other numbers are found as before after the pair of n was removed,

@@ -7,8 +7,8 @@ use Rattle.std.proofs.lemmas.Map.{keys-set_value}
 use Rattle.std.proofs.lemmas.Map.Entries.{length-keys_of}
 use Rattle.std.proofs.lemmas.Option.{none-some}
 use Rattle.std.specs.Map.{lookup, set_value, keys_of}
-use Rattle.schnellru.specs.Lists.{lookup_entry, without, after, front, without_last}
-use Rattle.schnellru.proofs.CallerLemmas.{found_named, lookup-entry, no_pair, without_none}
+use Rattle.lru_model.specs.Lists.{lookup_entry, without, after, front, without_last}
+use Rattle.lru_model.proofs.CallerLemmas.{found_named, lookup-entry, no_pair, without_none}
 
 module _ {X : Type 0} where
   -- a pair that is found and written comes first

@@ -7,9 +7,9 @@ use Rattle.std.specs.List.Retain.{ReturnsInTurn, IsFiltered}
 use Rattle.std.specs.Borrow.{Bor}
 use Rattle.std.specs.Fn.{Mut}
 use Rattle.lru_limits.specs.Rules.{Rules}
-use Rattle.schnellru.specs.ByHash.{Asks}
-use Rattle.schnellru.specs.Retains.{Answers, retained, Retains}
-use Rattle.schnellru.specs.State.{State}
+use Rattle.lru_model.specs.ByHash.{Asks}
+use Rattle.lru_model.specs.Retains.{Answers, retained, Retains}
+use Rattle.lru_model.specs.State.{State}
 use Rattle.lru_caches.proofs.TurnedEntries.{reverse-cons}
 
 module _ {X P : Type 0} (R : P → X → Bool → P → Type 0) where

@@ -1,9 +1,9 @@
 -- Taking the last of a list, from the back.
-use Rattle.std.proofs.Common.{◌≡◌, List, [], ◌∷◌, ◌++◌, length, Option, Some, None, refl, sym, ap, arith, subst}
+use Rattle.std.proofs.Common.{◌≡◌, List, [], ◌∷◌, length, Option, Some, None, refl, sym, ap, arith, subst}
 use Rattle.std.proofs.lemmas.List.{length-append}
 use Rattle.std.specs.Iterator.{MakesProgress, at_most}
 use Rattle.std.specs.Map.Iter.{TakesLast}
-use Rattle.schnellru.specs.Lists.{last, without_last}
+use Rattle.lru_model.specs.Lists.{last, without_last}
 
 module _ {X : Type 0} where
   ends : (xs : List X) → TakesLast (λ (x : X). x) xs (last xs) (without_last xs)

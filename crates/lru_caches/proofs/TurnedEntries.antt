@@ -10,7 +10,7 @@ use Rattle.std.specs.List.{AllByRecursion, IsDistinct}
 use Rattle.std.specs.Prelude.{is_some, if◌then◌else◌, option_to_list}
 use Rattle.std.specs.Map.{lookup, lookup_entry, set_value, keys_of}
 use Rattle.lru_caches.specs.Ordered.{put}
-use Rattle.schnellru.specs.Lists.{without, after, front, back, first, without_first, last, without_last}
+use Rattle.lru_model.specs.Lists.{without, after, front, back, first, without_first, last, without_last}
 
 module _ {X : Type 0} where
   -- the first comes last, and the last first

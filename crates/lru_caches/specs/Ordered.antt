@@ -2,8 +2,8 @@
 use Rattle.std.specs.Prelude.{Bool, List, [], ◌∷◌, ◌++◌, is_some, if◌then◌else◌}
 use Rattle.std.specs.Map.{lookup, set_value}
 use Rattle.lru_limits.specs.Rules.{Rules, Offers}
-use Rattle.schnellru.specs.State.{Contents}
-use Rattle.schnellru.specs.Kept.{AcceptsNew}
+use Rattle.lru_model.specs.State.{Contents}
+use Rattle.lru_model.specs.Kept.{AcceptsNew}
 
 -- The entries, oldest first, after an insert of this entry: if the key is there, its entry has the new value, and else
 -- the new entry comes last.

@@ -3,7 +3,7 @@
 --     blocks device n     the block of this number on the device, as contracts see it
 use Rattle.std.specs.Prelude.{◌≡◌, ◌≢◌, ℕ, List, ◌∷◌, take, nat_eq, Some, is_some, IsTrue, unwrap_or, option_map}
 use Rattle.std.specs.Map.{lookup, keys_of}
-use Rattle.schnellru.specs.Lists.{without}
+use Rattle.lru_model.specs.Lists.{without}
 use Rattle.lru_caches.specs.declared.page_cache.pages.Page.{Page}
 
 -- what a contract sees of a cache

@@ -2,7 +2,7 @@
 ghost use Rattle.std.specs.Prelude.{◌≡◌, [], length, IfSome};
 ghost use Rattle.std.specs.Borrow.{Bor};
 ghost use Rattle.std.specs.Map.{lookup};
-ghost use Rattle.schnellru.specs.Theorems.{KeepsValues};
+ghost use Rattle.lru_model.specs.Theorems.{KeepsValues};
 ghost use Rattle.lru_caches.specs.Answers.{IsAnswer, AreAnswers};
 
 use schnellru::{Insertion, KeyHasher, LruMap, RandomState, laws};
@@ -27,7 +27,7 @@ pub struct Memo<K: Copy + Eq + Hash, V, F, L: Insertion<K, V, K>, S: KeyHasher<K
 
 impl<K: Copy + Eq + Hash, V, F, L: Insertion<K, V, K>, S: KeyHasher<K>> Model
     for Memo<K, V, F, L, S> {
-    ghost use Rattle.schnellru.specs.Theorems.{KeepsValues};
+    ghost use Rattle.lru_model.specs.Theorems.{KeepsValues};
     ghost use Rattle.lru_caches.specs.Answers.{Remembered};
 
     ghost Value = { Remembered K V F };

@@ -6,8 +6,8 @@ ghost use Rattle.std.specs.List.Retain.{IsFiltered};
 ghost use Rattle.std.specs.Map.{lookup, keys_of, values_of};
 ghost use Rattle.std.specs.Map.Iter.{ShowsInOrder, ShowsInReverse, deref_pair, deref};
 ghost use Rattle.std.specs.Option.{option_copied, option_copied_mut};
-ghost use Rattle.schnellru.specs.ByHash.{Asks};
-ghost use Rattle.schnellru.specs.Lists.{is_empty, first, last, without_first, without_last, without, lookup_entry};
+ghost use Rattle.lru_model.specs.ByHash.{Asks};
+ghost use Rattle.lru_model.specs.Lists.{is_empty, first, last, without_first, without_last, without, lookup_entry};
 ghost use Rattle.lru_caches.specs.Ordered.{put};
 
 use crate::append::empty_map;

@@ -8,25 +8,25 @@ use Rattle.std.specs.Map.{set_value}
 use Rattle.std.specs.declared.alloc.AllocError.{AllocError}
 use Rattle.group_table.specs.Probe.{hash_tag}
 use Rattle.lru_limits.specs.Rules.{Rules, Offers}
-use Rattle.schnellru.proofs.CallerLemmas.{Shape, shape, same_shape, look_alike, with_left, left_shape}
-use Rattle.schnellru.proofs.CallerLemmas.{clears, cleared_shape, reserve_in, reserve_is, found_named}
-use Rattle.schnellru.proofs.CallerLemmas.{shrinks_look_alike}
-use Rattle.schnellru.proofs.HandingLemmas.{plain, small_inserts_alike}
-use Rattle.schnellru.specs.Calls.{promoted, left_of, removal, pop_first}
-use Rattle.schnellru.specs.Drains.{pops_first, newest_given, oldest_given}
-use Rattle.schnellru.specs.Exact.{IsDetermined, NeverLacks, LookAlike}
-use Rattle.schnellru.specs.GetOrInserts.{MakesNewest, got, inserted}
-use Rattle.schnellru.specs.HandedOver.{noting, noting_offers, noted}
-use Rattle.schnellru.specs.Inserts.{Insert}
-use Rattle.schnellru.specs.Lists.{first, last as last_of, front, back, lookup, lookup_entry, newest_value}
-use Rattle.schnellru.specs.Reservations.{Reserve}
-use Rattle.schnellru.specs.Runs.{AnyStep}
-use Rattle.schnellru.specs.Shrinks.{Shrink}
-use Rattle.schnellru.specs.Sizes.{usage}
-use Rattle.schnellru.specs.State.{State, buckets, contents, pop, pops, trim}
-use Rattle.schnellru.specs.Updates.{Update, updated as accepts, rejected, not_there}
-use Rattle.schnellru.specs.declared.map.reserve.ReserveError.{ReserveError}
-use Rattle.schnellru.specs.declared.map.update.Updated.{Updated}
+use Rattle.lru_model.proofs.CallerLemmas.{Shape, shape, same_shape, look_alike, with_left, left_shape}
+use Rattle.lru_model.proofs.CallerLemmas.{clears, cleared_shape, reserve_in, reserve_is, found_named}
+use Rattle.lru_model.proofs.CallerLemmas.{shrinks_look_alike}
+use Rattle.lru_model.proofs.HandingLemmas.{plain, small_inserts_alike}
+use Rattle.lru_model.specs.Calls.{promoted, left_of, removal, pop_first}
+use Rattle.lru_model.specs.Drains.{pops_first, newest_given, oldest_given}
+use Rattle.lru_model.specs.Exact.{IsDetermined, NeverLacks, LookAlike}
+use Rattle.lru_model.specs.GetOrInserts.{MakesNewest, got, inserted}
+use Rattle.lru_model.specs.HandedOver.{noting, noting_offers, noted}
+use Rattle.lru_model.specs.Inserts.{Insert}
+use Rattle.lru_model.specs.Lists.{first, last as last_of, front, back, lookup, lookup_entry, newest_value}
+use Rattle.lru_model.specs.Reservations.{Reserve}
+use Rattle.lru_model.specs.Runs.{AnyStep}
+use Rattle.lru_model.specs.Shrinks.{Shrink}
+use Rattle.lru_model.specs.Sizes.{usage}
+use Rattle.lru_model.specs.State.{State, buckets, contents, pop, pops, trim}
+use Rattle.lru_model.specs.Updates.{Update, updated as accepts, rejected, not_there}
+use Rattle.lru_model.specs.declared.results.ReserveError.{ReserveError}
+use Rattle.lru_model.specs.declared.results.Updated.{Updated}
 use Rattle.lru_replay.specs.CallRuns.{IsRun, CallStep, SummingStep, KeepsCost, HasPlainSearch, StoresPairs}
 use Rattle.lru_replay.specs.Figures.{IsFigures}
 use Rattle.lru_replay.specs.Replies.{Reply, flag, given, updated, value, pair, listed, reserved, shrunk, stats, done}

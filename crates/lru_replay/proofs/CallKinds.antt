@@ -1,13 +1,13 @@
 -- What a call of a run is to the map: a step of it, a write, another limiter, or a look that changes nothing.
 use Rattle.std.proofs.Common.{◌≡◌, ℕ, Bool, Some, None, option_map, refl, subst, inl, inr, ◌⊎◌}
 use Rattle.lru_limits.specs.Rules.{Rules, Offers}
-use Rattle.schnellru.proofs.CallerLemmas.{value_removed}
-use Rattle.schnellru.proofs.HandingLemmas.{plain_insert}
-use Rattle.schnellru.specs.Calls.{written}
-use Rattle.schnellru.specs.Runs.{Step, inserts, makes_newest, updates, gets, demotes, removes, pops_oldest}
-use Rattle.schnellru.specs.Runs.{pops_newest, drains, clears, reserves, shrinks, trims, NamesOnly, AnyStep}
-use Rattle.schnellru.specs.Runs.{calls as any_call, writes, sets_limiter as sets}
-use Rattle.schnellru.specs.State.{State}
+use Rattle.lru_model.proofs.CallerLemmas.{value_removed}
+use Rattle.lru_model.proofs.HandingLemmas.{plain_insert}
+use Rattle.lru_model.specs.Calls.{written}
+use Rattle.lru_model.specs.Runs.{Step, inserts, makes_newest, updates, gets, demotes, removes, pops_oldest}
+use Rattle.lru_model.specs.Runs.{pops_newest, drains, clears, reserves, shrinks, trims, NamesOnly, AnyStep}
+use Rattle.lru_model.specs.Runs.{calls as any_call, writes, sets_limiter as sets}
+use Rattle.lru_model.specs.State.{State}
 use Rattle.lru_replay.specs.CallRuns.{CallStep, NamesAmong}
 use Rattle.lru_replay.specs.Replies.{Reply}
 use Rattle.lru_replay.specs.Steps.{ReplyStep}

@@ -2,9 +2,9 @@
 use Rattle.std.proofs.Common.{◌≡◌, ℕ, Bool, List, [], ◌∷◌, refl, sym, ◌∙◌, subst, inl, inr, ◌⊎◌}
 use Rattle.std.specs.List.{AllByRecursion}
 use Rattle.lru_limits.specs.Rules.{Rules, Offers}
-use Rattle.schnellru.specs.Calls.{written}
-use Rattle.schnellru.specs.Runs.{Step, AnyStep, Run, ends, goes_on}
-use Rattle.schnellru.specs.State.{State, contents, IsSized, IsMap}
+use Rattle.lru_model.specs.Calls.{written}
+use Rattle.lru_model.specs.Runs.{Step, AnyStep, Run, ends, goes_on}
+use Rattle.lru_model.specs.State.{State, contents, IsSized, IsMap}
 use Rattle.lru_replay.specs.CallRuns.{IsRun, CallStep, SummingStep, KeepsCost, SetsNoLimiter}
 use Rattle.lru_replay.specs.Replies.{Reply}
 use Rattle.lru_replay.specs.declared.calls.call.Call.{Call}

@@ -3,7 +3,7 @@ use Rattle.std.proofs.Common.{◌≡◌, ℕ, Bool, not, List, [], ◌∷◌, �
 use Rattle.std.proofs.Common.{option_to_list, refl, sym, ap, ◌∙◌, append_assoc, codes}
 use Rattle.std.specs.Prelude.{◌||◌, is_some, if◌then◌else◌}
 use Rattle.std.proofs.lemmas.List.{append-nil}
-use Rattle.schnellru.specs.Lists.{is_empty}
+use Rattle.lru_model.specs.Lists.{is_empty}
 use Rattle.lru_replay.specs.Output.{pair_text, rest_text, pairs_text, taken_text}
 use Rattle.lru_replay.proofs.WrittenTexts.{rest_text-append}
 

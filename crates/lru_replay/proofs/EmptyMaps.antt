@@ -1,7 +1,7 @@
 -- The maps that replays begin with, and that their limiters answer each offer.
 use Rattle.std.proofs.Common.{ℕ, refl, Some}
-use Rattle.schnellru.specs.State.{IsSized}
-use Rattle.schnellru.proofs.CallerLemmas as maps
+use Rattle.lru_model.specs.State.{IsSized}
+use Rattle.lru_model.proofs.CallerLemmas as maps
 use Rattle.lru_limits.specs.Limiters.{length_offers, all_offers}
 use Rattle.lru_replay.specs.Limits.{cost_offers, AlwaysOffers}
 use Rattle.lru_replay.specs.Maps.{empty}

@@ -6,7 +6,7 @@ use Rattle.std.specs.Io.KnownBytes.{Appends, Keeps}
 use Rattle.std.proofs.KnownBytes.{Appends-nil, Appends-kept, Consumes-nil}
 use Rattle.lru_limits.specs.Budget.{Budget}
 use Rattle.lru_limits.specs.Rules.{Rules, Offers}
-use Rattle.schnellru.specs.State.{IsSized}
+use Rattle.lru_model.specs.State.{IsSized}
 use Rattle.std.proofs.lemmas.Option.{IfSome_then}
 use Rattle.lru_replay.specs.declared.lines.command.Limit.{Limit}
 use Rattle.lru_replay.specs.declared.lines.command.Limit.TheVariants as limits
@@ -24,7 +24,7 @@ use Rattle.lru_replay.specs.Replay.{WritesCut, WritesCutSoFar, Replays}
 use Rattle.lru_limits.specs.Limiters.{length_rules, length_offers, memory_rules, no_rules, all_offers}
 use Rattle.lru_replay.specs.Limits.{cost_rules, cost_offers, no_cost, cost_reported, AlwaysOffers}
 use Rattle.lru_replay.specs.Maps.{Map, empty}
-use Rattle.schnellru.specs.Sizes.{default_entry_bytes, max_of_32_bits, max_of_64_bits}
+use Rattle.lru_model.specs.Sizes.{default_entry_bytes, max_of_32_bits, max_of_64_bits}
 use Rattle.lru_replay.specs.LineRuns.{IsTextOf, Answers}
 use Rattle.lru_replay.proofs.LineLists.{lines_of-fed, lines_of-last, lines_at_end, lines_left, takes_line_before}
 use Rattle.lru_replay.proofs.LineRuns.{some_line_run, line_run_sized, line_run-append}

@@ -2,8 +2,8 @@
 use Rattle.std.proofs.Common.{◌≡◌, ℕ, List, [], ◌∷◌, sym, subst, inl, inr, ◌⊎◌, Option}
 use Rattle.std.specs.Prelude.{nat_eq}
 use Rattle.lru_limits.specs.Rules.{Rules, Offers}
-use Rattle.schnellru.specs.Runs.{Step}
-use Rattle.schnellru.specs.State.{IsSized}
+use Rattle.lru_model.specs.Runs.{Step}
+use Rattle.lru_model.specs.State.{IsSized}
 use Rattle.lru_replay.specs.declared.calls.call.Call.{Call}
 use Rattle.lru_replay.specs.declared.calls.call.Call.TheVariants as calls
 use Rattle.lru_replay.specs.declared.lines.command.Command.{Command}

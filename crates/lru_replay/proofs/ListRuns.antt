@@ -4,21 +4,21 @@ use Rattle.std.proofs.Common.{sym, ◌∙◌, ◌⊎◌, subst, inl, inr, arith,
 use Rattle.std.specs.List.{IsDistinct}
 use Rattle.std.specs.declared.alloc.AllocError.{AllocError}
 use Rattle.lru_limits.specs.Rules.{Rules, Offers}
-use Rattle.schnellru.proofs.CallerLemmas.{any_step_same, has_tables, shrink_contents}
-use Rattle.schnellru.proofs.HandingLemmas.{insert_granted}
-use Rattle.schnellru.specs.Exact.{AlwaysGrants, HasTables, HasTableFor, InsertsInList}
-use Rattle.schnellru.specs.GetOrInserts.{MakesNewest, got, inserted}
-use Rattle.schnellru.specs.HandedOver.{noting, noting_offers, noted, InsertHands}
-use Rattle.schnellru.specs.Inserts.{Insert}
-use Rattle.schnellru.specs.Lists.{lookup, lookup_entry, after, newest_value, keys_of}
-use Rattle.schnellru.specs.Place.{asked}
-use Rattle.schnellru.specs.Reservations.{Reserve, unchanged, rehashed, reserved, asked_only}
-use Rattle.schnellru.specs.Runs.{AnyStep}
-use Rattle.schnellru.specs.Sizes.{usage}
-use Rattle.schnellru.specs.State.{State, Contents, contents, IsMap}
-use Rattle.schnellru.specs.Updates.{Update, updated, rejected, not_there}
-use Rattle.schnellru.specs.declared.map.update.Updated.{Updated}
-use Rattle.schnellru.specs.declared.map.reserve.ReserveError.{ReserveError}
+use Rattle.lru_model.proofs.CallerLemmas.{any_step_same, has_tables, shrink_contents}
+use Rattle.lru_model.proofs.HandingLemmas.{insert_granted}
+use Rattle.lru_model.specs.Exact.{AlwaysGrants, HasTables, HasTableFor, InsertsInList}
+use Rattle.lru_model.specs.GetOrInserts.{MakesNewest, got, inserted}
+use Rattle.lru_model.specs.HandedOver.{noting, noting_offers, noted, InsertHands}
+use Rattle.lru_model.specs.Inserts.{Insert}
+use Rattle.lru_model.specs.Lists.{lookup, lookup_entry, after, newest_value, keys_of}
+use Rattle.lru_model.specs.Place.{asked}
+use Rattle.lru_model.specs.Reservations.{Reserve, unchanged, rehashed, reserved, asked_only}
+use Rattle.lru_model.specs.Runs.{AnyStep}
+use Rattle.lru_model.specs.Sizes.{usage}
+use Rattle.lru_model.specs.State.{State, Contents, contents, IsMap}
+use Rattle.lru_model.specs.Updates.{Update, updated, rejected, not_there}
+use Rattle.lru_model.specs.declared.results.Updated.{Updated}
+use Rattle.lru_model.specs.declared.results.ReserveError.{ReserveError}
 use Rattle.lru_replay.specs.CallRuns.{IsRun, CallStep, SummingStep}
 use Rattle.lru_replay.specs.ListRuns.{ListStep, ListCallStep, ListSummingStep, beside, emptied, updated_in_list}
 use Rattle.lru_replay.specs.Replies.{Reply, updated as says_updated, value, pair, listed, made_reply}

@@ -2,8 +2,8 @@
 use Rattle.std.proofs.Common.{◌≡◌, ℕ, Bool, Result, Ok, subst}
 use Rattle.std.specs.declared.alloc.AllocError.{AllocError}
 use Rattle.lru_limits.specs.Rules.{Rules, Offers}
-use Rattle.schnellru.specs.GetOrInserts.{MakesNewest, got, inserted}
-use Rattle.schnellru.specs.State.{State}
+use Rattle.lru_model.specs.GetOrInserts.{MakesNewest, got, inserted}
+use Rattle.lru_model.specs.State.{State}
 
 module _ {K V S H I : Type 0} {rules : Rules K V S} {offers : Offers K V S I} {names : I → K → Bool}
     {hash_of : H → K → ℕ} {makes : V → Type 0} {key : I} {old new : State K V S H} (value : V)

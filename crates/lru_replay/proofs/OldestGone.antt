@@ -2,8 +2,8 @@
 use Rattle.std.proofs.Common.{◌≡◌, ℕ, Bool, List, [], ◌∷◌, subst, inl, inr, ◌⊎◌}
 use Rattle.std.specs.List.{AllByRecursion}
 use Rattle.lru_limits.specs.Rules.{Rules, Offers}
-use Rattle.schnellru.specs.Runs.{StepAmong, Run, ends, goes_on}
-use Rattle.schnellru.specs.State.{State, IsMap}
+use Rattle.lru_model.specs.Runs.{StepAmong, Run, ends, goes_on}
+use Rattle.lru_model.specs.State.{State, IsMap}
 use Rattle.lru_replay.specs.CallRuns.{IsRun, CallStep, SummingStep, NamesAmong}
 use Rattle.lru_replay.specs.Replies.{Reply}
 use Rattle.lru_replay.specs.declared.calls.call.Call.{Call}

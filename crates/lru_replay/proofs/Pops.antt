@@ -3,11 +3,11 @@ use Rattle.std.proofs.Common.{◌≡◌, ℕ, zero, suc, ◌-◌, ◌<◌, ◌�
 use Rattle.std.proofs.Common.{refl, sym, ap, ◌∙◌, arith, append_assoc}
 use Rattle.std.proofs.lemmas.List.{append-nil}
 use Rattle.lru_limits.specs.Rules.{Rules}
-use Rattle.schnellru.specs.Lists.{first, last}
-use Rattle.schnellru.specs.State.{Contents, pop, pops}
-use Rattle.schnellru.specs.Calls.{left_of, pop_first}
-use Rattle.schnellru.specs.Drains.{pops_first, newest_given, oldest_given}
-use Rattle.schnellru.proofs.CallerLemmas.{length-without_last}
+use Rattle.lru_model.specs.Lists.{first, last}
+use Rattle.lru_model.specs.State.{Contents, pop, pops}
+use Rattle.lru_model.specs.Calls.{left_of, pop_first}
+use Rattle.lru_model.specs.Drains.{pops_first, newest_given, oldest_given}
+use Rattle.lru_model.proofs.CallerLemmas.{length-without_last}
 
 module _ {K V S : Type 0} where
   -- one takes a pair out and returns it; many does so n times, and all is what they return

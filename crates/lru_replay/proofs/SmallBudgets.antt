@@ -4,12 +4,12 @@ use native.Mathlib.Decide.{dec_lt}
 use Rattle.std.specs.List.{AllByRecursion}
 use Rattle.std.proofs.Math.Nat.{mul-le-mul_left}
 use Rattle.lru_limits.specs.Rules.{Rules, Offers}
-use Rattle.schnellru.proofs.CallerLemmas.{any_step_same, nothing_written, usage_bytes}
-use Rattle.schnellru.specs.Exact.{LookAlike}
-use Rattle.schnellru.specs.Runs.{Step, StepOrWrite, Run, calls as a_call, ends, goes_on}
-use Rattle.schnellru.specs.Sizes.{usage}
-use Rattle.schnellru.specs.State.{State, buckets, IsMap}
-use Rattle.schnellru.specs.Theorems.{UsesAtMost}
+use Rattle.lru_model.proofs.CallerLemmas.{any_step_same, nothing_written, usage_bytes}
+use Rattle.lru_model.specs.Exact.{LookAlike}
+use Rattle.lru_model.specs.Runs.{Step, StepOrWrite, Run, calls as a_call, ends, goes_on}
+use Rattle.lru_model.specs.Sizes.{usage}
+use Rattle.lru_model.specs.State.{State, buckets, IsMap}
+use Rattle.lru_model.specs.Theorems.{UsesAtMost}
 use Rattle.lru_replay.specs.CallRuns.{IsRun, CallStep, SetsNoLimiter, HasSmallBudget}
 use Rattle.lru_replay.specs.Replies.{Reply}
 use Rattle.lru_replay.specs.declared.calls.call.Call.{Call}

@@ -4,13 +4,13 @@ use Rattle.std.proofs.Common.{ℕ, zero, suc, ◌+◌, ◌≤◌}
 use Rattle.std.proofs.Common.{[], ◌++◌, length, option_map, inl, inr, refl, arith}
 use Rattle.std.specs.Prelude.{nat_eq, is_some}
 use Rattle.lru_limits.specs.Rules.{Rules, Offers}
-use Rattle.schnellru.specs.Lists.{lookup, lookup_entry, first, last}
-use Rattle.schnellru.specs.Calls.{promoted, demoted, removal, pop_first, cleared, left_of}
-use Rattle.schnellru.specs.State.{Contents, room, contents, Leaves, IsSized, pop}
-use Rattle.schnellru.specs.Drains.{pops_first, newest_given}
-use Rattle.schnellru.proofs.CallerLemmas.{promoted_sized, demoted_sized, cleared_sized, some_insert, some_update}
-use Rattle.schnellru.proofs.CallerLemmas.{some_leave, some_reservation, some_shrink, length-without}
-use Rattle.schnellru.proofs.CallerLemmas.{length-without_first, length-without_last}
+use Rattle.lru_model.specs.Lists.{lookup, lookup_entry, first, last}
+use Rattle.lru_model.specs.Calls.{promoted, demoted, removal, pop_first, cleared, left_of}
+use Rattle.lru_model.specs.State.{Contents, room, contents, Leaves, IsSized, pop}
+use Rattle.lru_model.specs.Drains.{pops_first, newest_given}
+use Rattle.lru_model.proofs.CallerLemmas.{promoted_sized, demoted_sized, cleared_sized, some_insert, some_update}
+use Rattle.lru_model.proofs.CallerLemmas.{some_leave, some_reservation, some_shrink, length-without}
+use Rattle.lru_model.proofs.CallerLemmas.{length-without_first, length-without_last}
 use Rattle.lru_replay.specs.declared.lines.command.Command.{Command}
 use Rattle.lru_replay.specs.declared.lines.command.Command.TheVariants as commands
 use Rattle.lru_replay.specs.declared.lines.figures.Figures.{Figures}

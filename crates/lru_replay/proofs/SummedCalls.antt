@@ -1,10 +1,10 @@
 -- Calls that keep the cost keep the running total the sum of the costs.
 use Rattle.std.proofs.Common.{ℕ, Bool, sym, ◌∙◌, subst}
 use Rattle.lru_limits.specs.Rules.{Rules, Offers}
-use Rattle.schnellru.proofs.CallerLemmas.{sum-set}
-use Rattle.schnellru.specs.Runs.{Step, Run, ends, goes_on}
-use Rattle.schnellru.specs.State.{State, contents, IsSized}
-use Rattle.schnellru.specs.Theorems.{IsSummed}
+use Rattle.lru_model.proofs.CallerLemmas.{sum-set}
+use Rattle.lru_model.specs.Runs.{Step, Run, ends, goes_on}
+use Rattle.lru_model.specs.State.{State, contents, IsSized}
+use Rattle.lru_model.specs.Theorems.{IsSummed}
 use Rattle.lru_replay.specs.CallRuns.{CallStep, KeepsCost}
 use Rattle.lru_replay.specs.Replies.{Reply}
 use Rattle.lru_replay.specs.declared.calls.call.Call.{Call}

@@ -2,9 +2,9 @@
 use Rattle.std.proofs.Common.{◌≡◌, Bool, true, false, List, ◌∷◌, Result, Ok, Err, refl}
 use Rattle.std.specs.Prelude.{is_err}
 use Rattle.std.specs.declared.alloc.AllocError.{AllocError}
-use Rattle.schnellru.proofs.CallerLemmas.{is_memory}
-use Rattle.schnellru.specs.declared.map.reserve.ReserveError.{ReserveError}
-use Rattle.schnellru.specs.declared.map.reserve.ReserveError.TheVariants.{TooLarge, Refused, Memory}
+use Rattle.lru_model.proofs.CallerLemmas.{is_memory}
+use Rattle.lru_model.specs.declared.results.ReserveError.{ReserveError}
+use Rattle.lru_model.specs.declared.results.ReserveError.TheVariants.{TooLarge, Refused, Memory}
 use Rattle.lru_replay.specs.Replies.{Reply, given, reserved, shrunk, insert_reply, made_reply}
 use Rattle.lru_replay.specs.Replies.{Want, found_all, lacks, lacks_beside, want_of}
 

@@ -2,11 +2,11 @@
 use Rattle.std.specs.Prelude.{◌≡◌, ◌≤◌, ℕ, Bool, List, [], ◌∷◌, ◌⊎◌, MatchOption, Some}
 use Rattle.group_table.specs.Probe.{hash_tag}
 use Rattle.lru_limits.specs.Rules.{Rules, Offers}
-use Rattle.schnellru.specs.Lists.{lookup_entry}
-use Rattle.schnellru.specs.Runs.{AreAmong}
-use Rattle.schnellru.specs.Sizes.{usage}
-use Rattle.schnellru.specs.State.{State, Contents, contents, IsMap}
-use Rattle.schnellru.specs.Theorems.{IsSummed}
+use Rattle.lru_model.specs.Lists.{lookup_entry}
+use Rattle.lru_model.specs.Runs.{AreAmong}
+use Rattle.lru_model.specs.Sizes.{usage}
+use Rattle.lru_model.specs.State.{State, Contents, contents, IsMap}
+use Rattle.lru_model.specs.Theorems.{IsSummed}
 use Rattle.lru_replay.specs.declared.calls.call.Call.{Call}
 use Rattle.lru_replay.specs.declared.calls.call.Call.TheVariants as calls
 use Rattle.lru_replay.specs.Replies.{Reply, no_memory, cost_differs}

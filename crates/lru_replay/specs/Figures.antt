@@ -1,7 +1,7 @@
 -- The figures of a map.
 use Rattle.std.specs.Prelude.{◌≡◌, ◌+◌, length, Some}
-use Rattle.schnellru.specs.Sizes.{usage}
-use Rattle.schnellru.specs.State.{State, buckets, room}
+use Rattle.lru_model.specs.Sizes.{usage}
+use Rattle.lru_model.specs.State.{State, buckets, room}
 use Rattle.lru_replay.specs.declared.lines.figures.Figures.{Figures}
 
 -- what numbers say of a map

@@ -2,7 +2,7 @@
 use Rattle.std.specs.Prelude.{◌≡◌, ℕ, nat_eq, List, ◌⊎◌, flat_map, Option, OnSome, IfSome, Result, Ok, Err}
 use Rattle.std.specs.Io.KnownBytes.{Appends, IsAtEnd}
 use Rattle.lru_limits.specs.Rules.{Rules, Offers}
-use Rattle.schnellru.specs.State.{IsSized}
+use Rattle.lru_model.specs.State.{IsSized}
 use Rattle.lru_replay.specs.declared.lines.command.Command.{Command}
 use Rattle.lru_replay.specs.declared.lines.command.Command.TheVariants as commands
 use Rattle.lru_replay.specs.declared.lines.outcome.ReplayError.{ReplayError}

@@ -6,17 +6,17 @@ use Rattle.std.specs.Prelude.{option_map, unwrap_or, if◌then◌else◌}
 use Rattle.std.specs.Map.{set_value}
 use Rattle.std.specs.declared.alloc.AllocError.{AllocError}
 use Rattle.lru_limits.specs.Rules.{Rules, Offers}
-use Rattle.schnellru.specs.Calls.{left_of, removal, pop_first}
-use Rattle.schnellru.specs.Drains.{pops_first, newest_given, oldest_given}
-use Rattle.schnellru.specs.Exact.{InsertsInList}
-use Rattle.schnellru.specs.HandedOver.{noting, noting_offers}
-use Rattle.schnellru.specs.Inserts.{replacement, with_given_up}
-use Rattle.schnellru.specs.Lists.{first, last, front, back, lookup, lookup_entry}
-use Rattle.schnellru.specs.State.{Contents, pop, pops, trim}
-use Rattle.schnellru.specs.Updates.{with_updated}
-use Rattle.schnellru.specs.declared.map.reserve.ReserveError.{ReserveError}
-use Rattle.schnellru.specs.declared.map.update.Updated.{Updated}
-use Rattle.schnellru.specs.declared.map.update.Updated.TheVariants.{Replaced, Rejected, Absent}
+use Rattle.lru_model.specs.Calls.{left_of, removal, pop_first}
+use Rattle.lru_model.specs.Drains.{pops_first, newest_given, oldest_given}
+use Rattle.lru_model.specs.Exact.{InsertsInList}
+use Rattle.lru_model.specs.HandedOver.{noting, noting_offers}
+use Rattle.lru_model.specs.Inserts.{replacement, with_given_up}
+use Rattle.lru_model.specs.Lists.{first, last, front, back, lookup, lookup_entry}
+use Rattle.lru_model.specs.State.{Contents, pop, pops, trim}
+use Rattle.lru_model.specs.Updates.{with_updated}
+use Rattle.lru_model.specs.declared.results.ReserveError.{ReserveError}
+use Rattle.lru_model.specs.declared.results.Updated.{Updated}
+use Rattle.lru_model.specs.declared.results.Updated.TheVariants.{Replaced, Rejected, Absent}
 use Rattle.lru_replay.specs.declared.calls.call.Call.{Call}
 use Rattle.lru_replay.specs.declared.calls.call.Call.TheVariants as calls
 use Rattle.lru_replay.specs.declared.lines.figures.Figures.{Figures}

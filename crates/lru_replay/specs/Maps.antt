@@ -2,7 +2,7 @@
 use Rattle.std.specs.Prelude.{ℕ, [], ◌∷◌}
 use Rattle.std.specs.Hash.{le_bytes}
 use Rattle.lru_limits.specs.Mixing.{Mixer, seeded, written, closed}
-use Rattle.schnellru.specs.State.{State, empty_map}
+use Rattle.lru_model.specs.State.{State, empty_map}
 
 -- a map with the default hasher, whose limiter has the states S
 abbrev pub Map : Type 0 → Type 0

@@ -3,11 +3,11 @@ use Rattle.std.specs.Prelude.{◌≡◌, ℕ, Bool, true, false, List, [], ◌�
 use Rattle.std.specs.Prelude.{decimal, codes, ◌==◌, if◌then◌else◌}
 use Rattle.std.specs.declared.alloc.AllocError.{AllocError}
 use Rattle.std.specs.Io.KnownBytes.{Appends}
-use Rattle.schnellru.specs.Lists.{IsFront}
-use Rattle.schnellru.specs.declared.map.reserve.ReserveError.{ReserveError}
-use Rattle.schnellru.specs.declared.map.reserve.ReserveError.TheVariants.{TooLarge, Refused, Memory}
-use Rattle.schnellru.specs.declared.map.update.Updated.{Updated}
-use Rattle.schnellru.specs.declared.map.update.Updated.TheVariants.{Replaced, Rejected, Absent}
+use Rattle.lru_model.specs.Lists.{IsFront}
+use Rattle.lru_model.specs.declared.results.ReserveError.{ReserveError}
+use Rattle.lru_model.specs.declared.results.ReserveError.TheVariants.{TooLarge, Refused, Memory}
+use Rattle.lru_model.specs.declared.results.Updated.{Updated}
+use Rattle.lru_model.specs.declared.results.Updated.TheVariants.{Replaced, Rejected, Absent}
 use Rattle.lru_replay.specs.declared.lines.figures.Figures.{Figures}
 use Rattle.lru_replay.specs.declared.lines.outcome.ReplayError.{ReplayError}
 use Rattle.lru_replay.specs.declared.lines.outcome.ReplayError.TheVariants as errors

@@ -9,7 +9,7 @@ use Rattle.lru_replay.specs.declared.lines.outcome.ReplayEnd.{ReplayEnd}
 use Rattle.lru_replay.specs.declared.lines.outcome.ReplayEnd.TheVariants as ends
 use Rattle.lru_replay.specs.declared.lines.outcome.ReplayError.{ReplayError}
 use Rattle.lru_replay.specs.declared.lines.outcome.ReplayError.TheVariants as errors
-use Rattle.schnellru.specs.Sizes.{default_entry_bytes, max_of_32_bits, max_of_64_bits}
+use Rattle.lru_model.specs.Sizes.{default_entry_bytes, max_of_32_bits, max_of_64_bits}
 use Rattle.lru_replay.specs.Grammar.{SpellsLimit}
 use Rattle.lru_replay.specs.Limits.{cost_rules, cost_offers, no_cost, cost_reported}
 use Rattle.lru_replay.specs.Lines.{lines_of, TakesFirst}

@@ -1,10 +1,10 @@
 -- What a call says, as the logic has it.
 use Rattle.std.specs.Prelude.{Bool, true, false, List, [], ◌∷◌, Option, None, Result, Ok, Err}
 use Rattle.std.specs.declared.alloc.AllocError.{AllocError}
-use Rattle.schnellru.specs.Lists.{newest_value}
-use Rattle.schnellru.specs.declared.map.reserve.ReserveError.{ReserveError}
-use Rattle.schnellru.specs.declared.map.reserve.ReserveError.TheVariants.{Memory}
-use Rattle.schnellru.specs.declared.map.update.Updated.{Updated}
+use Rattle.lru_model.specs.Lists.{newest_value}
+use Rattle.lru_model.specs.declared.results.ReserveError.{ReserveError}
+use Rattle.lru_model.specs.declared.results.ReserveError.TheVariants.{Memory}
+use Rattle.lru_model.specs.declared.results.Updated.{Updated}
 use Rattle.lru_replay.specs.declared.calls.call.Answer.{Answer}
 use Rattle.lru_replay.specs.declared.calls.call.Answer.TheVariants as answers
 use Rattle.lru_replay.specs.declared.lines.figures.Figures.{Figures}

@@ -7,18 +7,18 @@ use Rattle.std.specs.Prelude.{if◌then◌else◌}
 use Rattle.std.specs.declared.alloc.AllocError.{AllocError}
 use Rattle.group_table.specs.Probe.{hash_tag}
 use Rattle.lru_limits.specs.Rules.{Rules, Offers}
-use Rattle.schnellru.specs.Calls.{promoted, demoted, written, Remove, RemoveEntry, PopOldest, PopNewest, cleared}
-use Rattle.schnellru.specs.Drains.{Drained}
-use Rattle.schnellru.specs.GetOrInserts.{MakesNewest}
-use Rattle.schnellru.specs.HandedOver.{InsertHands}
-use Rattle.schnellru.specs.Inserts.{Insert}
-use Rattle.schnellru.specs.Lists.{first, last, lookup, lookup_entry}
-use Rattle.schnellru.specs.Reservations.{Reserve}
-use Rattle.schnellru.specs.Shrinks.{Shrink}
-use Rattle.schnellru.specs.State.{State, Trims}
-use Rattle.schnellru.specs.Updates.{Update}
-use Rattle.schnellru.specs.declared.map.update.Updated.{Updated}
-use Rattle.schnellru.specs.declared.map.reserve.ReserveError.{ReserveError}
+use Rattle.lru_model.specs.Calls.{promoted, demoted, written, Remove, RemoveEntry, PopOldest, PopNewest, cleared}
+use Rattle.lru_model.specs.Drains.{Drained}
+use Rattle.lru_model.specs.GetOrInserts.{MakesNewest}
+use Rattle.lru_model.specs.HandedOver.{InsertHands}
+use Rattle.lru_model.specs.Inserts.{Insert}
+use Rattle.lru_model.specs.Lists.{first, last, lookup, lookup_entry}
+use Rattle.lru_model.specs.Reservations.{Reserve}
+use Rattle.lru_model.specs.Shrinks.{Shrink}
+use Rattle.lru_model.specs.State.{State, Trims}
+use Rattle.lru_model.specs.Updates.{Update}
+use Rattle.lru_model.specs.declared.results.Updated.{Updated}
+use Rattle.lru_model.specs.declared.results.ReserveError.{ReserveError}
 use Rattle.lru_replay.specs.declared.calls.call.Call.{Call}
 use Rattle.lru_replay.specs.declared.calls.call.Call.TheVariants as calls
 use Rattle.lru_replay.specs.declared.lines.figures.Figures.{Figures}

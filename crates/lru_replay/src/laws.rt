@@ -2,10 +2,10 @@
 //! nothing: their contracts are the theorems.
 ghost use Rattle.std.specs.Prelude.{◌≡◌, ℕ, ◌≤◌, ◌+◌, ◌*◌, Bool, length, List, map, nat_eq, Option};
 ghost use Rattle.std.specs.List.{AllByRecursion, IsDistinct};
-ghost use Rattle.schnellru.specs.Exact.{AlwaysGrants, HasTables, HasTableFor, IsDetermined, NeverLacks, LookAlike};
-ghost use Rattle.schnellru.specs.Lists.{keys_of, IsFront};
-ghost use Rattle.schnellru.specs.State.{State, contents, buckets, IsSized, IsMap};
-ghost use Rattle.schnellru.specs.Theorems.{PaysForMoves, UsesAtMost, IsSummed, others};
+ghost use Rattle.lru_model.specs.Exact.{AlwaysGrants, HasTables, HasTableFor, IsDetermined, NeverLacks, LookAlike};
+ghost use Rattle.lru_model.specs.Lists.{keys_of, IsFront};
+ghost use Rattle.lru_model.specs.State.{State, contents, buckets, IsSized, IsMap};
+ghost use Rattle.lru_model.specs.Theorems.{PaysForMoves, UsesAtMost, IsSummed, others};
 ghost use Rattle.lru_replay.specs.declared.calls.call.Call.{Call};
 ghost use Rattle.lru_replay.specs.CallRuns.{IsRun, CallStep, SummingStep, NamesAmong, SetsNoLimiter, HasPlainSearch};
 ghost use Rattle.lru_replay.specs.CallRuns.{HasSmallBudget};

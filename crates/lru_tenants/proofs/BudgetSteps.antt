@@ -7,22 +7,22 @@ use Rattle.std.specs.declared.alloc.AllocError.{AllocError}
 use Rattle.lru_limits.specs.Rules.{Rules, Offers}
 use Rattle.lru_limits.specs.Laws.{IsAccount}
 use Rattle.lru_limits.specs.Budgeted.{IsBudgeted}
-use Rattle.schnellru.specs.GetOrInserts.{MakesNewest, got, inserted}
-use Rattle.schnellru.specs.Lists.{last, without_first, without_last, lookup_entry}
-use Rattle.schnellru.specs.State.{State, contents, IsWithin, notified_of}
-use Rattle.schnellru.specs.Runs.{Step, inserts, makes_newest, updates, gets, demotes, removes, pops_oldest}
-use Rattle.schnellru.specs.Runs.{pops_newest, drains, clears}
-use Rattle.schnellru.specs.Runs.{reserves, shrinks, trims, retains}
-use Rattle.schnellru.specs.Theorems.{IsSummed}
-use Rattle.schnellru.proofs.Theorems.Fronts.{front_trim}
-use Rattle.schnellru.proofs.Theorems.Limits.{insert_within, update_within, total-without}
-use Rattle.schnellru.proofs.Theorems.Moves.{KeepsOffers}
-use Rattle.schnellru.proofs.Theorems.Reservations.{reserved_list}
-use Rattle.schnellru.proofs.Theorems.Runs.{step_changes, step_summed}
-use Rattle.schnellru.proofs.Theorems.RetainedPairs.{total-retained}
-use Rattle.schnellru.proofs.Theorems.Shrinks.{shrunk_list}
-use Rattle.schnellru.proofs.Theorems.Sums.{total, total-is, total-front, total-back, total-least, split-least}
-use Rattle.schnellru.proofs.Theorems.Sums.{split_last}
+use Rattle.lru_model.specs.GetOrInserts.{MakesNewest, got, inserted}
+use Rattle.lru_model.specs.Lists.{last, without_first, without_last, lookup_entry}
+use Rattle.lru_model.specs.State.{State, contents, IsWithin, notified_of}
+use Rattle.lru_model.specs.Runs.{Step, inserts, makes_newest, updates, gets, demotes, removes, pops_oldest}
+use Rattle.lru_model.specs.Runs.{pops_newest, drains, clears}
+use Rattle.lru_model.specs.Runs.{reserves, shrinks, trims, retains}
+use Rattle.lru_model.specs.Theorems.{IsSummed}
+use Rattle.lru_model.proofs.Theorems.Fronts.{front_trim}
+use Rattle.lru_model.proofs.Theorems.Limits.{insert_within, update_within, total-without}
+use Rattle.lru_model.proofs.Theorems.Moves.{KeepsOffers}
+use Rattle.lru_model.proofs.Theorems.Reservations.{reserved_list}
+use Rattle.lru_model.proofs.Theorems.Runs.{step_changes, step_summed}
+use Rattle.lru_model.proofs.Theorems.RetainedPairs.{total-retained}
+use Rattle.lru_model.proofs.Theorems.Shrinks.{shrunk_list}
+use Rattle.lru_model.proofs.Theorems.Sums.{total, total-is, total-front, total-back, total-least, split-least}
+use Rattle.lru_model.proofs.Theorems.Sums.{split_last}
 
 module _ {K V S : Type 0} {rules : Rules K V S} {offers : Offers K V S K} {account budget : S → ℕ}
     {accepts : S → K → V → Bool} {made : ℕ → S} {rebudgeted : ℕ → S → S}

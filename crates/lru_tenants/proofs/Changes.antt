@@ -11,7 +11,7 @@ use Rattle.std.proofs.lemmas.Map.Views.{All-map-remove_entry, All-map-IsPermutat
 use Rattle.std.proofs.lemmas.Map.Views.{All-values-set_value}
 use Rattle.std.specs.Prelude.{IfSome}
 use Rattle.lru_tenants.specs.Cache.{Cache, tenant, Leaves, On}
-use Rattle.schnellru.specs.State.{State}
+use Rattle.lru_model.specs.State.{State}
 use Rattle.lru_tenants.specs.TenantRuns.{Opens}
 use Rattle.lru_tenants.specs.declared.error.TenantError.TheVariants.{AlreadyOpen}
 

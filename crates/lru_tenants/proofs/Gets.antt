@@ -1,10 +1,10 @@
 -- A get keeps what holds of a tenant's map.
 use Rattle.std.proofs.Common.{◌≡◌, ℕ, Bool, List, Some, Option, Ok, sym, ap, subst}
 use Rattle.lru_limits.specs.Laws.{IsLookup}
-use Rattle.schnellru.specs.Calls.{promoted}
-use Rattle.schnellru.specs.Lists.{lookup}
-use Rattle.schnellru.proofs.CallerLemmas.{promoted_is_map, promoted-summed}
-use Rattle.schnellru.specs.State.{State}
+use Rattle.lru_model.specs.Calls.{promoted}
+use Rattle.lru_model.specs.Lists.{lookup}
+use Rattle.lru_model.proofs.CallerLemmas.{promoted_is_map, promoted-summed}
+use Rattle.lru_model.specs.State.{State}
 use Rattle.lru_tenants.specs.Cache.{IsTenant}
 use Rattle.lru_tenants.specs.TenantRuns.{Gets}
 

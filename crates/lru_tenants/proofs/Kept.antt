@@ -13,7 +13,7 @@ use Rattle.std.proofs.lemmas.List.Sums.{sum_by-cons}
 use Rattle.std.proofs.lemmas.Map.Entries.{sum_by-set_value, sum_by-remove_entry, sum_by_values_permutation}
 use Rattle.std.proofs.lemmas.Map.Entries.{sum_by_puts_entry}
 use Rattle.std.proofs.lemmas.Map.Views.{All-values-PutsEntry}
-use Rattle.schnellru.specs.State.{State}
+use Rattle.lru_model.specs.State.{State}
 use Rattle.lru_tenants.specs.Cache.{IsTenant, is_above, budgets_with}
 use Rattle.lru_tenants.specs.Inside.{Holds}
 use Rattle.lru_tenants.proofs.Changes.{cache_of, all-written, all-removed}

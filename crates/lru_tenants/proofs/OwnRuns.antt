@@ -2,7 +2,7 @@
 use Rattle.std.proofs.Common.{◌≡◌, ℕ, Bool, true, false, cond, List, [], ◌∷◌, ◌++◌, Option, refl}
 use Rattle.std.proofs.Common.{length, arith, subst, ap, ◌∙◌, inl, inr}
 use Rattle.std.specs.Prelude.{⊤}
-use Rattle.schnellru.specs.State.{State, empty_map}
+use Rattle.lru_model.specs.State.{State, empty_map}
 use Rattle.std.specs.Cmp.{IsEquivalence}
 use Rattle.lru_tenants.proofs.Changes.{same-tenant}
 use Rattle.lru_tenants.specs.Cache.{Cache, tenant, fresh, Leaves}

@@ -2,9 +2,9 @@
 use Rattle.std.proofs.Common.{◌≡◌, Option, Some, None, List, [], ◌∷◌, ◌++◌, reverse, refl, sym, ap, ◌∙◌, arith}
 use Rattle.std.proofs.lemmas.List.{reverse-append}
 use Rattle.lru_limits.specs.Rules.{Rules}
-use Rattle.schnellru.specs.Lists.{last, without_last}
-use Rattle.schnellru.specs.Calls.{left_of, PopOldest}
-use Rattle.schnellru.specs.State.{State}
+use Rattle.lru_model.specs.Lists.{last, without_last}
+use Rattle.lru_model.specs.Calls.{left_of, PopOldest}
+use Rattle.lru_model.specs.State.{State}
 
 module _ {X : Type 0} where
   last-end : (xs : List X) (x : X) → last xs ≡ Some x → xs ≡ without_last xs ++ x ∷ []

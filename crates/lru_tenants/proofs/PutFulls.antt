@@ -4,11 +4,11 @@ use Rattle.std.proofs.Common.{sym, subst}
 use Rattle.std.proofs.lemmas.Bool.{true≢false}
 use Rattle.std.specs.Prelude.{option_map}
 use Rattle.std.specs.declared.alloc.AllocError.{AllocError}
-use Rattle.schnellru.proofs.PairLists.NamedPairs.{lookup-entry}
-use Rattle.schnellru.specs.Inserts.{kept_of}
-use Rattle.schnellru.specs.Lists.{lookup_entry}
-use Rattle.schnellru.specs.State.{State}
-use Rattle.schnellru.specs.declared.map.insert.Inserted.{Inserted}
+use Rattle.lru_model.proofs.PairLists.NamedPairs.{lookup-entry}
+use Rattle.lru_model.specs.Inserts.{kept_of}
+use Rattle.lru_model.specs.Lists.{lookup_entry}
+use Rattle.lru_model.specs.State.{State}
+use Rattle.lru_model.specs.declared.results.Inserted.{Inserted}
 use Rattle.lru_tenants.specs.PutFulls.{rejects}
 use Rattle.lru_tenants.specs.TenantRuns.{put_answer}
 

@@ -4,9 +4,9 @@ use Rattle.std.specs.Prelude.{sum_by}
 use Rattle.std.specs.Option.{option_map, unwrap_or}
 use Rattle.std.specs.List.{All}
 use Rattle.std.specs.Map.{values_of}
-use Rattle.schnellru.specs.Lists.{lookup}
-use Rattle.schnellru.specs.State.{State, IsMap, empty_map}
-use Rattle.schnellru.specs.Theorems.{IsSummed}
+use Rattle.lru_model.specs.Lists.{lookup}
+use Rattle.lru_model.specs.State.{State, IsMap, empty_map}
+use Rattle.lru_model.specs.Theorems.{IsSummed}
 
 -- a tenant's map with another limiter
 abbrev pub with_limiter : {K V L S : Type 0} → L → State K V L S → State K V L S

@@ -3,9 +3,9 @@
 use Rattle.std.specs.Prelude.{◌≡◌, ℕ, Bool, true, false, Option, Some, None, option_map, Result, Ok, Err}
 use Rattle.std.specs.declared.alloc.AllocError.{AllocError}
 use Rattle.lru_limits.specs.Rules.{Rules, Offers}
-use Rattle.schnellru.specs.GetOrInserts.{MakesNewest}
-use Rattle.schnellru.specs.Lists.{first}
-use Rattle.schnellru.specs.State.{State}
+use Rattle.lru_model.specs.GetOrInserts.{MakesNewest}
+use Rattle.lru_model.specs.Lists.{first}
+use Rattle.lru_model.specs.State.{State}
 use Rattle.lru_tenants.specs.declared.error.TenantError.{TenantError}
 use Rattle.lru_tenants.specs.declared.error.TenantError.TheVariants.{NotOpen, Memory}
 

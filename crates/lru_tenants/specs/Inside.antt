@@ -2,7 +2,7 @@
 use Rattle.std.specs.Prelude.{◌≡◌, ℕ, Bool, false, Option, sum_by}
 use Rattle.std.specs.HashMap.{HashMap, hasher_of, values}
 use Rattle.std.specs.List.{All}
-use Rattle.schnellru.specs.State.{State}
+use Rattle.lru_model.specs.State.{State}
 use Rattle.lru_tenants.specs.Cache.{IsTenant, is_above}
 
 pub record Holds {N K V L S : Type 0} (eq : K → K → Bool) (cost : K → V → ℕ) (account budget : L → ℕ)

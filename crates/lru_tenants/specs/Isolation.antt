@@ -2,7 +2,7 @@
 --     named call                    the tenant that the call names
 --     Does call old answer new      what the call may do to that tenant, and what it may answer
 use Rattle.std.specs.Prelude.{◌≡◌, ◌⊎◌, Bool, true, false, List, [], ◌∷◌, Option}
-use Rattle.schnellru.specs.State.{State}
+use Rattle.lru_model.specs.State.{State}
 use Rattle.lru_tenants.specs.Cache.{Cache, tenant, Leaves}
 
 -- what a call did: what it found of the tenant that it names, and what it left of it

@@ -1,6 +1,6 @@
 -- Calls on a cache, one after another, none of which names a tenant.
 use Rattle.std.specs.Prelude.{◌≡◌, Bool, false, Option}
-use Rattle.schnellru.specs.State.{State}
+use Rattle.lru_model.specs.State.{State}
 use Rattle.lru_tenants.specs.Cache.{Cache, Leaves}
 
 -- each call leaves something of another tenant, as each clause with `On` says

@@ -2,9 +2,9 @@
 --     accepts s k v       whether the limiter s accepts the entry of a new key
 use Rattle.std.specs.Prelude.{Bool, Option, Some, is_some, not, ◌&&◌, if◌then◌else◌}
 use Rattle.lru_limits.specs.Rules.{Rules, Offers}
-use Rattle.schnellru.specs.Inserts.{unkept_value}
-use Rattle.schnellru.specs.Lists.{lookup}
-use Rattle.schnellru.specs.State.{State, contents}
+use Rattle.lru_model.specs.Inserts.{unkept_value}
+use Rattle.lru_model.specs.Lists.{lookup}
+use Rattle.lru_model.specs.State.{State, contents}
 
 module _ {K V L S : Type 0} (accepts : L → K → V → Bool) (eq : K → K → Bool) (key : K) (value : V) where
   -- the limiter rejects the entry, and the key is new

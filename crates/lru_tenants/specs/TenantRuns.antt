@@ -7,11 +7,11 @@ use Rattle.std.specs.Prelude.{option_map, IfSome}
 use Rattle.std.specs.Prelude.{Result, Ok, Err}
 use Rattle.std.specs.declared.alloc.AllocError.{AllocError}
 use Rattle.lru_limits.specs.Rules.{Rules, Offers}
-use Rattle.schnellru.specs.Calls.{promoted}
-use Rattle.schnellru.specs.HandedOver.{InsertHands, TrimHands}
-use Rattle.schnellru.specs.Inserts.{Insert}
-use Rattle.schnellru.specs.Lists.{lookup}
-use Rattle.schnellru.specs.State.{State, Trims}
+use Rattle.lru_model.specs.Calls.{promoted}
+use Rattle.lru_model.specs.HandedOver.{InsertHands, TrimHands}
+use Rattle.lru_model.specs.Inserts.{Insert}
+use Rattle.lru_model.specs.Lists.{lookup}
+use Rattle.lru_model.specs.State.{State, Trims}
 use Rattle.lru_tenants.specs.Cache.{with_limiter, is_above, IsTenant}
 use Rattle.lru_tenants.specs.Isolation.{OwnRun}
 use Rattle.lru_tenants.specs.declared.error.TenantError.{TenantError}

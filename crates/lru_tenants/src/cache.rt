@@ -4,8 +4,8 @@ ghost use Rattle.std.specs.Result.{OnErr};
 ghost use Rattle.std.specs.List.{IsDistinct};
 ghost use Rattle.std.specs.Map.{keys_of};
 ghost use Rattle.lru_limits.specs.Mixing.{seeded};
-ghost use Rattle.schnellru.specs.Calls.{Remove, cleared};
-ghost use Rattle.schnellru.specs.Lists.{is_empty};
+ghost use Rattle.lru_model.specs.Calls.{Remove, cleared};
+ghost use Rattle.lru_model.specs.Lists.{is_empty};
 ghost use Rattle.lru_tenants.specs.Cache.{budgets, budgets_with, is_over, fresh, IsTenant, AreTenants, On};
 ghost use Rattle.lru_tenants.specs.TenantRuns.{IfOpen, Opens, SetsBudget, Puts, Closes};
 

@@ -1,9 +1,9 @@
 //! Laws about calls. A caller that needs one calls the function, which does nothing.
 ghost use Rattle.std.specs.Prelude.{◌≡◌, ◌≤◌, List, Option, IfSome, sum_by};
 ghost use Rattle.std.specs.Map.{values_of};
-ghost use Rattle.schnellru.specs.Runs.{Step};
-ghost use Rattle.schnellru.specs.State.{State};
-ghost use Rattle.schnellru.specs.Theorems.{IsSummed};
+ghost use Rattle.lru_model.specs.Runs.{Step};
+ghost use Rattle.lru_model.specs.State.{State};
+ghost use Rattle.lru_model.specs.Theorems.{IsSummed};
 ghost use Rattle.lru_tenants.specs.Cache.{Cache, tenant};
 ghost use Rattle.lru_tenants.specs.Isolation.{Did, CacheRun, Chain};
 ghost use Rattle.lru_tenants.specs.Others.{CallsOfOthers};

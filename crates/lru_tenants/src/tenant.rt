@@ -2,12 +2,12 @@
 //! within the budget.
 ghost use Rattle.std.specs.Prelude.{◌≡◌, true, false, List, length, reverse, Some, None, option_map, Ok, IfOk};
 ghost use Rattle.std.specs.Option.{option_copied};
-ghost use Rattle.schnellru.specs.Calls.{Remove, cleared};
-ghost use Rattle.schnellru.specs.GetOrInserts.{MakesNewest};
-ghost use Rattle.schnellru.specs.HandedOver.{Takes, InsertHands, TrimHands};
-ghost use Rattle.schnellru.specs.Inserts.{Insert, kept_of};
-ghost use Rattle.schnellru.specs.Lists.{lookup, first};
-ghost use Rattle.schnellru.specs.State.{Trims};
+ghost use Rattle.lru_model.specs.Calls.{Remove, cleared};
+ghost use Rattle.lru_model.specs.GetOrInserts.{MakesNewest};
+ghost use Rattle.lru_model.specs.HandedOver.{Takes, InsertHands, TrimHands};
+ghost use Rattle.lru_model.specs.Inserts.{Insert, kept_of};
+ghost use Rattle.lru_model.specs.Lists.{lookup, first};
+ghost use Rattle.lru_model.specs.State.{Trims};
 ghost use Rattle.lru_tenants.specs.Cache.{IsTenant, with_limiter};
 ghost use Rattle.lru_tenants.specs.PutFulls.{comes_back, rejects};
 

@@ -6,9 +6,9 @@ use Rattle.std.specs.Set.{remove_key}
 use Rattle.std.proofs.lemmas.Bool.{lt-ltb, le-ltb, lt-leb, le-leb, cases_lt}
 use Rattle.std.proofs.lemmas.List.{length-map}
 use Rattle.lru_limits.specs.Budget.{Budget, by_cost}
-use Rattle.schnellru.proofs.CallerLemmas.{length-without_last}
-use Rattle.schnellru.specs.Lists.{last, without_last, lookup_entry, without, keys_of}
-use Rattle.schnellru.specs.State.{Contents, notified_of, pop, trim, trim_from}
+use Rattle.lru_model.proofs.CallerLemmas.{length-without_last}
+use Rattle.lru_model.specs.Lists.{last, without_last, lookup_entry, without, keys_of}
+use Rattle.lru_model.specs.State.{Contents, notified_of, pop, trim, trim_from}
 use Rattle.recency.specs.Budgets.{affordable}
 use Rattle.recency.specs.Recency.{IsExact}
 use Rattle.recency.proofs.Affordable.{spent, affords_all}

@@ -9,11 +9,11 @@ use Rattle.std.specs.declared.alloc.AllocError.{AllocError}
 use Rattle.std.proofs.lemmas.Bool.{lt-ltb, le-ltb, le-leb, cases_lt}
 use Rattle.lru_limits.specs.Budget.{Budget, by_cost, charges, can_add}
 use Rattle.lru_limits.specs.Stores.{HandsOver}
-use Rattle.schnellru.proofs.CallerLemmas.{found_named}
-use Rattle.schnellru.specs.Exact.{InsertsInList, ends, not_offered, not_placed, EndsBy, ending_there, ending_new, lands}
-use Rattle.schnellru.specs.Inserts.{make_room}
-use Rattle.schnellru.specs.Lists.{lookup, lookup_entry, without, without_last, after}
-use Rattle.schnellru.specs.State.{Contents, trim}
+use Rattle.lru_model.proofs.CallerLemmas.{found_named}
+use Rattle.lru_model.specs.Exact.{InsertsInList, ends, not_offered, not_placed, EndsBy, ending_there, ending_new, lands}
+use Rattle.lru_model.specs.Inserts.{make_room}
+use Rattle.lru_model.specs.Lists.{lookup, lookup_entry, without, without_last, after}
+use Rattle.lru_model.specs.State.{Contents, trim}
 use Rattle.recency.specs.Budgets.{affordable, cached_within}
 use Rattle.recency.specs.Recency.{IsExact}
 use Rattle.recency.proofs.Affordable.{spent, affords_all, affords_within}

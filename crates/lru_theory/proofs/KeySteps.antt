@@ -5,15 +5,15 @@ use Rattle.std.specs.Prelude.{unwrap_or}
 use Rattle.std.specs.Set.{remove_key}
 use Rattle.std.proofs.lemmas.Map.{keys-set_value}
 use Rattle.lru_limits.specs.Limiters.{length_rules, length_offers}
-use Rattle.schnellru.proofs.CallerLemmas.{found_named, shrink_contents}
-use Rattle.schnellru.proofs.HandingLemmas.{plain_insert}
-use Rattle.schnellru.specs.Calls.{written}
-use Rattle.schnellru.specs.Kept.{KeepsToLength}
-use Rattle.schnellru.specs.Lists.{keys_of, lookup_entry, without, after, front}
-use Rattle.schnellru.specs.Reservations.{Reserve, unchanged, rehashed, reserved, asked_only}
-use Rattle.schnellru.specs.Runs.{Step, inserts, gets, removes, clears, reserves, shrinks}
-use Rattle.schnellru.specs.State.{State, IsSized, IsMap}
-use Rattle.schnellru.specs.declared.map.reserve.ReserveError.{ReserveError}
+use Rattle.lru_model.proofs.CallerLemmas.{found_named, shrink_contents}
+use Rattle.lru_model.proofs.HandingLemmas.{plain_insert}
+use Rattle.lru_model.specs.Calls.{written}
+use Rattle.lru_model.specs.Kept.{KeepsToLength}
+use Rattle.lru_model.specs.Lists.{keys_of, lookup_entry, without, after, front}
+use Rattle.lru_model.specs.Reservations.{Reserve, unchanged, rehashed, reserved, asked_only}
+use Rattle.lru_model.specs.Runs.{Step, inserts, gets, removes, clears, reserves, shrinks}
+use Rattle.lru_model.specs.State.{State, IsSized, IsMap}
+use Rattle.lru_model.specs.declared.results.ReserveError.{ReserveError}
 use Rattle.recency.specs.Inclusion.{KeyCall, refers, promotes, looks, after_call, after_calls}
 use Rattle.recency.specs.Inclusion.{removes as removal_of, clears as all_removed}
 use Rattle.recency.specs.Recency.{IsExact, is_in}

@@ -5,9 +5,9 @@ use Rattle.std.specs.Set.{remove_key}
 use Rattle.std.proofs.lemmas.List.{append_assoc, append-nil, reverse-append}
 use Rattle.group_table.specs.Change.{count_up}
 use Rattle.lru_limits.specs.Limiters.{length_rules, length_offers}
-use Rattle.schnellru.specs.Kept.{KeepsToLength}
-use Rattle.schnellru.specs.Lists.{keys_of}
-use Rattle.schnellru.specs.State.{State, IsMap}
+use Rattle.lru_model.specs.Kept.{KeepsToLength}
+use Rattle.lru_model.specs.Lists.{keys_of}
+use Rattle.lru_model.specs.State.{State, IsMap}
 use Rattle.recency.specs.Recency.{IsExact, is_in, cached, faults}
 use Rattle.lru_replay.specs.declared.calls.call.Call.{Call}
 use Rattle.lru_replay.specs.CallRuns.{IsRun, CallStep}

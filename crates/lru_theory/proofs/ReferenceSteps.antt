@@ -11,16 +11,16 @@ use Rattle.std.proofs.lemmas.Map.Entries.{length-keys_of}
 use Rattle.std.proofs.lemmas.Map.Made.{length-remove_key}
 use Rattle.group_table.specs.Change.{count_up}
 use Rattle.lru_limits.specs.Limiters.{length_rules, length_offers}
-use Rattle.schnellru.proofs.CallerLemmas.{found_named}
-use Rattle.schnellru.specs.GetOrInserts.{got, inserted}
-use Rattle.schnellru.specs.Inserts.{Insert, replaced, given_up, no_memory_to_admit, not_admitted, admitted}
-use Rattle.schnellru.specs.Kept.{LeavesTheNewest, KeepsToLength, stored_key}
-use Rattle.schnellru.specs.Lists.{keys_of, lookup, lookup_entry, without, after, front}
-use Rattle.schnellru.specs.Place.{Place, Outcome, placed, refused, no_memory, in_bucket, rehashed, grown, not_grown}
-use Rattle.schnellru.specs.Place.{IsPlacedIfMemory, OldestLeave, CannotGrow, no_target, denied, Evicts}
-use Rattle.schnellru.specs.Place.{nothing_to_evict, finds_bucket, rehashes}
-use Rattle.schnellru.specs.Runs.{Step, inserts, makes_newest}
-use Rattle.schnellru.specs.State.{State, IsSized}
+use Rattle.lru_model.proofs.CallerLemmas.{found_named}
+use Rattle.lru_model.specs.GetOrInserts.{got, inserted}
+use Rattle.lru_model.specs.Inserts.{Insert, replaced, given_up, no_memory_to_admit, not_admitted, admitted}
+use Rattle.lru_model.specs.Kept.{LeavesTheNewest, KeepsToLength, stored_key}
+use Rattle.lru_model.specs.Lists.{keys_of, lookup, lookup_entry, without, after, front}
+use Rattle.lru_model.specs.Place.{Place, Outcome, placed, refused, no_memory, in_bucket, rehashed, grown, not_grown}
+use Rattle.lru_model.specs.Place.{IsPlacedIfMemory, OldestLeave, CannotGrow, no_target, denied, Evicts}
+use Rattle.lru_model.specs.Place.{nothing_to_evict, finds_bucket, rehashes}
+use Rattle.lru_model.specs.Runs.{Step, inserts, makes_newest}
+use Rattle.lru_model.specs.State.{State, IsSized}
 use Rattle.recency.specs.Recency.{IsExact, is_in}
 use Rattle.lru_replay.specs.CallRuns.{CallStep}
 use Rattle.lru_replay.specs.Replies.{Reply, want_of, found_all, lacks}

@@ -2,8 +2,8 @@
 use Rattle.std.specs.Prelude.{◌≡◌, ℕ, ◌+◌, ◌*◌, ◌^◌, ◌≤◌, ◌<◌, Bool, List, [], length, map, Option, Some, None}
 use Rattle.std.specs.List.{AllByRecursion}
 use Rattle.lru_limits.specs.Budget.{Budget, by_cost, charges}
-use Rattle.schnellru.specs.Exact.{HasTableFor}
-use Rattle.schnellru.specs.State.{State, IsMap}
+use Rattle.lru_model.specs.Exact.{HasTableFor}
+use Rattle.lru_model.specs.State.{State, IsMap}
 use Rattle.lru_replay.specs.declared.calls.call.Call.{Call}
 use Rattle.lru_replay.specs.declared.calls.call.Call.TheVariants as calls
 use Rattle.lru_replay.specs.CallRuns.{IsRun, CallStep}

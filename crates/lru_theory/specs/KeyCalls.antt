@@ -1,8 +1,8 @@
 -- Runs of calls, by what each does to the keys.
 use Rattle.std.specs.Prelude.{◌≡◌, ℕ, Bool, List, [], map, Option, Some, None}
 use Rattle.lru_limits.specs.Limiters.{length_rules, length_offers}
-use Rattle.schnellru.specs.Kept.{KeepsToLength}
-use Rattle.schnellru.specs.State.{State, IsMap}
+use Rattle.lru_model.specs.Kept.{KeepsToLength}
+use Rattle.lru_model.specs.State.{State, IsMap}
 use Rattle.recency.specs.Inclusion.{KeyCall, refers, promotes, removes, clears, looks}
 use Rattle.lru_replay.specs.declared.calls.call.Call.{Call}
 use Rattle.lru_replay.specs.declared.calls.call.Call.TheVariants as calls

@@ -6,8 +6,8 @@
 
 ghost use Rattle.std.specs.Prelude.{◌≡◌, ℕ, ◌+◌, ◌-◌, ◌*◌, ◌≤◌, ◌<◌, List, length, reverse, take, true};
 ghost use Rattle.group_table.specs.Change.{count_up};
-ghost use Rattle.schnellru.specs.Lists.{keys_of};
-ghost use Rattle.schnellru.specs.State.{State};
+ghost use Rattle.lru_model.specs.Lists.{keys_of};
+ghost use Rattle.lru_model.specs.State.{State};
 ghost use Rattle.recency.specs.Budgets.{cached_within};
 ghost use Rattle.recency.specs.Inclusion.{KeyCall, IsIncluded};
 ghost use Rattle.recency.specs.Policies.{Served};

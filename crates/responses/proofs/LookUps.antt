@@ -9,16 +9,16 @@ use Rattle.std.proofs.lemmas.Map.Views.{IfSome-lookup_from_All}
 use Rattle.std.proofs.lemmas.Bool.{true≢false}
 use Rattle.std.proofs.lemmas.Map.{lookup-remove_entry}
 use Rattle.lru_limits.specs.Rules.{Rules}
-use Rattle.schnellru.specs.Calls.{promoted, written, Remove}
-use Rattle.schnellru.specs.Lists.{lookup}
-use Rattle.schnellru.specs.State.{State}
+use Rattle.lru_model.specs.Calls.{promoted, Remove}
+use Rattle.lru_model.specs.Lists.{lookup}
+use Rattle.lru_model.specs.State.{State}
 use Rattle.lru_tenants.specs.Cache.{Cache, tenant, IsTenant, Leaves, On}
 use Rattle.lru_tenants.specs.TenantRuns.{Gets, IfOpen}
 use Rattle.lru_tenants.specs.declared.error.TenantError.{TenantError}
 use Rattle.responses.specs.LookUps.{fresh_at, LooksUp}
 use Rattle.responses.specs.declared.cache.Response.{Response}
 use Rattle.std.specs.Prelude.{IfSome}
-use Rattle.schnellru.proofs.CallerLemmas.{read_back, written-found, promoted-absent}
+use Rattle.lru_model.proofs.CallerLemmas.{read_back, written-found, promoted-absent}
 
 ok≢err : {T E : Type 0} {x : T} {e : E} → Ok x ≡ Err e → ⊥
 ok≢err p = true≢false (ap is_ok p)

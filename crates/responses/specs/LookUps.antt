@@ -2,8 +2,8 @@
 --     names path      whether a path is the one that is looked up
 --     now             the time of the look-up
 use Rattle.std.specs.Prelude.{◌≡◌, ℕ, nat_lt, Bool, if◌then◌else◌, Option, Some, None, Result, Ok, Err}
-use Rattle.schnellru.specs.Lists.{lookup}
-use Rattle.schnellru.specs.State.{State}
+use Rattle.lru_model.specs.Lists.{lookup}
+use Rattle.lru_model.specs.State.{State}
 use Rattle.lru_tenants.specs.declared.error.TenantError.{TenantError}
 use Rattle.lru_tenants.specs.declared.error.TenantError.TheVariants.{NotOpen}
 use Rattle.responses.specs.declared.cache.Response.{Response}

@@ -30,7 +30,7 @@ use Rattle.std.proofs.result.Result.TheLaws as result_laws
 use Rattle.group_table.specs.declared.link.LinkType as link_type
 use Rattle.lru_limits.specs.declared.limiter.Limiter as limiter
 use Rattle.lru_limits.specs.Hashing.{HasherMembers}
-use Rattle.schnellru.specs.State.{State}
+use Rattle.lru_model.specs.State.{State}
 use Rattle.schnellru.specs.Lending.Values.{map_row}
 use Rattle.schnellru.specs.Lending.Answers.{lent_or_none, is_kept, IsLent, NoneLent, name_lent}
 use Rattle.schnellru.specs.Lending.Made.{Made, lends_or, lends_made}

@@ -11,8 +11,8 @@ use Rattle.std.specs.declared.hash.BuildHasher as builder
 use Rattle.lru_limits.specs.declared.keys.KeyHasher as key_hasher
 use Rattle.group_table.specs.declared.link.LinkType as link_type
 use Rattle.lru_limits.specs.declared.limiter.Limiter as limiter
-use Rattle.schnellru.specs.Lists.{last_of}
-use Rattle.schnellru.specs.State.{State}
+use Rattle.lru_model.specs.Lists.{last_of}
+use Rattle.lru_model.specs.State.{State}
 use Rattle.schnellru.specs.declared.walk.iter_mut.IterMut.{IterMut}
 
 module _ {K V L S N H : Type 0} {equal : equality.Ghosts K} {input : hashing.Ghosts K} {limits : limiter.Ghosts L K V N}

@@ -12,8 +12,8 @@ use Rattle.lru_limits.specs.declared.keys.KeyHasher as key_hasher
 use Rattle.lru_limits.specs.Hashing.{HasherMembers}
 use Rattle.group_table.specs.declared.link.LinkType as link_type
 use Rattle.lru_limits.specs.declared.limiter.Limiter as limiter
-use Rattle.schnellru.specs.Lists.{set_value_at, last_of}
-use Rattle.schnellru.specs.State.{State}
+use Rattle.lru_model.specs.Lists.{set_value_at, last_of}
+use Rattle.lru_model.specs.State.{State}
 use Rattle.schnellru.specs.declared.walk.iter_mut.IterMut.{IterMut}
 use Rattle.schnellru.specs.contracts.walk.iter_mut.IterMut.{the_row}
 use mir.Syntax.{named}

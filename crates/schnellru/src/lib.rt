@@ -3,7 +3,8 @@
 //!
 //! [`LruMap`] is the map, [`ByLength`] and its like are limiters. `docs/LIMITERS.md` shows how to write a limiter and a
 //! look-up key, `docs/CALLING.md` how to prove code that calls the map, and `docs/DIFFERENCES.md` lists what differs
-//! from the Rust crate. The theorems on all calls are the contracts of the functions of [`laws`].
+//! from the Rust crate. The theorems on all calls are the contracts of the functions of
+//! [`laws`], from `lru_model`.
 #![tactic(auto)]
 
 // Marks code that is never reached, as the macro of this name in `group_table` does. `unreachable!()` compiles to a
@@ -18,7 +19,6 @@ macro_rules! nowhere {
     }};
 }
 
-pub mod laws;
 mod map;
 mod ordered;
 mod sizes;
@@ -29,11 +29,8 @@ pub use lru_limits::{
     Insertion, KeyHasher, Limiter, LinkType, LookupKey, RandomState, Storing, Summing, Unlimited,
     UnlimitedCompact,
 };
-pub use map::get_or_insert::GetOrInsertError;
-pub use map::insert::Inserted;
+pub use lru_model::{GetOrInsertError, Inserted, ReserveError, Updated, laws};
 pub use map::report::MoveReport;
-pub use map::reserve::ReserveError;
-pub use map::update::Updated;
 pub use map::{DEFAULT_ENTRY_BYTES, LruMap};
 pub use walk::drain::Drain;
 pub use walk::into_iter::IntoIter;

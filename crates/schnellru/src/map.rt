@@ -2,9 +2,9 @@
 //! each bucket of its table, and its counts.
 ghost use Rattle.std.specs.Prelude.{◌≡◌, ℕ, ◌∷◌, []};
 ghost use Rattle.lru_limits.specs.Mixing.{seeded};
-ghost use Rattle.schnellru.specs.Sizes.{default_entry_bytes, max_of_32_bits};
+ghost use Rattle.lru_model.specs.Sizes.{default_entry_bytes, max_of_32_bits};
 ghost use Rattle.schnellru.specs.EntrySize.{entry_size};
-ghost use Rattle.schnellru.specs.State.{State, empty_map};
+ghost use Rattle.lru_model.specs.State.{State, empty_map};
 
 use crate::ordered::OrderedTable;
 use lru_limits::{ByLength, ByMemoryUsage, KeyHasher, Limiter, RandomState};
@@ -85,7 +85,7 @@ pub struct LruMap<K: Eq + Hash, V, L: Limiter<K, V> = ByLength, S: KeyHasher<K> 
 }
 
 impl<K: Eq + Hash, V, L: Limiter<K, V>, S: KeyHasher<K>> Model for LruMap<K, V, L, S> {
-    ghost use Rattle.schnellru.specs.State.{State};
+    ghost use Rattle.lru_model.specs.State.{State};
 
     ghost Value = { State K V L S };
 

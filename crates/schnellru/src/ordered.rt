@@ -13,9 +13,9 @@ ghost use Rattle.group_table.specs.Table.{IsTable};
 ghost use Rattle.lru_limits.specs.Hashing.{hash_by};
 ghost use Rattle.schnellru.specs.Inside.OrderedTable.{IsLinked, KeysFit, pairs_of, without_bucket, with_pair, hash_in};
 ghost use Rattle.schnellru.specs.EntrySize.{entry_size};
-ghost use Rattle.schnellru.specs.ByHash.{Asks};
+ghost use Rattle.lru_model.specs.ByHash.{Asks};
 ghost use Rattle.schnellru.specs.Inside.Searches.{FindsPair, FindsNoPair};
-ghost use Rattle.schnellru.specs.Lists.{first as first_bucket, last as last_bucket};
+ghost use Rattle.lru_model.specs.Lists.{first as first_bucket, last as last_bucket};
 ghost use Rattle.schnellru.specs.Inside.Chain.{bucket_after, bucket_before, pair_slots};
 
 use crate::ordered::chain::Chain;

@@ -1,14 +1,14 @@
 //! What a table takes in bytes, and the table that a map grows into.
 ghost use Rattle.std.specs.Prelude.{◌≡◌, ◌-◌, ◌/◌, ◌^◌, ◌<◌, ◌≤◌};
 ghost use Rattle.group_table.specs.Sizes.{IsBucketCount, full_capacity, buckets_for};
-ghost use Rattle.schnellru.specs.Sizes.{bytes_of, usage, IsGreatestUsage, target, larger};
+ghost use Rattle.lru_model.specs.Sizes.{bytes_of, usage, IsGreatestUsage, target, larger};
 
 use group_table::{buckets_for_capacity, full_capacity};
 
 const MOST_BYTES: usize = isize::MAX as usize - 15;
 
 // The bytes of a table of n buckets, if there can be such a table.
-#[tactic(auto, unfolding(crate::specs::Sizes::usage))]
+#[tactic(auto, unfolding(lru_model::specs::Sizes::usage))]
 pub(crate) fn usage(entry_bytes: usize, buckets: usize) -> Option<usize>
     ensures { result ≡ usage entry_bytes buckets }
 {
@@ -34,7 +34,7 @@ pub(crate) fn bytes_of(entry_bytes: usize, buckets: usize) -> usize
 
 // The buckets and the bytes of the table into which a table grows that is to hold `pairs` pairs, more than half of what
 // it may hold now.
-#[tactic(auto, unfolding(crate::specs::Sizes::target))]
+#[tactic(auto, unfolding(lru_model::specs::Sizes::target))]
 pub(crate) fn larger_table(
     max: usize,
     entry_bytes: usize,

@@ -3,7 +3,7 @@ ghost use Rattle.std.specs.Prelude.{◌≡◌, ◌<◌, ◌^◌, length, slice_g
 ghost use Rattle.std.specs.Iterator.{at_most, UpTo};
 ghost use Rattle.std.specs.Iterator.SizeHint.{IsWithinCount};
 ghost use Rattle.std.specs.Map.Iter.{ShowsInOrder, ShowsInReverse, TakesFirst, TakesLast, deref_pair};
-ghost use Rattle.schnellru.specs.State.{IsMap};
+ghost use Rattle.lru_model.specs.State.{IsMap};
 
 use crate::map::LruMap;
 use crate::ordered::OrderedTable;

@@ -2,11 +2,11 @@
 ghost use Rattle.std.specs.Prelude.{◌≡◌, ◌≤◌, ℕ, ◌∷◌, ◌++◌, List, length, reverse, take, nat_eq, Some, None, Ok, IfOk};
 ghost use Rattle.std.specs.Prelude.{OnOk, OnErr, true, is_some};
 ghost use Rattle.std.specs.List.{All};
-ghost use Rattle.schnellru.specs.Lists.{lookup, lookup_entry, without};
-ghost use Rattle.schnellru.specs.Calls.{promoted};
-ghost use Rattle.schnellru.specs.HandedOver.{Takes};
-ghost use Rattle.schnellru.specs.Kept.{KeepsToLength};
-ghost use Rattle.schnellru.specs.Theorems.{IsSummed, KeepsValues};
+ghost use Rattle.lru_model.specs.Lists.{lookup, lookup_entry, without};
+ghost use Rattle.lru_model.specs.Calls.{promoted};
+ghost use Rattle.lru_model.specs.HandedOver.{Takes};
+ghost use Rattle.lru_model.specs.Kept.{KeepsToLength};
+ghost use Rattle.lru_model.specs.Theorems.{IsSummed, KeepsValues};
 
 use schnellru::{
     ByCost, ByLength, Insertion, LruMap, RandomState, ReserveError, Summing, UnlimitedCompact, laws,
@@ -110,7 +110,7 @@ fn exchange(
 
 /// Inserts a pair, and shows the callback what leaves. If the pair is in the map then, the pairs that are left, and
 /// then those that the callback was shown, oldest last, are that pair and the others in their order: nothing is lost.
-#[tactic(auto, using(schnellru::proofs::CallbackLemmas::may_take_always))]
+#[tactic(auto, using(lru_model::proofs::CallbackLemmas::may_take_always))]
 fn put_and_show<F: FnMut(u64, u64)>(
     map: &mut LruMap<u64, u64>,
     key: u64,

@@ -1,8 +1,8 @@
 //! The calls on a map of byte strings that copy bytes in or out.
 ghost use Rattle.std.specs.Prelude.{◌≡◌, ◌&&◌, length, Some, IfSome, option_map, nat_le, true, false};
 ghost use Rattle.std.specs.Map.Iter.{deref_pair};
-ghost use Rattle.schnellru.specs.Calls.{promoted};
-ghost use Rattle.schnellru.specs.Lists.{lookup, last};
+ghost use Rattle.lru_model.specs.Calls.{promoted};
+ghost use Rattle.lru_model.specs.Lists.{lookup, last};
 ghost use Rattle.lru_c.specs.Bytes.{names_bytes, weight, poured, Reads, IsReady, FindsMemory, Puts, Pops, Shows};
 ghost use Rattle.lru_c.specs.Bytes.{Copies};
 

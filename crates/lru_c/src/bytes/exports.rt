@@ -3,10 +3,10 @@
 //! A call on a handle without a map changes nothing, and returns that there is nothing.
 ghost use Rattle.std.specs.Prelude.{◌≡◌, length, is_some, slice_get, Option, Some, None, true, false, ⊤};
 ghost use Rattle.lru_limits.specs.Mixing.{seeded};
-ghost use Rattle.schnellru.specs.Calls.{Remove, promoted, cleared};
-ghost use Rattle.schnellru.specs.Lists.{lookup, last};
-ghost use Rattle.schnellru.specs.Sizes.{max_of_64_bits};
-ghost use Rattle.schnellru.specs.State.{empty_map, contents, Trims, IsWithin};
+ghost use Rattle.lru_model.specs.Calls.{Remove, promoted, cleared};
+ghost use Rattle.lru_model.specs.Lists.{lookup, last};
+ghost use Rattle.lru_model.specs.Sizes.{max_of_64_bits};
+ghost use Rattle.lru_model.specs.State.{empty_map, contents, Trims, IsWithin};
 ghost use Rattle.lru_c.specs.Answers.{OnMap};
 ghost use Rattle.lru_c.specs.Bytes.{Bytes, names_bytes, bytes_rules, no_entry, Reads, Puts, Pops, Shows, Copies};
 

@@ -1,7 +1,7 @@
 //! `Loader`. A contract sees a loader as its stored values and its function.
 ghost use Rattle.std.specs.Prelude.{◌≡◌, [], length, None, Ok, IfOk, IfSome, OnErr};
 ghost use Rattle.std.specs.Map.{lookup};
-ghost use Rattle.schnellru.specs.Theorems.{KeepsValues};
+ghost use Rattle.lru_model.specs.Theorems.{KeepsValues};
 ghost use Rattle.lru_caches.specs.Answers.{IsAnswer, AreAnswers, loads};
 
 use schnellru::{Insertion, KeyHasher, LruMap, RandomState, laws};
@@ -34,7 +34,7 @@ pub struct Loader<
 
 impl<K: Copy + Eq + Hash, V: Copy, F, L: Insertion<K, V, K>, S: KeyHasher<K>> Model
     for Loader<K, V, F, L, S> {
-    ghost use Rattle.schnellru.specs.Theorems.{KeepsValues};
+    ghost use Rattle.lru_model.specs.Theorems.{KeepsValues};
     ghost use Rattle.lru_caches.specs.Answers.{Remembered};
 
     ghost Value = { Remembered K V F };

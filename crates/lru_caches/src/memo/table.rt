@@ -1,8 +1,8 @@
 //! `MemoTable`. A contract sees a table as its stored answers, newest first.
 ghost use Rattle.std.specs.Prelude.{◌≡◌, [], length, IfSome};
 ghost use Rattle.std.specs.Map.{lookup};
-ghost use Rattle.schnellru.specs.Lists.{front};
-ghost use Rattle.schnellru.specs.Theorems.{KeepsValues};
+ghost use Rattle.lru_model.specs.Lists.{front};
+ghost use Rattle.lru_model.specs.Theorems.{KeepsValues};
 ghost use Rattle.lru_caches.specs.Answers.{IsAnswer, AreAnswers};
 
 use schnellru::{Insertion, KeyHasher, LruMap, RandomState, laws};
@@ -48,7 +48,7 @@ pub struct MemoTable<
 impl<K: Copy + Eq + Hash, V, Q: Question<K, V>, L: Insertion<K, V, K>, S: KeyHasher<K>> Model
     for MemoTable<K, V, Q, L, S> {
     ghost use Rattle.std.specs.Prelude.{List};
-    ghost use Rattle.schnellru.specs.Theorems.{KeepsValues};
+    ghost use Rattle.lru_model.specs.Theorems.{KeepsValues};
     ghost use Rattle.lru_caches.specs.Answers.{AreAnswers};
 
     ghost Value = { List (K × V) };

@@ -2,7 +2,7 @@
 ghost use Rattle.std.specs.Prelude.{◌≡◌, is_some, option_map};
 ghost use Rattle.std.specs.Map.{lookup};
 ghost use Rattle.std.specs.Map.Iter.{deref_pair};
-ghost use Rattle.schnellru.specs.Lists.{back, lookup_entry};
+ghost use Rattle.lru_model.specs.Lists.{back, lookup_entry};
 
 use crate::ordered_map::{OrderedMap, distinct};
 use schnellru::{KeyHasher, LookupKey, ReserveError, Unlimited};

@@ -2,7 +2,7 @@
 ghost use Rattle.std.specs.Prelude.{◌≡◌, ◌≢◌, ◌≤◌, ◌<◌, ◌-◌, ℕ, ◌∷◌, length, nat_eq, None, Some, option_map, is_some};
 ghost use Rattle.std.specs.Prelude.{true, false, take, IsSome, OnOk, OnErr};
 ghost use Rattle.std.specs.Map.{lookup, keys_of};
-ghost use Rattle.schnellru.specs.Lists.{without};
+ghost use Rattle.lru_model.specs.Lists.{without};
 ghost use Rattle.lru_caches.specs.Pages.{block_at, AreClean};
 
 use crate::append::append;

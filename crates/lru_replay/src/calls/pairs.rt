@@ -1,8 +1,8 @@
 //! The calls of a run that return pairs. The memory for these is taken before the map changes.
 ghost use Rattle.std.specs.Prelude.{◌≡◌, ◌++◌, ◌+◌, ◌≤◌, ◌<◌, option_to_list};
 ghost use Rattle.std.specs.Vec.{vec_len, vec_capacity};
-ghost use Rattle.schnellru.specs.Drains.{newest_given, oldest_given, pops_first};
-ghost use Rattle.schnellru.specs.State.{contents, Leaves, pops};
+ghost use Rattle.lru_model.specs.Drains.{newest_given, oldest_given, pops_first};
+ghost use Rattle.lru_model.specs.State.{contents, Leaves, pops};
 ghost use Rattle.lru_replay.specs.declared.calls.call.Call.TheVariants as calls;
 ghost use Rattle.lru_replay.specs.CallRuns.{CallStep};
 ghost use Rattle.lru_replay.specs.Replies.{said};

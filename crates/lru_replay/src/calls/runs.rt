@@ -1,7 +1,7 @@
 //! Lists of calls on a map.
 ghost use Rattle.std.specs.Prelude.{◌≡◌, IfOk};
 ghost use Rattle.std.specs.Result.{OnErr};
-ghost use Rattle.schnellru.specs.State.{IsMap};
+ghost use Rattle.lru_model.specs.State.{IsMap};
 ghost use Rattle.lru_replay.specs.declared.calls.call.Call.TheVariants as calls;
 ghost use Rattle.lru_replay.specs.CallRuns.{IsRun, CallStep};
 ghost use Rattle.lru_replay.specs.Replies.{said, all_said};

@@ -1,7 +1,7 @@
 //! The calls of a run that take more than one call of the map.
 ghost use Rattle.std.specs.Prelude.{◌≡◌, Option, is_some, if◌then◌else◌};
-ghost use Rattle.schnellru.specs.Calls.{promoted, written};
-ghost use Rattle.schnellru.specs.Lists.{lookup, first, last, newest_value};
+ghost use Rattle.lru_model.specs.Calls.{promoted, written};
+ghost use Rattle.lru_model.specs.Lists.{lookup, first, last, newest_value};
 ghost use Rattle.lru_replay.specs.declared.calls.call.Call.TheVariants as calls;
 ghost use Rattle.lru_replay.specs.Replies.{said};
 ghost use Rattle.lru_replay.specs.Steps.{ReplyStep, FindsByHash};

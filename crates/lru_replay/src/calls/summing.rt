@@ -1,8 +1,8 @@
 //! Lists of calls under a limiter with a running total.
 ghost use Rattle.std.specs.Prelude.{◌≡◌, IfOk, true, false};
 ghost use Rattle.std.specs.Result.{OnErr};
-ghost use Rattle.schnellru.specs.State.{contents, IsMap};
-ghost use Rattle.schnellru.specs.Theorems.{IsSummed};
+ghost use Rattle.lru_model.specs.State.{contents, IsMap};
+ghost use Rattle.lru_model.specs.Theorems.{IsSummed};
 ghost use Rattle.lru_replay.specs.CallRuns.{IsRun, IsSummedFrom, SummingStep, KeepsCost};
 ghost use Rattle.lru_replay.specs.Replies.{said, all_said};
 

@@ -2,9 +2,9 @@
 ghost use Rattle.std.specs.Prelude.{◌≡◌, ◌↔◌, ℕ, nat_eq, List, IfSome, OnOk, IsErrOf};
 ghost use Rattle.std.specs.Io.KnownBytes.{Appends, IsAtEnd};
 ghost use Rattle.std.specs.Option.{OnSome};
-ghost use Rattle.schnellru.specs.Calls.{promoted};
-ghost use Rattle.schnellru.specs.Lists.{lookup};
-ghost use Rattle.schnellru.specs.State.{IsSized};
+ghost use Rattle.lru_model.specs.Calls.{promoted};
+ghost use Rattle.lru_model.specs.Lists.{lookup};
+ghost use Rattle.lru_model.specs.State.{IsSized};
 ghost use Rattle.lru_replay.specs.Lines.{lines_of, TakesFirst};
 ghost use Rattle.lru_replay.specs.Maps.{empty};
 ghost use Rattle.lru_replay.specs.Output.{Writes, no_limiter_text};

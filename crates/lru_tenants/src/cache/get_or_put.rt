@@ -1,7 +1,7 @@
 //! Getting a value, which is put if its key is not there.
 ghost use Rattle.std.specs.Prelude.{◌≡◌, None, IfSome};
 ghost use Rattle.std.specs.Borrow.{sem};
-ghost use Rattle.schnellru.specs.Lists.{lookup};
+ghost use Rattle.lru_model.specs.Lists.{lookup};
 ghost use Rattle.lru_tenants.specs.Cache.{tenant, On};
 ghost use Rattle.lru_tenants.specs.GetOrPuts.{GetsOrPuts};
 ghost use Rattle.lru_tenants.specs.Lending.{read};

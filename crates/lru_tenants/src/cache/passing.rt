@@ -1,8 +1,8 @@
 //! Calls that pass what leaves a tenant to a callback.
 ghost use Rattle.std.specs.Prelude.{◌≡◌, List, Some, true, false, Ok, IfOk, IfSome};
 ghost use Rattle.std.specs.Result.{OnErr};
-ghost use Rattle.schnellru.specs.HandedOver.{Takes};
-ghost use Rattle.schnellru.specs.Inserts.{kept_of};
+ghost use Rattle.lru_model.specs.HandedOver.{Takes};
+ghost use Rattle.lru_model.specs.Inserts.{kept_of};
 ghost use Rattle.lru_tenants.specs.Cache.{tenant, budgets, budgets_with, is_over, AreTenants, On};
 ghost use Rattle.lru_tenants.specs.PutFulls.{comes_back, rejects};
 ghost use Rattle.lru_tenants.specs.TenantRuns.{put_answer, PassesOn, Puts, PutHands, SetsBudget, BudgetHands, Closes};

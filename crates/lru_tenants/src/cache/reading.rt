@@ -3,7 +3,7 @@ ghost use Rattle.std.specs.Prelude.{◌≡◌, length, is_some};
 ghost use Rattle.std.specs.Borrow.{sem};
 ghost use Rattle.std.specs.Map.{keys_of};
 ghost use Rattle.std.specs.Map.Iter.{ShowsInOrder, deref};
-ghost use Rattle.schnellru.specs.Lists.{lookup};
+ghost use Rattle.lru_model.specs.Lists.{lookup};
 ghost use Rattle.lru_tenants.specs.Cache.{tenant, AreTenants, On};
 ghost use Rattle.lru_tenants.specs.TenantRuns.{read_of, got, Gets, Costs};
 ghost use Rattle.lru_tenants.specs.Lending.{read};

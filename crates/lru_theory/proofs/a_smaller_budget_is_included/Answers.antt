@@ -1,9 +1,9 @@
 use Rattle.std.proofs.Common.{◌≡◌, ◌+◌, ◌*◌, ◌++◌, [], List, length, reverse, Some, refl, sym, ap, ◌∙◌, subst, arith}
 use Rattle.std.proofs.lemmas.List.{append-nil, length-map}
 use Rattle.lru_limits.specs.Budget.{Budget}
-use Rattle.schnellru.specs.Exact.{HasTableFor}
-use Rattle.schnellru.specs.Lists.{keys_of}
-use Rattle.schnellru.specs.State.{State, contents}
+use Rattle.lru_model.specs.Exact.{HasTableFor}
+use Rattle.lru_model.specs.Lists.{keys_of}
+use Rattle.lru_model.specs.State.{State, contents}
 use Rattle.recency.specs.Budgets.{cached_within}
 use Rattle.recency.specs.Recency.{IsExact}
 use Rattle.lru_theory.specs.BudgetReferences.{BudgetReferences, offered}

@@ -12,10 +12,11 @@ use Rattle.group_table.specs.Link.{IsLinkType}
 use Rattle.group_table.specs.Bucket.{Slot, IsFull, entry_at}
 use Rattle.schnellru.specs.declared.ordered.Entry.{Entry}
 use Rattle.schnellru.specs.Inside.OrderedTable.{without_bucket}
-use Rattle.schnellru.specs.Lists.{first as first_bucket, last as last_bucket}
+use Rattle.lru_model.specs.Lists.{first as first_bucket, last as last_bucket}
 use Rattle.schnellru.specs.Inside.Chain.{bucket_after, bucket_before, link_to, newer_at}
 use Rattle.schnellru.specs.Inside.Chain.{older_at, SetsOlder, IsChain, IsWhole, pair_slots}
-use Rattle.schnellru.proofs.Chains.Orders.{Contains-nil, Contains-cases, Contains-later, distinct_head}
+use Rattle.lru_model.proofs.PairLists.Members.{Contains-cases, Contains-later, Contains-nil}
+use Rattle.schnellru.proofs.Chains.Orders.{distinct_head}
 use Rattle.schnellru.proofs.Chains.Orders.{distinct_tail, before_from, last_from, before_is, last_is, last_in, after_in}
 use Rattle.schnellru.proofs.Chains.Orders.{in_without, length-without}
 use Rattle.schnellru.proofs.Chains.LinkWrites.{chained_below, bucket_by_link, number-link_to, leads_to_full}

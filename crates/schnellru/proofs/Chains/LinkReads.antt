@@ -8,7 +8,7 @@ use Rattle.group_table.specs.Link.{IsLinkType}
 use Rattle.group_table.specs.Bucket.{Slot, IsFull, entry_at}
 use Rattle.schnellru.specs.declared.ordered.Entry.{Entry}
 use Rattle.schnellru.specs.Inside.OrderedTable.{without_bucket}
-use Rattle.schnellru.specs.Lists.{first as first_bucket, last as last_bucket}
+use Rattle.lru_model.specs.Lists.{first as first_bucket, last as last_bucket}
 use Rattle.schnellru.specs.Inside.Chain.{bucket_after, bucket_before, link_to, pair_slots}
 use Rattle.schnellru.specs.Inside.Chain.{IsChain, IsWhole}
 use Rattle.schnellru.proofs.Chains.Orders.{after_in, before_in, first_in, last_in, before-alone, after-last}

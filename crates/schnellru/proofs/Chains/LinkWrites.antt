@@ -13,11 +13,12 @@ use Rattle.group_table.proofs.SearchLemmas.{full_by_entry}
 use Rattle.group_table.proofs.ChangeLemmas.{length-removed, bucket_at-removed_other}
 use Rattle.schnellru.specs.declared.ordered.Entry.{Entry}
 use Rattle.schnellru.specs.Inside.OrderedTable.{without_bucket}
-use Rattle.schnellru.specs.Lists.{first as first_bucket, last as last_bucket}
+use Rattle.lru_model.specs.Lists.{first as first_bucket, last as last_bucket}
 use Rattle.schnellru.specs.Inside.Chain.{bucket_after, bucket_before, link_to, newer_at}
 use Rattle.schnellru.specs.Inside.Chain.{older_at, SetsLinks, SetsLink, SetsNewer, SetsOlder, SetsEnd, IsChain}
 use Rattle.schnellru.specs.Inside.Chain.{IsGap, pair_slots}
-use Rattle.schnellru.proofs.Chains.Orders.{other_than, Contains-cases, after_in, before_in, first_in, without_in}
+use Rattle.lru_model.proofs.PairLists.Members.{Contains-cases}
+use Rattle.schnellru.proofs.Chains.Orders.{other_than, after_in, before_in, first_in, without_in}
 use Rattle.schnellru.proofs.Chains.Orders.{after_other, before_other}
 use Rattle.schnellru.proofs.Chains.Orders.{distinct_without, distinct_cons}
 use Rattle.schnellru.proofs.Chains.Neighbours.{before-next, before-stays, after-previous, after-stays, first-left}

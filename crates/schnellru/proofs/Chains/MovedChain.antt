@@ -12,7 +12,7 @@ use Rattle.group_table.specs.Relocation.{Renumbers, moved_to}
 use Rattle.group_table.proofs.BucketLemmas.{full_lt, count_by-pos}
 use Rattle.group_table.proofs.SearchLemmas.{entry_by_full, full_by_entry}
 use Rattle.schnellru.specs.declared.ordered.Entry.{Entry}
-use Rattle.schnellru.specs.Lists.{first as first_bucket, last as last_bucket}
+use Rattle.lru_model.specs.Lists.{first as first_bucket, last as last_bucket}
 use Rattle.schnellru.specs.Inside.Chain.{bucket_after, bucket_before, link_to, pair_slots}
 use Rattle.schnellru.specs.Inside.Chain.{newer_at, older_at, moved_link, HasPlace, MovesLinks, IsChain, IsWhole}
 use Rattle.schnellru.proofs.Chains.Orders.{after_in, before_in, first_in, last_in}

@@ -4,10 +4,11 @@ use Rattle.std.proofs.Common.{subst, eq-eqb, ne_eqb}
 use Rattle.std.specs.Prelude.{Contains, AllPairs, nat_eq, option_map}
 use Rattle.std.proofs.lemmas.Bool.{cases_eq}
 use Rattle.std.proofs.lemmas.Option.{none-some, same_Some}
-use Rattle.schnellru.specs.Lists.{first as first_bucket, last as last_bucket}
+use Rattle.lru_model.specs.Lists.{first as first_bucket, last as last_bucket}
 use Rattle.schnellru.specs.Inside.Chain.{bucket_after, bucket_before}
 use Rattle.schnellru.specs.Inside.OrderedTable.{without_bucket}
-use Rattle.schnellru.proofs.Chains.Orders.{other_than, Contains-nil, Contains-cases, Contains-here, Contains-later}
+use Rattle.lru_model.proofs.PairLists.Members.{Contains-cases, Contains-here, Contains-later, Contains-nil}
+use Rattle.schnellru.proofs.Chains.Orders.{other_than}
 use Rattle.schnellru.proofs.Chains.Orders.{distinct_head, distinct_tail, distinct_cons, before_from, last_from}
 use Rattle.schnellru.proofs.Chains.Orders.{before_from-in, before_from-some, before_is, last_is, before_first}
 use Rattle.schnellru.proofs.Chains.Orders.{before_not_first, after_in, without-absent, distinct_without}

@@ -1,5 +1,5 @@
 -- Orders of distinct buckets: what is in them, and the neighbours of a bucket by recursion from the first on.
-use Rattle.std.proofs.Common.{◌≡◌, ◌≢◌, ℕ, zero, suc, ◌+◌, ◌<◌, cond, List, [], ◌∷◌, length, get_or, Option, Some, None}
+use Rattle.std.proofs.Common.{◌≡◌, ◌≢◌, ℕ, zero, suc, ◌+◌, cond, List, [], ◌∷◌, length, Option, Some, None}
 use Rattle.std.proofs.Common.{◌⊎◌, inl, inr, refl, ap, sym, ◌∙◌, subst, arith, eq-eqb, ne_eqb, false}
 use Rattle.std.proofs.lemmas.Bool.{cases_eq}
 use Rattle.std.proofs.lemmas.Option.{none-some, same_Some}
@@ -7,27 +7,10 @@ use Rattle.std.specs.Prelude.{Contains, AllPairs, nat_eq, not}
 use Rattle.std.proofs.lemmas.List.Elements.{Contains-get_or}
 use Rattle.std.proofs.lemmas.List.Kept.{AllPairs-cons, AllPairs-filter}
 use Rattle.std.specs.List.{AllByRecursion}
-use Rattle.schnellru.specs.Lists.{first as first_bucket, last as last_bucket}
+use Rattle.lru_model.specs.Lists.{first as first_bucket, last as last_bucket}
+use Rattle.lru_model.proofs.PairLists.Members.{Contains-here, Contains-later, Contains-cases, Contains-nil}
 use Rattle.schnellru.specs.Inside.Chain.{bucket_after, bucket_before}
 use Rattle.schnellru.specs.Inside.OrderedTable.{without_bucket}
-
--- an element of a list is its head, or one of its tail
-module _ {T : Type 0} where
-  pub Contains-here : (c : T) (cs : List T) → Contains (c ∷ cs) c
-  Contains-here c cs = (zero, omega arith, refl)
-
-  pub Contains-later : (c x : T) (cs : List T) → Contains cs x → Contains (c ∷ cs) x
-  Contains-later c x cs w = (suc w.0, omega (arith, w.1), w.2)
-
-  cases_at : (c x : T) (cs : List T) (k : ℕ) → k < length (c ∷ cs) → get_or (c ∷ cs) k x ≡ x → (c ≡ x) ⊎ Contains cs x
-  cases_at c x cs zero p e = inl e
-  cases_at c x cs (suc k) p e = inr (k, omega (arith, p), e)
-
-  pub Contains-cases : (c x : T) (cs : List T) → Contains (c ∷ cs) x → (c ≡ x) ⊎ Contains cs x
-  Contains-cases c x cs w = cases_at c x cs w.0 w.1 w.2
-
-  pub Contains-nil : (x : T) → Contains [] x → ⊥
-  Contains-nil x w = absurd (omega (arith, w.1))
 
 -- what is in a list is none that is not
 pub other_than : (b : ℕ) (order : List ℕ) → (Contains order b → ⊥) → (x : ℕ) → Contains order x → x ≢ b

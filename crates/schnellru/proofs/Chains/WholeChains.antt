@@ -18,10 +18,11 @@ use Rattle.group_table.proofs.ChangeLemmas.{entry_at-removed, bucket_at-removed_
 use Rattle.schnellru.specs.declared.ordered.Entry.{Entry}
 use Rattle.schnellru.specs.declared.ordered.Pair.{Pair}
 use Rattle.schnellru.specs.Inside.OrderedTable.{OrderedTable, IsLinked, without_bucket, with_pair}
-use Rattle.schnellru.specs.Lists.{first as first_bucket}
+use Rattle.lru_model.specs.Lists.{first as first_bucket}
 use Rattle.schnellru.specs.Inside.Chain.{bucket_after, link_to, pair_slots, older_at, along, IsChain}
 use Rattle.schnellru.specs.Inside.Chain.{IsWhole}
-use Rattle.schnellru.proofs.Chains.Orders.{other_than, Contains-here, Contains-later, distinct_head, distinct_tail}
+use Rattle.lru_model.proofs.PairLists.Members.{Contains-here, Contains-later}
+use Rattle.schnellru.proofs.Chains.Orders.{other_than, distinct_head, distinct_tail}
 use Rattle.schnellru.proofs.Chains.Orders.{in_without, length-without}
 use Rattle.schnellru.proofs.Chains.Neighbours.{after-later}
 use Rattle.schnellru.proofs.OrderedTables.PairSlots.{same_count, same_full, marks_of-pair_slots, is_full-pair_slots}

@@ -6,13 +6,13 @@ use Rattle.group_table.specs.Bucket.{Mark, empty, marks_of, room}
 use Rattle.group_table.proofs.BucketLemmas.{length-marks_of}
 use Rattle.lru_limits.specs.Rules.{Rules}
 use Rattle.schnellru.specs.Inside.OrderedTable.{OrderedTable, IsLinked, KeysFit, pairs_of, entries_in}
-use Rattle.schnellru.specs.State.{buckets}
-use Rattle.schnellru.specs.Calls.{cleared}
+use Rattle.lru_model.specs.State.{buckets}
+use Rattle.lru_model.specs.Calls.{cleared}
 use Rattle.schnellru.specs.Inside.Holds.{Beside, state_of, Holds}
 use Rattle.schnellru.proofs.OrderedTables.Clears.{marks_of-cleared}
-use Rattle.schnellru.proofs.PairLists.DistinctKeys.{none_distinct, AreDistinct}
+use Rattle.lru_model.proofs.PairLists.DistinctKeys.{none_distinct, AreDistinct}
 use Rattle.schnellru.proofs.Maps.HeldMaps.{sized_same}
-use Rattle.schnellru.proofs.Theorems.CallChanges.{room_cleared}
+use Rattle.lru_model.proofs.Theorems.CallChanges.{room_cleared}
 
 module _ {K V S H : Type 0} (rules : Rules K V S) (t u : OrderedTable K V)
     (slots : u.slots ≡ replicate (length t.slots) empty) (order : u.order ≡ [])

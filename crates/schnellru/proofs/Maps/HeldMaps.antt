@@ -4,12 +4,12 @@ use Rattle.std.proofs.Common.{Some, sym, ap, ◌∙◌, subst, arith}
 use Rattle.group_table.specs.Sizes.{full_capacity}
 use Rattle.group_table.specs.Bucket.{Mark, marks_of, room, room_at, is_used, bucket_at}
 use Rattle.group_table.proofs.BucketLemmas.{length-marks_of, entry_count-marks_of}
-use Rattle.schnellru.specs.Sizes.{usage}
-use Rattle.schnellru.specs.State.{Contents, IsSized, FreesRoom, Leaves}
+use Rattle.lru_model.specs.Sizes.{usage}
+use Rattle.lru_model.specs.State.{Contents, IsSized, FreesRoom, Leaves}
 use Rattle.schnellru.specs.Inside.OrderedTable.{OrderedTable, IsLinked, KeysFit, pairs_of}
 use Rattle.schnellru.specs.Inside.Holds.{Beside, state_of, Holds}
-use Rattle.schnellru.proofs.PairLists.DistinctKeys.{AreDistinct}
-use Rattle.schnellru.proofs.Theorems.PaidMoves.{leaves_paid}
+use Rattle.lru_model.proofs.PairLists.DistinctKeys.{AreDistinct}
+use Rattle.lru_model.proofs.Theorems.PaidMoves.{leaves_paid}
 use Rattle.schnellru.proofs.OrderedTables.BucketPairs.{pairs-length}
 
 module _ {K V S H : Type 0} (beside : Beside S H) where

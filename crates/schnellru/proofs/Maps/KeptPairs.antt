@@ -4,7 +4,7 @@ use Rattle.std.proofs.Common.{vec_capacity, refl, ap, ◌∙◌, arith}
 use Rattle.std.proofs.lemmas.Fn.{chained_keeps}
 use Rattle.std.proofs.lemmas.List.{length-append}
 use Rattle.std.specs.Fn.{Mut, Called}
-use Rattle.schnellru.specs.HandedOver.{Takes}
+use Rattle.lru_model.specs.HandedOver.{Takes}
 
 -- the pair was added, if there was space for it
 pub record IsKept {K V : Type 0} (old new : MutBor (Vec (K × V) Global)) (pair : K × V) : Type 0 where

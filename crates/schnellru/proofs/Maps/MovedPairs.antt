@@ -4,11 +4,11 @@ use Rattle.group_table.specs.Sizes.{full_capacity}
 use Rattle.group_table.specs.Bucket.{marks_of, room}
 use Rattle.group_table.specs.Change.{count_up}
 use Rattle.group_table.proofs.BucketLemmas.{length-marks_of}
-use Rattle.schnellru.specs.Sizes.{usage}
-use Rattle.schnellru.specs.State.{MovesTo}
+use Rattle.lru_model.specs.Sizes.{usage}
+use Rattle.lru_model.specs.State.{MovesTo}
 use Rattle.schnellru.specs.Inside.OrderedTable.{OrderedTable, IsLinked, KeysFit, pairs_of}
 use Rattle.schnellru.specs.Inside.Holds.{Beside, state_of, Holds}
-use Rattle.schnellru.proofs.PairLists.DistinctKeys.{AreDistinct}
+use Rattle.lru_model.proofs.PairLists.DistinctKeys.{AreDistinct}
 use Rattle.schnellru.proofs.OrderedTables.BucketPairs.{pairs-length}
 use Rattle.schnellru.proofs.Maps.HeldMaps.{sized_by}
 

@@ -7,12 +7,12 @@ use Rattle.std.proofs.lemmas.Option.{same_Some}
 use Rattle.std.proofs.lemmas.Fn.{FoldsTo-push}
 use Rattle.std.specs.Fn.{Mut, Called}
 use Rattle.lru_limits.specs.Rules.{Rules, Offers, Replaced, Notified}
-use Rattle.schnellru.specs.Lists.{last, without, set_entry}
-use Rattle.schnellru.specs.State.{State, Contents, IsSized, FreesRoom, Leaves, contents, notified_of, pop}
-use Rattle.schnellru.specs.Calls.{PopOldest, left_of}
-use Rattle.schnellru.specs.Place.{IsPlaced, FillsBucket, HasNoBucket, IsOutgrown, turned_away}
-use Rattle.schnellru.specs.Inserts.{make_room, replacement}
-use Rattle.schnellru.specs.HandedOver.{noting, noting_offers, noted, Takes}
+use Rattle.lru_model.specs.Lists.{last, without, set_entry}
+use Rattle.lru_model.specs.State.{State, Contents, IsSized, FreesRoom, Leaves, contents, notified_of, pop}
+use Rattle.lru_model.specs.Calls.{PopOldest, left_of}
+use Rattle.lru_model.specs.Place.{IsPlaced, FillsBucket, HasNoBucket, IsOutgrown, turned_away}
+use Rattle.lru_model.specs.Inserts.{make_room, replacement}
+use Rattle.lru_model.specs.HandedOver.{noting, noting_offers, noted, Takes}
 use Rattle.schnellru.specs.Inside.Handing.{Hands, HandsGivenUp}
 use Rattle.schnellru.specs.Inside.Steps.{IsOffered}
 

@@ -3,13 +3,13 @@ use Rattle.std.proofs.Common.{◌≡◌, ℕ, ◌<◌, Bool, true, false, List, 
 use Rattle.std.proofs.Common.{◌∙◌, subst, arith}
 use Rattle.lru_limits.specs.Rules.{Rules, Offers}
 use Rattle.std.proofs.lemmas.Option.{none-some}
-use Rattle.schnellru.specs.Calls.{promoted}
-use Rattle.schnellru.specs.Inserts.{replacement, with_replaced, unkept_of, unkept_value}
+use Rattle.lru_model.specs.Calls.{promoted}
+use Rattle.lru_model.specs.Inserts.{replacement, with_replaced, unkept_of, unkept_value}
 use Rattle.schnellru.specs.Inside.Steps.{IsOffered}
-use Rattle.schnellru.specs.Lists.{lookup_entry, front, place_of}
-use Rattle.schnellru.specs.State.{State, Contents, Leaves, contents}
-use Rattle.schnellru.proofs.Maps.Promotions.{length-front_pairs}
-use Rattle.schnellru.proofs.PairLists.SetEntries.{length-set_entry, place-set_entry, front-set_entry}
+use Rattle.lru_model.specs.Lists.{lookup_entry, front, place_of}
+use Rattle.lru_model.specs.State.{State, Contents, Leaves, contents}
+use Rattle.lru_model.proofs.States.Promotions.{length-front_pairs}
+use Rattle.lru_model.proofs.PairLists.SetEntries.{length-set_entry, place-set_entry, front-set_entry}
 
 -- if a pair comes to the front, what left left
 promoted_leaves : {K V S H : Type 0} (names : K → Bool) (old mid : State K V S H) (left : Contents K V S)

@@ -7,16 +7,16 @@ use Rattle.std.specs.Prelude.{map}
 use Rattle.std.specs.Borrow.{Bor}
 use Rattle.std.specs.Fn.{Mut, Called}
 use Rattle.lru_limits.specs.Rules.{Rules}
-use Rattle.schnellru.specs.ByHash.{Asks}
-use Rattle.schnellru.specs.Lists.{last, without_last, after}
-use Rattle.schnellru.specs.State.{State, Contents, contents, Leaves, notified_of}
-use Rattle.schnellru.specs.Calls.{PopOldest}
-use Rattle.schnellru.specs.HandedOver.{noting, noted, Takes}
-use Rattle.schnellru.specs.Retains.{retained, Answers, RetainHands}
-use Rattle.schnellru.proofs.Maps.LeavingPairs.{leaves_trans, leaves_self, length-without_last}
+use Rattle.lru_model.specs.ByHash.{Asks}
+use Rattle.lru_model.specs.Lists.{last, without_last, after}
+use Rattle.lru_model.specs.State.{State, Contents, contents, Leaves, notified_of}
+use Rattle.lru_model.specs.Calls.{PopOldest}
+use Rattle.lru_model.specs.HandedOver.{noting, noted, Takes}
+use Rattle.lru_model.specs.Retains.{retained, Answers, RetainHands}
+use Rattle.lru_model.proofs.States.LeavingPairs.{leaves_trans, leaves_self, length-without_last}
 use Rattle.schnellru.proofs.Maps.NotedStates.{takes_more, noted_pop}
-use Rattle.schnellru.proofs.PairLists.Emptiness.{last-length}
-use Rattle.schnellru.proofs.PairLists.NamedPairs.{last_end, without_last_end}
+use Rattle.lru_model.proofs.PairLists.Emptiness.{last-length}
+use Rattle.lru_model.proofs.PairLists.NamedPairs.{last_end, without_last_end}
 
 module _ {X : Type 0} where
   -- the last of a list, and what comes before it

@@ -1,28 +1,22 @@
 -- A map keeps its pairs and their order when all of them move into fewer buckets, which is counted.
 use Rattle.std.proofs.Common.{◌≡◌, ℕ, ◌+◌, ◌<◌, ◌≤◌, ◌⊎◌, inl, inr, Bool, length, Option, Some, sym, ap, ◌∙◌}
 use Rattle.std.proofs.Common.{subst, arith}
-use Rattle.std.proofs.lemmas.Option.{same_Some}
 use Rattle.group_table.specs.Sizes.{full_capacity, buckets_for}
 use Rattle.group_table.specs.Bucket.{marks_of, room}
 use Rattle.group_table.specs.Change.{count_up}
 use Rattle.group_table.proofs.BucketLemmas.{length-marks_of}
-use Rattle.schnellru.specs.Sizes.{usage}
-use Rattle.schnellru.specs.State.{MovesTo, IsSized, buckets}
-use Rattle.schnellru.specs.Shrinks.{shrink_counted}
+use Rattle.lru_model.specs.Sizes.{usage}
+use Rattle.lru_model.specs.State.{MovesTo, IsSized, buckets}
+use Rattle.lru_model.specs.Shrinks.{shrink_counted}
 use Rattle.schnellru.specs.Inside.OrderedTable.{OrderedTable, IsLinked, KeysFit, pairs_of}
 use Rattle.schnellru.specs.Inside.Holds.{Beside, state_of, Holds}
-use Rattle.schnellru.proofs.PairLists.DistinctKeys.{AreDistinct}
-use Rattle.schnellru.proofs.TableSizes.Budgets.{usage_fewer}
+use Rattle.lru_model.proofs.PairLists.DistinctKeys.{AreDistinct}
+use Rattle.lru_model.proofs.TableSizes.Budgets.{usage_fewer}
 use Rattle.schnellru.proofs.OrderedTables.BucketPairs.{pairs-length}
 use Rattle.schnellru.proofs.Maps.HeldMaps.{sized_by}
 use Rattle.schnellru.proofs.Maps.MovedPairs.{moves_to}
-use Rattle.schnellru.proofs.Theorems.PaidMoves.{paid_after}
-use Rattle.schnellru.proofs.Theorems.Shrinks.{moved_pays}
-
--- no pairs need no buckets
-pub none_needed : (max count : ℕ) → buckets_for max 0 ≡ Some count → count ≡ 0
-unfolding buckets_for
-none_needed max count is = sym (same_Some 0 count is)
+use Rattle.lru_model.proofs.Theorems.PaidMoves.{paid_after}
+use Rattle.lru_model.proofs.Theorems.Shrinks.{moved_pays}
 
 module _ {K V S H : Type 0} (beside : Beside S H) (t : OrderedTable K V) (linked : IsLinked t) where
   -- how many buckets the pairs of a map need, by the figures of its linked table

@@ -2,11 +2,11 @@
 use Rattle.std.proofs.Common.{◌≡◌, ◌<◌, true, Some, [], ◌∷◌, ◌++◌, length, ap, sym, ◌∙◌, subst}
 use Rattle.std.specs.Fn.{Mut, Called}
 use Rattle.lru_limits.specs.Rules.{Rules}
-use Rattle.schnellru.specs.State.{State, contents, trim, Leaves}
-use Rattle.schnellru.specs.Calls.{PopOldest}
-use Rattle.schnellru.specs.HandedOver.{noting, noted}
+use Rattle.lru_model.specs.State.{State, contents, trim, Leaves}
+use Rattle.lru_model.specs.Calls.{PopOldest}
+use Rattle.lru_model.specs.HandedOver.{noting, noted}
 use Rattle.schnellru.specs.Inside.Handing.{Hands}
-use Rattle.schnellru.proofs.Maps.LeavingPairs.{leaves_trans, trim-over}
+use Rattle.lru_model.proofs.States.LeavingPairs.{leaves_trans, trim-over}
 use Rattle.schnellru.proofs.Maps.NotedStates.{takes_more, noted_pop}
 
 module _ {K V S H F : Type 0} (rules : Rules K V S) (closure : Mut F (K × (V × Unit {0})) (Unit {0}))

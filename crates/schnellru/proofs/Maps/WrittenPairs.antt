@@ -6,9 +6,9 @@ use Rattle.std.proofs.lemmas.Option.{none-some, same_Some}
 use Rattle.std.specs.Prelude.{slice_get}
 use Rattle.std.specs.Borrow.{Bor, MutBor}
 use Rattle.std.specs.Fn.{Mut}
-use Rattle.schnellru.specs.Lists.{set_value_at}
-use Rattle.schnellru.specs.State.{State}
-use Rattle.schnellru.specs.Written.{Writes, WritesEach}
+use Rattle.lru_model.specs.Lists.{set_value_at}
+use Rattle.lru_model.specs.State.{State}
+use Rattle.lru_model.specs.Written.{Writes, WritesEach}
 
 -- what is at the position after a list
 get_after : {X : Type 0} (front rest : List X) → slice_get (front ++ rest) (length front) ≡ slice_get rest 0

@@ -9,7 +9,7 @@ use Rattle.group_table.specs.Probe.{hash_tag, probed}
 use Rattle.group_table.specs.Search.{IsSearch, Answers, Finds, FindsNone}
 use Rattle.schnellru.specs.declared.ordered.Entry.{Entry}
 use Rattle.schnellru.specs.Inside.Chain.{pair_slot, pair_slots}
-use Rattle.schnellru.specs.ByHash.{Asks}
+use Rattle.lru_model.specs.ByHash.{Asks}
 use Rattle.schnellru.specs.Inside.Searches.{AnswersPair, FindsPair, FindsNoPair}
 use Rattle.schnellru.proofs.OrderedTables.PairSlots.{pair_of, length-pair_slots, bucket_at-pair_slots}
 use Rattle.schnellru.proofs.OrderedTables.PairSlots.{marks_of-pair_slots, entry_at-pair_slots, is_full-pair_slots}

@@ -8,14 +8,14 @@ use Rattle.group_table.specs.Bucket.{Slot, empty, deleted, IsFull, bucket_at, en
 use Rattle.group_table.specs.Change.{Removes}
 use Rattle.group_table.proofs.SearchLemmas.{entry_by_full, full_by_entry}
 use Rattle.std.proofs.lemmas.List.Elements.{Contains-append_left}
-use Rattle.schnellru.specs.Lists.{place_of, other_places, front_places, after}
-use Rattle.schnellru.specs.Lists.{lookup, lookup_entry, without, first, last, without_first, without_last}
+use Rattle.lru_model.specs.Lists.{place_of, other_places, front_places, after}
+use Rattle.lru_model.specs.Lists.{lookup, lookup_entry, without, first, last, without_first, without_last}
 use Rattle.schnellru.specs.Inside.OrderedTable.{OrderedTable, IsLinked, entries_in, pairs_of, without_bucket}
-use Rattle.schnellru.specs.Lists.{first as first_bucket, last as last_bucket}
-use Rattle.schnellru.proofs.PairLists.DistinctKeys.{AreDistinct, NoneNamed, none_found}
+use Rattle.lru_model.specs.Lists.{first as first_bucket, last as last_bucket}
+use Rattle.lru_model.proofs.PairLists.DistinctKeys.{AreDistinct, NoneNamed, none_found}
 use Rattle.schnellru.proofs.Chains.Orders.{first_in, no_first, last_in, length-without}
-use Rattle.schnellru.proofs.PairLists.NamedPairs.{lookup-entry, cut_found, cut_without, others_unnamed, last_end}
-use Rattle.schnellru.proofs.PairLists.NamedPairs.{without_last_end}
+use Rattle.lru_model.proofs.PairLists.NamedPairs.{lookup-entry, cut_found, cut_without, others_unnamed, last_end}
+use Rattle.lru_model.proofs.PairLists.NamedPairs.{without_last_end}
 use Rattle.schnellru.proofs.OrderedTables.OrderCuts.{Cut, cut_at, cut_first, cut_last, cut_without as order_without}
 use Rattle.schnellru.proofs.OrderedTables.OrderCuts.{without_lacks, entries-cut, entries-without, entries-apart}
 

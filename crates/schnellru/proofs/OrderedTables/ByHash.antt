@@ -12,14 +12,15 @@ use Rattle.group_table.specs.Bucket.{Slot, bucket_at, entry_at, has_tag}
 use Rattle.group_table.specs.Probe.{hash_tag}
 use Rattle.group_table.specs.Search.{IsSearch}
 use Rattle.group_table.proofs.SearchLemmas.{full_by_entry, full_by_tag, held_by, entry_by_full}
-use Rattle.schnellru.specs.ByHash.{Refuses, AreCandidates, GivesByHash, GivesNoneByHash}
-use Rattle.schnellru.specs.Lists.{keys_of}
+use Rattle.lru_model.specs.ByHash.{Refuses, AreCandidates, GivesByHash, GivesNoneByHash}
+use Rattle.lru_model.specs.Lists.{keys_of}
 use Rattle.schnellru.specs.Inside.OrderedTable.{OrderedTable, IsLinked, KeysFit, hash_in, entries_in, pairs_of}
 use Rattle.schnellru.specs.Inside.OrderedTable.{without_bucket}
 use Rattle.schnellru.specs.Inside.Searches.{AnswersPair, FindsPair, FindsNoPair}
-use Rattle.schnellru.proofs.Chains.Orders.{Contains-here, Contains-later, Contains-cases, Contains-nil, distinct_head}
+use Rattle.lru_model.proofs.PairLists.Members.{Contains-here, Contains-later, Contains-cases, Contains-nil}
+use Rattle.schnellru.proofs.Chains.Orders.{distinct_head}
 use Rattle.schnellru.proofs.Chains.Orders.{distinct_tail, in_without}
-use Rattle.schnellru.proofs.PairLists.DistinctKeys.{AreDistinct, NoneNamed, all_of, others_unnamed}
+use Rattle.lru_model.proofs.PairLists.DistinctKeys.{AreDistinct, NoneNamed, all_of, others_unnamed}
 use Rattle.schnellru.proofs.OrderedTables.OrderCuts.{entries-append}
 use Rattle.schnellru.proofs.OrderedTables.BucketPairs.{others_are}
 use Rattle.schnellru.proofs.OrderedTables.KeyHashes.{hash_in-entry}

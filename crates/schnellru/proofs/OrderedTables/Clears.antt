@@ -5,9 +5,9 @@ use Rattle.std.proofs.lemmas.Bool.{false≢true}
 use Rattle.group_table.specs.Bucket.{Slot, empty, is_full, IsFull, marks_of}
 use Rattle.group_table.proofs.CopyLemmas.{copy_at}
 use Rattle.group_table.proofs.FreshLemmas.{entry_count-none}
+use Rattle.lru_model.proofs.PairLists.Members.{Contains-nil}
 use Rattle.schnellru.specs.declared.ordered.Entry.{Entry}
 use Rattle.schnellru.specs.Inside.Chain.{pair_slots, IsWhole}
-use Rattle.schnellru.proofs.Chains.Orders.{Contains-nil}
 
 none_full : (T : Type 0) (n b : ℕ) → IsFull {A = T} (replicate n empty) b → ⊥
 none_full T n b h = false≢true (sym (ap is_full (copy_at n b empty)) ∙ h)

@@ -13,7 +13,7 @@ use Rattle.group_table.specs.Fits.{Fits}
 use Rattle.group_table.proofs.BucketLemmas.{entry_count-marks_of, length-marks_of}
 use Rattle.group_table.proofs.FitsLemmas.{Fits-agree}
 use Rattle.schnellru.specs.declared.ordered.Entry.{Entry}
-use Rattle.schnellru.specs.Clones.{IsPairClone}
+use Rattle.lru_model.specs.Clones.{IsPairClone}
 use Rattle.schnellru.specs.Inside.Chain.{pair_slots, newer_at, older_at, along, IsWhole}
 use Rattle.schnellru.specs.Inside.Copies.{IsEntryCopy}
 use Rattle.schnellru.specs.Inside.OrderedTable.{entries_in, hash_in, KeysFit}

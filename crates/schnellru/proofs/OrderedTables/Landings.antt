@@ -11,19 +11,19 @@ use Rattle.group_table.specs.Change.{count_up}
 use Rattle.std.proofs.lemmas.Bool.{false≢true}
 use Rattle.group_table.proofs.FirstFree.{fills_within}
 use Rattle.group_table.proofs.BucketLemmas.{length-marks_of, is_full-marks_of, marks_of-set}
-use Rattle.schnellru.specs.State.{buckets, IsSized, IsPaid}
-use Rattle.schnellru.specs.Place.{IsPlaced, FillsBucket}
-use Rattle.schnellru.specs.Lists.{lookup_entry}
+use Rattle.lru_model.specs.State.{buckets, IsSized, IsPaid}
+use Rattle.lru_model.specs.Place.{IsPlaced, FillsBucket}
+use Rattle.lru_model.specs.Lists.{lookup_entry}
 use Rattle.schnellru.specs.Inside.OrderedTable.{OrderedTable, IsLinked, KeysFit, Lands, pairs_of, entries_in}
 use Rattle.std.specs.List.{IsDistinct}
-use Rattle.schnellru.proofs.PairLists.DistinctKeys.{AreDistinct, absent_keys}
+use Rattle.lru_model.proofs.PairLists.DistinctKeys.{AreDistinct, absent_keys}
 use Rattle.schnellru.specs.Inside.Holds.{Beside, state_of, Holds}
 use Rattle.schnellru.proofs.OrderedTables.OrderCuts.{entries-apart}
 use Rattle.schnellru.proofs.Chains.Orders.{Lacks, lacks_unless}
-use Rattle.schnellru.proofs.TableSizes.FilledBuckets.{fills_free}
+use Rattle.lru_model.proofs.TableSizes.FilledBuckets.{fills_free}
 use Rattle.schnellru.proofs.Maps.HeldMaps.{sized_same, room_at-most}
-use Rattle.schnellru.proofs.Theorems.Potential.{pays_placing}
-use Rattle.schnellru.proofs.Theorems.PaidMoves.{paid_after}
+use Rattle.lru_model.proofs.Theorems.Potential.{pays_placing}
+use Rattle.lru_model.proofs.Theorems.PaidMoves.{paid_after}
 
 pub count_up-none : (n : ℕ) → n < 2 ^ 64 → n ≡ count_up n 0
 count_up-none n h = grind (arith, h)

@@ -3,11 +3,11 @@ use Rattle.std.proofs.Common.{◌≡◌, ℕ, Bool, true, [], ◌∷◌, ◌++�
 use Rattle.std.specs.Prelude.{option_to_list}
 use Rattle.std.specs.Cmp.{IsEquivalence}
 use Rattle.group_table.specs.Bucket.{entry_at, marks_of}
-use Rattle.schnellru.specs.Lists.{without, back, back_places}
+use Rattle.lru_model.specs.Lists.{without, back, back_places}
 use Rattle.schnellru.specs.Inside.OrderedTable.{OrderedTable, IsLinked, KeysFit, pairs_of, entries_in, without_bucket}
 use Rattle.schnellru.specs.Inside.Holds.{Beside, state_of, Holds}
-use Rattle.schnellru.specs.Calls.{demoted}
-use Rattle.schnellru.proofs.PairLists.DistinctKeys.{AreDistinct, distinct_last}
+use Rattle.lru_model.specs.Calls.{demoted}
+use Rattle.lru_model.proofs.PairLists.DistinctKeys.{AreDistinct, distinct_last}
 use Rattle.schnellru.proofs.OrderedTables.BucketPairs.{pair_found, others_are, place_found, other_places_are}
 use Rattle.schnellru.proofs.OrderedTables.OrderCuts.{entries-append}
 use Rattle.schnellru.proofs.Maps.HeldMaps.{alike_holds}

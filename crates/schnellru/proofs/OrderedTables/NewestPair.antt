@@ -5,15 +5,15 @@ use Rattle.std.specs.Cmp.{IsEquivalence}
 use Rattle.group_table.specs.Bucket.{bucket_at, entry_at, marks_of}
 use Rattle.group_table.proofs.RefillLemmas.{marks_of-refilled}
 use Rattle.group_table.proofs.SearchLemmas.{full_by_entry}
-use Rattle.schnellru.specs.Lists.{without, front, after, last, without_last, newest_value, set_newest}
+use Rattle.lru_model.specs.Lists.{without, front, after, last, without_last, newest_value, set_newest}
 use Rattle.schnellru.specs.Inside.OrderedTable.{OrderedTable, IsLinked, KeysFit, pairs_of, entries_in, without_bucket}
 use Rattle.schnellru.specs.Inside.OrderedTable.{with_pair}
-use Rattle.schnellru.specs.Lists.{first as first_bucket, last as last_bucket}
+use Rattle.lru_model.specs.Lists.{first as first_bucket, last as last_bucket}
 use Rattle.schnellru.specs.Inside.Holds.{Beside, state_of, Holds}
-use Rattle.schnellru.specs.Calls.{promoted}
+use Rattle.lru_model.specs.Calls.{promoted}
 use Rattle.schnellru.proofs.Chains.Orders.{first_in, before_is, before_first}
 use Rattle.schnellru.proofs.Chains.Neighbours.{newest_again}
-use Rattle.schnellru.proofs.PairLists.DistinctKeys.{AreDistinct, distinct_first}
+use Rattle.lru_model.proofs.PairLists.DistinctKeys.{AreDistinct, distinct_first}
 use Rattle.schnellru.proofs.OrderedTables.BucketPairs.{pair_found, others_are, places_are, oldest_is, others_oldest}
 use Rattle.schnellru.proofs.Maps.HeldMaps.{alike_holds}
 use Rattle.schnellru.proofs.OrderedTables.Writes.{written_first, kept_holds}

@@ -8,7 +8,7 @@ use Rattle.std.proofs.lemmas.Option.{same_Some}
 use Rattle.group_table.specs.Bucket.{Slot, entry_at, entry_of, empty}
 use Rattle.schnellru.proofs.Chains.Orders.{Lacks, lacks_unless, without-lacking, distinct_head, distinct_tail, last_in}
 use Rattle.schnellru.specs.Inside.OrderedTable.{without_bucket, entries_in}
-use Rattle.schnellru.specs.Lists.{first as first_bucket, last as last_bucket}
+use Rattle.lru_model.specs.Lists.{first as first_bucket, last as last_bucket}
 
 -- the buckets before this one, and those after
 pub record Cut (b : ℕ) (order : List ℕ) : Type 0 where

@@ -9,12 +9,13 @@ use Rattle.std.specs.Map.{set_value}
 use Rattle.std.proofs.lemmas.Option.{none-some, same_Some}
 use Rattle.group_table.specs.Bucket.{Slot, entry_at, bucket_at}
 use Rattle.group_table.proofs.SearchLemmas.{entry_by_full}
-use Rattle.schnellru.specs.Lists.{set_value_at, last_of, place_of}
-use Rattle.schnellru.specs.Lists.{first as first_bucket, last as last_bucket}
+use Rattle.lru_model.specs.Lists.{set_value_at, last_of, place_of}
+use Rattle.lru_model.specs.Lists.{first as first_bucket, last as last_bucket}
 use Rattle.schnellru.specs.Inside.Chain.{bucket_after, bucket_before}
 use Rattle.schnellru.specs.Inside.OrderedTable.{entries_in}
-use Rattle.schnellru.proofs.Chains.Orders.{Contains-here, Contains-later, distinct_head, distinct_tail}
-use Rattle.schnellru.proofs.PairLists.DistinctKeys.{AreDistinct, all_of}
+use Rattle.lru_model.proofs.PairLists.Members.{Contains-here, Contains-later}
+use Rattle.schnellru.proofs.Chains.Orders.{distinct_head, distinct_tail}
+use Rattle.lru_model.proofs.PairLists.DistinctKeys.{AreDistinct, all_of}
 use Rattle.schnellru.proofs.OrderedTables.BucketPairs.{AreFull}
 
 -- what is at a position is in the list

@@ -9,7 +9,7 @@ use Rattle.group_table.proofs.SearchLemmas.{full_by_entry}
 use Rattle.schnellru.specs.declared.ordered.Entry.{Entry}
 use Rattle.schnellru.specs.Inside.OrderedTable.{entries_in, hash_in, KeysFit}
 use Rattle.schnellru.specs.Inside.Chain.{pair_slots, IsChain, IsWhole}
-use Rattle.schnellru.proofs.Chains.Orders.{Contains-here, Contains-later}
+use Rattle.lru_model.proofs.PairLists.Members.{Contains-here, Contains-later}
 use Rattle.schnellru.proofs.Chains.Neighbours.{moved_in}
 use Rattle.schnellru.proofs.OrderedTables.PairSlots.{pair_of, same_count, same_full, entry_at-pair_slots}
 use Rattle.schnellru.proofs.OrderedTables.PairSlots.{Fits-pair_slots}

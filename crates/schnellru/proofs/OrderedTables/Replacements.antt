@@ -9,13 +9,13 @@ use Rattle.group_table.proofs.ChangeLemmas.{length-removed}
 use Rattle.group_table.proofs.RefillLemmas.{entry_at-refilled, marks_of-refilled}
 use Rattle.group_table.proofs.SearchLemmas.{full_by_entry}
 use Rattle.lru_limits.specs.Rules.{Rules, Replaced}
-use Rattle.schnellru.specs.Lists.{without, set_entry}
+use Rattle.lru_model.specs.Lists.{without, set_entry}
 use Rattle.schnellru.specs.Inside.OrderedTable.{OrderedTable, IsLinked, KeysFit, with_pair, without_bucket, pairs_of}
 use Rattle.schnellru.specs.Inside.OrderedTable.{entries_in}
-use Rattle.schnellru.specs.State.{State, Leaves}
+use Rattle.lru_model.specs.State.{State, Leaves}
 use Rattle.schnellru.specs.Inside.Holds.{Beside, state_of, Holds}
 use Rattle.schnellru.specs.Inside.Steps.{IsReplaced, IsGivenUp, IsTakenOut}
-use Rattle.schnellru.proofs.PairLists.DistinctKeys.{AreDistinct, distinct_set, distinct_without}
+use Rattle.lru_model.proofs.PairLists.DistinctKeys.{AreDistinct, distinct_set, distinct_without}
 use Rattle.schnellru.proofs.OrderedTables.OrderCuts.{entries-apart, without_lacks}
 use Rattle.schnellru.proofs.OrderedTables.Writes.{set_pairs}
 use Rattle.schnellru.proofs.OrderedTables.BucketPairs.{pairs-length, shorter, others_are, removed-entries}

@@ -4,11 +4,11 @@ use Rattle.std.proofs.Common.{Option}
 use Rattle.std.specs.Cmp.{IsEquivalence}
 use Rattle.std.specs.Prelude.{IfSome}
 use Rattle.group_table.specs.Bucket.{entry_at}
-use Rattle.schnellru.specs.Lists.{lookup_entry, place_of}
+use Rattle.lru_model.specs.Lists.{lookup_entry, place_of}
 use Rattle.schnellru.specs.Inside.OrderedTable.{OrderedTable, IsLinked, pairs_of}
 use Rattle.schnellru.proofs.OrderedTables.BucketPairs.{none_named, all_full, place_found}
 use Rattle.schnellru.proofs.OrderedTables.Places.{place_holds}
-use Rattle.schnellru.proofs.PairLists.DistinctKeys.{AreDistinct}
+use Rattle.lru_model.proofs.PairLists.DistinctKeys.{AreDistinct}
 
 -- tests that agree find the same pair
 pub lookup_alike : {K V : Type 0} (names others : K → Bool) → ((k : K) → names k ≡ others k) → (xs : List (K × V))

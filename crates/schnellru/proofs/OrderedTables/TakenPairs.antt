@@ -1,20 +1,17 @@
 -- A pair was taken out of its bucket, and the limiter was notified.
-use Rattle.std.proofs.Common.{◌≡◌, ℕ, suc, Bool, Option, Some, None, option_map, length, refl, sym, ap, ◌∙◌, subst}
+use Rattle.std.proofs.Common.{◌≡◌, ℕ, suc, Bool, Option, Some, length, refl, sym, ap, ◌∙◌, subst}
 use Rattle.std.specs.Cmp.{IsEquivalence}
 use Rattle.group_table.proofs.ChangeLemmas.{length-removed, states-removed}
 use Rattle.group_table.proofs.SearchLemmas.{full_by_entry}
 use Rattle.group_table.specs.Bucket.{bucket_at}
 use Rattle.lru_limits.specs.Rules.{Rules}
 use Rattle.schnellru.specs.Inside.OrderedTable.{OrderedTable, IsLinked, KeysFit, pairs_of, entries_in, without_bucket}
-use Rattle.schnellru.specs.Lists.{lookup_entry}
-use Rattle.schnellru.specs.State.{State, Contents, Frees, Leaves, notified_of}
-use Rattle.schnellru.specs.Calls.{left_of, Remove, RemoveEntry}
+use Rattle.lru_model.specs.State.{Contents, Frees, Leaves, notified_of}
+use Rattle.lru_model.specs.Calls.{left_of}
 use Rattle.schnellru.specs.Inside.Steps.{IsTakenOut}
 use Rattle.schnellru.specs.Inside.Holds.{Beside, state_of, Holds}
-use Rattle.schnellru.proofs.PairLists.DistinctKeys.{AreDistinct, distinct_without}
-use Rattle.schnellru.proofs.Theorems.Fronts.{without_none}
+use Rattle.lru_model.proofs.PairLists.DistinctKeys.{AreDistinct, distinct_without}
 use Rattle.schnellru.proofs.Maps.HeldMaps.{frees_room, leaves_holds}
-use Rattle.schnellru.proofs.Maps.LeavingPairs.{leaves_self}
 use Rattle.schnellru.proofs.OrderedTables.BucketPairs.{shorter, others_are, removed-entries}
 
 module _ {K V S : Type 0} (rules : Rules K V S) (t u : OrderedTable K V) (b : ℕ) (limiter notified : S) (result : K × V)
@@ -66,20 +63,3 @@ module _ {K V S : Type 0} (rules : Rules K V S) (t u : OrderedTable K V) (b : �
         (subst (AreDistinct eq) (others_are t first b out.pair out.there (eq out.pair.0) laws
         (λ x y e. laws.congr out.pair.0 x y e) holds.map.distinct (laws.refl out.pair.0) ∙ sym taken_pairs)
         (distinct_without eq (eq out.pair.0) (pairs_of t) holds.map.distinct))
-
-module _ {K V S H : Type 0} (rules : Rules K V S) (names : K → Bool) where
-  -- if no pair is named, none leaves
-  pub none_removed : (st : State K V S H) → lookup_entry names st.pairs ≡ None → RemoveEntry rules names st None st
-  none_removed st none = record {
-    pair = ap (left_of rules st.limiter) (sym none);
-    state = subst (λ left. Leaves st left st)
-        (λ i. record {
-          pairs = sym (without_none names st.pairs none) i;
-          limiter = notified_of rules (sym none i) st.limiter;
-        }) (leaves_self st);
-  }
-
-  -- of a pair that was removed, the value may be returned alone
-  pub value_removed : (old : State K V S H) (pair : Option (K × V)) (new : State K V S H)
-      → RemoveEntry rules names old pair new → Remove rules names old (option_map (λ p. p.1) pair) new
-  value_removed old pair new h = record { value = ap (option_map (λ p. p.1)) h.pair; state = h.state }

@@ -7,10 +7,11 @@ use Rattle.std.proofs.lemmas.List.{append_assoc, take_at, length-append}
 use Rattle.std.proofs.lemmas.Option.{none-some, same_Some}
 use Rattle.group_table.specs.Bucket.{IsFull, entry_at}
 use Rattle.schnellru.specs.Inside.OrderedTable.{OrderedTable, IsLinked, entries_in}
-use Rattle.schnellru.specs.Lists.{first as first_bucket, last as last_bucket}
+use Rattle.lru_model.specs.Lists.{first as first_bucket, last as last_bucket}
 use Rattle.schnellru.specs.Inside.Chain.{bucket_after, bucket_before}
 use Rattle.schnellru.specs.Inside.Rest.{from_bucket, rest_of, IsRest}
-use Rattle.schnellru.proofs.Chains.Orders.{Contains-here, Contains-later, distinct_head, distinct_tail, before_from}
+use Rattle.lru_model.proofs.PairLists.Members.{Contains-here, Contains-later}
+use Rattle.schnellru.proofs.Chains.Orders.{distinct_head, distinct_tail, before_from}
 use Rattle.schnellru.proofs.Chains.Orders.{before_is, last_from, last_is}
 use Rattle.schnellru.proofs.OrderedTables.BucketPairs.{entries-length, all_full, AreFull}
 use Rattle.schnellru.proofs.OrderedTables.OrderCuts.{entries-append}

@@ -9,13 +9,13 @@ use Rattle.std.proofs.lemmas.Map.{keys-set_value}
 use Rattle.group_table.specs.Bucket.{IsFull, bucket_at, entry_at, refilled}
 use Rattle.group_table.proofs.RefillLemmas.{entry_at-refilled, marks_of-refilled}
 use Rattle.group_table.proofs.SearchLemmas.{full_by_entry}
-use Rattle.schnellru.specs.Lists.{keys_of, set_entry}
+use Rattle.lru_model.specs.Lists.{keys_of, set_entry}
 use Rattle.schnellru.specs.Inside.OrderedTable.{OrderedTable, IsLinked, KeysFit, pairs_of, entries_in, without_bucket}
 use Rattle.schnellru.specs.Inside.OrderedTable.{with_pair}
 use Rattle.schnellru.specs.Inside.Holds.{Beside, state_of, Holds}
-use Rattle.schnellru.specs.Calls.{written}
+use Rattle.lru_model.specs.Calls.{written}
 use Rattle.schnellru.proofs.OrderedTables.OrderCuts.{without_lacks, entries-apart, entries-cut}
-use Rattle.schnellru.proofs.PairLists.DistinctKeys.{AreDistinct, NoneNamed}
+use Rattle.lru_model.proofs.PairLists.DistinctKeys.{AreDistinct, NoneNamed}
 use Rattle.schnellru.proofs.OrderedTables.BucketPairs.{cut_here, cut_pairs, unnamed}
 use Rattle.schnellru.proofs.Maps.HeldMaps.{alike_holds}
 

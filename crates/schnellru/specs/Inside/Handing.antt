@@ -2,7 +2,7 @@
 use Rattle.std.specs.Prelude.{List}
 use Rattle.std.specs.Fn.{Mut, Called}
 use Rattle.lru_limits.specs.Rules.{Rules, Replaced}
-use Rattle.schnellru.specs.HandedOver.{Takes}
+use Rattle.lru_model.specs.HandedOver.{Takes}
 
 module _ {K V F : Type 0} (closure : Mut F (K × (V × Unit {0})) (Unit {0})) where
   -- The callback was f after the pairs that were passed before, got more, and is then g. This is stated of the lists of

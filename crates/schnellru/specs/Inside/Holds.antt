@@ -1,7 +1,7 @@
 -- How the fields of an `LruMap` hold its state. No public clause cites this module.
 use Rattle.std.specs.Prelude.{ℕ, Bool}
 use Rattle.group_table.specs.Bucket.{marks_of}
-use Rattle.schnellru.specs.State.{State, IsMap}
+use Rattle.lru_model.specs.State.{State, IsMap}
 use Rattle.schnellru.specs.Inside.OrderedTable.{OrderedTable, IsLinked, KeysFit, pairs_of}
 
 -- what a map has besides its entries

@@ -1,7 +1,7 @@
 -- How the fields of a walk hold what is left of it. No public clause cites this module.
 use Rattle.std.specs.Prelude.{◌≡◌, ℕ, List, [], ◌∷◌, ◌++◌, length, take, nat_eq, if◌then◌else◌, Option, None, Some}
 use Rattle.schnellru.specs.Inside.OrderedTable.{OrderedTable, IsLinked, entries_in}
-use Rattle.schnellru.specs.Lists.{first as first_bucket, last as last_bucket}
+use Rattle.lru_model.specs.Lists.{first as first_bucket, last as last_bucket}
 
 -- the buckets from this one on
 abbrev pub from_bucket : Option ℕ → List ℕ → List ℕ

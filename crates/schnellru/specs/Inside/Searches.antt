@@ -6,7 +6,7 @@ use Rattle.std.specs.Fn.{Mut}
 use Rattle.group_table.specs.Bucket.{Slot, entry_at, IsFull}
 use Rattle.group_table.specs.Fits.{Fits}
 use Rattle.group_table.specs.Search.{IsSearch}
-use Rattle.schnellru.specs.ByHash.{Asks}
+use Rattle.lru_model.specs.ByHash.{Asks}
 
 module _ {K V F : Type 0} (closure : Mut F (Bor K × (Bor V × Unit {0})) Bool) (slots : List (Slot (K × V))) where
   -- f was asked about the pair in a bucket, and is then g

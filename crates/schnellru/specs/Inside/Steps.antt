@@ -3,11 +3,11 @@ use Rattle.std.specs.Prelude.{◌≡◌, ℕ, ◌+◌, Bool, true, false, Some}
 use Rattle.group_table.specs.Bucket.{marks_of, entry_at, room as room_of, room_at}
 use Rattle.group_table.specs.Change.{Removes}
 use Rattle.lru_limits.specs.Rules.{Rules, Offers, Replaced}
-use Rattle.schnellru.specs.Lists.{lookup_entry}
-use Rattle.schnellru.specs.State.{State, Leaves, contents, notified_of}
-use Rattle.schnellru.specs.Calls.{left_of}
-use Rattle.schnellru.specs.Inserts.{replacement, unkept_of, with_given_up}
-use Rattle.schnellru.specs.Updates.{with_updated}
+use Rattle.lru_model.specs.Lists.{lookup_entry}
+use Rattle.lru_model.specs.State.{State, Leaves, contents, notified_of}
+use Rattle.lru_model.specs.Calls.{left_of}
+use Rattle.lru_model.specs.Inserts.{replacement, unkept_of, with_given_up}
+use Rattle.lru_model.specs.Updates.{with_updated}
 use Rattle.schnellru.specs.Inside.OrderedTable.{OrderedTable, with_pair, without_bucket}
 
 -- The limiter accepted the new value for the pair in a bucket, which keeps its place.

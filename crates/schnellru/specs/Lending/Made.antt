@@ -9,8 +9,8 @@ use Rattle.std.specs.declared.hash.Hasher as hasher
 use Rattle.lru_limits.specs.Hashing.{HasherMembers}
 use Rattle.group_table.specs.declared.link.LinkType as link_type
 use Rattle.lru_limits.specs.declared.limiter.Limiter as limiter
-use Rattle.schnellru.specs.Lists.{newest_value, set_newest}
-use Rattle.schnellru.specs.State.{State}
+use Rattle.lru_model.specs.Lists.{newest_value, set_newest}
+use Rattle.lru_model.specs.State.{State}
 use Rattle.schnellru.specs.Lending.Answers.{lent_or_none, is_kept, IsLent, NoneLent, value_lent, name_lent}
 use Rattle.schnellru.specs.Lending.Values.{map_row}
 use Rattle.schnellru.specs.declared.map.get_or_insert.NotLent.{NotLent}

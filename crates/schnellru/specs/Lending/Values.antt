@@ -9,9 +9,9 @@ use Rattle.std.specs.declared.hash.Hasher as hasher
 use Rattle.lru_limits.specs.Hashing.{HasherMembers}
 use Rattle.group_table.specs.declared.link.LinkType as link_type
 use Rattle.lru_limits.specs.declared.limiter.Limiter as limiter
-use Rattle.schnellru.specs.Lists.{set_newest, set_value_at}
-use Rattle.schnellru.specs.State.{State}
-use Rattle.schnellru.specs.Calls.{written}
+use Rattle.lru_model.specs.Lists.{set_newest, set_value_at}
+use Rattle.lru_model.specs.State.{State}
+use Rattle.lru_model.specs.Calls.{written}
 use Rattle.schnellru.specs.contracts.map.LruMap.{the_row}
 use mathlib.Core.Option.{none}
 

@@ -2,9 +2,9 @@
 ghost use Rattle.std.specs.Prelude.{◌≡◌, IfSome, IfNone};
 ghost use Rattle.std.specs.Borrow.{sem};
 ghost use Rattle.std.specs.Option.{option_copied_mut};
-ghost use Rattle.schnellru.specs.ByHash.{GivesByHash, GivesNoneByHash};
-ghost use Rattle.schnellru.specs.State.{IsMap};
-ghost use Rattle.schnellru.specs.Calls.{promoted, written};
+ghost use Rattle.lru_model.specs.ByHash.{GivesByHash, GivesNoneByHash};
+ghost use Rattle.lru_model.specs.State.{IsMap};
+ghost use Rattle.lru_model.specs.Calls.{promoted, written};
 
 use crate::map::LruMap;
 use lru_limits::{KeyHasher, Limiter};

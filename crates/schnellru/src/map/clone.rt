@@ -1,7 +1,7 @@
 //! A copy of a map.
 ghost use Rattle.std.specs.Prelude.{◌≡◌, IfOk, IsOk, IsTrue};
-ghost use Rattle.schnellru.specs.Clones.{IsClone};
-ghost use Rattle.schnellru.specs.State.{buckets};
+ghost use Rattle.lru_model.specs.Clones.{IsClone};
+ghost use Rattle.lru_model.specs.State.{buckets};
 
 use crate::map::LruMap;
 use lru_limits::{KeyHasher, Limiter};

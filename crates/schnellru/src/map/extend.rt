@@ -1,8 +1,8 @@
 //! Inserting many entries.
 ghost use Rattle.std.specs.Prelude.{MatchResult, List, Some};
 ghost use Rattle.std.specs.Iterator.{IsFiniteIterable, Drains, YieldsThen};
-ghost use Rattle.schnellru.specs.Extends.{InsertsAll, FailsAt};
-ghost use Rattle.schnellru.specs.State.{IsMap};
+ghost use Rattle.lru_model.specs.Extends.{InsertsAll, FailsAt};
+ghost use Rattle.lru_model.specs.State.{IsMap};
 
 use crate::map::LruMap;
 use lru_limits::{Insertion, KeyHasher};

@@ -1,9 +1,9 @@
 //! The length, the capacity, the memory and the limiter of a map.
 ghost use Rattle.std.specs.Prelude.{◌≡◌, ◌+◌, ◌<◌, length, Some};
 ghost use Rattle.std.specs.Borrow.{sem};
-ghost use Rattle.schnellru.specs.Lists.{is_empty};
-ghost use Rattle.schnellru.specs.Sizes.{usage, IsGreatestUsage};
-ghost use Rattle.schnellru.specs.State.{IsMap, buckets, room};
+ghost use Rattle.lru_model.specs.Lists.{is_empty};
+ghost use Rattle.lru_model.specs.Sizes.{usage, IsGreatestUsage};
+ghost use Rattle.lru_model.specs.State.{IsMap, buckets, room};
 
 use crate::map::LruMap;
 use crate::sizes;

@@ -1,8 +1,8 @@
 //! What every look-up begins with: the search for a key. And what is done then: its pair is promoted, or taken out.
 ghost use Rattle.std.specs.Prelude.{◌≡◌, ℕ, ◌<◌, Bool, List, Some, None, IfSome, IfNone, IsTrue, Contains, length};
-ghost use Rattle.schnellru.specs.Lists.{lookup_entry, place_of, last, without_last, after};
-ghost use Rattle.schnellru.specs.State.{Frees, IsMap};
-ghost use Rattle.schnellru.specs.Calls.{promoted, demoted, RemoveEntry};
+ghost use Rattle.lru_model.specs.Lists.{lookup_entry, place_of, last, without_last, after};
+ghost use Rattle.lru_model.specs.State.{Frees, IsMap};
+ghost use Rattle.lru_model.specs.Calls.{promoted, demoted, RemoveEntry};
 
 use crate::map::LruMap;
 use crate::map::leave::take_out;

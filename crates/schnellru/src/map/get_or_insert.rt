@@ -1,39 +1,23 @@
 //! Getting a value, which is inserted if its key is not there.
 ghost use Rattle.std.specs.Prelude.{◌≡◌, None, Ok, OnErr, IsErrOf};
-ghost use Rattle.schnellru.specs.Lists.{lookup};
-ghost use Rattle.schnellru.specs.State.{IsMap};
-ghost use Rattle.schnellru.specs.GetOrInserts.{MakesNewest, GetsOrInserts, SaysNewest, LacksMemoryFor};
-ghost use Rattle.schnellru.specs.IfMade.{MakesNewestIfMade, GetsOrInsertsIfMade};
+ghost use Rattle.lru_model.specs.Lists.{lookup};
+ghost use Rattle.lru_model.specs.State.{IsMap};
+ghost use Rattle.lru_model.specs.GetOrInserts.{MakesNewest, GetsOrInserts, SaysNewest, LacksMemoryFor};
+ghost use Rattle.lru_model.specs.IfMade.{MakesNewestIfMade, GetsOrInsertsIfMade};
 ghost use Rattle.std.specs.Borrow.{sem};
 ghost use Rattle.schnellru.specs.Lending.Answers.{lent_or_none};
 
 use crate::map::LruMap;
 use lru_limits::{Insertion, KeyHasher, Limiter, LookupKey};
+use lru_model::GetOrInsertError;
 use std::alloc::AllocError;
 use std::hash::Hash;
-use thiserror::Error;
 
 // Why no value is lent: the key is not there, or something failed.
 #[derive(Drop)]
 pub(crate) enum NotLent<E> {
     NotKept,
     Failed(E),
-}
-
-/// Why no value is lent by `get_or_insert_fallible`.
-///
-/// ```
-/// let answer = map.ensure_newest_fallible(4, || Err(7u8));
-/// assert_eq!(rt; answer, Err(GetOrInsertError::Caller(7)));
-/// ```
-#[derive(Debug, Drop, PartialEq, Eq, Error)]
-pub enum GetOrInsertError<E> {
-    /// Out of memory.
-    #[error("no memory")]
-    Memory,
-    /// The closure failed.
-    #[error("the closure failed")]
-    Caller(E),
 }
 
 // This and the next are not one function of the type of the error, because the proofs of their callers pass on the

@@ -1,45 +1,21 @@
 //! `insert` and its forms.
 ghost use Rattle.std.specs.Prelude.{◌≡◌, ◌+◌, true, false, not, ◌∷◌, None, Some, IfSome, IfOk, Ok, OnErr, List};
 ghost use Rattle.std.specs.Prelude.{IsTrue};
-ghost use Rattle.schnellru.specs.Lists.{first, lookup_entry, is_empty, IsFront};
-ghost use Rattle.schnellru.specs.State.{contents, room, IsMap};
-ghost use Rattle.schnellru.specs.Inserts.{Insert, PlacesNew, PlacesAndTrims, LacksMemory, make_room, kept_of};
-ghost use Rattle.schnellru.specs.Inserts.{unkept_value};
-ghost use Rattle.schnellru.specs.Place.{HasNoBucket};
-ghost use Rattle.schnellru.specs.Theorems.{SaysWhether, Stores};
-ghost use Rattle.schnellru.specs.MayTake.{MayTakeEach, MayTakeNew, MayTakeInserted};
-ghost use Rattle.schnellru.specs.HandedOver.{noting, noting_offers, noted, Takes, InsertHands};
+ghost use Rattle.lru_model.specs.Lists.{first, lookup_entry, is_empty, IsFront};
+ghost use Rattle.lru_model.specs.State.{contents, room, IsMap};
+ghost use Rattle.lru_model.specs.Inserts.{Insert, PlacesNew, PlacesAndTrims, LacksMemory, make_room, kept_of};
+ghost use Rattle.lru_model.specs.Inserts.{unkept_value};
+ghost use Rattle.lru_model.specs.Place.{HasNoBucket};
+ghost use Rattle.lru_model.specs.Theorems.{SaysWhether, Stores};
+ghost use Rattle.lru_model.specs.MayTake.{MayTakeEach, MayTakeNew, MayTakeInserted};
+ghost use Rattle.lru_model.specs.HandedOver.{noting, noting_offers, noted, Takes, InsertHands};
 ghost use Rattle.schnellru.specs.Inside.Handing.{Hands};
 
 use crate::map::LruMap;
 use lru_limits::{Insertion, KeyHasher, Limiter, LookupKey};
+use lru_model::Inserted;
 use std::alloc::AllocError;
 use std::hash::Hash;
-
-/// What an insert did, with the value that the map does not keep.
-///
-/// - The key was not there: `unkept` is `None`. `kept` is false if the limiter rejected the entry, if the map could not
-///   store it, or if it was stored and then evicted.
-/// - The key was there, and the limiter accepted the new value: `unkept` is the old value. `kept` is false if the entry
-///   was evicted then, because the limiter was still over its limit.
-/// - The key was there, and the limiter rejected the new value: `unkept` is the new value, and `kept` is false. The
-///   entry was removed.
-///
-/// So a `kept` of false with a value has two causes. In both the callback got the entry of the key: with the new value
-/// if it was evicted, and with the old value if the new one was rejected.
-///
-/// ```
-/// let inserted = map.insert_full(1, 11, &mut |_, _| {})?;
-/// assert_eq!(rt; (inserted.kept, inserted.unkept), (true, Some(10)));
-/// ```
-#[derive(Clone, Copy, Debug, Drop, PartialEq, Eq)]
-pub struct Inserted<V> {
-    /// Whether the key is in the map.
-    pub kept: bool,
-    /// The old value of a key that was there, or the new value, if the limiter rejected it. `None` if the key was not
-    /// there.
-    pub unkept: Option<V>,
-}
 
 impl<K: Eq + Hash + Drop, V: Drop, L: Limiter<K, V>, S: KeyHasher<K>> LruMap<K, V, L, S> {
     /// Inserts a key with a value, as the newest entry. Returns whether the key is in the map then.

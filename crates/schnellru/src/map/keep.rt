@@ -1,13 +1,13 @@
 //! An insert that returns the entries that it evicts, rejects or does not store.
 ghost use Rattle.std.specs.Prelude.{◌≡◌, ◌+◌, ◌<◌, ◌++◌, [], ◌∷◌, true, Ok, IfOk, IfSome, OnErr};
 ghost use Rattle.std.specs.Vec.{vec_len, vec_capacity};
-ghost use Rattle.schnellru.specs.HandedOver.{InsertHands};
-ghost use Rattle.schnellru.specs.Inserts.{LacksMemory};
-ghost use Rattle.schnellru.specs.Lists.{first, IsFront};
-ghost use Rattle.schnellru.specs.State.{IsMap};
-ghost use Rattle.schnellru.specs.Theorems.{SaysWhether, Stores};
+ghost use Rattle.lru_model.specs.HandedOver.{InsertHands};
+ghost use Rattle.lru_model.specs.Inserts.{LacksMemory};
+ghost use Rattle.lru_model.specs.Lists.{first, IsFront};
+ghost use Rattle.lru_model.specs.State.{IsMap};
+ghost use Rattle.lru_model.specs.Theorems.{SaysWhether, Stores};
 
-use crate::laws::inserts_hand_over_few;
+use lru_model::laws::inserts_hand_over_few;
 use crate::map::LruMap;
 use lru_limits::{Insertion, KeyHasher, Limiter, LookupKey};
 use std::alloc::AllocError;

@@ -1,13 +1,13 @@
 //! What leaves a map: removals, a clear, and evictions. The limiter is notified of each.
 ghost use Rattle.std.specs.Prelude.{◌≡◌, ℕ, ◌<◌, true, not, ◌∷◌, length, Some, IfSome, IsTrue};
 ghost use Rattle.group_table.specs.Bucket.{IsFull};
-ghost use Rattle.schnellru.specs.Lists.{is_empty, first, last, place_of};
-ghost use Rattle.schnellru.specs.State.{contents, notified_of, trim, Frees, Leaves, IsMap};
-ghost use Rattle.schnellru.specs.Calls.{left_of, Remove, RemoveEntry, PopOldest, PopNewest, cleared};
-ghost use Rattle.schnellru.specs.Inserts.{make_room};
-ghost use Rattle.schnellru.specs.HandedOver.{noting, noted};
-ghost use Rattle.schnellru.specs.MayTake.{MayTakeEach};
-ghost use Rattle.schnellru.specs.Lists.{last as last_bucket};
+ghost use Rattle.lru_model.specs.Lists.{is_empty, first, last, place_of};
+ghost use Rattle.lru_model.specs.State.{contents, notified_of, trim, Frees, Leaves, IsMap};
+ghost use Rattle.lru_model.specs.Calls.{left_of, Remove, RemoveEntry, PopOldest, PopNewest, cleared};
+ghost use Rattle.lru_model.specs.Inserts.{make_room};
+ghost use Rattle.lru_model.specs.HandedOver.{noting, noted};
+ghost use Rattle.lru_model.specs.MayTake.{MayTakeEach};
+ghost use Rattle.lru_model.specs.Lists.{last as last_bucket};
 ghost use Rattle.schnellru.specs.Inside.OrderedTable.{IsLinked, KeysFit};
 ghost use Rattle.schnellru.specs.Inside.Handing.{Hands};
 ghost use Rattle.schnellru.specs.Inside.Steps.{IsTakenOut};

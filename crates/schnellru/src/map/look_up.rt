@@ -3,9 +3,9 @@ ghost use Rattle.std.specs.Prelude.{◌≡◌, ◌<◌, length, option_map, is_s
 ghost use Rattle.std.specs.Option.{option_copied, option_copied_mut};
 ghost use Rattle.std.specs.Borrow.{sem};
 ghost use Rattle.std.specs.Map.Iter.{deref_pair};
-ghost use Rattle.schnellru.specs.Lists.{lookup, lookup_entry, first, last, newest_value, set_newest};
-ghost use Rattle.schnellru.specs.State.{State, IsMap};
-ghost use Rattle.schnellru.specs.Calls.{Get, promoted, demoted, written};
+ghost use Rattle.lru_model.specs.Lists.{lookup, lookup_entry, first, last, newest_value, set_newest};
+ghost use Rattle.lru_model.specs.State.{State, IsMap};
+ghost use Rattle.lru_model.specs.Calls.{Get, promoted, demoted, written};
 
 use crate::map::LruMap;
 use lru_limits::{KeyHasher, Limiter, LookupKey};

@@ -2,11 +2,11 @@
 ghost use Rattle.std.specs.Prelude.{◌≡◌, ℕ, true, false, length, Some, IsTrue};
 ghost use Rattle.group_table.specs.Bucket.{entry_at};
 ghost use Rattle.schnellru.specs.Inside.OrderedTable.{IsLinked, KeysFit};
-ghost use Rattle.schnellru.specs.Inserts.{replacement, unkept_of};
-ghost use Rattle.schnellru.specs.Lists.{lookup_entry, place_of};
-ghost use Rattle.schnellru.specs.MayTake.{MayTakeRejected};
-ghost use Rattle.schnellru.specs.State.{contents};
-ghost use Rattle.schnellru.specs.HandedOver.{noting, noting_offers, noted};
+ghost use Rattle.lru_model.specs.Inserts.{replacement, unkept_of};
+ghost use Rattle.lru_model.specs.Lists.{lookup_entry, place_of};
+ghost use Rattle.lru_model.specs.MayTake.{MayTakeRejected};
+ghost use Rattle.lru_model.specs.State.{contents};
+ghost use Rattle.lru_model.specs.HandedOver.{noting, noting_offers, noted};
 ghost use Rattle.schnellru.specs.Inside.Steps.{IsReplaced, IsGivenUp, IsOffered};
 ghost use Rattle.schnellru.specs.Inside.Handing.{Hands, HandsGivenUp};
 

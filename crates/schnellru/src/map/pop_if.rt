@@ -1,9 +1,9 @@
 //! Removing the oldest entry if a closure agrees.
 ghost use Rattle.std.specs.Prelude.{◌≡◌, Some, IfSome, IfOk};
 ghost use Rattle.std.specs.Borrow.{Bor};
-ghost use Rattle.schnellru.specs.Lists.{last};
-ghost use Rattle.schnellru.specs.State.{Frees, IsMap};
-ghost use Rattle.schnellru.specs.Pops.{PopOldestIf, TryPopOldest, Says};
+ghost use Rattle.lru_model.specs.Lists.{last};
+ghost use Rattle.lru_model.specs.State.{Frees, IsMap};
+ghost use Rattle.lru_model.specs.Pops.{PopOldestIf, TryPopOldest, Says};
 
 use crate::map::LruMap;
 use lru_limits::{KeyHasher, Limiter};

@@ -1,36 +1,14 @@
 //! Growth ahead of inserts.
 ghost use Rattle.std.specs.Prelude.{◌≡◌, ◌+◌, ◌/◌, ◌<◌, ◌≤◌, length, OnOk};
 ghost use Rattle.group_table.specs.Sizes.{full_capacity};
-ghost use Rattle.schnellru.specs.State.{buckets, room, IsMap};
-ghost use Rattle.schnellru.specs.Reservations.{LacksRoomFor, Reserve};
+ghost use Rattle.lru_model.specs.State.{buckets, room, IsMap};
+ghost use Rattle.lru_model.specs.Reservations.{LacksRoomFor, Reserve};
 
 use crate::map::LruMap;
 use group_table::full_capacity;
 use lru_limits::{KeyHasher, Limiter};
+use lru_model::ReserveError;
 use std::hash::Hash;
-use thiserror::Error;
-
-/// Why a reservation fails.
-///
-/// ```
-/// let mut map: LruMap<u64, u64, Unlimited> = LruMap::new(alloc, Unlimited, [1, 2, 3, 4], 16);
-/// assert_eq!(rt; map.try_reserve(usize::MAX), Err(ReserveError::TooLarge));
-/// assert_eq!(rt; map.try_reserve(1 << 50), Err(ReserveError::Memory));
-/// let mut map: LruMap<u64, u64, ByMemoryUsage> = LruMap::with_memory_budget(alloc, 84, [1, 2, 3, 4], 16);
-/// assert_eq!(rt; map.try_reserve(4), Err(ReserveError::Refused));
-/// ```
-#[derive(Clone, Copy, Debug, PartialEq, Eq, Error)]
-pub enum ReserveError {
-    /// There is no table for that many entries.
-    #[error("too large")]
-    TooLarge = 1,
-    /// The limiter refused the table.
-    #[error("refused")]
-    Refused = 2,
-    /// Out of memory.
-    #[error("no memory")]
-    Memory = 3,
-}
 
 impl<K: Eq + Hash, V, L: Limiter<K, V>, S: KeyHasher<K>> LruMap<K, V, L, S> {
     /// Makes room for n more entries: afterwards `guaranteed_capacity` is at least `len` + n.

@@ -3,9 +3,9 @@ ghost use Rattle.std.specs.Prelude.{◌≡◌, ℕ, ◌+◌, ◌-◌, ◌*◌, �
 ghost use Rattle.std.specs.Prelude.{IsOk};
 ghost use Rattle.group_table.specs.Sizes.{IsPowerFromFour, full_capacity};
 ghost use Rattle.group_table.specs.Change.{count_up};
-ghost use Rattle.schnellru.specs.Sizes.{usage, larger};
-ghost use Rattle.schnellru.specs.State.{buckets, potential, MovesTo, IsMap};
-ghost use Rattle.schnellru.specs.Place.{table_for};
+ghost use Rattle.lru_model.specs.Sizes.{usage, larger};
+ghost use Rattle.lru_model.specs.State.{buckets, potential, MovesTo, IsMap};
+ghost use Rattle.lru_model.specs.Place.{table_for};
 
 use crate::map::LruMap;
 use crate::sizes::larger_table;

@@ -1,11 +1,11 @@
 //! Removing the entries that a closure rejects.
 ghost use Rattle.std.specs.Prelude.{◌≡◌, ◌<◌, length, Some, List};
-ghost use Rattle.schnellru.specs.ByHash.{Asks};
-ghost use Rattle.schnellru.specs.HandedOver.{Takes};
-ghost use Rattle.schnellru.specs.Lists.{last};
-ghost use Rattle.schnellru.specs.MayTake.{MayTakeEach};
-ghost use Rattle.schnellru.specs.Retains.{Retains, RetainHands};
-ghost use Rattle.schnellru.specs.State.{IsMap};
+ghost use Rattle.lru_model.specs.ByHash.{Asks};
+ghost use Rattle.lru_model.specs.HandedOver.{Takes};
+ghost use Rattle.lru_model.specs.Lists.{last};
+ghost use Rattle.lru_model.specs.MayTake.{MayTakeEach};
+ghost use Rattle.lru_model.specs.Retains.{Retains, RetainHands};
+ghost use Rattle.lru_model.specs.State.{IsMap};
 
 use crate::map::LruMap;
 use lru_limits::{KeyHasher, Limiter};

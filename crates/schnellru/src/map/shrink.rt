@@ -1,6 +1,6 @@
 //! A table of as few buckets as hold the pairs.
-ghost use Rattle.schnellru.specs.State.{IsMap};
-ghost use Rattle.schnellru.specs.Shrinks.{Shrink};
+ghost use Rattle.lru_model.specs.State.{IsMap};
+ghost use Rattle.lru_model.specs.Shrinks.{Shrink};
 
 use crate::map::LruMap;
 use group_table::{LinkType, buckets_for_capacity};

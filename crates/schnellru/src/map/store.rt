@@ -4,13 +4,13 @@ ghost use Rattle.std.specs.Prelude.{◌≡◌, ℕ, ◌+◌, ◌-◌, ◌*◌, �
 ghost use Rattle.std.specs.Prelude.{Ok, OnOk, OnErr, IfErr, IsOk};
 ghost use Rattle.group_table.specs.Sizes.{IsPowerFromFour, full_capacity};
 ghost use Rattle.group_table.specs.Change.{HasNoPlace, count_up};
-ghost use Rattle.schnellru.specs.Lists.{lookup_entry};
-ghost use Rattle.schnellru.specs.Sizes.{usage};
-ghost use Rattle.schnellru.specs.State.{buckets, room};
-ghost use Rattle.schnellru.specs.Place.{Place, Evicts, IsPlacedInTable, IsPlacedByMove, FillsBucket, HasNoBucket};
-ghost use Rattle.schnellru.specs.Place.{IsOutgrown, outcome_of, turned_away};
-ghost use Rattle.schnellru.specs.HandedOver.{noting, noted};
-ghost use Rattle.schnellru.specs.MayTake.{MayTakeEach};
+ghost use Rattle.lru_model.specs.Lists.{lookup_entry};
+ghost use Rattle.lru_model.specs.Sizes.{usage};
+ghost use Rattle.lru_model.specs.State.{buckets, room};
+ghost use Rattle.lru_model.specs.Place.{Place, Evicts, IsPlacedInTable, IsPlacedByMove, FillsBucket, HasNoBucket};
+ghost use Rattle.lru_model.specs.Place.{IsOutgrown, outcome_of, turned_away};
+ghost use Rattle.lru_model.specs.HandedOver.{noting, noted};
+ghost use Rattle.lru_model.specs.MayTake.{MayTakeEach};
 ghost use Rattle.schnellru.specs.Inside.Handing.{Hands};
 
 use crate::map::LruMap;

@@ -1,8 +1,8 @@
 //! Bringing a map within its limit without an insert.
 ghost use Rattle.std.specs.Prelude.{◌≡◌, List};
-ghost use Rattle.schnellru.specs.State.{IsMap, IsWithin, Trims, contents};
-ghost use Rattle.schnellru.specs.HandedOver.{Takes, TrimHands};
-ghost use Rattle.schnellru.specs.MayTake.{MayTakeEach};
+ghost use Rattle.lru_model.specs.State.{IsMap, IsWithin, Trims, contents};
+ghost use Rattle.lru_model.specs.HandedOver.{Takes, TrimHands};
+ghost use Rattle.lru_model.specs.MayTake.{MayTakeEach};
 
 use crate::map::LruMap;
 use lru_limits::{KeyHasher, Limiter};

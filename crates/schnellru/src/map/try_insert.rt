@@ -1,10 +1,10 @@
 //! Inserting a new entry only if nothing has to be evicted for it.
 ghost use Rattle.std.specs.Prelude.{◌≡◌, ℕ, ◌∷◌, ◌<◌, true, false, None, Ok, OnOk, OnErr, IfErr, IsTrue, length};
-ghost use Rattle.schnellru.specs.Lists.{lookup_entry};
-ghost use Rattle.schnellru.specs.State.{IsMap, contents, room};
-ghost use Rattle.schnellru.specs.Inserts.{Insert};
-ghost use Rattle.schnellru.specs.Runs.{Step, Run};
-ghost use Rattle.schnellru.specs.TryInserts.{TryInsert, IsReady, IsUnready, can_store};
+ghost use Rattle.lru_model.specs.Lists.{lookup_entry};
+ghost use Rattle.lru_model.specs.State.{IsMap, contents, room};
+ghost use Rattle.lru_model.specs.Inserts.{Insert};
+ghost use Rattle.lru_model.specs.Runs.{Step, Run};
+ghost use Rattle.lru_model.specs.TryInserts.{TryInsert, IsReady, IsUnready, can_store};
 
 use crate::map::LruMap;
 use lru_limits::{Admission, KeyHasher};

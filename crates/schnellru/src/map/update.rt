@@ -1,29 +1,15 @@
 //! Replacing a value, with the entry in its place.
 ghost use Rattle.std.specs.Prelude.{List};
-ghost use Rattle.schnellru.specs.HandedOver.{noting, noting_offers, noted, Takes};
+ghost use Rattle.lru_model.specs.HandedOver.{noting, noting_offers, noted, Takes};
 ghost use Rattle.schnellru.specs.Inside.Handing.{Hands};
-ghost use Rattle.schnellru.specs.MayTake.{MayTakeReplaced};
-ghost use Rattle.schnellru.specs.State.{IsMap, contents};
-ghost use Rattle.schnellru.specs.Updates.{Update, UpdateHands};
+ghost use Rattle.lru_model.specs.MayTake.{MayTakeReplaced};
+ghost use Rattle.lru_model.specs.State.{IsMap, contents};
+ghost use Rattle.lru_model.specs.Updates.{Update, UpdateHands};
 
 use crate::map::LruMap;
 use lru_limits::{Insertion, KeyHasher, Limiter, LookupKey};
+use lru_model::Updated;
 use std::hash::Hash;
-
-/// What an update did, with the value that is not in the map afterwards.
-///
-/// ```
-/// assert_eq!(rt; map.update(1, 11), Updated::Replaced(10));
-/// ```
-#[derive(Clone, Copy, Debug, Drop, PartialEq, Eq)]
-pub enum Updated<V> {
-    /// The entry had this value, and has the new one.
-    Replaced(V),
-    /// The limiter rejected this new value, and the entry was removed.
-    Rejected(V),
-    /// The key is not there. This is the new value.
-    Absent(V),
-}
 
 impl<K: Eq + Hash + Drop, V: Drop, L: Limiter<K, V>, S: KeyHasher<K>> LruMap<K, V, L, S> {
     /// Offers the limiter a new value for a key that is there. The entry keeps its place in the order of use.

@@ -2,7 +2,7 @@
 ghost use Rattle.std.specs.Prelude.{◌≡◌, ℕ, length, IfOk, IsOk};
 ghost use Rattle.std.specs.List.{AllZip};
 ghost use Rattle.group_table.specs.Bucket.{marks_of};
-ghost use Rattle.schnellru.specs.Clones.{IsPairClone};
+ghost use Rattle.lru_model.specs.Clones.{IsPairClone};
 ghost use Rattle.schnellru.specs.Inside.Copies.{IsEntryCopy};
 ghost use Rattle.schnellru.specs.Inside.OrderedTable.{IsLinked, KeysFit, pairs_of};
 

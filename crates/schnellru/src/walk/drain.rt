@@ -28,7 +28,7 @@ pub struct Drain<'a, K: Eq + Hash, V, L: Limiter<K, V>, S: KeyHasher<K>> {
 
 impl<'a, K: Eq + Hash + Drop, V: Drop, L: Limiter<K, V>, S: KeyHasher<K>> Drop
     for Drain<'a, K, V, L, S> {
-    ghost use Rattle.schnellru.specs.Calls.{cleared};
+    ghost use Rattle.lru_model.specs.Calls.{cleared};
 
     /// Clears the map, even if no entry is left. Cost: `O(buckets)`.
     fn drop(self)

@@ -2,7 +2,7 @@
 ghost use Rattle.std.specs.Prelude.{◌≡◌, length, Some, IfSome};
 ghost use Rattle.std.specs.Iterator.{at_most, UpTo};
 ghost use Rattle.std.specs.Iterator.SizeHint.{IsWithinCount};
-ghost use Rattle.schnellru.specs.Calls.{PopNewest, PopOldest};
+ghost use Rattle.lru_model.specs.Calls.{PopNewest, PopOldest};
 
 use crate::map::LruMap;
 use lru_limits::{KeyHasher, Limiter};
@@ -24,7 +24,7 @@ pub struct IntoIter<K: Eq + Hash, V, L: Limiter<K, V>, S: KeyHasher<K>> {
 }
 
 impl<K: Eq + Hash, V, L: Limiter<K, V>, S: KeyHasher<K>> Model for IntoIter<K, V, L, S> {
-    ghost use Rattle.schnellru.specs.State.{State};
+    ghost use Rattle.lru_model.specs.State.{State};
 
     ghost Value = { State K V L S };
 

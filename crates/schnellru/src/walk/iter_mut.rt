@@ -1,8 +1,8 @@
 //! An iterator that lends each value for writing.
 ghost use Rattle.std.specs.Prelude.{◌≡◌, ◌≤◌, length, slice_get, Some};
-ghost use Rattle.schnellru.specs.Lists.{last_of, set_value_at};
-ghost use Rattle.schnellru.specs.State.{IsMap};
-ghost use Rattle.schnellru.specs.Written.{Writes, WritesAll};
+ghost use Rattle.lru_model.specs.Lists.{last_of, set_value_at};
+ghost use Rattle.lru_model.specs.State.{IsMap};
+ghost use Rattle.lru_model.specs.Written.{Writes, WritesAll};
 
 use crate::map::LruMap;
 use lru_limits::{KeyHasher, Limiter};

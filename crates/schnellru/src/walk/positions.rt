@@ -2,7 +2,7 @@
 ghost use Rattle.std.specs.Prelude.{◌≡◌, ℕ, ◌+◌, length, slice_get, Some, Contains};
 ghost use Rattle.std.specs.Borrow.{sem};
 ghost use Rattle.std.specs.Map.Iter.{deref_pair_mut};
-ghost use Rattle.schnellru.specs.Lists.{last_of};
+ghost use Rattle.lru_model.specs.Lists.{last_of};
 
 use crate::map::LruMap;
 use lru_limits::{KeyHasher, Limiter};

@@ -1,5 +1,5 @@
 use Rattle.std.proofs.Common.{nat_eq, sym}
-use Rattle.schnellru.proofs.CallerLemmas.{read_back, promoted-absent}
+use Rattle.lru_model.proofs.CallerLemmas.{read_back, promoted-absent}
 use Rattle.lru_c.proofs.calls.get.Goals as goal
 
 pub returns-in-Some-clause-promoted : goal.returns-in-Some-clause-promoted

@@ -1,6 +1,6 @@
 use Rattle.std.proofs.Common.{◌≡◌, false, rules, sym, ap, ◌∙◌, nat_eq, Result, Ok, Err, IfOk, OnErr}
 use Rattle.std.specs.Prelude.{option_map}
-use Rattle.schnellru.proofs.CallerLemmas.{lookup-entry}
+use Rattle.lru_model.proofs.CallerLemmas.{lookup-entry}
 use Rattle.lru_c.proofs.NotedPairs.{noted_first}
 use Rattle.lru_c.proofs.calls.insert_and_note.Goals as goal
 

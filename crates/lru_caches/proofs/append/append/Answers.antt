@@ -1,7 +1,7 @@
 use Rattle.std.proofs.Common.{◌∷◌, ap, ◌∙◌}
-use Rattle.schnellru.specs.State.{contents}
-use Rattle.schnellru.specs.Lists.{lookup_entry}
-use Rattle.schnellru.proofs.CallerLemmas.{no_pair}
+use Rattle.lru_model.specs.State.{contents}
+use Rattle.lru_model.specs.Lists.{lookup_entry}
+use Rattle.lru_model.proofs.CallerLemmas.{no_pair}
 use Rattle.lru_caches.proofs.append.append.Goals as goal
 
 pub returns-in-Ok-clause-added : goal.returns-in-Ok-clause-added

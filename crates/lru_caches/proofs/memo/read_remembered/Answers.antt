@@ -1,7 +1,7 @@
 use Rattle.std.proofs.Common.{◌≡◌, refl, sym, subst}
 use Rattle.std.specs.Borrow.{Bor}
 use Rattle.std.specs.Prelude.{IfSome}
-use Rattle.schnellru.proofs.CallerLemmas.{read-all, inserted-all, inserted-only}
+use Rattle.lru_model.proofs.CallerLemmas.{read-all, inserted-all, inserted-only}
 use Rattle.lru_caches.specs.Answers.{IsAnswer}
 use Rattle.lru_caches.proofs.StoredAnswers.{found_answer, inserted_answer}
 use Rattle.lru_caches.proofs.memo.read_remembered.Goals as goal

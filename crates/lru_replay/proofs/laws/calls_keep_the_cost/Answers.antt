@@ -1,7 +1,7 @@
 use Rattle.std.proofs.Common.{◌≤◌, refl, sym, ◌∙◌}
-use Rattle.schnellru.proofs.CallerLemmas.{sum-set}
-use Rattle.schnellru.specs.State.{contents}
-use Rattle.schnellru.specs.Theorems.{IsSummed}
+use Rattle.lru_model.proofs.CallerLemmas.{sum-set}
+use Rattle.lru_model.specs.State.{contents}
+use Rattle.lru_model.specs.Theorems.{IsSummed}
 use Rattle.lru_replay.proofs.CallLaws.{run_within, summing_kinds}
 use Rattle.lru_replay.proofs.CallRuns.{run-follows}
 use Rattle.lru_replay.specs.CallRuns.{KeepsCost}

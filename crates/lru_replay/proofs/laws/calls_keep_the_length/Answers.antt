@@ -1,6 +1,6 @@
 use Rattle.std.proofs.Common.{◌≤◌, length, refl, sym, subst}
 use Rattle.std.proofs.lemmas.Map.{length-set_value}
-use Rattle.schnellru.proofs.CallerLemmas.{nothing_written}
+use Rattle.lru_model.proofs.CallerLemmas.{nothing_written}
 use Rattle.lru_replay.proofs.CallLaws.{run_within, call_kinds}
 use Rattle.lru_replay.proofs.laws.calls_keep_the_length.Goals as goal
 

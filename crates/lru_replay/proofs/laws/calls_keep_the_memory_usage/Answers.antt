@@ -1,6 +1,6 @@
 use Rattle.std.proofs.Common.{refl}
-use Rattle.schnellru.specs.Theorems.{UsesAtMost}
-use Rattle.schnellru.proofs.CallerLemmas.{nothing_written}
+use Rattle.lru_model.specs.Theorems.{UsesAtMost}
+use Rattle.lru_model.proofs.CallerLemmas.{nothing_written}
 use Rattle.lru_replay.proofs.CallLaws.{run_within, call_kinds}
 use Rattle.lru_replay.proofs.laws.calls_keep_the_memory_usage.Goals as goal
 

@@ -1,4 +1,4 @@
-use Rattle.schnellru.specs.Runs.{calls as a_call}
+use Rattle.lru_model.specs.Runs.{calls as a_call}
 use Rattle.lru_replay.proofs.LineLaws.{lines_keep}
 use Rattle.lru_replay.proofs.laws.lines_keep_maps.Goals as goal
 

@@ -1,5 +1,5 @@
 use Rattle.std.proofs.Common.{refl, true}
-use Rattle.schnellru.proofs.CallerLemmas.{hands_over-determined, hands_over-finds}
+use Rattle.lru_model.proofs.CallerLemmas.{hands_over-determined, hands_over-finds}
 use Rattle.lru_replay.proofs.SmallBudgets.{few_buckets, other_within, run_stays_small}
 use Rattle.lru_replay.proofs.laws.small_budgets_are_alike.Goals as goal
 

@@ -1,5 +1,5 @@
 use Rattle.std.proofs.Common.{arith}
-use Rattle.schnellru.specs.Runs.Step.{clears}
+use Rattle.lru_model.specs.Runs.Step.{clears}
 use Rattle.lru_tenants.proofs.tenant.clear.Goals as goal
 
 pub returns-clause-tenant : goal.returns-clause-tenant

@@ -3,7 +3,7 @@ use Rattle.std.proofs.lemmas.List.{append_assoc, length-append}
 use Rattle.std.proofs.lemmas.Fn.{FoldsTo-push}
 use Rattle.std.specs.Fn.{Called}
 use denote.Param.Always.{mut_next}
-use Rattle.schnellru.specs.HandedOver.{Takes}
+use Rattle.lru_model.specs.HandedOver.{Takes}
 use Rattle.lru_tenants.proofs.Pops.{popped-last, popped-reverse, popped-none}
 use Rattle.lru_tenants.proofs.tenant.empty.Goals as goal
 

@@ -1,7 +1,7 @@
 -- The pairs that left were passed to the callback, oldest first.
 use Rattle.std.proofs.Common.{◌≡◌, ◌++◌, List, length, reverse}
 use denote.Param.Always.{always_mut}
-use Rattle.schnellru.specs.HandedOver.{Takes}
+use Rattle.lru_model.specs.HandedOver.{Takes}
 use Rattle.lru_tenants.proofs.tenant.empty.Given as goal
 
 abbrev pub invariant-pops : goal.invariant-pops

@@ -1,5 +1,5 @@
 use Rattle.std.proofs.Common.{arith}
-use Rattle.schnellru.specs.Runs.Step.{removes}
+use Rattle.lru_model.specs.Runs.Step.{removes}
 use Rattle.lru_tenants.proofs.tenant.remove.Goals as goal
 
 pub returns-clause-tenant : goal.returns-clause-tenant

@@ -2,7 +2,7 @@ use Rattle.std.proofs.Common.{[], ◌∷◌, ◌≡◌, ℕ, map, sym, ap, ◌�
 use Rattle.std.proofs.lemmas.Bool.{eqb-true}
 use Rattle.group_table.specs.Change.{count_up}
 use Rattle.lru_limits.specs.Mixing.{seeded}
-use Rattle.schnellru.specs.Kept.{KeepsToLength}
+use Rattle.lru_model.specs.Kept.{KeepsToLength}
 use Rattle.recency.specs.Recency.{misses}
 use Rattle.lru_replay.specs.Replies.{all_said}
 use Rattle.lru_theory.specs.References.{References, referenced}

@@ -1,6 +1,6 @@
 use Rattle.std.proofs.Common.{◌≡◌, rules, sym, ◌∙◌}
 use Rattle.lru_limits.specs.Hashing.{hash_by}
-use Rattle.schnellru.proofs.Maps.Outcomes.{if_ok}
+use Rattle.lru_model.proofs.States.Outcomes.{if_ok}
 use Rattle.schnellru.proofs.OrderedTables.Relocations.{hash_in-pair_slots}
 use Rattle.schnellru.proofs.ordered.renumber_entries.Goals as goal
 

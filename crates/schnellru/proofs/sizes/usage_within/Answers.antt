@@ -2,8 +2,8 @@ use Rattle.std.proofs.Common.{◌≡◌, ℕ, ◌+◌, ◌*◌, ◌%◌, ◌<◌
 use Rattle.std.proofs.Math.Nat.{mod-eq_of_lt}
 use Rattle.std.proofs.Math.Pow.{pow_mono}
 use Rattle.std.proofs.lemmas.Option.{same_Some, none-some}
-use Rattle.schnellru.specs.Sizes.{usage}
-use Rattle.schnellru.proofs.TableSizes.Budgets.{IsBest, best_none, best_takes, best_stays, best_of_all}
+use Rattle.lru_model.specs.Sizes.{usage}
+use Rattle.lru_model.proofs.TableSizes.Budgets.{IsBest, best_none, best_takes, best_stays, best_of_all}
 use Rattle.schnellru.proofs.sizes.usage_within.Goals as goal
 use Rattle.schnellru.proofs.sizes.usage_within.Goals.{then-buckets-max+in-Some+then-bytes-budget}
 use Rattle.schnellru.proofs.sizes.usage_within.Goals.{then-buckets-max+in-Some+else-bytes-budget}

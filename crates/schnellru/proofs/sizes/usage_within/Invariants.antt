@@ -1,5 +1,5 @@
 -- The best of the tables so far.
-use Rattle.schnellru.proofs.TableSizes.Budgets.{IsBest}
+use Rattle.lru_model.proofs.TableSizes.Budgets.{IsBest}
 use Rattle.schnellru.proofs.sizes.usage_within.Given as goal
 
 abbrev pub invariant-loop-k : goal.invariant-loop-k

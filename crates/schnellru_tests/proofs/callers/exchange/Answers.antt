@@ -1,5 +1,5 @@
 use Rattle.std.proofs.Common.{nat_eq}
-use Rattle.schnellru.specs.Runs.Step.{inserts, removes}
+use Rattle.lru_model.specs.Runs.Step.{inserts, removes}
 use Rattle.schnellru_tests.proofs.callers.exchange.Goals as goal
 
 pub returns : goal.returns

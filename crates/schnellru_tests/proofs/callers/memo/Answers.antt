@@ -2,7 +2,7 @@ use Rattle.std.proofs.Common.{◌≡◌, ℕ, nat_eq, true, sym, subst}
 use Rattle.std.proofs.lemmas.Bool.{eqb-true}
 use Rattle.std.proofs.lemmas.List.Elements.{All-contains}
 use Rattle.std.proofs.lemmas.Map.Views.{Contains-from_lookup}
-use Rattle.schnellru.proofs.CallerLemmas.{read-all, inserted-all, inserted-only, hands_over-keeps}
+use Rattle.lru_model.proofs.CallerLemmas.{read-all, inserted-all, inserted-only, hands_over-keeps}
 use Rattle.schnellru_tests.proofs.callers.memo.Goals as goal
 
 -- a pair of the key and the value is as these are

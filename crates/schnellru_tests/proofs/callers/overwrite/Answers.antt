@@ -1,5 +1,5 @@
 use Rattle.std.proofs.Common.{nat_eq, sym}
-use Rattle.schnellru.proofs.CallerLemmas.{written-found}
+use Rattle.lru_model.proofs.CallerLemmas.{written-found}
 use Rattle.schnellru_tests.proofs.callers.overwrite.Goals as goal
 
 pub returns-in-Some : goal.returns-in-Some

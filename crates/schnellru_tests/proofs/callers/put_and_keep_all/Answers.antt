@@ -1,7 +1,7 @@
 use Rattle.std.proofs.Common.{◌∷◌, nat_eq, refl, ap, ◌∙◌}
-use Rattle.schnellru.specs.State.{contents}
-use Rattle.schnellru.specs.Lists.{lookup_entry}
-use Rattle.schnellru.proofs.CallerLemmas.{hands_over-accepts}
+use Rattle.lru_model.specs.State.{contents}
+use Rattle.lru_model.specs.Lists.{lookup_entry}
+use Rattle.lru_model.proofs.CallerLemmas.{hands_over-accepts}
 use Rattle.schnellru_tests.proofs.callers.put_and_keep_all.Goals as goal
 
 pub returns-clause-added : goal.returns-clause-added

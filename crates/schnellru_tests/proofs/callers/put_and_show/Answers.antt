@@ -1,7 +1,7 @@
 use Rattle.std.proofs.Common.{◌∷◌, nat_eq, ap, ◌∙◌}
 use Rattle.std.proofs.lemmas.Bool.{eqb-true}
-use Rattle.schnellru.specs.Lists.{without}
-use Rattle.schnellru.proofs.CallerLemmas.{plain-changes_none, stored-came}
+use Rattle.lru_model.specs.Lists.{without}
+use Rattle.lru_model.proofs.CallerLemmas.{plain-changes_none, stored-came}
 use Rattle.schnellru_tests.proofs.callers.put_and_show.Goals as goal
 
 pub returns : goal.returns

@@ -1,7 +1,7 @@
 use Rattle.std.proofs.Common.{nat_eq}
 use Rattle.std.proofs.lemmas.Bool.{eqb-true}
-use Rattle.schnellru.specs.Runs.{inserts}
-use Rattle.schnellru.proofs.CallerLemmas.{stored_key-same}
+use Rattle.lru_model.specs.Runs.{inserts}
+use Rattle.lru_model.proofs.CallerLemmas.{stored_key-same}
 use Rattle.schnellru_tests.proofs.callers.put_newest.Goals as goal
 
 pub returns-clause-newest : goal.returns-clause-newest

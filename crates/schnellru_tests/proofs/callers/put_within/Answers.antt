@@ -1,5 +1,5 @@
 use Rattle.std.proofs.Common.{◌≤◌, length, sym, subst}
-use Rattle.schnellru.specs.Runs.Step.{inserts}
+use Rattle.lru_model.specs.Runs.Step.{inserts}
 use Rattle.schnellru_tests.proofs.callers.put_within.Goals as goal
 
 pub returns : goal.returns

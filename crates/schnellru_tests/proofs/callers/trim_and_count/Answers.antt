@@ -1,6 +1,6 @@
 use Rattle.std.proofs.Common.{◌≡◌, refl, arith}
 use Rattle.lru_limits.specs.Limiters.{length_rules}
-use Rattle.schnellru.proofs.CallbackLemmas.{each_by}
+use Rattle.lru_model.proofs.CallbackLemmas.{each_by}
 use Rattle.schnellru_tests.proofs.callers.trim_and_count.Goals as goal
 
 pub trim_with-requires : goal.trim_with-requires

@@ -1,5 +1,5 @@
 use Rattle.std.proofs.Common.{sym}
-use Rattle.schnellru.proofs.CallerLemmas.{read_back, promoted-absent}
+use Rattle.lru_model.proofs.CallerLemmas.{read_back, promoted-absent}
 use Rattle.lru_c.specs.Bytes.{names_bytes}
 use Rattle.lru_c.proofs.bytes.calls.get.Goals as goal
 

@@ -1,8 +1,8 @@
 use Rattle.std.proofs.Common.{◌≡◌, ℕ, Bool, true, length, refl, sym, ap, ◌∙◌, rules, Option, None, Some}
 use Rattle.std.specs.Prelude.{◌&&◌, option_map, unwrap_or, nat_le}
 use Rattle.lru_limits.specs.Budget.{Budget}
-use Rattle.schnellru.specs.Calls.{left_of}
-use Rattle.schnellru.specs.Lists.{last}
+use Rattle.lru_model.specs.Calls.{left_of}
+use Rattle.lru_model.specs.Lists.{last}
 use Rattle.lru_c.specs.Bytes.{Bytes, bytes_rules, lengths_of}
 use Rattle.lru_c.specs.Bytes.Pops.{too_long, removed}
 use Rattle.lru_c.specs.declared.bytes.answers.Popped.{Popped}

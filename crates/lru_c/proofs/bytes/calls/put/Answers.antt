@@ -1,9 +1,9 @@
-use Rattle.std.proofs.Common.{◌≡◌, List, ℕ, rules, refl, sym, ap, ◌∙◌, subst, arith, true, false, inl, inr, Ok}
+use Rattle.std.proofs.Common.{◌≡◌, List, ℕ, rules, refl, ap, ◌∙◌, subst, arith, true, false, inl, inr, Ok}
 use Rattle.std.proofs.Common.{is_some, option_map}
 use Rattle.std.specs.Map.{lookup}
 use Rattle.std.specs.Str.{bytes_eq}
-use Rattle.schnellru.specs.Inserts.{LacksMemory}
-use Rattle.schnellru.proofs.CallerLemmas.{lookup-entry}
+use Rattle.lru_model.specs.Inserts.{LacksMemory}
+use Rattle.lru_model.proofs.CallerLemmas.{lookup-entry}
 use Rattle.lru_c.specs.Bytes.{Bytes, BytesMap, FindsMemory, same_bytes, hash_of_bytes, bytes_rules, bytes_offers}
 use Rattle.lru_c.specs.Bytes.Puts.{too_heavy, inserted}
 use Rattle.lru_c.proofs.bytes.calls.put.Goals as goal

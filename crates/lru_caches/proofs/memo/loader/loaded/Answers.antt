@@ -1,5 +1,5 @@
 use Rattle.std.proofs.Common.{sym}
-use Rattle.schnellru.proofs.CallerLemmas.{read-all, inserted-all, inserted-only}
+use Rattle.lru_model.proofs.CallerLemmas.{read-all, inserted-all, inserted-only}
 use Rattle.lru_caches.specs.Answers.{IsAnswer, loads}
 use Rattle.lru_caches.proofs.StoredAnswers.{found_answer, inserted_answer}
 use Rattle.lru_caches.proofs.memo.loader.loaded.Goals as goal

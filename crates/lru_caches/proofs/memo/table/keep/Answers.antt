@@ -1,4 +1,4 @@
-use Rattle.schnellru.proofs.CallerLemmas.{inserted-all, inserted-only}
+use Rattle.lru_model.proofs.CallerLemmas.{inserted-all, inserted-only}
 use Rattle.lru_caches.specs.Answers.{IsAnswer}
 use Rattle.lru_caches.proofs.StoredAnswers.{inserted_answer}
 use Rattle.lru_caches.proofs.memo.table.keep.Goals as goal

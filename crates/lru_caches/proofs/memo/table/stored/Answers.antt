@@ -1,5 +1,5 @@
 use Rattle.std.proofs.Common.{sym, ap}
-use Rattle.schnellru.proofs.CallerLemmas.{read-all, read_back, promoted-absent}
+use Rattle.lru_model.proofs.CallerLemmas.{read-all, read_back, promoted-absent}
 use Rattle.lru_caches.specs.Answers.{IsAnswer}
 use Rattle.lru_caches.proofs.StoredAnswers.{found_answer}
 use Rattle.lru_caches.proofs.memo.table.stored.Goals as goal

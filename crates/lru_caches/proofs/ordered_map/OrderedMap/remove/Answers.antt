@@ -1,6 +1,6 @@
 use Rattle.std.proofs.Common.{reverse, option_map, sym, ap, ◌∙◌}
 use Rattle.std.proofs.lemmas.Iterator.Adapters.{option_map_id}
-use Rattle.schnellru.proofs.CallerLemmas.{lookup-entry}
+use Rattle.lru_model.proofs.CallerLemmas.{lookup-entry}
 use Rattle.lru_caches.proofs.TurnedEntries.{lookup-reverse, without-reverse}
 use Rattle.lru_caches.proofs.ordered_map.OrderedMap.remove.Goals as goal
 

@@ -1,5 +1,5 @@
 use Rattle.std.proofs.Common.{nat_eq, sym}
-use Rattle.schnellru.proofs.CallerLemmas.{written-found}
+use Rattle.lru_model.proofs.CallerLemmas.{written-found}
 use Rattle.lru_caches.proofs.PageOrder.{keys-written}
 use Rattle.lru_caches.proofs.PageLists.{read_same, length-written}
 use Rattle.lru_caches.proofs.page_cache.pages.cached_block.Goals as goal

@@ -2,8 +2,8 @@ use Rattle.std.proofs.Common.{◌++◌, ◌∷◌, [], arith, length, nat_eq, op
 use Rattle.std.proofs.lemmas.Result.{err_from_is_err_and}
 use Rattle.std.specs.Map.{lookup}
 use Rattle.std.specs.Map.Iter.{deref_pair}
-use Rattle.schnellru.specs.Lists.{without_last}
-use Rattle.schnellru.proofs.CallerLemmas.{length-without_last}
+use Rattle.lru_model.specs.Lists.{without_last}
+use Rattle.lru_model.proofs.CallerLemmas.{length-without_last}
 use Rattle.lru_caches.proofs.PageOrder.{without_last-take}
 use Rattle.lru_caches.proofs.PageLists.{ends_with, no_last, last_found, absent_left}
 use Rattle.lru_caches.proofs.Blocks.{shown-written_back, clean-written_back, shown-removed, clean-removed}

@@ -1,8 +1,8 @@
 use Rattle.std.proofs.Common.{◌≡◌, ◌++◌, arith, ap, sym, ◌∙◌, subst, add-one, append_assoc, option_to_list}
-use Rattle.schnellru.specs.Calls.{pop_first}
-use Rattle.schnellru.specs.Drains.{pops_first, newest_given}
-use Rattle.schnellru.specs.State.{contents, Leaves}
-use Rattle.schnellru.proofs.CallerLemmas.{leaves_trans}
+use Rattle.lru_model.specs.Calls.{pop_first}
+use Rattle.lru_model.specs.Drains.{pops_first, newest_given}
+use Rattle.lru_model.specs.State.{contents, Leaves}
+use Rattle.lru_model.proofs.CallerLemmas.{leaves_trans}
 use Rattle.lru_replay.proofs.Pops.{from_newest, newest_pair, many-more, all-more}
 use Rattle.lru_replay.proofs.calls.pairs.take_newest.Goals as goal
 

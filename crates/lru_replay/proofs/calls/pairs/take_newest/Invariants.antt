@@ -1,6 +1,6 @@
 use Rattle.std.proofs.Common.{◌≡◌, ◌++◌, ◌+◌, ◌≤◌, vec_len, vec_capacity}
-use Rattle.schnellru.specs.State.{contents, Leaves}
-use Rattle.schnellru.specs.Drains.{pops_first, newest_given}
+use Rattle.lru_model.specs.State.{contents, Leaves}
+use Rattle.lru_model.specs.Drains.{pops_first, newest_given}
 use Rattle.lru_replay.proofs.calls.pairs.take_newest.Given as goal
 
 abbrev pub invariant-loop : goal.invariant-loop

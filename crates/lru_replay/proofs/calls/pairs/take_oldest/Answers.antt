@@ -1,7 +1,7 @@
 use Rattle.std.proofs.Common.{◌≡◌, ◌++◌, arith, ap, sym, ◌∙◌, subst, add-one, append_assoc, option_to_list}
-use Rattle.schnellru.specs.State.{contents, Leaves, pop, pops}
-use Rattle.schnellru.specs.Drains.{oldest_given}
-use Rattle.schnellru.proofs.CallerLemmas.{leaves_trans}
+use Rattle.lru_model.specs.State.{contents, Leaves, pop, pops}
+use Rattle.lru_model.specs.Drains.{oldest_given}
+use Rattle.lru_model.proofs.CallerLemmas.{leaves_trans}
 use Rattle.lru_replay.proofs.Pops.{from_oldest, oldest_pair, many-more, all-more}
 use Rattle.lru_replay.proofs.calls.pairs.take_oldest.Goals as goal
 

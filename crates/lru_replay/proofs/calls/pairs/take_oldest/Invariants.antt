@@ -1,6 +1,6 @@
 use Rattle.std.proofs.Common.{◌≡◌, ◌++◌, ◌+◌, ◌≤◌, vec_len, vec_capacity}
-use Rattle.schnellru.specs.State.{contents, Leaves, pops}
-use Rattle.schnellru.specs.Drains.{oldest_given}
+use Rattle.lru_model.specs.State.{contents, Leaves, pops}
+use Rattle.lru_model.specs.Drains.{oldest_given}
 use Rattle.lru_replay.proofs.calls.pairs.take_oldest.Given as goal
 
 abbrev pub invariant-loop : goal.invariant-loop

@@ -1,5 +1,5 @@
 use Rattle.std.proofs.Common.{sym}
-use Rattle.schnellru.proofs.CallerLemmas.{read_back, promoted-absent}
+use Rattle.lru_model.proofs.CallerLemmas.{read_back, promoted-absent}
 use Rattle.lru_replay.proofs.calls.steps.get.Goals as goal
 
 pub returns-in-Some-clause-promoted : goal.returns-in-Some-clause-promoted

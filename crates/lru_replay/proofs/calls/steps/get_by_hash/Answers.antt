@@ -1,8 +1,8 @@
 use Rattle.std.proofs.Common.{◌≡◌, rules, refl, ap, sym, ◌∙◌}
 use Rattle.std.specs.Prelude.{unwrap_or}
 use Rattle.std.specs.Option.{option_copied_mut}
-use Rattle.schnellru.specs.Calls.{promoted, written}
-use Rattle.schnellru.proofs.CallerLemmas.{given-found, given-tag, given-promoted, none-found}
+use Rattle.lru_model.specs.Calls.{promoted, written}
+use Rattle.lru_model.proofs.CallerLemmas.{given-found, given-tag, given-promoted, none-found}
 use Rattle.lru_replay.specs.Steps.{found, not_found}
 use Rattle.lru_replay.proofs.Options.{OnSome-some}
 use Rattle.lru_replay.proofs.calls.steps.get_by_hash.Goals as goal

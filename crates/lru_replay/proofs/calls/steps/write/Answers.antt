@@ -1,5 +1,5 @@
 use Rattle.std.proofs.Common.{sym}
-use Rattle.schnellru.proofs.CallerLemmas.{written-absent}
+use Rattle.lru_model.proofs.CallerLemmas.{written-absent}
 use Rattle.lru_replay.proofs.calls.steps.write.Goals as goal
 
 pub returns-in-None-clause-written : goal.returns-in-None-clause-written

@@ -1,6 +1,6 @@
 use Rattle.std.proofs.Common.{◌∷◌, [], arith, sym, ap, ◌∙◌, length}
 use Rattle.std.proofs.lemmas.List.{length-append}
-use Rattle.schnellru.specs.Theorems.{IsSummed}
+use Rattle.lru_model.specs.Theorems.{IsSummed}
 use Rattle.lru_replay.proofs.CallRuns.{next_run, next_items, whole_run}
 use Rattle.lru_replay.proofs.calls.summing.run_summing.Goals as goal
 

@@ -1,10 +1,10 @@
 use Rattle.std.proofs.Common.{◌≡◌, ◌<◌, ◌≤◌, ◌++◌, length, option_to_list, sym, ap, ◌∙◌, subst, arith, add-one}
 use Rattle.std.proofs.lemmas.List.{append-nil}
-use Rattle.schnellru.specs.Lists.{first}
-use Rattle.schnellru.specs.State.{contents, Leaves}
-use Rattle.schnellru.specs.Calls.{left_of, pop_first}
-use Rattle.schnellru.specs.Drains.{pops_first, newest_given}
-use Rattle.schnellru.proofs.CallerLemmas.{leaves_trans}
+use Rattle.lru_model.specs.Lists.{first}
+use Rattle.lru_model.specs.State.{contents, Leaves}
+use Rattle.lru_model.specs.Calls.{left_of, pop_first}
+use Rattle.lru_model.specs.Drains.{pops_first, newest_given}
+use Rattle.lru_model.proofs.CallerLemmas.{leaves_trans}
 use Rattle.lru_replay.specs.Output.{Writes, taken_text}
 use Rattle.lru_replay.proofs.DrainedPairs.{spaced, spaced-more, spaced-end, some-more}
 use Rattle.lru_replay.proofs.Pops.{from_newest, many-more, all-more, many_enough, all_enough}

@@ -1,8 +1,8 @@
 -- This number of pairs was taken out and written.
 use Rattle.std.proofs.Common.{◌≡◌, ℕ, not, List}
-use Rattle.schnellru.specs.Lists.{is_empty}
-use Rattle.schnellru.specs.State.{contents, Leaves}
-use Rattle.schnellru.specs.Drains.{pops_first, newest_given}
+use Rattle.lru_model.specs.Lists.{is_empty}
+use Rattle.lru_model.specs.State.{contents, Leaves}
+use Rattle.lru_model.specs.Drains.{pops_first, newest_given}
 use Rattle.lru_replay.specs.Output.{Writes}
 use Rattle.lru_replay.proofs.DrainedPairs.{spaced}
 use Rattle.lru_replay.proofs.lines.drain.write_drain.Given as goal

@@ -1,7 +1,7 @@
 use Rattle.std.proofs.Common.{ap, ◌∙◌, inl, inr, refl, subst}
 use Rattle.std.proofs.lemmas.Result.{err_from_is_err_and}
 use Rattle.std.specs.Prelude.{nat_eq}
-use Rattle.schnellru.specs.Lists.{lookup}
+use Rattle.lru_model.specs.Lists.{lookup}
 use Rattle.lru_replay.specs.declared.lines.command.Command.TheVariants as commands
 use Rattle.lru_replay.specs.Grammar.{SpellsCommand}
 use Rattle.lru_replay.specs.Output.{bad_text, cost_text, figures_text, insert_text}

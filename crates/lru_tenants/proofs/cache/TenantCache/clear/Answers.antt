@@ -1,6 +1,6 @@
 use Rattle.std.proofs.Common.{sym, refl}
 use Rattle.std.proofs.Common.{◌≡◌}
-use Rattle.schnellru.specs.Calls.{cleared}
+use Rattle.lru_model.specs.Calls.{cleared}
 use Rattle.lru_tenants.specs.TenantRuns.{IfOpen}
 use Rattle.lru_tenants.proofs.Changes.{on-written}
 use Rattle.lru_tenants.proofs.Kept.{kept-written, same-sum}

@@ -1,5 +1,5 @@
 use Rattle.std.proofs.Common.{arith, sym, ◌∙◌, ap, subst}
-use Rattle.schnellru.specs.State.{empty_map}
+use Rattle.lru_model.specs.State.{empty_map}
 use Rattle.lru_tenants.specs.Cache.{IsTenant}
 use Rattle.lru_tenants.proofs.cache.TenantCache.fresh.Goals as goal
 

@@ -1,7 +1,7 @@
 use Rattle.std.proofs.Common.{subst, Some, None, Err, sym, refl, ap, is_some}
-use Rattle.schnellru.specs.Calls.{promoted, written}
-use Rattle.schnellru.specs.Lists.{lookup}
-use Rattle.schnellru.proofs.CallerLemmas.{read_back, promoted-absent}
+use Rattle.lru_model.specs.Calls.{promoted, written}
+use Rattle.lru_model.specs.Lists.{lookup}
+use Rattle.lru_model.proofs.CallerLemmas.{read_back, promoted-absent}
 use Rattle.lru_tenants.specs.Cache.{IsTenant}
 use Rattle.lru_tenants.specs.TenantRuns.{got, Gets}
 use Rattle.lru_tenants.specs.declared.error.TenantError.TheVariants.{NotOpen}

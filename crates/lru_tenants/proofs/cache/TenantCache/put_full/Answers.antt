@@ -1,6 +1,6 @@
 use Rattle.std.proofs.Common.{◌≡◌, true, [], Some, None, Ok, false, sym, refl, ap, ◌∙◌, subst}
 use Rattle.std.specs.Prelude.{IfSome}
-use Rattle.schnellru.specs.Inserts.{kept_of}
+use Rattle.lru_model.specs.Inserts.{kept_of}
 use Rattle.lru_tenants.specs.Cache.{tenant}
 use Rattle.lru_tenants.specs.PutFulls.{rejects}
 use Rattle.lru_tenants.specs.TenantRuns.{put_answer, Puts, PutHands, PassesOn}

@@ -1,5 +1,5 @@
 use Rattle.std.proofs.Common.{sym, refl}
-use Rattle.schnellru.specs.Calls.{Remove}
+use Rattle.lru_model.specs.Calls.{Remove}
 use Rattle.lru_tenants.specs.TenantRuns.{IfOpen}
 use Rattle.lru_tenants.proofs.Changes.{on-written}
 use Rattle.lru_tenants.proofs.Kept.{kept-written, same-sum}

@@ -1,7 +1,7 @@
 use Rattle.std.proofs.Common.{[], refl, sym, ◌∙◌, subst}
-use Rattle.schnellru.specs.Inserts.{Insert}
-use Rattle.schnellru.proofs.Theorems.AdmittedPairs.{adds}
-use Rattle.schnellru.proofs.Theorems.PlainInserts.{plain_insert}
+use Rattle.lru_model.specs.Inserts.{Insert}
+use Rattle.lru_model.proofs.Theorems.AdmittedPairs.{adds}
+use Rattle.lru_model.proofs.Theorems.PlainInserts.{plain_insert}
 use Rattle.schnellru.proofs.map.LruMap.add.Goals as goal
 
 pub bounds-0 : goal.bounds-0

@@ -1,10 +1,10 @@
 use Rattle.std.proofs.Common.{sym, ◌∙◌}
-use Rattle.schnellru.specs.Clones.{IsPairClone}
+use Rattle.lru_model.specs.Clones.{IsPairClone}
 use Rattle.schnellru.specs.Inside.Holds.{state_of}
 use Rattle.schnellru.specs.Inside.OrderedTable.{pairs_of}
 use Rattle.schnellru.proofs.Maps.Fields.{beside}
 use Rattle.schnellru.proofs.Maps.HeldMaps.{copied_holds}
-use Rattle.schnellru.proofs.PairLists.DistinctKeys.{distinct_same}
+use Rattle.lru_model.proofs.PairLists.DistinctKeys.{distinct_same}
 use Rattle.schnellru.proofs.map.LruMap.clone.Goals as goal
 
 pub invariant_of-result : goal.invariant_of-result

@@ -1,5 +1,5 @@
 use Rattle.std.proofs.Common.{◌∙◌}
-use Rattle.schnellru.proofs.PairLists.NamedPlaces.{search_says}
+use Rattle.lru_model.proofs.PairLists.NamedPlaces.{search_says}
 use Rattle.schnellru.proofs.map.LruMap.contains.Goals as goal
 
 pub returns : goal.returns

@@ -2,7 +2,7 @@ use Rattle.std.proofs.Common.{◌+◌, ◌-◌, ◌^◌, min, sym, ap, ◌∙◌
 use Rattle.schnellru.specs.Inside.Holds.{state_of}
 use Rattle.schnellru.proofs.Maps.Fields.{beside_of}
 use Rattle.schnellru.proofs.OrderedTables.BucketPairs.{pairs-length}
-use Rattle.schnellru.proofs.Theorems.PaidMoves.{paid_ahead}
+use Rattle.lru_model.proofs.Theorems.PaidMoves.{paid_ahead}
 use Rattle.schnellru.proofs.map.LruMap.count_moves.Goals as goal
 
 pub invariant_of-self : goal.invariant_of-self

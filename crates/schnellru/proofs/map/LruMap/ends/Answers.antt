@@ -1,5 +1,5 @@
 use Rattle.std.proofs.Common.{ap, sym, ◌∙◌}
-use Rattle.schnellru.specs.Lists.{last_of}
+use Rattle.lru_model.specs.Lists.{last_of}
 use Rattle.schnellru.proofs.OrderedTables.BucketPairs.{pairs-length}
 use Rattle.schnellru.proofs.OrderedTables.Places.{first_at, last_at}
 use Rattle.schnellru.proofs.map.LruMap.ends.Goals as goal

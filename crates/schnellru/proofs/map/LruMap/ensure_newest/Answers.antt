@@ -1,7 +1,7 @@
 use Rattle.std.proofs.Common.{subst}
-use Rattle.schnellru.specs.State.{IsMap}
-use Rattle.schnellru.proofs.Theorems.GetOrInserts.{makes_says, makes_lacks}
-use Rattle.schnellru.proofs.Theorems.LackOfMemory.{on_err}
+use Rattle.lru_model.specs.State.{IsMap}
+use Rattle.lru_model.proofs.Theorems.GetOrInserts.{makes_says, makes_lacks}
+use Rattle.lru_model.proofs.Theorems.LackOfMemory.{on_err}
 use Rattle.schnellru.proofs.map.LruMap.ensure_newest.Goals as goal
 
 pub returns-clause-says : goal.returns-clause-says

@@ -1,6 +1,6 @@
 use Rattle.std.proofs.Common.{subst}
-use Rattle.schnellru.specs.State.{IsMap}
-use Rattle.schnellru.proofs.Theorems.GetOrInserts.{says_if_made, lacks_if_made}
+use Rattle.lru_model.specs.State.{IsMap}
+use Rattle.lru_model.proofs.Theorems.GetOrInserts.{says_if_made, lacks_if_made}
 use Rattle.schnellru.proofs.map.LruMap.ensure_newest_fallible.Goals as goal
 
 pub returns-clause-says : goal.returns-clause-says

@@ -1,7 +1,7 @@
 use Rattle.std.proofs.Common.{sym, ◌∙◌, subst}
-use Rattle.schnellru.specs.State.{contents, Leaves}
-use Rattle.schnellru.specs.HandedOver.{noting, noted}
-use Rattle.schnellru.proofs.Maps.LeavingPairs.{leaves_self, trim-within}
+use Rattle.lru_model.specs.State.{contents, Leaves}
+use Rattle.lru_model.specs.HandedOver.{noting, noted}
+use Rattle.lru_model.proofs.States.LeavingPairs.{leaves_self, trim-within}
 use Rattle.schnellru.proofs.map.LruMap.evict_over_limit.Goals as goal
 
 pub returns-else-is_over_the_limit-clause-handed : goal.returns-else-is_over_the_limit-clause-handed

@@ -1,9 +1,9 @@
 use Rattle.std.proofs.Common.{◌<◌, length, refl, ap, sym, ◌∙◌, subst, arith}
-use Rattle.schnellru.specs.State.{contents, Leaves}
-use Rattle.schnellru.specs.HandedOver.{noting, noted}
-use Rattle.schnellru.proofs.PairLists.Emptiness.{empty-length, some-length}
-use Rattle.schnellru.proofs.Maps.CallablePairs.{oldest_callable, rest_callable}
-use Rattle.schnellru.proofs.Maps.LeavingPairs.{length-without_last, leaves_self, trim-within, trim-empty}
+use Rattle.lru_model.specs.State.{contents, Leaves}
+use Rattle.lru_model.specs.HandedOver.{noting, noted}
+use Rattle.lru_model.proofs.PairLists.Emptiness.{empty-length, some-length}
+use Rattle.lru_model.proofs.States.CallablePairs.{oldest_callable, rest_callable}
+use Rattle.lru_model.proofs.States.LeavingPairs.{length-without_last, leaves_self, trim-within, trim-empty}
 use Rattle.schnellru.proofs.Maps.Trims.{trims_more}
 use Rattle.schnellru.proofs.map.LruMap.evict_while_over.Goals as goal
 

@@ -1,6 +1,6 @@
 -- The limiter is over, and there are pairs. What left was passed to the callback, and the rest is still to leave.
 use Rattle.std.proofs.Common.{◌≡◌, ◌<◌, true, length}
-use Rattle.schnellru.specs.MayTake.{MayTakeEach}
+use Rattle.lru_model.specs.MayTake.{MayTakeEach}
 use Rattle.schnellru.proofs.Maps.Trims.{IsTrimmedTo}
 use Rattle.schnellru.proofs.map.LruMap.evict_while_over.Given as goal
 

@@ -1,14 +1,14 @@
 use Rattle.std.proofs.Common.{◌≡◌, true, Some, refl, sym, ap, ◌∙◌, subst, unwrap_or}
 use Rattle.std.proofs.lemmas.Option.{same_Some}
-use Rattle.schnellru.specs.ByHash.{GivesByHash}
-use Rattle.schnellru.specs.State.{IsMap}
-use Rattle.schnellru.specs.Calls.{written}
-use Rattle.schnellru.specs.Lists.{lookup_entry, place_of}
+use Rattle.lru_model.specs.ByHash.{GivesByHash}
+use Rattle.lru_model.specs.State.{IsMap}
+use Rattle.lru_model.specs.Calls.{written}
+use Rattle.lru_model.specs.Lists.{lookup_entry, place_of}
 use Rattle.schnellru.proofs.OrderedTables.ByHash.{gives_by_hash, gives_none_by_hash}
 use Rattle.schnellru.proofs.OrderedTables.BucketPairs.{pair_found, place_found}
 use Rattle.schnellru.proofs.OrderedTables.Searches.{pair_of_place}
-use Rattle.schnellru.proofs.PairLists.NamedPlaces.{front_place, front_found}
-use Rattle.schnellru.proofs.Maps.Promotions.{equal_is_map, written_is_map}
+use Rattle.lru_model.proofs.PairLists.NamedPlaces.{front_place, front_found}
+use Rattle.lru_model.proofs.States.Promotions.{equal_is_map, written_is_map}
 use Rattle.schnellru.proofs.OrderedTables.Writes.{kept_holds, kept_state}
 use Rattle.schnellru.proofs.map.LruMap.get_by_hash.Goals as goal
 

@@ -1,8 +1,8 @@
 use Rattle.std.proofs.Common.{◌≡◌, Some, refl, sym, ap, ◌∙◌, subst}
-use Rattle.schnellru.specs.Lists.{lookup_entry, place_of}
-use Rattle.schnellru.proofs.CallerLemmas.{promoted-absent}
-use Rattle.schnellru.proofs.Maps.Promotions.{promoted_is_map}
-use Rattle.schnellru.proofs.PairLists.NamedPlaces.{front_place, front_found, no_named_value}
+use Rattle.lru_model.specs.Lists.{lookup_entry, place_of}
+use Rattle.lru_model.proofs.CallerLemmas.{promoted-absent}
+use Rattle.lru_model.proofs.States.Promotions.{promoted_is_map}
+use Rattle.lru_model.proofs.PairLists.NamedPlaces.{front_place, front_found, no_named_value}
 use Rattle.schnellru.proofs.map.LruMap.get_key_value.Goals as goal
 
 pub returns-in_err-b : goal.returns-in_err-b

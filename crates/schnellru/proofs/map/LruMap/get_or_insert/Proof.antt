@@ -35,10 +35,10 @@ use Rattle.std.specs.declared.alloc.AllocError.{AllocError}
 use Rattle.lru_limits.specs.Hashing.{HasherMembers}
 use Rattle.std.specs.contracts.alloc.AllocError as AE
 use Rattle.std.proofs.alloc.AllocError.TheLaws as AE_laws
-use Rattle.schnellru.specs.State.{State}
+use Rattle.lru_model.specs.State.{State}
 use Rattle.schnellru.specs.Lending.Answers.{lent_or_none}
 use Rattle.schnellru.specs.Lending.Made.{lends_or, lends_made}
-use Rattle.schnellru.specs.GetOrInserts.{GetsOrInserts}
+use Rattle.lru_model.specs.GetOrInserts.{GetsOrInserts}
 use Rattle.schnellru.specs.contracts.map.LruMap as M'
 use Rattle.schnellru.specs.contracts.map.LruMap.get_or_insert as f
 use Rattle.schnellru.specs.contracts.map.LruMap.get_or_insert.F-FnOnce as closure

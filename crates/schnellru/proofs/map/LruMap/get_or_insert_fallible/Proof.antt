@@ -31,14 +31,14 @@ use denote.Triple.Walked.{Stays, walk_of, stay_dropped, Goes-spent_ref, Goes-dro
 use Rattle.std.proofs.raw_atomic.Walks.{proved_at, leaves}
 use Rattle.std.specs.Prelude.{Bool, Result}
 use Rattle.std.specs.HashMap.Lent.{HashMembers}
-use Rattle.schnellru.specs.declared.map.get_or_insert.GetOrInsertError.{GetOrInsertError}
+use Rattle.lru_model.specs.declared.results.GetOrInsertError.{GetOrInsertError}
 use Rattle.lru_limits.specs.Hashing.{HasherMembers}
-use Rattle.schnellru.specs.contracts.map.get_or_insert.GetOrInsertError as GE
-use Rattle.schnellru.proofs.map.get_or_insert.GetOrInsertError.TheLaws as GE_laws
-use Rattle.schnellru.specs.State.{State}
+use Rattle.lru_model.specs.contracts.results.GetOrInsertError as GE
+use Rattle.lru_model.proofs.results.GetOrInsertError.TheLaws as GE_laws
+use Rattle.lru_model.specs.State.{State}
 use Rattle.schnellru.specs.Lending.Answers.{lent_or_none}
 use Rattle.schnellru.specs.Lending.Made.{lends_or, lends_made}
-use Rattle.schnellru.specs.IfMade.{GetsOrInsertsIfMade}
+use Rattle.lru_model.specs.IfMade.{GetsOrInsertsIfMade}
 use Rattle.schnellru.specs.contracts.map.LruMap as M'
 use Rattle.schnellru.specs.contracts.map.LruMap.get_or_insert_fallible as f
 use Rattle.schnellru.specs.contracts.map.LruMap.get_or_insert_fallible.F-FnOnce as closure

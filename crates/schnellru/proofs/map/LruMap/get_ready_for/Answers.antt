@@ -1,7 +1,7 @@
 use Rattle.std.proofs.Common.{◌≡◌, ◌<◌, refl, sym, ◌∙◌, arith}
-use Rattle.schnellru.specs.State.{room}
-use Rattle.schnellru.specs.TryInserts.{has_growth, reserved, not_reserved, cannot_store_then}
-use Rattle.schnellru.proofs.Theorems.Reservations.{makes_room}
+use Rattle.lru_model.specs.State.{room}
+use Rattle.lru_model.specs.TryInserts.{has_growth, reserved, not_reserved, cannot_store_then}
+use Rattle.lru_model.proofs.Theorems.Reservations.{makes_room}
 use Rattle.schnellru.proofs.map.LruMap.get_ready_for.Goals as goal
 
 pub returns-then-growth_left-gt0 : goal.returns-then-growth_left-gt0

@@ -1,6 +1,6 @@
 use Rattle.std.proofs.Common.{arith, length}
 use Rattle.group_table.specs.Bucket.{marks_of}
-use Rattle.schnellru.proofs.TableSizes.Growth.{full_capacity-at_most}
+use Rattle.lru_model.proofs.TableSizes.Growth.{full_capacity-at_most}
 use Rattle.schnellru.proofs.OrderedTables.BucketPairs.{pairs-length}
 use Rattle.schnellru.proofs.map.LruMap.guaranteed_capacity.Goals as goal
 

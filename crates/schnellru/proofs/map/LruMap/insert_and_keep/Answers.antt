@@ -1,5 +1,5 @@
 use Rattle.std.proofs.Common.{rules, ◌+◌, length, arith, subst}
-use Rattle.schnellru.specs.HandedOver.{InsertHands}
+use Rattle.lru_model.specs.HandedOver.{InsertHands}
 use Rattle.schnellru.proofs.Maps.KeptPairs.{all_kept}
 use Rattle.schnellru.proofs.map.LruMap.insert_and_keep.Goals as goal
 

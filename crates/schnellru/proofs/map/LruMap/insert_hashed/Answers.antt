@@ -1,9 +1,9 @@
 use Rattle.std.proofs.Common.{[], refl, subst}
-use Rattle.schnellru.specs.State.{IsMap}
-use Rattle.schnellru.proofs.Theorems.InsertAnswers.{insert_says, insert_stores}
-use Rattle.schnellru.proofs.Theorems.LackOfMemory.{err_is, err_keeps, on_err_kept}
-use Rattle.schnellru.proofs.Theorems.PlainInserts.{plain_insert}
-use Rattle.schnellru.proofs.CallbackLemmas.{takes_always}
+use Rattle.lru_model.specs.State.{IsMap}
+use Rattle.lru_model.proofs.Theorems.InsertAnswers.{insert_says, insert_stores}
+use Rattle.lru_model.proofs.Theorems.LackOfMemory.{err_is, err_keeps, on_err_kept}
+use Rattle.lru_model.proofs.Theorems.PlainInserts.{plain_insert}
+use Rattle.lru_model.proofs.CallbackLemmas.{takes_always}
 use Rattle.schnellru.proofs.map.LruMap.insert_hashed.Goals as goal
 
 pub returns-clause-step : goal.returns-clause-step

@@ -1,12 +1,12 @@
 use Rattle.std.proofs.Common.{Ok, [], refl, ap, ◌∙◌, subst, sym}
 use Rattle.std.specs.Prelude.{Contains}
-use Rattle.schnellru.specs.HandedOver.{noting, noted}
-use Rattle.schnellru.specs.Inserts.{replaced, given_up, with_replaced}
-use Rattle.schnellru.specs.State.{contents}
-use Rattle.schnellru.proofs.Maps.LeavingPairs.{leaves_trimmed}
+use Rattle.lru_model.specs.HandedOver.{noting, noted}
+use Rattle.lru_model.specs.Inserts.{replaced, given_up, with_replaced}
+use Rattle.lru_model.specs.State.{contents}
+use Rattle.lru_model.proofs.States.LeavingPairs.{leaves_trimmed}
 use Rattle.schnellru.proofs.Maps.Offers.{offered_unkept, offered_place, offered_front, offered_some}
-use Rattle.schnellru.proofs.Theorems.Fronts.{replaced_named}
-use Rattle.schnellru.specs.MayTake.{MayTakeEach}
+use Rattle.lru_model.proofs.Theorems.Fronts.{replaced_named}
+use Rattle.lru_model.specs.MayTake.{MayTakeEach}
 use Rattle.schnellru.proofs.map.LruMap.insert_or_replace.Goals as goal
 
 pub returns-then-not-accepted-clause-handed : goal.returns-then-not-accepted-clause-handed

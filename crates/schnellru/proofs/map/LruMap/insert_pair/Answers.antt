@@ -1,11 +1,11 @@
 use Rattle.std.proofs.Common.{[], Ok, inl, refl, ap, subst, arith, sym}
-use Rattle.schnellru.specs.State.{buckets, room}
-use Rattle.schnellru.specs.Place.{placed, in_bucket, FillsBucket}
-use Rattle.schnellru.specs.HandedOver.{noted}
+use Rattle.lru_model.specs.State.{buckets, room}
+use Rattle.lru_model.specs.Place.{placed, in_bucket, FillsBucket}
+use Rattle.lru_model.specs.HandedOver.{noted}
 use Rattle.schnellru.proofs.Maps.NotedStates.{noted_placed, noted_fills}
-use Rattle.schnellru.proofs.Maps.NewKeys.{stays_new}
-use Rattle.schnellru.specs.MayTake.{MayTakeEach}
-use Rattle.schnellru.proofs.Maps.CallablePairs.{later_callable}
+use Rattle.lru_model.proofs.States.NewKeys.{stays_new}
+use Rattle.lru_model.specs.MayTake.{MayTakeEach}
+use Rattle.lru_model.proofs.States.CallablePairs.{later_callable}
 use Rattle.schnellru.proofs.map.LruMap.insert_pair.Goals as goal
 
 pub insert_without_growth-requires-clause-hash : goal.insert_without_growth-requires-clause-hash

@@ -1,7 +1,7 @@
 use Rattle.std.proofs.Common.{[], Ok, refl, ap}
-use Rattle.schnellru.specs.Place.{placed, refused, no_memory}
-use Rattle.schnellru.specs.HandedOver.{noting, noted}
-use Rattle.schnellru.proofs.Theorems.Ways.{placed_some}
+use Rattle.lru_model.specs.Place.{placed, refused, no_memory}
+use Rattle.lru_model.specs.HandedOver.{noting, noted}
+use Rattle.lru_model.proofs.Theorems.Ways.{placed_some}
 use Rattle.schnellru.proofs.map.LruMap.insert_without_bucket.Goals as goal
 
 pub returns-in_err-store_without_bucket : goal.returns-in_err-store_without_bucket

@@ -1,10 +1,10 @@
 use Rattle.std.proofs.Common.{Ok, inr, refl, ap, sym, ◌∙◌, subst}
-use Rattle.schnellru.specs.State.{buckets, room}
-use Rattle.schnellru.specs.Place.{placed, in_bucket, FillsBucket}
-use Rattle.schnellru.specs.HandedOver.{noted}
+use Rattle.lru_model.specs.State.{buckets, room}
+use Rattle.lru_model.specs.Place.{placed, in_bucket, FillsBucket}
+use Rattle.lru_model.specs.HandedOver.{noted}
 use Rattle.schnellru.proofs.Maps.NotedStates.{noted_placed, noted_fills}
-use Rattle.schnellru.proofs.PairLists.Emptiness.{some-length}
-use Rattle.schnellru.specs.MayTake.{MayTakeEach}
+use Rattle.lru_model.proofs.PairLists.Emptiness.{some-length}
+use Rattle.lru_model.specs.MayTake.{MayTakeEach}
 use Rattle.schnellru.proofs.map.LruMap.insert_without_growth.Goals as goal
 
 pub insert_without_bucket-requires-in-Err-clause-absent : goal.insert_without_bucket-requires-in-Err-clause-absent

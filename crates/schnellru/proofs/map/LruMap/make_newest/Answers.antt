@@ -1,7 +1,7 @@
 use Rattle.std.proofs.Common.{[], refl}
-use Rattle.schnellru.specs.GetOrInserts.{got, inserted}
-use Rattle.schnellru.proofs.PairLists.NamedPlaces.{named_there, named_value, no_named_value}
-use Rattle.schnellru.proofs.Theorems.PlainInserts.{plain_insert}
+use Rattle.lru_model.specs.GetOrInserts.{got, inserted}
+use Rattle.lru_model.proofs.PairLists.NamedPlaces.{named_there, named_value, no_named_value}
+use Rattle.lru_model.proofs.Theorems.PlainInserts.{plain_insert}
 use Rattle.schnellru.proofs.map.LruMap.make_newest.Goals as goal
 
 pub make-requires : goal.make-requires

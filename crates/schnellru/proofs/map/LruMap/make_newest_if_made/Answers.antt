@@ -1,8 +1,8 @@
 use Rattle.std.proofs.Common.{[], Ok, true, refl, sym, ap}
-use Rattle.schnellru.specs.GetOrInserts.{got, inserted}
-use Rattle.schnellru.specs.IfMade.{failed, as_made, or_memory}
-use Rattle.schnellru.proofs.PairLists.NamedPlaces.{named_there, named_value, no_named_value}
-use Rattle.schnellru.proofs.Theorems.PlainInserts.{plain_insert}
+use Rattle.lru_model.specs.GetOrInserts.{got, inserted}
+use Rattle.lru_model.specs.IfMade.{failed, as_made, or_memory}
+use Rattle.lru_model.proofs.PairLists.NamedPlaces.{named_there, named_value, no_named_value}
+use Rattle.lru_model.proofs.Theorems.PlainInserts.{plain_insert}
 use Rattle.schnellru.proofs.map.LruMap.make_newest_if_made.Goals as goal
 
 pub make-requires : goal.make-requires

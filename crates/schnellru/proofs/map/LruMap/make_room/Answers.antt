@@ -1,8 +1,8 @@
 use Rattle.std.proofs.Common.{◌≡◌, ◌+◌, true, [], ◌∷◌, ◌++◌, length, ap, sym, ◌∙◌, subst}
-use Rattle.schnellru.specs.State.{contents, Leaves}
-use Rattle.schnellru.specs.HandedOver.{noting, noted}
+use Rattle.lru_model.specs.State.{contents, Leaves}
+use Rattle.lru_model.specs.HandedOver.{noting, noted}
 use Rattle.schnellru.proofs.OrderedTables.BucketPairs.{pairs-length}
-use Rattle.schnellru.proofs.Maps.CallablePairs.{oldest_callable, rest_callable_with}
+use Rattle.lru_model.proofs.States.CallablePairs.{oldest_callable, rest_callable_with}
 use Rattle.schnellru.proofs.Maps.NotedStates.{takes_more, noted_pop, make_room-over}
 use Rattle.schnellru.proofs.map.LruMap.make_room.Goals as goal
 

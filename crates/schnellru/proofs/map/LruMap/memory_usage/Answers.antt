@@ -1,6 +1,6 @@
 use Rattle.std.proofs.Common.{Some, sym, ap, ◌∙◌, arith}
-use Rattle.schnellru.specs.Sizes.{usage, bytes_of}
-use Rattle.schnellru.proofs.TableSizes.Growth.{usage_bytes}
+use Rattle.lru_model.specs.Sizes.{usage, bytes_of}
+use Rattle.lru_model.proofs.TableSizes.Growth.{usage_bytes}
 use Rattle.schnellru.proofs.map.LruMap.memory_usage.Goals as goal
 
 pub returns-then-buckets-eq0 : goal.returns-then-buckets-eq0

@@ -1,5 +1,5 @@
 use Rattle.std.proofs.Common.{refl, sym, ◌∙◌, subst}
-use Rattle.schnellru.specs.State.{IsMap}
+use Rattle.lru_model.specs.State.{IsMap}
 use Rattle.schnellru.proofs.OrderedTables.NewestPair.{newest_state, newest_holds, newest_is}
 use Rattle.schnellru.proofs.OrderedTables.Writes.{same_follow}
 use Rattle.schnellru.proofs.map.LruMap.newest_mut.Goals as goal

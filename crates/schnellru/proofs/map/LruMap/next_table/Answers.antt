@@ -1,7 +1,7 @@
 use Rattle.std.proofs.Common.{◌≡◌, ◌<◌, ◌+◌, length, ap, ◌∙◌, sym, subst, arith}
-use Rattle.schnellru.specs.Sizes.{target, larger}
-use Rattle.schnellru.specs.Place.{table_for}
-use Rattle.schnellru.proofs.TableSizes.NextTable.{if_larger, larger_count, larger_reached, larger_usable, larger_half}
+use Rattle.lru_model.specs.Sizes.{target, larger}
+use Rattle.lru_model.specs.Place.{table_for}
+use Rattle.lru_model.proofs.TableSizes.NextTable.{if_larger, larger_count, larger_reached, larger_usable, larger_half}
 use Rattle.schnellru.proofs.map.LruMap.next_table.Goals as goal
 
 pub larger_table-requires-clause-count : goal.larger_table-requires-clause-count

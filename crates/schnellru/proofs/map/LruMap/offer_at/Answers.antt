@@ -3,14 +3,14 @@ use Rattle.schnellru.specs.Inside.Handing.{HandsGivenUp}
 use Rattle.schnellru.specs.Inside.Holds.{state_of}
 use Rattle.schnellru.specs.Inside.OrderedTable.{pairs_of}
 use Rattle.schnellru.specs.Inside.Steps.{IsReplaced, IsGivenUp}
-use Rattle.schnellru.specs.Inserts.{unkept_of}
+use Rattle.lru_model.specs.Inserts.{unkept_of}
 use Rattle.schnellru.proofs.Maps.Fields.{beside_of}
 use Rattle.schnellru.proofs.Maps.NotedStates.{noted_offer}
 use Rattle.schnellru.proofs.OrderedTables.BucketPairs.{pairs-length, pair_found}
 use Rattle.schnellru.proofs.OrderedTables.Replacements.{replaced_leaves, given_up_leaves, offered_holds}
 use Rattle.schnellru.proofs.OrderedTables.Searches.{pair_of_place}
 use Rattle.std.proofs.lemmas.Option.{same_Some}
-use Rattle.schnellru.specs.MayTake.{MayTakeRejected}
+use Rattle.lru_model.specs.MayTake.{MayTakeRejected}
 use Rattle.schnellru.proofs.map.LruMap.offer_at.Goals as goal
 
 pub offer-requires-clause-there : goal.offer-requires-clause-there

@@ -1,5 +1,5 @@
 use Rattle.std.proofs.Common.{sym}
-use Rattle.schnellru.proofs.PairLists.NamedPlaces.{named_value, no_named_value}
+use Rattle.lru_model.proofs.PairLists.NamedPlaces.{named_value, no_named_value}
 use Rattle.schnellru.proofs.map.LruMap.peek.Goals as goal
 
 pub returns-in_err-b : goal.returns-in_err-b

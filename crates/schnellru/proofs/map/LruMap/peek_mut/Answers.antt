@@ -2,8 +2,8 @@ use Rattle.std.proofs.Common.{refl, sym, ap, ◌∙◌, subst, unwrap_or, ◌≡
 use Rattle.schnellru.specs.Inside.OrderedTable.{pairs_of}
 use Rattle.schnellru.proofs.OrderedTables.BucketPairs.{value_found}
 use Rattle.schnellru.proofs.OrderedTables.Searches.{pair_of_place}
-use Rattle.schnellru.proofs.PairLists.NamedPlaces.{no_named_value}
-use Rattle.schnellru.proofs.Maps.Promotions.{written_is_map}
+use Rattle.lru_model.proofs.PairLists.NamedPlaces.{no_named_value}
+use Rattle.lru_model.proofs.States.Promotions.{written_is_map}
 use Rattle.schnellru.proofs.OrderedTables.Writes.{kept_holds, kept_state, same_follow}
 use Rattle.schnellru.proofs.map.LruMap.peek_mut.Goals as goal
 

@@ -1,5 +1,5 @@
 use Rattle.std.proofs.Common.{refl, sym}
-use Rattle.schnellru.specs.Pops.{rejected, accepted}
+use Rattle.lru_model.specs.Pops.{rejected, accepted}
 use Rattle.schnellru.proofs.map.LruMap.pop_oldest_if.Goals as goal
 
 pub returns-then-not-accepts-clause-step : goal.returns-then-not-accepts-clause-step

@@ -1,7 +1,7 @@
 use Rattle.std.proofs.Common.{sym, ap}
 use Rattle.std.specs.Prelude.{is_some}
-use Rattle.schnellru.proofs.CallerLemmas.{promoted-absent}
-use Rattle.schnellru.proofs.PairLists.NamedPlaces.{place_says, no_named_value}
+use Rattle.lru_model.proofs.CallerLemmas.{promoted-absent}
+use Rattle.lru_model.proofs.PairLists.NamedPlaces.{place_says, no_named_value}
 use Rattle.schnellru.proofs.map.LruMap.promote.Goals as goal
 
 pub returns-in-Some-clause-there : goal.returns-in-Some-clause-there

@@ -1,4 +1,4 @@
-use Rattle.schnellru.proofs.OrderedTables.TakenPairs.{none_removed}
+use Rattle.lru_model.proofs.States.RemovedPairs.{none_removed}
 use Rattle.schnellru.proofs.map.LruMap.remove_entry.Goals as goal
 
 pub returns-in_err-b-clause-step : goal.returns-in_err-b-clause-step

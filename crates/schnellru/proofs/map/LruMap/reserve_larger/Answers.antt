@@ -1,8 +1,8 @@
 use Rattle.std.proofs.Common.{refl, sym, ◌∙◌}
 use Rattle.schnellru.specs.Inside.Holds.{state_of}
-use Rattle.schnellru.specs.Reservations.{unchanged, no_such_table}
+use Rattle.lru_model.specs.Reservations.{unchanged, no_such_table}
 use Rattle.schnellru.proofs.Maps.Fields.{beside_of}
-use Rattle.schnellru.proofs.Maps.Reservations.{is_reserved, lacks_memory, is_denied}
+use Rattle.lru_model.proofs.States.Reservations.{is_reserved, lacks_memory, is_denied}
 use Rattle.schnellru.proofs.map.LruMap.reserve_larger.Goals as goal
 
 pub returns-then-not-on_grow-clause-step : goal.returns-then-not-on_grow-clause-step

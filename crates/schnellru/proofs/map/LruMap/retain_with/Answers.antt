@@ -1,11 +1,11 @@
 use Rattle.std.proofs.Common.{arith, sym, subst}
-use Rattle.schnellru.specs.MayTake.{MayTakeEach}
-use Rattle.schnellru.specs.Lists.{last, without_last, after}
-use Rattle.schnellru.proofs.CallbackLemmas.{takes_always}
-use Rattle.schnellru.proofs.Maps.CallablePairs.{fewer_callable, covers_promoted, length-promoted}
-use Rattle.schnellru.proofs.Maps.CallablePairs.{oldest_callable, rest_callable}
+use Rattle.lru_model.specs.MayTake.{MayTakeEach}
+use Rattle.lru_model.specs.Lists.{last, without_last, after}
+use Rattle.lru_model.proofs.CallbackLemmas.{takes_always}
+use Rattle.lru_model.proofs.States.CallablePairs.{fewer_callable, covers_promoted, length-promoted}
+use Rattle.lru_model.proofs.States.CallablePairs.{oldest_callable, rest_callable}
 use Rattle.schnellru.proofs.Maps.Retains.{IsRetainedTo, retains_none, retains_more, removes_more, retains_all}
-use Rattle.schnellru.proofs.Theorems.PlainInserts.{plain_retains}
+use Rattle.lru_model.proofs.Theorems.PlainInserts.{plain_retains}
 use Rattle.schnellru.proofs.map.LruMap.retain_with.Goals as goal
 
 pub pairs-init : goal.pairs-init

@@ -1,6 +1,6 @@
 -- The newest `left` pairs are still to be asked. The others were, and those that left were passed to the callback.
 use denote.Param.Always.{always_mut}
-use Rattle.schnellru.specs.MayTake.{MayTakeEach}
+use Rattle.lru_model.specs.MayTake.{MayTakeEach}
 use Rattle.schnellru.proofs.Maps.Retains.{IsRetainedTo}
 use Rattle.schnellru.proofs.map.LruMap.retain_with.Given as goal
 

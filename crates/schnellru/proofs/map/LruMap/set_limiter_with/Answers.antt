@@ -1,5 +1,5 @@
 use Rattle.std.proofs.Common.{sym, subst}
-use Rattle.schnellru.specs.MayTake.{MayTakeEach}
+use Rattle.lru_model.specs.MayTake.{MayTakeEach}
 use Rattle.schnellru.proofs.map.LruMap.set_limiter_with.Goals as goal
 
 pub trim_with-requires : goal.trim_with-requires

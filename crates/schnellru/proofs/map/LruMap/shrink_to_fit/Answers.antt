@@ -4,14 +4,15 @@ use Rattle.std.specs.Prelude.{IfSome}
 use Rattle.group_table.specs.Sizes.{buckets_for}
 use Rattle.group_table.specs.Change.{count_up}
 use Rattle.group_table.proofs.BucketLemmas.{length-marks_of}
-use Rattle.schnellru.specs.State.{buckets, MovesTo}
-use Rattle.schnellru.specs.Shrinks.{shrink_counted, kept, shrunk, no_memory_to_shrink}
+use Rattle.lru_model.specs.State.{buckets, MovesTo}
+use Rattle.lru_model.specs.Shrinks.{shrink_counted, kept, shrunk, no_memory_to_shrink}
 use Rattle.schnellru.specs.Inside.OrderedTable.{pairs_of}
 use Rattle.schnellru.specs.Inside.Holds.{state_of, Holds}
 use Rattle.schnellru.proofs.OrderedTables.BucketPairs.{pairs-length}
 use Rattle.schnellru.proofs.Maps.Fields.{beside_of}
-use Rattle.schnellru.proofs.Maps.Reservations.{some_there}
-use Rattle.schnellru.proofs.Maps.ShrunkMaps.{needs, none_needed, shrinks_to, shrinks_holds}
+use Rattle.lru_model.proofs.States.Reservations.{some_there}
+use Rattle.lru_model.proofs.States.SomeShrink.{none_needed}
+use Rattle.schnellru.proofs.Maps.ShrunkMaps.{needs, shrinks_to, shrinks_holds}
 use Rattle.schnellru.proofs.map.LruMap.shrink_to_fit.Goals as goal
 
 pub returns-in-None-clause-step : goal.returns-in-None-clause-step

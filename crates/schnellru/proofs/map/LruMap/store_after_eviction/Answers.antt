@@ -1,17 +1,17 @@
 use Rattle.std.proofs.Common.{◌≡◌, ◌/◌, ◌<◌, ◌≤◌, suc, inr, None, [], ◌∷◌, ◌++◌, length, refl, ap, sym, ◌∙◌, subst}
 use Rattle.std.proofs.Common.{arith}
 use Rattle.group_table.specs.Sizes.{full_capacity}
-use Rattle.schnellru.specs.Lists.{lookup_entry}
-use Rattle.schnellru.specs.State.{buckets, room}
-use Rattle.schnellru.specs.Place.{IsFullWithPairs}
-use Rattle.schnellru.specs.MayTake.{MayTakeEach}
-use Rattle.schnellru.specs.HandedOver.{noting, noted}
-use Rattle.schnellru.proofs.TableSizes.Growth.{full_capacity-some}
-use Rattle.schnellru.proofs.Maps.CallablePairs.{oldest_callable_with, rest_callable_with}
-use Rattle.schnellru.proofs.Maps.LeavingPairs.{leaves_self, leaves_more}
+use Rattle.lru_model.specs.Lists.{lookup_entry}
+use Rattle.lru_model.specs.State.{buckets, room}
+use Rattle.lru_model.specs.Place.{IsFullWithPairs}
+use Rattle.lru_model.specs.MayTake.{MayTakeEach}
+use Rattle.lru_model.specs.HandedOver.{noting, noted}
+use Rattle.lru_model.proofs.TableSizes.Growth.{full_capacity-some}
+use Rattle.lru_model.proofs.States.CallablePairs.{oldest_callable_with, rest_callable_with}
+use Rattle.lru_model.proofs.States.LeavingPairs.{leaves_self, leaves_more}
 use Rattle.schnellru.proofs.Maps.NotedStates.{takes_more, noted_sized, noted_placed, noted_fills, noted_pop}
-use Rattle.schnellru.proofs.Maps.Placements.{one_more, one_fewer, left_absent, finds, rehashes_then, no_place_bucket}
-use Rattle.schnellru.proofs.Maps.Placements.{power_with_pairs}
+use Rattle.lru_model.proofs.States.Placements.{one_more, one_fewer, left_absent, finds, rehashes_then, no_place_bucket}
+use Rattle.lru_model.proofs.States.Placements.{power_with_pairs}
 use Rattle.schnellru.proofs.map.LruMap.store_after_eviction.Goals as goal
 
 pub store_after_move-requires-clause-absent : goal.store_after_move-requires-clause-absent

@@ -2,12 +2,12 @@
 -- pair has no place yet.
 use Rattle.std.proofs.Common.{◌≡◌, ℕ, ◌/◌, ◌∷◌, length}
 use Rattle.group_table.specs.Sizes.{full_capacity}
-use Rattle.schnellru.specs.State.{buckets, contents, Leaves, pops}
-use Rattle.schnellru.specs.Place.{OldestLeave}
-use Rattle.schnellru.specs.MayTake.{MayTakeEach}
-use Rattle.schnellru.specs.HandedOver.{noting, noted}
+use Rattle.lru_model.specs.State.{buckets, contents, Leaves, pops}
+use Rattle.lru_model.specs.Place.{OldestLeave}
+use Rattle.lru_model.specs.MayTake.{MayTakeEach}
+use Rattle.lru_model.specs.HandedOver.{noting, noted}
 use Rattle.schnellru.specs.Inside.Handing.{Hands}
-use Rattle.schnellru.proofs.Maps.Placements.{IsStuck}
+use Rattle.lru_model.proofs.States.Placements.{IsStuck}
 use Rattle.schnellru.proofs.map.LruMap.store_after_eviction.Given as goal
 
 abbrev pub invariant-evictions : goal.invariant-evictions

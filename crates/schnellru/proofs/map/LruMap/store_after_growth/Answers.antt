@@ -1,11 +1,11 @@
 use Rattle.std.proofs.Common.{ap, sym, subst, ◌∙◌, ◌∷◌}
-use Rattle.schnellru.specs.State.{IsSized}
+use Rattle.lru_model.specs.State.{IsSized}
 use Rattle.schnellru.specs.Inside.Holds.{state_of}
-use Rattle.schnellru.specs.HandedOver.{noting, noted}
+use Rattle.lru_model.specs.HandedOver.{noting, noted}
 use Rattle.schnellru.proofs.Maps.NotedStates.{noted_sized, noted_outgrown}
 use Rattle.schnellru.proofs.Maps.Fields.{beside_of}
-use Rattle.schnellru.proofs.Maps.Placements.{grown_place, denied_place, untold_place}
-use Rattle.schnellru.specs.MayTake.{MayTakeEach}
+use Rattle.lru_model.proofs.States.Placements.{grown_place, denied_place, untold_place}
+use Rattle.lru_model.specs.MayTake.{MayTakeEach}
 use Rattle.schnellru.proofs.map.LruMap.store_after_growth.Goals as goal
 
 pub returns-then-on_grow-clause-handed : goal.returns-then-on_grow-clause-handed

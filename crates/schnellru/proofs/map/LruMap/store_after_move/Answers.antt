@@ -1,12 +1,12 @@
 use Rattle.std.proofs.Common.{◌-◌, ◌∷◌, length, ap, sym, ◌∙◌, subst, arith, rules}
 use Rattle.group_table.specs.Sizes.{full_capacity}
-use Rattle.schnellru.specs.State.{room}
-use Rattle.schnellru.specs.Place.{IsPlaced, turned_away}
-use Rattle.schnellru.specs.HandedOver.{noting, noted}
-use Rattle.schnellru.specs.MayTake.{MayTakeEach}
-use Rattle.schnellru.proofs.Maps.CallablePairs.{first_callable}
+use Rattle.lru_model.specs.State.{room}
+use Rattle.lru_model.specs.Place.{IsPlaced, turned_away}
+use Rattle.lru_model.specs.HandedOver.{noting, noted}
+use Rattle.lru_model.specs.MayTake.{MayTakeEach}
+use Rattle.lru_model.proofs.States.CallablePairs.{first_callable}
 use Rattle.schnellru.proofs.Maps.NotedStates.{noted_placed}
-use Rattle.schnellru.proofs.TableSizes.Growth.{full_capacity-some}
+use Rattle.lru_model.proofs.TableSizes.Growth.{full_capacity-some}
 use Rattle.schnellru.proofs.map.LruMap.store_after_move.Goals as goal
 
 pub store_in_room-requires-clause-room : goal.store_in_room-requires-clause-room

@@ -1,11 +1,11 @@
 use Rattle.std.proofs.Common.{◌<◌, length, sym, subst}
 use Rattle.group_table.specs.Sizes.{full_capacity}
-use Rattle.schnellru.specs.State.{buckets}
-use Rattle.schnellru.specs.Place.{HasNoBucket}
+use Rattle.lru_model.specs.State.{buckets}
+use Rattle.lru_model.specs.Place.{HasNoBucket}
 use Rattle.schnellru.specs.Inside.Holds.{state_of}
 use Rattle.schnellru.proofs.Maps.Fields.{beside_of}
-use Rattle.schnellru.proofs.Maps.Outcomes.{on_err}
-use Rattle.schnellru.proofs.Maps.Placements.{fills_within, no_place_bucket}
+use Rattle.lru_model.proofs.States.Outcomes.{on_err}
+use Rattle.lru_model.proofs.States.Placements.{fills_within, no_place_bucket}
 use Rattle.schnellru.proofs.OrderedTables.Landings.{lands_placed, lands_fills, lands_holds}
 use Rattle.schnellru.proofs.map.LruMap.store_in_bucket.Goals as goal
 

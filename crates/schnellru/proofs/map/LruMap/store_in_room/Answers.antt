@@ -1,10 +1,10 @@
 use Rattle.std.proofs.Common.{◌≡◌, ◌+◌, ◌<◌, length, sym, subst}
 use Rattle.group_table.specs.Sizes.{full_capacity}
-use Rattle.schnellru.specs.State.{buckets, room}
+use Rattle.lru_model.specs.State.{buckets, room}
 use Rattle.schnellru.specs.Inside.Holds.{state_of}
-use Rattle.schnellru.proofs.TableSizes.FilledBuckets.{fills_exact}
+use Rattle.lru_model.proofs.TableSizes.FilledBuckets.{fills_exact}
 use Rattle.schnellru.proofs.Maps.Fields.{beside_of}
-use Rattle.schnellru.proofs.Maps.Placements.{fills_within}
+use Rattle.lru_model.proofs.States.Placements.{fills_within}
 use Rattle.schnellru.proofs.OrderedTables.Landings.{lands_placed, lands_fills, lands_holds}
 use Rattle.schnellru.proofs.map.LruMap.store_in_room.Goals as goal
 

@@ -1,12 +1,12 @@
 use Rattle.std.proofs.Common.{◌≡◌, ◌⊎◌, inl, inr, ◌<◌, ◌/◌, length, ap, ◌∙◌, subst, arith}
 use Rattle.group_table.specs.Sizes.{full_capacity, IsBucketCount}
-use Rattle.schnellru.specs.State.{buckets}
-use Rattle.schnellru.specs.Place.{HasNoBucket}
-use Rattle.schnellru.specs.HandedOver.{noting, noted}
+use Rattle.lru_model.specs.State.{buckets}
+use Rattle.lru_model.specs.Place.{HasNoBucket}
+use Rattle.lru_model.specs.HandedOver.{noting, noted}
 use Rattle.schnellru.proofs.Maps.NotedStates.{noted_sized, noted_no_bucket}
-use Rattle.schnellru.proofs.TableSizes.Growth.{full_capacity-at_most, full_capacity-some}
-use Rattle.schnellru.proofs.TableSizes.SizedMarks.{own_count}
-use Rattle.schnellru.proofs.Maps.Placements.{rehash_place}
+use Rattle.lru_model.proofs.TableSizes.Growth.{full_capacity-at_most, full_capacity-some}
+use Rattle.lru_model.proofs.TableSizes.SizedMarks.{own_count}
+use Rattle.lru_model.proofs.States.Placements.{rehash_place}
 use Rattle.schnellru.proofs.map.LruMap.store_without_bucket.Goals as goal
 
 pub store_after_move-requires-clause-count : goal.store_after_move-requires-clause-count

@@ -1,8 +1,8 @@
 use Rattle.std.proofs.Common.{refl, sym, ◌∙◌}
 use Rattle.std.proofs.lemmas.List.{nil_from_length}
-use Rattle.schnellru.specs.Place.{nothing_to_evict}
-use Rattle.schnellru.proofs.Maps.CallablePairs.{first_callable}
-use Rattle.schnellru.proofs.PairLists.Emptiness.{empty-length}
+use Rattle.lru_model.specs.Place.{nothing_to_evict}
+use Rattle.lru_model.proofs.States.CallablePairs.{first_callable}
+use Rattle.lru_model.proofs.PairLists.Emptiness.{empty-length}
 use Rattle.schnellru.proofs.map.LruMap.store_without_growth.Goals as goal
 
 pub returns-then-is_empty-clause-handed : goal.returns-then-is_empty-clause-handed

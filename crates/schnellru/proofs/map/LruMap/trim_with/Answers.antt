@@ -1,12 +1,12 @@
 use Rattle.std.proofs.Common.{[], refl, sym, ◌∙◌, subst}
-use Rattle.schnellru.specs.State.{contents, IsWithin, Leaves}
-use Rattle.schnellru.specs.HandedOver.{noting, noted}
-use Rattle.schnellru.proofs.CallbackLemmas.{takes_always}
-use Rattle.schnellru.proofs.Maps.LeavingPairs.{leaves_self, trim-empty}
-use Rattle.schnellru.proofs.PairLists.Emptiness.{empty-length}
-use Rattle.schnellru.proofs.Theorems.InsertAnswers.{trim_ends}
-use Rattle.schnellru.proofs.Theorems.Moves.{left_are}
-use Rattle.schnellru.proofs.Theorems.PlainInserts.{plain_trims}
+use Rattle.lru_model.specs.State.{contents, IsWithin, Leaves}
+use Rattle.lru_model.specs.HandedOver.{noting, noted}
+use Rattle.lru_model.proofs.CallbackLemmas.{takes_always}
+use Rattle.lru_model.proofs.States.LeavingPairs.{leaves_self, trim-empty}
+use Rattle.lru_model.proofs.PairLists.Emptiness.{empty-length}
+use Rattle.lru_model.proofs.Theorems.InsertAnswers.{trim_ends}
+use Rattle.lru_model.proofs.Theorems.Moves.{left_are}
+use Rattle.lru_model.proofs.Theorems.PlainInserts.{plain_trims}
 use Rattle.schnellru.proofs.map.LruMap.trim_with.Goals.{then-not-is_empty, else-not-is_empty}
 use Rattle.schnellru.proofs.map.LruMap.trim_with.Goals as goal
 

@@ -1,5 +1,5 @@
 use Rattle.std.proofs.lemmas.Result.{err_from_is_err_and}
-use Rattle.schnellru.specs.Extends.{no_insert, one_insert_more}
+use Rattle.lru_model.specs.Extends.{no_insert, one_insert_more}
 use Rattle.schnellru.proofs.map.LruMap.try_extend.Goals as goal
 
 pub loop-key-init : goal.loop-key-init

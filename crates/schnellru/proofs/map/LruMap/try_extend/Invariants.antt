@@ -1,4 +1,4 @@
-use Rattle.schnellru.specs.Extends.{InsertsAll}
+use Rattle.lru_model.specs.Extends.{InsertsAll}
 use Rattle.schnellru.proofs.map.LruMap.try_extend.Given as goal
 
 abbrev pub invariant-loop-key : goal.invariant-loop-key

@@ -1,6 +1,6 @@
 use Rattle.std.proofs.Common.{subst}
-use Rattle.schnellru.specs.State.{IsMap}
-use Rattle.schnellru.proofs.Theorems.AdmittedPairs.{says}
+use Rattle.lru_model.specs.State.{IsMap}
+use Rattle.lru_model.proofs.Theorems.AdmittedPairs.{says}
 use Rattle.schnellru.proofs.map.LruMap.try_insert.Goals as goal
 
 pub returns : goal.returns

@@ -1,6 +1,6 @@
 use Rattle.std.proofs.Common.{refl}
-use Rattle.schnellru.specs.TryInserts.{there}
-use Rattle.schnellru.proofs.PairLists.NamedPlaces.{named_there}
+use Rattle.lru_model.specs.TryInserts.{there}
+use Rattle.lru_model.proofs.PairLists.NamedPlaces.{named_there}
 use Rattle.schnellru.proofs.map.LruMap.try_insert_hashed.Goals as goal
 
 pub returns-in-Some : goal.returns-in-Some

@@ -1,6 +1,6 @@
 use Rattle.std.proofs.Common.{refl, ap, sym, ◌∙◌}
-use Rattle.schnellru.specs.TryInserts.{cannot_store, unready, inserted}
-use Rattle.schnellru.proofs.Theorems.AdmittedPairs.{ready_pairs, ready_hasher}
+use Rattle.lru_model.specs.TryInserts.{cannot_store, unready, inserted}
+use Rattle.lru_model.proofs.Theorems.AdmittedPairs.{ready_pairs, ready_hasher}
 use Rattle.schnellru.proofs.map.LruMap.try_insert_new.Goals as goal
 
 pub returns-then-not-can_store : goal.returns-then-not-can_store

@@ -1,5 +1,5 @@
 use Rattle.std.proofs.Common.{refl, sym}
-use Rattle.schnellru.specs.Pops.{failed, popped}
+use Rattle.lru_model.specs.Pops.{failed, popped}
 use Rattle.schnellru.proofs.map.LruMap.try_pop_oldest.Goals as goal
 
 pub returns-in-Ok-clause-step : goal.returns-in-Ok-clause-step

@@ -1,10 +1,10 @@
 use Rattle.std.proofs.Common.{refl, ap, ◌∙◌, arith}
 use Rattle.std.proofs.lemmas.Bool.{false≢true}
 use Rattle.group_table.specs.Sizes.{full_capacity}
-use Rattle.schnellru.specs.Reservations.{LacksRoomFor, unchanged, rehashed, too_many, enough_room, no_memory_to_rehash}
-use Rattle.schnellru.proofs.TableSizes.NextTable.{stays}
-use Rattle.schnellru.proofs.Maps.Reservations.{some_there}
-use Rattle.schnellru.proofs.Theorems.Reservations.{makes_room_if_ok}
+use Rattle.lru_model.specs.Reservations.{LacksRoomFor, unchanged, rehashed, too_many, enough_room, no_memory_to_rehash}
+use Rattle.lru_model.proofs.TableSizes.NextTable.{stays}
+use Rattle.lru_model.proofs.States.Reservations.{some_there}
+use Rattle.lru_model.proofs.Theorems.Reservations.{makes_room_if_ok}
 use Rattle.schnellru.proofs.map.LruMap.try_reserve.Goals as goal
 
 pub returns-in-None-clause-step : goal.returns-in-None-clause-step

@@ -1,6 +1,6 @@
 use Rattle.std.proofs.Common.{[], ◌∷◌, ◌++◌, refl}
 use Rattle.schnellru.specs.Inside.Holds.{state_of}
-use Rattle.schnellru.proofs.Maps.CallablePairs.{here, one_callable}
+use Rattle.lru_model.proofs.States.CallablePairs.{here, one_callable}
 use Rattle.schnellru.proofs.Maps.Fields.{beside_of}
 use Rattle.schnellru.proofs.Maps.NotedStates.{takes_more, noted_turned_away}
 use Rattle.schnellru.proofs.map.LruMap.turn_away.Goals as goal

@@ -1,15 +1,15 @@
 use Rattle.std.proofs.Common.{[], ap, refl, ◌∙◌, ◌∷◌, arith}
-use Rattle.schnellru.specs.HandedOver.{noting, noted}
-use Rattle.schnellru.specs.Updates.{updated, rejected}
-use Rattle.schnellru.specs.declared.map.update.Updated.TheVariants.{Replaced, Rejected}
-use Rattle.schnellru.proofs.Maps.LeavingPairs.{leaves_trimmed}
+use Rattle.lru_model.specs.HandedOver.{noting, noted}
+use Rattle.lru_model.specs.Updates.{updated, rejected}
+use Rattle.lru_model.specs.declared.results.Updated.TheVariants.{Replaced, Rejected}
+use Rattle.lru_model.proofs.States.LeavingPairs.{leaves_trimmed}
 use Rattle.schnellru.proofs.Maps.Offers.{offered_old, offered_new, offered_any}
-use Rattle.schnellru.specs.Inserts.{with_new_value}
-use Rattle.schnellru.specs.Lists.{set_entry, without}
-use Rattle.schnellru.specs.State.{contents}
-use Rattle.schnellru.proofs.Maps.CallablePairs.{covers_set, fewer_callable}
-use Rattle.schnellru.proofs.PairLists.SetEntries.{length-set_entry}
-use Rattle.schnellru.proofs.Theorems.Limits.{length-without_found}
+use Rattle.lru_model.specs.Inserts.{with_new_value}
+use Rattle.lru_model.specs.Lists.{set_entry, without}
+use Rattle.lru_model.specs.State.{contents}
+use Rattle.lru_model.proofs.States.CallablePairs.{covers_set, fewer_callable}
+use Rattle.lru_model.proofs.PairLists.SetEntries.{length-set_entry}
+use Rattle.lru_model.proofs.Theorems.Limits.{length-without_found}
 use Rattle.schnellru.proofs.map.LruMap.update_entry.Goals as goal
 
 pub returns-then-not-accepted : goal.returns-then-not-accepted

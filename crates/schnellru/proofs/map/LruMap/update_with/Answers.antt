@@ -1,6 +1,6 @@
 use Rattle.std.proofs.Common.{[], refl}
-use Rattle.schnellru.proofs.Theorems.PlainInserts.{plain_update}
-use Rattle.schnellru.proofs.CallbackLemmas.{takes_always}
+use Rattle.lru_model.proofs.Theorems.PlainInserts.{plain_update}
+use Rattle.lru_model.proofs.CallbackLemmas.{takes_always}
 use Rattle.schnellru.proofs.map.LruMap.update_with.Goals as goal
 
 pub returns-clause-handed : goal.returns-clause-handed

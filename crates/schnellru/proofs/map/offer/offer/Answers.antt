@@ -4,8 +4,8 @@ use Rattle.std.proofs.lemmas.Option.{same_Some}
 use Rattle.schnellru.specs.Inside.Steps.{IsGivenUp}
 use Rattle.schnellru.specs.Inside.Handing.{HandsGivenUp}
 use Rattle.schnellru.proofs.OrderedTables.Replacements.{gives_up, left_as_told}
-use Rattle.schnellru.specs.MayTake.{MayTakeRejected}
-use Rattle.schnellru.proofs.Maps.CallablePairs.{here, one_callable}
+use Rattle.lru_model.specs.MayTake.{MayTakeRejected}
+use Rattle.lru_model.proofs.States.CallablePairs.{here, one_callable}
 use Rattle.schnellru.proofs.map.offer.offer.Goals as goal
 
 pub returns-else-taken-clause-given_up : goal.returns-else-taken-clause-given_up

@@ -1,7 +1,7 @@
 use Rattle.std.proofs.Common.{rules, refl}
 use denote.Param.Always.{always_mut, mut_by, mut_next}
 use Rattle.std.proofs.lemmas.Option.{IfSome_then}
-use Rattle.schnellru.specs.ByHash.{Asks}
+use Rattle.lru_model.specs.ByHash.{Asks}
 use Rattle.schnellru.proofs.OrderedTables.PairSlots.{pair_of}
 use Rattle.schnellru.proofs.OrderedTables.AskedPairs.{finds_pair, finds_no_pair}
 use Rattle.schnellru.proofs.OrderedTables.KeyHashes.{if_none}

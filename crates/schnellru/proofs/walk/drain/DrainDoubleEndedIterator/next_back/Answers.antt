@@ -1,6 +1,6 @@
 use Rattle.std.proofs.Common.{length, ap, ◌∙◌, arith, inl, inr}
-use Rattle.schnellru.proofs.PairLists.Emptiness.{last_cases}
-use Rattle.schnellru.proofs.Maps.LeavingPairs.{length-without_last}
+use Rattle.lru_model.proofs.PairLists.Emptiness.{last_cases}
+use Rattle.lru_model.proofs.States.LeavingPairs.{length-without_last}
 use Rattle.schnellru.proofs.walk.drain.DrainDoubleEndedIterator.next_back.Goals as goal
 
 pub returns-clause-goes : goal.returns-clause-goes

@@ -1,0 +1,14 @@
+pub mod LeavingPairs
+pub mod Outcomes
+pub mod Promotions
+pub mod RemovedPairs
+pub mod CallablePairs
+pub mod Reservations
+pub mod NewKeys
+pub mod Placements
+pub mod SomePlace
+pub mod SomeInsert
+pub mod SomeUpdate
+pub mod SomeReservation
+pub mod SomeShrink
+pub mod EmptyMaps

@@ -1,0 +1,76 @@
+-- A pair comes first, or last, or has another value: what holds of a map goes on to hold.
+use Rattle.std.proofs.Common.{◌≡◌, ℕ, Bool, List, [], ◌∷◌, length, Option, refl, sym, subst, ◌∙◌, arith}
+use Rattle.std.specs.Cmp.{IsEquivalence}
+use Rattle.std.specs.List.{IsDistinct}
+use Rattle.std.proofs.lemmas.Map.{length-set_value, keys-set_value}
+use Rattle.lru_limits.specs.Laws.{IsLookup}
+use Rattle.lru_model.specs.Lists.{front, back}
+use Rattle.lru_model.specs.State.{State, IsSized, IsMap}
+use Rattle.lru_model.specs.Calls.{Get, found, absent, promoted, demoted, written}
+use Rattle.lru_model.proofs.PairLists.DistinctKeys.{distinct_first}
+use Rattle.lru_model.proofs.Theorems.Sums.{total, total-front, total-back}
+
+module _ {K V : Type 0} (names : K → Bool) where
+  total-one : (xs : List (K × V)) → total (λ _. 1) xs ≡ length xs
+  total-one [] = refl
+  total-one (x ∷ xs) = omega (arith, total-one xs)
+
+  pub length-front_pairs : (xs : List (K × V)) → length (front names xs) ≡ length xs
+  length-front_pairs xs = sym (total-one (front names xs)) ∙ total-front (λ _. 1) names xs ∙ total-one xs
+
+  pub length-back_pairs : (xs : List (K × V)) → length (back names xs) ≡ length xs
+  length-back_pairs xs = sym (total-one (back names xs)) ∙ total-back (λ _. 1) names xs ∙ total-one xs
+
+module _ {K V S H : Type 0} (st : State K V S H) where
+  -- a table is as sound with as many pairs
+  sized_with : (pairs : List (K × V)) (places : List ℕ) → length pairs ≡ length st.pairs → IsSized st
+      → IsSized (record st { pairs = pairs; places = places })
+  sized_with pairs places same ok = record {
+    table = ok.table;
+    taken = ok.taken ∙ sym same;
+    reachable = ok.reachable;
+    usable = ok.usable;
+    moved = ok.moved;
+    placed = ok.placed;
+    shrunk = ok.shrunk;
+  }
+
+  pub promoted_sized : (names : K → Bool) → IsSized st → IsSized (promoted names st)
+  promoted_sized names ok = sized_with _ _ (length-front_pairs names st.pairs) ok
+
+  pub demoted_sized : (names : K → Bool) → IsSized st → IsSized (demoted names st)
+  demoted_sized names ok = sized_with _ _ (length-back_pairs names st.pairs) ok
+
+  pub written_sized : (names : K → Bool) (value : V) → IsSized st → IsSized (written names value st)
+  written_sized names value ok = sized_with _ _ (length-set_value names st.pairs value) ok
+
+  pub written_is_map : (names : K → Bool) (value : V) {eq : K → K → Bool} → IsMap eq st
+      → IsMap eq (written names value st)
+  written_is_map names value {eq} ok = record {
+    distinct = subst (IsDistinct eq) (sym (keys-set_value names st.pairs value)) ok.distinct;
+    sized = written_sized names value ok.sized;
+    paid = record { moved = ok.paid.moved; ahead = ok.paid.ahead };
+  }
+
+module _ {K V S H Q : Type 0} {names : Q → K → Bool} {eq : K → K → Bool} {query_input : Q → List (List ℕ)}
+    {key_input : K → List (List ℕ)} (looks_up : IsLookup names eq query_input key_input) (q : Q)
+    (old : State K V S H) where
+  pub promoted_is_map : IsMap eq old → IsMap eq (promoted (names q) old)
+  promoted_is_map ok = record {
+    distinct = distinct_first eq (names q) (looks_up.one q) old.pairs ok.distinct;
+    sized = promoted_sized old (names q) ok.sized;
+    paid = record { moved = ok.paid.moved; ahead = ok.paid.ahead };
+  }
+
+  pub get_is_map : (result : Option V) (new : State K V S H) → Get (names q) old result new → IsMap eq old
+      → IsMap eq new
+  get_is_map result new (found value left there r e) ok = rw e
+      (written_is_map (promoted (names q) old) (names q) left (promoted_is_map ok))
+  get_is_map result new (absent none r e) ok = rw e ok
+
+-- so it is for the keys that equal one
+pub equal_is_map : {K V S H : Type 0} {eq : K → K → Bool} → IsEquivalence eq → (key : K) (old : State K V S H)
+    → IsMap eq old
+    → IsMap eq (promoted (eq key) old)
+equal_is_map {K} {eq} laws key old ok = promoted_is_map {names = eq} {query_input = λ k. []} {key_input = λ k. []}
+    (record { writes = λ q k h. refl; one = laws.congr }) key old ok

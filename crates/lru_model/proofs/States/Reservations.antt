@@ -1,0 +1,32 @@
+-- What the steps of a reservation amount to.
+use Rattle.std.proofs.Common.{◌≡◌, ℕ, ◌<◌, Ok, Err, true, false, List, [], ◌∷◌, length, refl, ap, ◌∙◌, subst, arith}
+use Rattle.std.proofs.Common.{inl, inr}
+use Rattle.lru_limits.specs.Rules.{Rules}
+use Rattle.lru_model.specs.Sizes.{new_table}
+use Rattle.lru_model.specs.State.{State, MovesTo}
+use Rattle.lru_model.specs.Place.{table_for}
+use Rattle.lru_model.specs.Reservations.{LacksRoomFor, Reserve, reserved, asked_only}
+use Rattle.lru_model.specs.declared.results.ReserveError.TheVariants.{Refused, Memory}
+
+pub some_there : {X : Type 0} (xs : List X) → (xs ≡ [] → ⊥) → 0 < length xs
+some_there [] some = absurd (some refl)
+some_there (x ∷ xs) some = omega arith
+
+-- the limiter was asked for a larger table
+module _ {K V S H : Type 0} (rules : Rules K V S) (n : ℕ) (old new : State K V S H) (lacks : LacksRoomFor n old)
+    (count bytes : ℕ) (is : table_for n old ≡ new_table count bytes)
+    (s : S) (queried : s ≡ (rules.on_grow old.limiter bytes).limiter) where
+  pub is_reserved : (rules.on_grow old.limiter bytes).allowed ≡ true → MovesTo count (record old { limiter = s }) new
+      → Reserve rules n old (Ok tt) new
+  is_reserved granted step = reserved lacks count bytes is granted refl
+      (subst (λ l. MovesTo count (record old { limiter = l }) new) queried step)
+
+  pub lacks_memory : (rules.on_grow old.limiter bytes).allowed ≡ true → new ≡ record old { limiter = s }
+      → Reserve rules n old (Err Memory) new
+  lacks_memory granted step = asked_only lacks count bytes is (inl (granted, refl))
+      (step ∙ ap {A = S} {B = State K V S H} (λ l. record old { limiter = l }) queried)
+
+  pub is_denied : (rules.on_grow old.limiter bytes).allowed ≡ false → new ≡ record old { limiter = s }
+      → Reserve rules n old (Err Refused) new
+  is_denied refusal step = asked_only lacks count bytes is (inr (refusal, refl))
+      (step ∙ ap {A = S} {B = State K V S H} (λ l. record old { limiter = l }) queried)

@@ -1,0 +1,351 @@
+-- From every map the insertion of a pair into the table can end: there is an outcome, and a state after it.
+use Rattle.std.proofs.Common.{◌≡◌, ℕ, ◌+◌, ◌-◌, ◌/◌, ◌^◌, ◌<◌, ◌≤◌, inl, inr, Bool, true, false, ◌∷◌, length}
+use Rattle.std.proofs.Common.{◌⊎◌, if◌then◌else◌, cond, List, Some, slice_set, length-set, refl, sym, ap, ◌∙◌, subst}
+use Rattle.std.proofs.Common.{arith, count_by}
+use Rattle.std.proofs.lemmas.Bool.{false≢true}
+use Rattle.std.proofs.lemmas.List.{nil_from_length}
+use native.Mathlib.Decide.{dec_lt}
+use Rattle.group_table.specs.Sizes.{full_capacity, IsBucketCount, IsPowerFromFour}
+use Rattle.group_table.specs.Bucket.{Mark, empty, deleted, full, bucket_at, is_full, is_used, is_deleted, room_at}
+use Rattle.group_table.specs.Bucket.{room as room_of}
+use Rattle.group_table.specs.Probe.{IsFirstFree}
+use Rattle.group_table.specs.Change.{MayFill, count_up}
+use Rattle.group_table.proofs.BucketLemmas.{room_is, used_count-split, count_by-set}
+use Rattle.group_table.proofs.CountedMarks.{IsTable-counted}
+use Rattle.lru_limits.specs.Rules.{Rules}
+use Rattle.lru_model.specs.Sizes.{Target, no_table, same_table, new_table, usage}
+use Rattle.lru_model.specs.State.{State, Contents, buckets, room, contents, IsSized, Leaves, FirstFreeIs, pops}
+use Rattle.lru_model.specs.Place.{Place, in_bucket, rehashed, grown, not_grown, nothing_to_evict, finds_bucket}
+use Rattle.lru_model.specs.Place.{rehashes}
+use Rattle.lru_model.specs.Place.{Outcome, placed, refused, no_memory, IsPlaced, HasNoBucket, IsOutgrown, FillsBucket}
+use Rattle.lru_model.specs.Place.{CannotGrow, no_target, denied, table_for, asked, turned_away, OldestLeave}
+use Rattle.lru_model.proofs.TableSizes.Growth.{full_capacity-at_most, full_capacity-some, target-same}
+use Rattle.lru_model.proofs.States.LeavingPairs.{length-pops}
+use Rattle.lru_model.proofs.States.Outcomes.{placed-not_no_memory}
+use Rattle.lru_model.proofs.TableSizes.FilledBuckets.{deleted_large, fills_free}
+use Rattle.lru_model.proofs.Theorems.Potential.{sized_with_limiter}
+use Rattle.lru_model.proofs.TableSizes.SomeMarks.{marked, length-marked, room-marked, sized-marked}
+
+-- a count stays within 64 bits
+counted : (n more : ℕ) → count_up n more < 2 ^ 64
+counted n more = omega arith
+
+module _ {K V S H : Type 0} where
+  -- some pairs can be evicted, so that each gives growth left back
+  pub some_leave : (old : State K V S H) (c : Contents K V S) → IsSized old → length c.pairs ≤ length old.pairs
+      → (new : State K V S H) × Leaves old c new × IsSized new
+      × (length c.pairs + room new ≡ length old.pairs + room old)
+  some_leave old c ok fewer = elim (dec_lt (length c.pairs) (length old.pairs)) [
+    | no q ↦ let same : length c.pairs ≡ length old.pairs = omega (arith, fewer, q) in (
+      record old { pairs = c.pairs; limiter = c.limiter },
+      record {
+        is = refl;
+        room = record {
+          table = refl;
+          keeps = omega arith;
+          at_most = omega (arith, same);
+          exact = λ _. omega (arith, same);
+          untouched = λ _. refl;
+        };
+      },
+      record {
+        table = ok.table;
+        taken = ok.taken ∙ sym same;
+        reachable = ok.reachable;
+        usable = ok.usable;
+        moved = ok.moved;
+        placed = ok.placed;
+        shrunk = ok.shrunk;
+      },
+      omega (arith, same),
+    )
+    | yes q ↦
+        let deletions = count_by is_deleted old.marks in
+        let split = used_count-split old.marks in
+        let within : length c.pairs + deletions ≤ full_capacity (buckets old) = omega
+        (arith, split, ok.taken, ok.table.used_within, q) in
+        let new : State K V S H =
+        record old { pairs = c.pairs; limiter = c.limiter; marks = marked old ok c.pairs deletions within } in
+        let left = room-marked old ok c.pairs deletions within in
+        let freed : length c.pairs + room new ≡ length old.pairs
+        + room old = omega (arith, left, room_is old.marks, split, ok.taken, ok.table.used_within, q) in (
+          new,
+          record {
+            is = refl;
+            room = record {
+              table = length-marked old ok c.pairs deletions within;
+              keeps = omega (arith, freed, q);
+              at_most = omega (arith, freed);
+              exact = λ _. freed;
+              untouched = λ same. absurd (omega (arith, same, q));
+            };
+          },
+          sized-marked old ok c.pairs deletions within ok.table.none_deleted c.limiter old.placings old.moved
+              old.placed ok.moved ok.placed,
+          freed,
+        )
+  ]
+
+  module _ (pair : K × V) (old : State K V S H) (ok : IsSized old) where
+    -- the pair can fill a bucket, with this number of buckets deleted then
+    some_bucket : (deletions : ℕ) → length old.pairs + 1 + deletions ≤ full_capacity (buckets old)
+        → (buckets old ≤ 16 → deletions ≡ 0)
+        → (new : State K V S H)
+        × IsPlaced pair (buckets old) (full_capacity (buckets old) - (length old.pairs + 1 + deletions)) 0 old new
+        × IsSized new
+    some_bucket deletions within none_deleted =
+        let pairs = pair ∷ old.pairs in
+        let fit : length pairs + deletions ≤ full_capacity (buckets old) = omega (arith, within) in
+        let placings = count_up old.placings 1 in
+        let moved = count_up old.moved 0 in
+        let placed = count_up old.placed 1 in
+        let new : State K V S H = record old {
+          pairs = pairs;
+          marks = marked old ok pairs deletions fit;
+          placings = placings;
+          moved = moved;
+          placed = placed;
+        } in (
+          new,
+          record {
+            table = length-marked old ok pairs deletions fit;
+            room_left = omega (arith, room-marked old ok pairs deletions fit);
+            state = refl;
+          },
+          sized-marked old ok pairs deletions fit none_deleted old.limiter placings moved placed (counted old.moved 0)
+              (counted old.placed 1),
+        )
+
+    -- it can fill the first free one, with growth left or if that one is deleted
+    fill_first : (hash b : ℕ) → b < buckets old → IsFirstFree old.marks hash b → MayFill old.marks b
+        → (new : State K V S H) × IsPlaced pair (buckets old) (room new) 0 old new × FillsBucket hash old new
+        × IsSized new
+    fill_first hash b within first may =
+        (new, placed, fills_free old new ok hash b within first spends refl refl, sized)
+      where
+        marks : List Mark
+        marks = slice_set old.marks b (full tt)
+
+        new : State K V S H
+        new = record old {
+          pairs = pair ∷ old.pairs;
+          marks = marks;
+          places = b ∷ old.places;
+          placings = count_up old.placings 1;
+          moved = count_up old.moved 0;
+          placed = count_up old.placed 1;
+        }
+
+        counts : (p : Mark → Bool) → count_by p marks + cond (p (bucket_at old.marks b)) 1 0
+            ≡ count_by p old.marks + cond (p (full tt)) 1 0
+        counts p = count_by-set p old.marks b (full tt) within
+
+        same : length marks ≡ buckets old
+        same = length-set old.marks b (full tt)
+
+        one : (m : Mark) → ◌≡◌ {A = ℕ} (cond (is_used m) 1 0 + (if is_used m then 0 else 1)) 1
+        one empty = refl
+        one deleted = refl
+        one (full held) = refl
+
+        used : count_by is_used marks ≤ full_capacity (buckets old)
+        used = elim may [
+          | inl some ↦ omega (arith, counts is_used, room_is old.marks, some)
+          | inr there ↦ omega
+              (arith, counts is_used, ap (λ m. cond {A = ℕ} (is_used m) 1 0) there, ok.table.used_within)
+        ]
+
+        spends : room_of marks + room_at old.marks b ≡ room_of old.marks
+        spends = omega (
+          arith,
+          room_is marks,
+          room_is old.marks,
+          ap full_capacity same,
+          counts is_used,
+          one (bucket_at old.marks b),
+          used,
+        )
+
+        placed : IsPlaced pair (buckets old) (room new) 0 old new
+        placed = record { table = same; room_left = refl; state = refl }
+
+        sized : IsSized new
+        sized = record {
+          table = IsTable-counted marks (subst IsBucketCount (sym same) ok.table.count)
+              (omega (arith, used, ap full_capacity same)) (omega (arith, same, ok.table.addressable))
+              (λ small. omega (arith, counts is_deleted, ok.table.none_deleted (omega (arith, small, same))));
+          taken = omega (arith, counts is_full, ap (λ t. cond {A = ℕ} t 1 0) first.free_there, ok.taken);
+          reachable = subst (λ n. (n ≡ 0) ⊎ (n < old.max)) (sym same) ok.reachable;
+          usable = subst (λ n. (bytes : ℕ) × (usage old.entry_bytes n ≡ Some bytes)) (sym same) ok.usable;
+          moved = counted old.moved 0;
+          placed = counted old.placed 1;
+          shrunk = ok.shrunk;
+        }
+
+    -- with growth left it does
+    some_filled : (hash : ℕ) → 0 < room old
+        → (new : State K V S H) × IsPlaced pair (buckets old) (room new) 0 old new × FillsBucket hash old new
+        × IsSized new
+    some_filled hash r =
+        let (b, within, first) =
+        ok.table.some_free (omega (arith, room_is old.marks, r, full_capacity-at_most (buckets old))) hash in
+        fill_first hash b within first (inl r)
+
+module _ {K V S H : Type 0} (rules : Rules K V S) (hash_of : H → K → ℕ) (pair : K × V) (old : State K V S H)
+    (ok : IsSized old) where
+  -- the insertion of the pair can end
+  abbrev pub Ends : Type 0
+  Ends = (outcome : Outcome) × (new : State K V S H) × Place rules hash_of pair old outcome new × IsSized new
+
+  abbrev pub half : ℕ
+  half = full_capacity (buckets old) / 2
+
+  abbrev pub deletions : ℕ
+  deletions = count_by is_deleted old.marks
+
+  abbrev hash : ℕ
+  hash = hash_of old.hasher pair.0
+
+  -- the pairs and the deleted buckets are what is used
+  spent : room old ≡ full_capacity (buckets old) - (length old.pairs + deletions)
+  spent = omega (arith, room_is old.marks, used_count-split old.marks, ok.taken)
+
+  spent_within : length old.pairs + deletions ≤ full_capacity (buckets old)
+  spent_within = omega (arith, used_count-split old.marks, ok.taken, ok.table.used_within)
+
+  -- with growth left a bucket is filled
+  roomy_ends : 0 < room old → Ends
+  roomy_ends r =
+      let (new, is, fills, sized) = some_filled pair old ok hash r in
+      (placed, new, in_bucket (omega (arith, r, spent)) (inl r) fills refl is, sized)
+
+  -- without growth left a deleted one is filled
+  deleted_ends : 0 < length old.pairs → room old ≡ 0 → (free : FirstFreeIs deleted hash old) → free.0 < buckets old
+      → Ends
+  deleted_ends l none free below =
+      let (large, spare) = deleted_large old ok free.0 below free.2 in
+      let (new, is, fills, sized) = fill_first pair old ok hash free.0 below free.1 (inr free.2) in
+      (placed, new, in_bucket (omega (arith, spare)) (inr l) fills refl is, sized)
+
+  -- if the table cannot grow, the oldest pair is evicted, or the new one is not stored
+  evicted_ends : IsOutgrown hash old → (s : S) → CannotGrow rules old (record old { limiter = s }) → Ends
+  evicted_ends outgrown s cannot = elim (dec_lt 0 (length old.pairs)) [
+    | yes some ↦ with_pairs some
+    | no none ↦ (
+      refused,
+      turned_away rules pair mid,
+      not_grown outgrown mid cannot
+          (nothing_to_evict (nil_from_length old.pairs (omega (arith, none))) refl refl),
+      sized_with_limiter old _ ok,
+    )
+  ]
+    where
+      mid : State K V S H
+      mid = record old { limiter = s }
+
+      with_pairs : 0 < length old.pairs → Ends
+      with_pairs some =
+          let none = outgrown.no_bucket.no_room in let free = outgrown.no_bucket.first_empty some in
+          let left = pops rules 1 (contents mid) in
+          let fewer = length-pops rules 1 (contents mid) in
+          let (end, leaves, sized, freed) = some_leave mid left (sized_with_limiter old s ok) (omega (arith, fewer)) in
+          let gone : OldestLeave rules hash 1 mid end = (mid, refl, inr (none, free.0, free.1, free.2), leaves) in
+          elim (dec_lt half (length old.pairs)) [
+            | yes l ↦
+                let (new, is, fills, after) = some_filled pair end sized hash (omega (arith, freed, fewer, some)) in (
+                  placed,
+                  new,
+                  not_grown outgrown mid cannot
+                      (finds_bucket 1 (omega arith) (λ _. refl) (omega (arith, l)) end gone fills refl
+                      (subst (λ n. IsPlaced pair n (room new) 0 end new) leaves.room.table is)),
+                  after,
+                )
+            | no l ↦ (
+              no_memory,
+              turned_away rules pair end,
+              not_grown outgrown mid cannot
+                  (rehashes some 1 (omega arith) (λ _. refl) (omega (arith, l, outgrown.above_half)) end gone refl),
+              sized_with_limiter end _ sized,
+            )
+          ]
+
+  growing_ends : IsOutgrown hash old → Ends
+  growing_ends outgrown = go (table_for 1 old) refl
+    where
+      asks : (count bytes : ℕ) → table_for 1 old ≡ new_table count bytes → (allowed : Bool)
+          → (rules.on_grow old.limiter bytes).allowed ≡ allowed → Ends
+      asks count bytes t true g = (
+        no_memory,
+        turned_away rules pair (asked rules bytes old),
+        grown outgrown count bytes t g refl,
+        sized_with_limiter old _ ok,
+      )
+      asks count bytes t false g = evicted_ends outgrown (rules.on_grow old.limiter bytes).limiter
+          (denied count bytes t g refl)
+
+      go : (t : Target) → table_for 1 old ≡ t → Ends
+      go no_table t = evicted_ends outgrown old.limiter (no_target t refl)
+      go same_table t = absurd
+          (omega (
+            arith,
+            outgrown.above_half,
+            target-same old.max old.entry_bytes (buckets old) (length old.pairs + 1) t,
+          ))
+      go (new_table count bytes) t = asks count bytes t (rules.on_grow old.limiter bytes).allowed refl
+
+  -- without pairs a rehash needs no memory, and leaves no bucket deleted
+  emptied_ends : length old.pairs ≡ 0 → HasNoBucket hash old → IsPowerFromFour (buckets old) → Ends
+  emptied_ends no_pairs none power =
+      let (new, is, sized) = some_bucket pair old ok 0 (omega (arith, no_pairs, full_capacity-some (buckets old) power))
+      (λ _. refl) in
+      let one : IsPlaced pair (buckets old) (full_capacity (buckets old) - length old.pairs - 1) 0 old new =
+      record { table = is.table; room_left = omega (arith, is.room_left); state = is.state } in (
+        placed,
+        new,
+        rehashed none (omega (arith, no_pairs, full_capacity-some (buckets old) power)) (λ q. placed-not_no_memory q)
+            (subst (λ n. IsPlaced pair (buckets old) (full_capacity (buckets old) - length old.pairs - 1) n old new)
+            (sym no_pairs) one),
+        sized,
+      )
+
+  -- no bucket takes the pair
+  pairs_end : 0 < length old.pairs → HasNoBucket hash old → Ends
+  pairs_end some none = elim (dec_lt half (length old.pairs + 1)) [
+    | yes more ↦ growing_ends (record { no_bucket = none; above_half = more; begun = inr some })
+    | no few ↦ (
+      no_memory,
+      turned_away rules pair old,
+      rehashed none (omega (arith, few)) (λ _. some) refl,
+      sized_with_limiter old _ ok,
+    )
+  ]
+
+  full_ends : 0 < length old.pairs → room old ≡ 0 → Ends
+  full_ends some none = go (bucket_at old.marks free.0) refl
+    where
+      free : (b : ℕ) × (b < buckets old) × IsFirstFree old.marks hash b
+      free = ok.table.some_free (omega (arith, none, spent, spent_within, some, full_capacity-at_most (buckets old)))
+          hash
+
+      go : (m : Mark) → bucket_at old.marks free.0 ≡ m → Ends
+      go empty e = pairs_end some (record { no_room = none; first_empty = λ _. (free.0, free.2, e) })
+      go deleted e = deleted_ends some none (free.0, free.2, e) free.1
+      go (full held) e = absurd (false≢true (sym free.2.free_there ∙ ap is_full e))
+
+  pub some_place : Ends
+  some_place = elim (dec_lt 0 (room old)) [
+    | yes r ↦ roomy_ends r
+    | no r ↦ elim (dec_lt 0 (length old.pairs)) [
+      | yes some ↦ full_ends some (omega (arith, r))
+      | no none ↦ without_pairs (omega (arith, none)) ok.table.count
+          (record { no_room = omega (arith, r); first_empty = λ some. absurd (none some) })
+    ]
+  ]
+    where
+      without_pairs : length old.pairs ≡ 0 → IsBucketCount (buckets old) → HasNoBucket hash old → Ends
+      without_pairs no_pairs (inl b) none = growing_ends (record {
+        no_bucket = none;
+        above_half = omega (arith, no_pairs, b, full_capacity-at_most (buckets old));
+        begun = inl b;
+      })
+      without_pairs no_pairs (inr power) none = emptied_ends no_pairs none power

@@ -1,0 +1,97 @@
+-- From every map with a sound table a clear leaves one, and a reservation can end: there is an answer that it may give,
+-- and a map that it may leave.
+use Rattle.std.proofs.Common.{◌≡◌, ℕ, ◌+◌, ◌-◌, ◌^◌, ◌≤◌, Bool, true, false, Result, Ok, Err, List, [], length}
+use Rattle.std.proofs.Common.{replicate, refl, subst, arith, inl, inr}
+use native.Mathlib.Decide.{dec_lt}
+use Rattle.group_table.specs.Bucket.{empty}
+use Rattle.group_table.specs.Change.{count_up}
+use Rattle.group_table.specs.Sizes.{full_capacity}
+use Rattle.group_table.proofs.BucketLemmas.{used_count-split}
+use Rattle.lru_limits.specs.Rules.{Rules}
+use Rattle.lru_model.specs.Calls.{cleared}
+use Rattle.lru_model.specs.State.{State, buckets, room, IsSized}
+use Rattle.lru_model.specs.Place.{table_for, asked}
+use Rattle.lru_model.specs.Reservations.{LacksRoomFor, Reserve, unchanged, rehashed, asked_only, enough_room, too_many}
+use Rattle.lru_model.specs.Reservations.{no_such_table}
+use Rattle.lru_model.specs.Sizes.{Target, no_table, same_table, new_table}
+use Rattle.lru_model.specs.declared.results.ReserveError.{ReserveError}
+use Rattle.lru_model.specs.declared.results.ReserveError.TheVariants.{TooLarge, Refused, Memory}
+use Rattle.lru_model.proofs.TableSizes.SomeMarks.{marked, length-marked, room-marked, sized-marked}
+
+-- an emptied table is sound
+pub cleared_sized : {K V S H : Type 0} (rules : Rules K V S) (old : State K V S H) → IsSized old
+    → IsSized (cleared rules old)
+cleared_sized {K = K} {V = V} rules old ok =
+    let none : List (K × V) = [] in
+    let marked_empty = sized-marked old ok none 0 (omega arith)
+    (λ _. refl) old.limiter old.placings old.moved old.placed ok.moved ok.placed in
+    let as_many : buckets old - 0 - 0 ≡ buckets old = omega arith in
+    let sized = subst (λ n. IsSized (record old { pairs = none; marks = replicate n empty })) as_many marked_empty in
+    record {
+      table = sized.table;
+      taken = sized.taken;
+      reachable = sized.reachable;
+      usable = sized.usable;
+      moved = ok.moved;
+      placed = ok.placed;
+      shrunk = ok.shrunk;
+    }
+
+module _ {K V S H : Type 0} (rules : Rules K V S) (n : ℕ) (old : State K V S H) (ok : IsSized old) where
+  -- the reservation can end
+  abbrev pub CanReserve : Type 0
+  CanReserve = (result : Result (Unit {0}) ReserveError) × (new : State K V S H) × Reserve rules n old result new
+      × IsSized new
+
+  -- the limiter is another
+  sized_with : (s : S) → IsSized (record old { limiter = s })
+  sized_with s = record {
+    table = ok.table;
+    taken = ok.taken;
+    reachable = ok.reachable;
+    usable = ok.usable;
+    moved = ok.moved;
+    placed = ok.placed;
+    shrunk = ok.shrunk;
+  }
+
+  -- the table is rehashed at its size
+  some_remade : LacksRoomFor n old → table_for n old ≡ same_table → CanReserve
+  some_remade lacks is =
+      let placings = count_up old.placings (length old.pairs) in
+      let within : length old.pairs + 0 ≤ full_capacity (buckets old) = omega
+      (arith, used_count-split old.marks, ok.taken, ok.table.used_within) in
+      let new : State K V S H = record old { marks = marked old ok old.pairs 0 within; placings = placings } in (
+        Ok tt,
+        new,
+        rehashed lacks is refl
+            (record {
+              table = length-marked old ok old.pairs 0 within;
+              exact = omega (arith, room-marked old ok old.pairs 0 within, within);
+              state = refl;
+            }),
+        sized-marked old ok old.pairs 0 within (λ _. refl) old.limiter placings old.moved old.placed ok.moved ok.placed,
+      )
+
+  -- the limiter is asked for a larger one
+  some_asked : LacksRoomFor n old → (count bytes : ℕ) → table_for n old ≡ new_table count bytes → (allowed : Bool)
+      → (rules.on_grow old.limiter bytes).allowed ≡ allowed → CanReserve
+  some_asked lacks count bytes is true grants =
+      (Err Memory, asked rules bytes old, asked_only lacks count bytes is (inl (grants, refl)) refl, sized_with _)
+  some_asked lacks count bytes is false denies =
+      (Err Refused, asked rules bytes old, asked_only lacks count bytes is (inr (denies, refl)) refl, sized_with _)
+
+  some_table : LacksRoomFor n old → (t : Target) → table_for n old ≡ t → CanReserve
+  some_table lacks no_table is = (Err TooLarge, old, unchanged (no_such_table lacks is refl) refl, ok)
+  some_table lacks same_table is = some_remade lacks is
+  some_table lacks (new_table count bytes) is = some_asked lacks count bytes is
+      (rules.on_grow old.limiter bytes).allowed refl
+
+  pub some_reservation : CanReserve
+  some_reservation = elim (dec_lt (length old.pairs + n) (2 ^ 64)) [
+    | no many ↦ (Err TooLarge, old, unchanged (too_many (omega (arith, many)) refl) refl, ok)
+    | yes fits ↦ elim (dec_lt (room old) n) [
+      | no enough ↦ (Ok tt, old, unchanged (enough_room (omega (arith, enough)) fits refl) refl, ok)
+      | yes lacks ↦ some_table (lacks, fits) (table_for n old) refl
+    ]
+  ]

@@ -1,0 +1,101 @@
+-- A table's marks, made up by how many are full and how many deleted.
+use Rattle.std.proofs.Common.{◌≡◌, ℕ, ◌+◌, ◌-◌, ◌*◌, ◌^◌, ◌<◌, ◌≤◌, ◌⊎◌, Bool, List, ◌++◌, length, Some, refl, sym, ap}
+use Rattle.std.proofs.Common.{subst, arith, cond, count_by}
+use Rattle.std.proofs.Math.ListN.{replicate}
+use Rattle.std.proofs.lemmas.List.{length-append, length-replicate}
+use Rattle.std.proofs.lemmas.List.Folds.{sum_by-replicate}
+use Rattle.std.proofs.lemmas.List.Sums.{sum_by-append}
+use Rattle.group_table.specs.Sizes.{full_capacity, IsBucketCount}
+use Rattle.group_table.specs.Bucket.{Mark, empty, deleted, full, is_full, is_used, is_deleted, room as room_of}
+use Rattle.group_table.specs.Table.{IsTable}
+use Rattle.group_table.proofs.BucketLemmas.{room_is}
+use Rattle.group_table.proofs.CountedMarks.{IsTable-counted}
+use Rattle.lru_model.specs.Sizes.{usage}
+use Rattle.lru_model.specs.State.{State, buckets, IsSized}
+use Rattle.lru_model.proofs.TableSizes.Growth.{full_capacity-at_most}
+
+-- this number of full buckets, then of deleted ones, and then of empty ones
+abbrev pub row : ℕ → ℕ → ℕ → List Mark
+row fulls deletions empties = replicate fulls (full tt) ++ (replicate deletions deleted ++ replicate empties empty)
+
+length-row : (f d e : ℕ) → length (row f d e) ≡ f + (d + e)
+length-row f d e =
+    let fulls : List Mark = replicate f (full tt) in
+    let deletions : List Mark = replicate d deleted in
+    let empties : List Mark = replicate e empty in
+    omega (
+      arith,
+      length-append fulls (deletions ++ empties),
+      length-append deletions empties,
+      length-replicate {A = Mark} f (full tt),
+      length-replicate {A = Mark} d deleted,
+      length-replicate {A = Mark} e empty,
+    )
+
+count-row : (p : Mark → Bool) (f d e : ℕ) → count_by p (row f d e) ≡ f * cond (p (full tt)) 1 0
+    + (d * cond (p deleted) 1 0 + e * cond (p empty) 1 0)
+count-row p f d e =
+    let one : Mark → ℕ = λ x. cond (p x) 1 0 in
+    let fulls : List Mark = replicate f (full tt) in
+    let deletions : List Mark = replicate d deleted in
+    let empties : List Mark = replicate e empty in
+    rw (
+      sum_by-append one fulls (deletions ++ empties),
+      sum_by-append one deletions empties,
+      sum_by-replicate one f
+          (full tt),
+      sum_by-replicate one d deleted,
+      sum_by-replicate one e empty,
+    ) refl
+
+module _ {K V S H : Type 0} (old : State K V S H) (ok : IsSized old) (pairs : List (K × V)) (d : ℕ)
+    (within : length pairs + d ≤ full_capacity (buckets old)) where
+  -- of the old buckets one is full for each of these pairs, n are deleted, and the others are empty
+  abbrev pub marked : List Mark
+  marked = row (length pairs) d (buckets old - length pairs - d)
+
+  pub length-marked : length marked ≡ buckets old
+  length-marked = omega (
+    arith,
+    length-row (length pairs) d (buckets old - length pairs - d),
+    within,
+    full_capacity-at_most (buckets old),
+  )
+
+  used-marked : count_by is_used marked ≡ length pairs + d
+  used-marked = omega (arith, count-row is_used (length pairs) d (buckets old - length pairs - d))
+
+  pub room-marked : room_of marked ≡ full_capacity (buckets old) - (length pairs + d)
+  room-marked = omega (arith, room_is marked, used-marked, ap full_capacity length-marked)
+
+  module _ (none_deleted : buckets old ≤ 16 → d ≡ 0) where
+    table-marked : IsTable marked
+    table-marked = IsTable-counted marked (subst IsBucketCount (sym length-marked) ok.table.count)
+        (omega (arith, used-marked, within, ap full_capacity length-marked))
+        (omega (arith, length-marked, ok.table.addressable))
+        (λ small. omega (
+          arith,
+          count-row is_deleted (length pairs) d (buckets old - length pairs - d),
+          none_deleted
+              (omega (arith, small, length-marked)),
+        ))
+
+    -- With these pairs they are a map's, as large as old.
+    pub sized-marked : (limiter : S) (placings moved placed : ℕ) → moved < 2 ^ 64 → placed < 2 ^ 64
+        → IsSized (record old {
+          pairs = pairs;
+          limiter = limiter;
+          marks = marked;
+          placings = placings;
+          moved = moved;
+          placed = placed;
+        })
+    sized-marked limiter placings moved placed m p = record {
+      table = table-marked;
+      taken = omega (arith, count-row is_full (length pairs) d (buckets old - length pairs - d));
+      reachable = subst (λ n. (n ≡ 0) ⊎ (n < old.max)) (sym length-marked) ok.reachable;
+      usable = subst (λ n. (bytes : ℕ) × (usage old.entry_bytes n ≡ Some bytes)) (sym length-marked) ok.usable;
+      moved = m;
+      placed = p;
+      shrunk = ok.shrunk;
+    }

@@ -1,0 +1,99 @@
+-- Where an insert finds no memory.
+use Rattle.std.proofs.Common.{◌≡◌, ℕ, ◌<◌, ◌⊎◌, inl, inr, Bool, List, length, Result, Ok, Err, refl, sym, ap, ◌∙◌}
+use Rattle.std.proofs.Common.{subst, arith}
+use Rattle.std.specs.Prelude.{IsErr, OnErr}
+use Rattle.std.specs.declared.alloc.AllocError.{AllocError}
+use Rattle.group_table.specs.Bucket.{Mark, room as room_of}
+use Rattle.lru_limits.specs.Rules.{Rules, Offers}
+use Rattle.lru_model.specs.State.{State, buckets, room}
+use Rattle.lru_model.specs.Place.{Place, in_bucket, rehashed, grown, not_grown}
+use Rattle.lru_model.specs.Place.{nothing_to_evict, finds_bucket, rehashes, Outcome, placed, refused, no_memory}
+use Rattle.lru_model.specs.Inserts.{Insert, replaced, given_up, no_memory_to_admit, not_admitted, admitted, make_room}
+use Rattle.lru_model.specs.Inserts.{kept_of}
+use Rattle.lru_model.specs.declared.results.Inserted.{Inserted}
+use Rattle.lru_model.specs.Inserts.{Settles, IsShort, LacksMemory}
+use Rattle.lru_model.specs.Lists.{IsFront}
+use Rattle.lru_model.proofs.Theorems.Fronts.{front_same, front_trans, front_make_room}
+use Rattle.lru_model.proofs.Theorems.InsertAnswers.{place_comes}
+use Rattle.lru_model.proofs.States.Outcomes.{placed-not_no_memory, refused-not_no_memory, ok-not_err}
+use Rattle.lru_model.proofs.TableSizes.Growth.{full_capacity-at_most}
+
+-- no buckets, no room
+pub no_room : (marks : List Mark) → length marks ≡ 0 → room_of marks ≡ 0
+unfolding room_of
+no_room marks e = omega (arith, full_capacity-at_most (length marks))
+
+module _ {K V S H : Type 0} (rules : Rules K V S) (hash_of : H → K → ℕ) (pair : K × V) (old : State K V S H) where
+  -- there is no room, and no table or a pair
+  abbrev pub LacksTable : Type 0
+  LacksTable = (room old ≡ 0) × ((buckets old ≡ 0) ⊎ (0 < length old.pairs))
+
+  pub place_lacks : (new : State K V S H) (outcome : Outcome) → outcome ≡ no_memory
+      → Place rules hash_of pair old outcome new → LacksTable
+  place_lacks new outcome q (in_bucket l f s o n) = placed-not_no_memory (sym o ∙ q)
+  place_lacks new outcome q (rehashed b l some m) = (b.no_room, inr (some q))
+  place_lacks new outcome q (grown b count bytes t g m) = (b.no_bucket.no_room, b.begun)
+  place_lacks new outcome q (not_grown b mid c (nothing_to_evict e o n)) = refused-not_no_memory (sym o ∙ q)
+  place_lacks new outcome q (not_grown b mid c (finds_bucket n pos one half left gone fills o p)) =
+      placed-not_no_memory (sym o ∙ q)
+  place_lacks new outcome q (not_grown b mid c (rehashes some n pos one half left gone m)) =
+      (b.no_bucket.no_room, inr some)
+
+module _ {K V S H I : Type 0} {rules : Rules K V S} {offers : Offers K V S I} {names : I → K → Bool}
+    {hash_of : H → K → ℕ} {i : I} {v : V} {old : State K V S H} {result : Result Bool AllocError}
+    {new : State K V S H} where
+  -- The limiter ran out of memory, or the table did.
+  pub err_is : IsErr result → Insert rules offers names hash_of i v old result new
+      → LacksMemory rules offers names hash_of i v old new
+  err_is h (replaced pair found y r l) = ok-not_err result (rw r refl) h
+  err_is h (given_up pair found y r l) = ok-not_err result (rw r refl) h
+  err_is h (no_memory_to_admit a k r e) = (a, inl (k, e))
+  err_is h (not_admitted a s n r e) = ok-not_err result (rw r refl) h
+  err_is h (admitted a s pair n (ready, l, (outcome, landed, p, t))) = (a, inr (go outcome p t))
+    where
+      short : LacksTable rules hash_of pair ready → IsShort rules offers names hash_of i v old
+      short k = record {
+        no_room = omega (arith, l.room.keeps, k.0);
+        s = s;
+        pair = pair;
+        given = n;
+        beside = side k.1;
+      }
+        where
+          side : (buckets ready ≡ 0) ⊎ (0 < length ready.pairs) → (buckets old ≡ 0)
+              ⊎ (0 < length (make_room rules (record { pairs = old.pairs; limiter = s })).pairs)
+          side (inl b) = inl (sym l.room.table ∙ b)
+          side (inr f) = inr (subst (λ ps. 0 < length ps) (ap (λ st. st.pairs) l.is) f)
+
+      go : (outcome : Outcome) → Place rules hash_of pair ready outcome landed
+          → Settles rules outcome landed result new → IsShort rules offers names hash_of i v old
+      go placed p t = ok-not_err result (rw t.0 refl) h
+      go refused p t = ok-not_err result (rw t.0 refl) h
+      go no_memory p t = short (place_lacks rules hash_of pair ready landed no_memory refl p)
+
+  -- It leaves a front part of the pairs.
+  pub err_keeps : IsErr result → Insert rules offers names hash_of i v old result new → IsFront new.pairs old.pairs
+  err_keeps h (replaced pair found y r l) = ok-not_err result (rw r refl) h
+  err_keeps h (given_up pair found y r l) = ok-not_err result (rw r refl) h
+  err_keeps h (no_memory_to_admit a k r e) = front_same (ap (λ st. st.pairs) e)
+  err_keeps h (not_admitted a s n r e) = ok-not_err result (rw r refl) h
+  err_keeps h (admitted a s pair n (ready, l, (outcome, landed, p, t))) = go outcome p t
+    where
+      go : (outcome : Outcome) → Place rules hash_of pair ready outcome landed
+          → Settles rules outcome landed result new → IsFront new.pairs old.pairs
+      go placed p t = ok-not_err result (rw t.0 refl) h
+      go refused p t = ok-not_err result (rw t.0 refl) h
+      go no_memory p t = front_trans _ (front_same (ap (λ st. st.pairs) t.1))
+          (front_trans _ (place_comes rules hash_of pair ready no_memory landed p)
+          (front_trans _ (front_same (ap (λ st. st.pairs) l.is))
+          (front_make_room rules (record { pairs = old.pairs; limiter = s }))))
+
+-- what an error implies, of a result that may be one
+pub on_err : {A : Type 0} (result : Result Bool AllocError) → (IsErr result → A) → OnErr result A
+on_err (Ok b) h = tt
+on_err (Err e) h = h refl
+
+pub on_err_kept : {A V : Type 0} (result : Result (Inserted V) AllocError) → (IsErr (kept_of result) → A) → OnErr
+    result A
+on_err_kept (Ok inserted) h = tt
+on_err_kept (Err e) h = h refl

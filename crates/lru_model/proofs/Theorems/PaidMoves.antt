@@ -1,0 +1,72 @@
+-- Moved entries and potential together are at most twice the stored entries, plus those that shrinks rehashed.
+use Rattle.std.proofs.Common.{ℕ, ◌+◌, ◌-◌, ◌*◌, ◌^◌, ◌<◌, ◌≤◌, Bool, inl, inr, ap, arith}
+use native.Mathlib.Decide.{dec_lt}
+use Rattle.group_table.specs.Sizes.{full_capacity}
+use Rattle.lru_limits.specs.Rules.{Rules}
+use Rattle.lru_model.specs.State.{State, buckets, potential, Contents, IsSized, IsPaid, IsMap, Leaves}
+use Rattle.lru_model.specs.Theorems.{PaysForMoves}
+use Rattle.lru_model.proofs.TableSizes.Growth.{full_capacity-at_most, usage_addressable}
+use Rattle.lru_model.proofs.Theorems.Potential.{bounded_of}
+use Rattle.lru_model.proofs.Theorems.TableGrowth.{Tables, IsNextCount, Changes}
+use Rattle.lru_model.proofs.PairLists.DistinctKeys.{AreDistinct}
+
+module _ {K V S H : Type 0} where
+  -- if the count of shrinks has stopped, no count of moves is above it
+  pub paid_ahead : (st : State K V S H) → st.moved < 2 ^ 64
+      → (st.shrunk < 2 ^ 64 - 1 → st.moved + potential st ≤ 2 * st.placed + st.shrunk) → IsPaid st
+  paid_ahead st moved ahead = record { moved = go (dec_lt st.shrunk (2 ^ 64 - 1)); ahead = ahead }
+    where
+      go : Dec (st.shrunk < 2 ^ 64 - 1) → st.moved ≤ 2 * st.placed + st.shrunk
+      go (yes lt) = omega (arith, ahead lt)
+      go (no ge) = omega (arith, moved, ge)
+
+  -- a change that pays for its moves keeps the bound, if counts that cannot rise are as large as they can be
+  pub paid_after : {anew : ℕ} (old new : State K V S H) → PaysForMoves anew old new → new.moved < 2 ^ 64
+      → buckets new < 2 ^ 63 → IsPaid old → IsPaid new
+  paid_after {anew} old new p moved addressable paid = paid_ahead new moved
+      (λ below. go below (dec_lt new.placed (2 ^ 64 - 1)))
+    where
+      go : new.shrunk < 2 ^ 64 - 1 → Dec (new.placed < 2 ^ 64 - 1)
+          → new.moved + potential new ≤ 2 * new.placed + new.shrunk
+      go below (yes lt) = omega (arith, p.moved lt, p.shrunk, below, paid.ahead (omega (arith, p.shrunk, below)))
+      go below (no ge) = omega (arith, moved, addressable, full_capacity-at_most (buckets new))
+
+  -- what leaves costs nothing
+  pub leaves_paid : (old : State K V S H) (left : Contents K V S) (new : State K V S H) → Leaves old left new
+      → IsPaid old → IsPaid new
+  leaves_paid old left new l paid =
+      let moved = ap (λ st. st.moved) l.is in let placed = ap (λ st. st.placed) l.is in
+      let shrunk = ap (λ st. st.shrunk) l.is in
+      record {
+        moved = omega (arith, paid.moved, moved, placed, shrunk);
+        ahead = λ below. omega (
+          arith,
+          paid.ahead (omega (arith, below, shrunk)),
+          l.room.keeps,
+          ap full_capacity l.room.table,
+          moved,
+          placed,
+          shrunk,
+        );
+      }
+
+  module _ (rules : Rules K V S) (P : S → Type 0) (more anew : ℕ) (old new : State K V S H)
+      (t : Tables rules P more anew old new) where
+    -- a call pays for what it moves
+    pub stays_paid : IsSized old → IsPaid old → IsPaid new
+    stays_paid ok paid = paid_after old new (t.pays (bounded_of old ok)) (t.moved ok.moved) (addressable t.count) paid
+      where
+        addressable : IsNextCount rules P old (buckets new) → buckets new < 2 ^ 63
+        addressable (inl few) = omega (arith, few, ok.table.addressable)
+        addressable (inr p) = omega (arith, usage_addressable old.entry_bytes (buckets new) p.bytes p.usable)
+
+-- and what holds of a map holds after it, if the table is sound
+pub stays_map : {K V S H : Type 0} {eq : K → K → Bool} (rules : Rules K V S) (more anew : ℕ) (old new : State K V S H)
+    → Changes rules (λ c d. AreDistinct eq c.pairs → AreDistinct eq d.pairs) more anew old new → IsMap eq old
+    → IsSized new
+    → IsMap eq new
+stays_map rules more anew old new c ok sized = record {
+  distinct = c.moves ok.distinct;
+  sized = sized;
+  paid = stays_paid rules _ more anew old new c.tables ok.sized ok.paid;
+}

@@ -1,0 +1,116 @@
+-- A limit by length and one by memory usage, over runs of calls and writes.
+use Rattle.std.proofs.Common.{◌≡◌, ℕ, ◌≤◌, Bool, length, refl, sym, ap, ◌∙◌, subst, arith, inl, inr}
+use Rattle.std.proofs.lemmas.Map.{length-set_value}
+use Rattle.std.proofs.lemmas.Bool.Decides.{nat_tests}
+use Rattle.lru_limits.specs.Rules.{Rules, Offers}
+use Rattle.lru_limits.specs.Limiters.{length_rules, length_offers, memory_rules, all_offers}
+use Rattle.lru_model.specs.State.{State, contents}
+use Rattle.lru_model.specs.GetOrInserts.{got, inserted}
+use Rattle.lru_model.specs.Runs.{Step, inserts, makes_newest, updates, gets, demotes, removes, pops_oldest}
+use Rattle.lru_model.specs.Runs.{pops_newest, drains, clears}
+use Rattle.lru_model.specs.Runs.{reserves, shrinks, trims, retains, StepOrWrite, Run, ends, goes_on}
+use Rattle.lru_model.specs.Theorems.{UsesAtMost}
+use Rattle.lru_model.proofs.States.LeavingPairs.{length-without_first, length-without_last}
+use Rattle.lru_model.proofs.States.Promotions.{length-front_pairs, length-back_pairs}
+use Rattle.lru_model.proofs.Theorems.Fronts.{front_trim, length-front}
+use Rattle.lru_model.proofs.Theorems.Limits.{keeps_limiter, uses_at_most, length-without, length-update}
+use Rattle.lru_model.proofs.Theorems.Limits.{by_length_stays}
+use Rattle.lru_model.proofs.Theorems.Reservations.{reserved_list}
+use Rattle.lru_model.proofs.Theorems.Runs.{step_changes}
+use Rattle.lru_model.proofs.Theorems.RetainedPairs.{length-retained}
+use Rattle.lru_model.proofs.Theorems.Shrinks.{shrunk_list}
+
+module _ {K V S H : Type 0} (rules : Rules K V S) (offers : Offers K V S K) (names : K → K → Bool)
+    (hash_of : H → K → ℕ) where
+  -- a run of calls is one in which nothing is written
+  pub nothing_written : {new : State K V S H} (old : State K V S H) → Run (Step rules offers names hash_of) new old
+      → Run (StepOrWrite rules offers names hash_of) new old
+  nothing_written old ends = ends
+  nothing_written old (goes_on mid step sized run) = goes_on mid (inl step) sized (nothing_written mid run)
+
+-- a limiter that no call changes stays as it is
+pub run_keeps_limiter : {K V S H : Type 0} (rules : Rules K V S) (offers : Offers K V S K) (names : K → K → Bool)
+    (hash_of : H → K → ℕ) → ((old new : State K V S H) → Step rules offers names hash_of old new
+    → new.limiter ≡ old.limiter) → (new old : State K V S H) → Run (StepOrWrite rules offers names hash_of) new old
+    → new.limiter ≡ old.limiter
+run_keeps_limiter rules offers names hash_of keeps new old ends = refl
+run_keeps_limiter rules offers names hash_of keeps new old (goes_on mid (inl step) sized r) =
+    run_keeps_limiter rules offers names hash_of keeps new mid r ∙ keeps old mid step
+run_keeps_limiter rules offers names hash_of keeps new old (goes_on mid (inr (test, value, e)) sized r) =
+    run_keeps_limiter rules offers names hash_of keeps new mid r ∙ ap (λ st. st.limiter) e
+
+module _ {K V H : Type 0} (names : K → K → Bool) (hash_of : H → K → ℕ) where
+  -- a limit by length
+  module _ (old new : State K V ℕ H) where
+    fewer : length new.pairs ≤ length old.pairs → length old.pairs ≤ old.limiter → length new.pairs ≤ old.limiter
+    fewer h few = omega (arith, h, few)
+
+    pub step_stays_short : Step length_rules length_offers names hash_of old new
+        → length old.pairs ≤ old.limiter → length new.pairs ≤ old.limiter
+    step_stays_short (inserts k v result h) = by_length_stays names hash_of k v old result new h
+    step_stays_short (makes_newest v k result (got w e r step)) = fewer
+        (omega (arith, ap (λ st. length st.pairs) step, length-front_pairs (names k) old.pairs))
+    step_stays_short (makes_newest v k result (inserted e w m step)) =
+        by_length_stays names hash_of k w old result new step
+    step_stays_short (updates k v result h) = fewer (length-update result h)
+    step_stays_short (gets named e) = fewer
+        (omega (arith, ap (λ st. length st.pairs) e, length-front_pairs named old.pairs))
+    step_stays_short (demotes named e) = fewer
+        (omega (arith, ap (λ st. length st.pairs) e, length-back_pairs named old.pairs))
+    step_stays_short (removes test result h) = fewer
+        (omega (arith, ap (λ st. length st.pairs) h.state.is, length-without test old.pairs))
+    step_stays_short (pops_oldest result h) = fewer
+        (omega (arith, ap (λ st. length st.pairs) h.state.is, length-without_last old.pairs))
+    step_stays_short (pops_newest result h) = fewer
+        (omega (arith, ap (λ st. length st.pairs) h.state.is, length-without_first old.pairs))
+    step_stays_short (drains newest oldest result h) = fewer (omega (arith, ap (λ st. length st.pairs) h.state.2))
+    step_stays_short (clears e) = fewer (omega (arith, ap (λ st. length st.pairs) e))
+    step_stays_short (reserves n result h) = fewer (omega (arith, ap length (reserved_list _ n old result new h).0))
+    step_stays_short (shrinks result h) = fewer (omega (arith, ap length (shrunk_list old result new h).0))
+    step_stays_short (trims h) = fewer (omega (
+      arith,
+      ap (λ st. length st.pairs) h.is,
+      length-front _ old.pairs (front_trim length_rules (contents old)),
+    ))
+    step_stays_short (retains asked each h) = fewer (omega (
+      arith,
+      ap (λ st. length st.pairs) h.is,
+      length-retained length_rules asked old.limiter,
+      ap length each,
+    ))
+
+  pub run_stays_short : (new old : State K V ℕ H)
+      → Run (StepOrWrite length_rules length_offers names hash_of) new old
+      → length old.pairs ≤ old.limiter → length new.pairs ≤ old.limiter
+  run_stays_short new old ends few = few
+  run_stays_short new old (goes_on mid (inr (test, value, e)) sized r) few =
+      let same = ap (λ st. st.limiter) e in
+      let as_many = ap (λ st. length st.pairs) e ∙ length-set_value test old.pairs value in
+      subst (λ most. length new.pairs ≤ most) same
+      (run_stays_short new mid r (omega (arith, same, as_many, few)))
+  run_stays_short new old (goes_on mid (inl s) sized r) few =
+      let same = (step_changes keeps_limiter old mid s).2.moves in
+      subst (λ most. length new.pairs ≤ most) same
+      (run_stays_short new mid r
+      (subst (λ most. length mid.pairs ≤ most) (sym same) (step_stays_short old mid s few)))
+
+  -- a limit by memory usage
+  pub step_uses_at_most : (old new : State K V ℕ H) → Step memory_rules all_offers names hash_of old new
+      → UsesAtMost old.limiter old → UsesAtMost old.limiter new
+  step_uses_at_most old new s = uses_at_most memory_rules _ _ _ old new
+      (λ bytes e. grind (arith, nat_tests)) (λ s p. p.1) (step_changes keeps_limiter old new s).2.tables
+
+  pub run_uses_at_most : (new old : State K V ℕ H)
+      → Run (StepOrWrite memory_rules all_offers names hash_of) new old
+      → UsesAtMost old.limiter old → UsesAtMost old.limiter new
+  run_uses_at_most new old ends uses = uses
+  run_uses_at_most new old (goes_on mid (inr (test, value, e)) sized r) uses =
+      let same = ap (λ st. st.limiter) e in
+      subst (λ most. UsesAtMost most new) same
+      (run_uses_at_most new mid r
+      (subst (λ most. UsesAtMost most mid) (sym same) (subst (UsesAtMost old.limiter) (sym e) uses)))
+  run_uses_at_most new old (goes_on mid (inl s) sized r) uses =
+      let same = (step_changes keeps_limiter old mid s).2.moves in
+      subst (λ most. UsesAtMost most new) same
+      (run_uses_at_most new mid r
+      (subst (λ most. UsesAtMost most mid) (sym same) (step_uses_at_most old mid s uses)))

@@ -1,0 +1,183 @@
+-- What calls make of the table: what it costs, how far it grows, and who permitted it.
+use Rattle.std.specs.declared.alloc.AllocError.{AllocError}
+use Rattle.std.proofs.Common.{◌≡◌, Bool, Result, ℕ, ◌+◌, ◌*◌, ◌^◌, ◌<◌, ◌≤◌, ◌⊎◌, inl, inr, true, List, length, Some}
+use Rattle.std.proofs.Common.{refl, ap, ◌∙◌, subst, arith}
+use Rattle.group_table.specs.Sizes.{full_capacity}
+use Rattle.lru_limits.specs.Rules.{Rules}
+use Rattle.lru_model.specs.Sizes.{usage}
+use Rattle.lru_model.specs.State.{State, buckets, room, Contents, contents, Leaves}
+use Rattle.lru_model.specs.Place.{Outcome, placed, refused, no_memory}
+use Rattle.lru_model.specs.Inserts.{Settles}
+use Rattle.lru_model.specs.Theorems.{PaysForMoves}
+use Rattle.lru_model.proofs.Theorems.Moves.{leaves_keep}
+use Rattle.lru_model.proofs.Theorems.Potential.{IsBounded, pays_trans, pays_calm}
+
+module _ {K V S H : Type 0} where
+  -- nothing is placed, and the table has as many buckets, with as much room or more, and no more pairs
+  pub record Calm (old new : State K V S H) : Type 0 where
+    pub hasher : new.hasher ≡ old.hasher
+    pub max : new.max ≡ old.max
+    pub entry_bytes : new.entry_bytes ≡ old.entry_bytes
+    pub placings : new.placings ≡ old.placings
+    pub moved : new.moved ≡ old.moved
+    pub placed : new.placed ≡ old.placed
+    pub shrunk : new.shrunk ≡ old.shrunk
+    pub table : buckets new ≡ buckets old
+    pub keeps : room old ≤ room new
+    pub few : length new.pairs ≤ length old.pairs
+    pub fits : length old.pairs + room old ≤ full_capacity (buckets old) → length new.pairs + room new
+        ≤ full_capacity (buckets old)
+
+  -- another limiter
+  pub limiter_calm : (st : State K V S H) (s : S) → Calm st (record st { limiter = s })
+  limiter_calm st s = record {
+    hasher = refl;
+    max = refl;
+    entry_bytes = refl;
+    placings = refl;
+    moved = refl;
+    placed = refl;
+    shrunk = refl;
+    table = refl;
+    keeps = omega arith;
+    few = omega arith;
+    fits = λ h. h;
+  }
+
+  pub self_calm : (st : State K V S H) → Calm st st
+  self_calm st = limiter_calm st st.limiter
+
+  pub calm_trans : (old mid new : State K V S H) → Calm old mid → Calm mid new → Calm old new
+  calm_trans old mid new f g = record {
+    hasher = g.hasher ∙ f.hasher;
+    max = g.max ∙ f.max;
+    entry_bytes = g.entry_bytes ∙ f.entry_bytes;
+    placings = g.placings ∙ f.placings;
+    moved = g.moved ∙ f.moved;
+    placed = g.placed ∙ f.placed;
+    shrunk = g.shrunk ∙ f.shrunk;
+    table = g.table ∙ f.table;
+    keeps = omega (arith, f.keeps, g.keeps);
+    few = omega (arith, f.few, g.few);
+    fits = λ h. omega (arith, g.fits (omega (arith, f.fits h, ap full_capacity f.table)), ap full_capacity f.table);
+  }
+
+  pub leaves_calm : (old : State K V S H) (left : Contents K V S) (new : State K V S H) → Leaves old left new
+      → Calm old new
+  leaves_calm old left new l = record {
+    hasher = ap (λ st. st.hasher) l.is;
+    max = ap (λ st. st.max) l.is;
+    entry_bytes = ap (λ st. st.entry_bytes) l.is;
+    placings = ap (λ st. st.placings) l.is;
+    moved = ap (λ st. st.moved) l.is;
+    placed = ap (λ st. st.placed) l.is;
+    shrunk = ap (λ st. st.shrunk) l.is;
+    table = l.room.table;
+    keeps = l.room.keeps;
+    few = omega (arith, l.room.keeps, l.room.at_most);
+    fits = λ h. omega (arith, h, l.room.at_most);
+  }
+
+  -- what follows a placing
+  pub settles_calm : (rules : Rules K V S) (outcome : Outcome) (landed : State K V S H)
+      (result : Result Bool AllocError) (new : State K V S H)
+      → Settles rules outcome landed result new → Calm landed new
+  settles_calm rules placed landed result new h = leaves_calm landed _ new h.1
+  settles_calm rules refused landed result new h = rw h.1 (self_calm landed)
+  settles_calm rules no_memory landed result new h = rw h.1 (self_calm landed)
+
+  pub calm_pays : (old new : State K V S H) → old.shrunk < 2 ^ 64 → Calm old new → PaysForMoves 0 old new
+  calm_pays old new bound f = pays_calm old new bound f.placed f.moved f.shrunk
+      (omega (arith, f.keeps, ap full_capacity f.table))
+
+  pub calm_bounded : (old new : State K V S H) → Calm old new → IsBounded old → IsBounded new
+  calm_bounded old new f ok = record {
+    count = rw f.table ok.count;
+    addressable = omega (arith, f.table, ok.addressable);
+    fits = omega (arith, f.fits ok.fits, ap full_capacity f.table);
+    moved = rw f.moved ok.moved;
+    placed = rw f.placed ok.placed;
+    shrunk = rw f.shrunk ok.shrunk;
+  }
+
+module _ {K V S : Type 0} (rules : Rules K V S) (P : S → Type 0) where
+  -- there can be a table of n buckets, and a limiter with the property P permits it
+  pub record IsPermitted (entry_bytes count : ℕ) : Type 0 where
+    pub bytes : ℕ
+    pub usable : usage entry_bytes count ≡ Some bytes
+    pub limiter : S
+    pub holds : P limiter
+    pub granted : (rules.on_grow limiter bytes).allowed ≡ true
+
+module _ {K V S H : Type 0} (rules : Rules K V S) (P : S → Type 0) where
+  -- the table has no more buckets than before, or such a limiter permits their number
+  abbrev pub IsNextCount : State K V S H → ℕ → Type 0
+  IsNextCount old count = (count ≤ buckets old) ⊎ IsPermitted rules P old.entry_bytes count
+
+  -- what a call makes of the table, with this number of pairs more, if shrinks rehash this number
+  pub record Tables (more anew : ℕ) (old new : State K V S H) : Type 0 where
+    pub hasher : new.hasher ≡ old.hasher
+    pub max : new.max ≡ old.max
+    pub entry_bytes : new.entry_bytes ≡ old.entry_bytes
+    pub count : IsNextCount old (buckets new)
+    pub moved : old.moved < 2 ^ 64 → new.moved < 2 ^ 64
+    pub pays : IsBounded old → PaysForMoves anew old new
+    pub little : IsBounded old → buckets old < buckets new → full_capacity (buckets new) < 4 * (length old.pairs + more)
+
+  pub calm_tables : (more : ℕ) (old new : State K V S H) → Calm old new → Tables more 0 old new
+  calm_tables more old new f = record {
+    hasher = f.hasher;
+    max = f.max;
+    entry_bytes = f.entry_bytes;
+    count = inl (omega (arith, f.table));
+    moved = λ bound. omega (arith, f.moved, bound);
+    pays = λ ok. calm_pays old new ok.shrunk f;
+    little = λ ok h. absurd (omega (arith, f.table, h));
+  }
+
+  pub calm_then : (more : ℕ) (old mid new : State K V S H) → Calm old mid → Tables more 0 mid new
+      → Tables more 0 old new
+  calm_then more old mid new f t = record {
+    hasher = t.hasher ∙ f.hasher;
+    max = t.max ∙ f.max;
+    entry_bytes = t.entry_bytes ∙ f.entry_bytes;
+    count = elim t.count [
+      | inl few ↦ inl (omega (arith, few, f.table))
+      | inr p ↦ inr
+          (subst (λ bytes. IsPermitted rules P bytes (buckets new)) f.entry_bytes p)
+    ];
+    moved = λ bound. t.moved (omega (arith, f.moved, bound));
+    pays = λ ok. pays_trans (calm_pays old mid ok.shrunk f) (t.pays (calm_bounded old mid f ok));
+    little = λ ok h. omega (arith, f.few, t.little (calm_bounded old mid f ok) (omega (arith, f.table, h)));
+  }
+
+  pub then_calm : (more : ℕ) (old mid new : State K V S H) → Tables more 0 old mid → Calm mid new
+      → Tables more 0 old new
+  then_calm more old mid new t f = record {
+    hasher = f.hasher ∙ t.hasher;
+    max = f.max ∙ t.max;
+    entry_bytes = f.entry_bytes ∙ t.entry_bytes;
+    count = rw f.table t.count;
+    moved = λ bound. omega (arith, f.moved, t.moved bound);
+    pays = λ ok. pays_trans (t.pays ok) (calm_pays mid new (omega (arith, (t.pays ok).shrunk)) f);
+    little = λ ok h. omega (arith, ap full_capacity f.table, t.little ok (omega (arith, f.table, h)));
+  }
+
+module _ {K V S H : Type 0} (rules : Rules K V S) (R : Contents K V S → Contents K V S → Type 0) where
+  -- the moves lead to this limiter
+  abbrev pub Reaches : State K V S H → S → Type 0
+  Reaches old s = (pairs : List (K × V)) × R (contents old) (record { pairs = pairs; limiter = s })
+
+  -- what a call makes of the pairs, the limiter and the table
+  pub record Changes (more anew : ℕ) (old new : State K V S H) : Type 0 where
+    pub moves : R (contents old) (contents new)
+    pub tables : Tables rules (Reaches old) more anew old new
+
+  pub calm_changes : (more : ℕ) (old new : State K V S H) → Calm old new → R (contents old) (contents new)
+      → Changes more 0 old new
+  calm_changes more old new f r = record { moves = r; tables = calm_tables rules _ more old new f }
+
+  pub leaves_changes : (more : ℕ) (old : State K V S H) (left : Contents K V S) (new : State K V S H)
+      → Leaves old left new → R (contents old) left → Changes more 0 old new
+  leaves_changes more old left new l r = calm_changes more old new (leaves_calm old left new l)
+      (leaves_keep R old left new l r)

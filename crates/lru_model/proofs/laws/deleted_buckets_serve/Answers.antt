@@ -1,0 +1,12 @@
+use Rattle.std.proofs.Common.{refl}
+use Rattle.lru_model.proofs.Theorems.DeletedBuckets.{deleted_serves, only_deleted}
+use Rattle.lru_model.proofs.Theorems.Potential.{bounded_of}
+use Rattle.lru_model.proofs.laws.deleted_buckets_serve.Goals as goal
+
+pub returns-clause-served : goal.returns-clause-served
+returns-clause-served g c = λ pair old outcome new full first step. deleted_serves _ _ pair old full.0 full.1 first
+    outcome new step
+
+pub returns-clause-only : goal.returns-clause-only
+returns-clause-only g c = λ pair old new full sized step is.
+    only_deleted _ _ pair old full.0 full.1 (bounded_of old sized) _ new refl step is

@@ -1,0 +1,46 @@
+-- How a search by a hash calls its closure, with one pair after another, and what it returns.
+--     closure    how the closure may be called
+--     f, g       the closure before and after
+use Rattle.std.specs.Prelude.{◌≡◌, ℕ, Bool, true, false, List, [], ◌∷◌, ◌++◌, Contains}
+use Rattle.std.specs.List.{FoldsTo, IsDistinct}
+use Rattle.std.specs.Borrow.{Bor}
+use Rattle.std.specs.Fn.{Mut, Called}
+use Rattle.group_table.specs.Probe.{hash_tag}
+use Rattle.lru_model.specs.Lists.{keys_of}
+
+module _ {K V F : Type 0} (closure : Mut F (Bor K × (Bor V × Unit {0})) Bool) where
+  -- a call of f with the pair may return so, and leave f as g
+  pub record Asks (f : F) (pair : K × V) (answer : Bool) (g : F) : Type 0 where
+    pub key : Bor K
+    pub value : Bor V
+    pub shows : (key.now ≡ pair.0) × (value.now ≡ pair.1)
+    pub called : Called closure f (key, (value, tt)) answer g
+
+  -- f was called with these pairs, one after another, rejected each, and is then g
+  abbrev pub Refuses : F → List (K × V) → F → Type 0
+  Refuses f pairs g = FoldsTo (λ p pair q. Asks p pair false q) f pairs g
+
+module _ {K V : Type 0} (eq : K → K → Bool) (hash_of : K → ℕ) (all : List (K × V)) (hash : ℕ) where
+  -- different pairs of the map, whose hashes have the tag of the hash
+  pub record AreCandidates (pairs : List (K × V)) : Type 0 where
+    pub distinct : IsDistinct eq (keys_of pairs)
+    pub there : (pair : K × V) → Contains pairs pair → Contains all pair
+    pub tags : (pair : K × V) → Contains pairs pair → hash_tag (hash_of pair.0) ≡ hash_tag hash
+
+  module _ {F : Type 0} (closure : Mut F (Bor K × (Bor V × Unit {0})) Bool) where
+    -- f was called with candidates, each once, and rejected all but the last, which is returned
+    pub record GivesByHash (f : F) (pair : K × V) : Type 0 where
+      pub before : List (K × V)
+      pub candidates : AreCandidates (before ++ pair ∷ [])
+      pub between : F
+      pub refused : Refuses closure f before between
+      pub last : F
+      pub accepted : Asks closure between pair true last
+
+    -- or it rejected all, and among them is each pair of the hash
+    pub record GivesNoneByHash (f : F) : Type 0 where
+      pub asked : List (K × V)
+      pub candidates : AreCandidates asked
+      pub last : F
+      pub refused : Refuses closure f asked last
+      pub complete : (pair : K × V) → Contains all pair → hash_of pair.0 ≡ hash → Contains asked pair

@@ -1,0 +1,46 @@
+-- What a get does that inserts the key if it is not there.
+--     rules, offers       what the limiter says (`Rules`, `Offers` of `lru_limits`)
+--     names i k           the inserted key i names the key k
+--     hash_of h k         the hash of the key k, by the hasher h
+--     makes v             the closure may return v
+use Rattle.std.specs.Prelude.{◌≡◌, ℕ, Bool, true, false, Some, None, Result, Ok, Err, OnErr}
+use Rattle.std.specs.declared.alloc.AllocError.{AllocError}
+use Rattle.lru_limits.specs.Rules.{Rules, Offers}
+use Rattle.lru_model.specs.Lists.{lookup, lookup_entry}
+use Rattle.lru_model.specs.State.{State}
+use Rattle.lru_model.specs.Calls.{promoted}
+use Rattle.lru_model.specs.Inserts.{Insert, LacksMemory}
+use Rattle.lru_model.specs.Theorems.{IsNewest}
+
+module _ {K V S H I : Type 0} (rules : Rules K V S) (offers : Offers K V S I) (names : I → K → Bool)
+    (hash_of : H → K → ℕ) where
+  -- A key that is there is promoted; else it is inserted with a value that the closure returns. The result is whether
+  -- the key is there.
+  pub data MakesNewest (makes : V → Type 0) (i : I) (old : State K V S H) (result : Result Bool AllocError)
+      (new : State K V S H) : Type 0 where
+    got : (w : V) → lookup (names i) old.pairs ≡ Some w →
+        result ≡ Ok true → new ≡ promoted (names i) old →
+        MakesNewest makes i old result new
+    inserted : lookup (names i) old.pairs ≡ None →
+        (v : V) → makes v → Insert rules offers names hash_of i v old result new →
+        MakesNewest makes i old result new
+
+  -- why it fails: the closure returned v, and the insert of v ran out of memory
+  abbrev pub LacksMemoryFor : (makes : V → Type 0) → I → State K V S H → State K V S H → Type 0
+  LacksMemoryFor makes i old new = (v : V) × makes v × LacksMemory rules offers names hash_of i v old new
+
+module _ {K V S H E : Type 0} where
+  -- true says that the key is there, as the newest; false, or an error, that it is not there
+  abbrev pub SaysNewest : (K → Bool) → Result Bool E → State K V S H → Type 0
+  SaysNewest names (Ok true) new = IsNewest names new.pairs
+  SaysNewest names (Ok false) new = lookup_entry names new.pairs ≡ None
+  SaysNewest names (Err e) new = lookup_entry names new.pairs ≡ None
+
+module _ {K V S H I : Type 0} (rules : Rules K V S) (offers : Offers K V S I) (names : I → K → Bool)
+    (hash_of : H → K → ℕ) where
+  -- what such a get does, what its result says, and why it fails
+  pub record GetsOrInserts (makes : V → Type 0) (i : I) (old : State K V S H) (result : Result Bool AllocError)
+      (new : State K V S H) : Type 0 where
+    pub step : MakesNewest rules offers names hash_of makes i old result new
+    pub says : SaysNewest (names i) result new
+    pub lacks : OnErr result (LacksMemoryFor rules offers names hash_of makes i old new)

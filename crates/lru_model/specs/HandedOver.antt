@@ -1,0 +1,77 @@
+-- Which pairs a call passes to its callback: those of which it notifies the limiter that they left, as the limiter
+-- leaves each, in order.
+--     rules, offers       what the limiter says (`Rules`, `Offers` of `lru_limits`)
+--     names i k           the inserted key i names the key k
+--     hash_of h k         the hash of the key k, by the hasher h
+--     closure             how the callback may be called
+--     f, g                the callback before and after
+use Rattle.std.specs.Prelude.{◌≡◌, ℕ, Bool, List, [], ◌∷◌, ◌++◌, Result}
+use Rattle.std.specs.List.{FoldsTo}
+use Rattle.std.specs.Fn.{Mut, Called}
+use Rattle.std.specs.declared.alloc.AllocError.{AllocError}
+use Rattle.lru_limits.specs.Rules.{Rules, Offers}
+use Rattle.lru_model.specs.State.{State, Trims}
+use Rattle.lru_model.specs.Inserts.{Insert}
+
+module _ {K V S : Type 0} where
+  -- the limiter together with a list, to which it adds each pair of which it is notified that it left
+  abbrev pub noting : Rules K V S → Rules K V (S × List (K × V))
+  noting rules = record {
+    is_over_the_limit = λ s n. rules.is_over_the_limit s.0 n;
+    on_removed = λ s k v. let notified = rules.on_removed s.0 k v in record {
+      limiter = (notified.limiter, s.1 ++ (notified.key, notified.value) ∷ []);
+      key = notified.key;
+      value = notified.value;
+    };
+    on_cleared = λ s. (rules.on_cleared s.0, s.1);
+    on_grow = λ s bytes. let answer = rules.on_grow s.0 bytes in record {
+      limiter = (answer.limiter, s.1);
+      allowed = answer.allowed;
+    };
+  }
+
+  -- no other call of the limiter adds to the list
+  abbrev pub noting_offers : {I : Type 0} → Offers K V S I → Offers K V (S × List (K × V)) I
+  noting_offers offers = record {
+    on_insert = λ s n i v t given. offers.on_insert s.0 n i v t.0 given × (t.1 ≡ s.1);
+    may_lack = λ s n i v. offers.may_lack s.0 n i v;
+    on_replace = λ s n k i v w. let left = offers.on_replace s.0 n k i v w in record {
+      limiter = (left.limiter, s.1);
+      taken = left.taken;
+      key = left.key;
+      old_value = left.old_value;
+      new_value = left.new_value;
+    };
+  }
+
+  -- the map, whose limiter is together with this list
+  abbrev pub noted : {H : Type 0} → List (K × V) → State K V S H → State K V (S × List (K × V)) H
+  noted list st = record {
+    pairs = st.pairs;
+    limiter = (st.limiter, list);
+    hasher = st.hasher;
+    marks = st.marks;
+    places = st.places;
+    placings = st.placings;
+    moved = st.moved;
+    placed = st.placed;
+    shrunk = st.shrunk;
+    entry_bytes = st.entry_bytes;
+    max = st.max;
+  }
+
+-- f was called with these pairs, one after another, and is then g
+abbrev pub Takes : {K V F : Type 0} → Mut F (K × (V × Unit {0})) (Unit {0}) → F → List (K × V) → F → Type 0
+Takes closure f pairs g = FoldsTo (λ p pair q. Called closure p (pair.0, (pair.1, tt)) tt q) f pairs g
+
+module _ {K V S H I : Type 0} (rules : Rules K V S) (offers : Offers K V S I) (names : I → K → Bool)
+    (hash_of : H → K → ℕ) where
+  -- an insert whose callback gets these pairs: the list that `noting` keeps is empty before the call, and consists of
+  -- these after it
+  abbrev pub InsertHands : I → V → State K V S H → Result Bool AllocError → List (K × V) → State K V S H → Type 0
+  InsertHands i v old result handed new = Insert (noting rules) (noting_offers offers) names hash_of i v (noted [] old)
+      result (noted handed new)
+
+-- a trim that passes on these pairs
+abbrev pub TrimHands : {K V S H : Type 0} → Rules K V S → State K V S H → List (K × V) → State K V S H → Type 0
+TrimHands rules old handed new = Trims (noting rules) (noted [] old) (noted handed new)

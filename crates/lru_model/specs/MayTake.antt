@@ -1,0 +1,52 @@
+-- What a call requires of its callback: that it may be called with any entry that may leave, as often as there are such
+-- entries.
+--     rules, offers       what the limiter says (`Rules`, `Offers` of `lru_limits`)
+--     names i k           the inserted key i names the key k
+--     closure             how the callback may be called
+--     f                   the callback before the call
+use Rattle.std.specs.Prelude.{◌≡◌, ℕ, ◌<◌, Bool, true, false, List, [], ◌∷◌, length, None, Some, Contains, All}
+use Rattle.std.specs.Fn.{Mut, Takes as MayBeCalled}
+use Rattle.lru_limits.specs.Rules.{Rules, Offers, Replaced}
+use Rattle.lru_model.specs.Lists.{lookup_entry}
+use Rattle.lru_model.specs.State.{Contents}
+use Rattle.lru_model.specs.Calls.{left_of}
+use Rattle.lru_model.specs.Inserts.{replacement, with_replaced, MayGive}
+use Rattle.lru_model.specs.HandedOver.{Takes}
+
+-- f may be called with n pairs that pass the test, one after another
+abbrev pub MayTake : {K V F : Type 0} → Mut F (K × (V × Unit {0})) (Unit {0}) → (K × V → Type 0) → ℕ → F → Type 0
+MayTake {K} {V} {F} closure passes n f = (before : List (K × V)) (g : F) (pair : K × V) → length before < n
+    → All passes before → Takes closure f before g → passes pair → MayBeCalled closure g (pair.0, (pair.1, tt))
+
+module _ {K V S : Type 0} (rules : Rules K V S) where
+  -- what the limiter leaves of one of these pairs, when it is notified that the pair leaves
+  abbrev pub IsLeftOf : List (K × V) → K × V → Type 0
+  IsLeftOf pairs left = (s : S) × (pair : K × V) × Contains pairs pair × (left_of rules s (Some pair) ≡ Some left)
+
+  module _ {F : Type 0} (closure : Mut F (K × (V × Unit {0})) (Unit {0})) where
+    -- f may be called with any of these pairs, as the limiter leaves it, as often as there are pairs
+    abbrev pub MayTakeEach : List (K × V) → F → Type 0
+    MayTakeEach pairs f = MayTake closure (IsLeftOf pairs) (length pairs) f
+
+    -- if the limiter rejects a new value, with the pair that leaves
+    abbrev pub MayTakeRejected : Replaced K V S → F → Type 0
+    MayTakeRejected by f = by.taken ≡ false → MayTakeEach ((by.key, by.old_value) ∷ []) f
+
+    module _ {I : Type 0} (offers : Offers K V S I) (names : I → K → Bool) where
+      -- if the key is there, with what an insert or an update may evict or remove
+      pub record MayTakeReplaced (i : I) (v : V) (c : Contents K V S) (f : F) : Type 0 where
+        pub accepted : (pair : K × V) → lookup_entry (names i) c.pairs ≡ Some pair
+            → (replacement rules offers names pair i v c).taken ≡ true
+            → MayTakeEach (with_replaced rules offers names pair i v c).pairs f
+        pub rejected : (pair : K × V) → lookup_entry (names i) c.pairs ≡ Some pair
+            → MayTakeRejected (replacement rules offers names pair i v c) f
+
+      -- if it is new, with the pair that the limiter gives, and with the others
+      abbrev pub MayTakeNew : I → V → Contents K V S → F → Type 0
+      MayTakeNew i v c f = lookup_entry (names i) c.pairs ≡ None → (s : S) (pair : K × V)
+          → MayGive rules offers names i v c s (Some pair) → MayTakeEach (pair ∷ c.pairs) f
+
+      -- with what an insert may pass on
+      pub record MayTakeInserted (i : I) (v : V) (c : Contents K V S) (f : F) : Type 0 where
+        pub replaced : MayTakeReplaced i v c f
+        pub new : MayTakeNew i v c f

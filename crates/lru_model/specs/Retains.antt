@@ -1,0 +1,41 @@
+-- A retain, which removes the pairs that its closure rejects.
+--     rules      what the limiter says (`Rules` of `lru_limits`)
+--     closure    how the closure may be called
+use Rattle.std.specs.Prelude.{◌≡◌, Bool, true, false, List, [], ◌∷◌, Some, map}
+use Rattle.std.specs.Borrow.{Bor}
+use Rattle.std.specs.Fn.{Mut}
+use Rattle.lru_limits.specs.Rules.{Rules}
+use Rattle.lru_model.specs.State.{State, Contents, Leaves, notified_of}
+use Rattle.lru_model.specs.ByHash.{Asks}
+use Rattle.lru_model.specs.HandedOver.{noting, noted}
+
+module _ {K V S : Type 0} (rules : Rules K V S) where
+  -- a pair stays if the closure returned true for it, and else the limiter is notified of its removal
+  abbrev pub answered : (K × V) × Bool → Contents K V S → Contents K V S
+  answered (pair, true) c = record { pairs = pair ∷ c.pairs; limiter = c.limiter }
+  answered (pair, false) c = record { pairs = c.pairs; limiter = notified_of rules (Some pair) c.limiter }
+
+  -- what is left of these pairs, newest first, by what the closure returned for each; it was called for the last pair
+  -- first
+  abbrev pub retained : List ((K × V) × Bool) → S → Contents K V S
+  retained [] s = record { pairs = []; limiter = s }
+  retained (newest ∷ older) s = answered newest (retained older s)
+
+module _ {K V F : Type 0} (closure : Mut F (Bor K × (Bor V × Unit {0})) Bool) where
+  -- f was called with these pairs, the last one first, returned these, and is then g
+  abbrev pub Answers : F → List ((K × V) × Bool) → F → Type 0
+  Answers f [] g = g ≡ f
+  Answers f (newest ∷ older) g = (between : F) × Answers f older between × Asks closure between newest.0 newest.1 g
+
+  -- the closure is called with each pair once, oldest first, and the pairs that it accepts stay, in their order
+  pub record Retains {S H : Type 0} (rules : Rules K V S) (f : F) (old new : State K V S H) : Type 0 where
+    pub asked : List ((K × V) × Bool)
+    pub each : map (λ one. one.0) asked ≡ old.pairs
+    pub last : F
+    pub answers : Answers f asked last
+    pub state : Leaves old (retained rules asked old.limiter) new
+
+-- a retain that passes on these pairs, which the limiter left so
+abbrev pub RetainHands : {K V S H F : Type 0} → Rules K V S → Mut F (Bor K × (Bor V × Unit {0})) Bool → F
+    → State K V S H → List (K × V) → State K V S H → Type 0
+RetainHands rules closure f old handed new = Retains closure (noting rules) f (noted [] old) (noted handed new)

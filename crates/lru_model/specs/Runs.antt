@@ -1,0 +1,83 @@
+-- Calls of a map, one after another.
+--     rules, offers       what the limiter says (`Rules`, `Offers` of `lru_limits`)
+--     names i k           the key i, as a call gets it, names the key k
+--     hash_of h k         the hash of the key k, by the hasher h
+use Rattle.std.specs.Prelude.{◌≡◌, ◌⊎◌, ℕ, Bool, true, false, List, Option, Result, Contains, map}
+use Rattle.std.specs.declared.alloc.AllocError.{AllocError}
+use Rattle.lru_limits.specs.Rules.{Rules, Offers}
+use Rattle.lru_model.specs.State.{State, IsSized, Leaves, Trims}
+use Rattle.lru_model.specs.Calls.{promoted, demoted, written, Remove, PopOldest, PopNewest, cleared}
+use Rattle.lru_model.specs.Drains.{Drained}
+use Rattle.lru_model.specs.GetOrInserts.{MakesNewest}
+use Rattle.lru_model.specs.Inserts.{Insert}
+use Rattle.lru_model.specs.Reservations.{Reserve}
+use Rattle.lru_model.specs.Retains.{retained}
+use Rattle.lru_model.specs.Shrinks.{Shrink}
+use Rattle.lru_model.specs.Updates.{Update}
+use Rattle.lru_model.specs.declared.results.Updated.{Updated}
+use Rattle.lru_model.specs.declared.results.ReserveError.{ReserveError}
+
+-- each key that is named passes the test
+abbrev pub AreAmong : {K : Type 0} → (K → Bool) → (K → Bool) → Type 0
+AreAmong {K} named test = (key : K) → named key ≡ true → test key ≡ true
+
+module _ {K V S H I : Type 0} (rules : Rules K V S) (offers : Offers K V S I) (names : I → K → Bool)
+    (hash_of : H → K → ℕ) where
+  -- What one call makes of a map if nothing is written through a reference. A call that only looks changes nothing. A
+  -- look-up by a key of any type, or by a hash, promotes the pair that it finds. All inserts of a run are by keys of
+  -- one type I.
+  pub data Step (old new : State K V S H) : Type 0 where
+    inserts : (key : I) (value : V) (result : Result Bool AllocError)
+        → Insert rules offers names hash_of key value old result new → Step old new
+    makes_newest : (value : V) (key : I) (result : Result Bool AllocError) →
+        MakesNewest rules offers names hash_of (λ made. made ≡ value) key old result new → Step old new
+    updates : (key : I) (value : V) (result : Updated V) → Update rules offers names key value old result new
+        → Step old new
+    gets : (test : K → Bool) → new ≡ promoted test old → Step old new
+    demotes : (test : K → Bool) → new ≡ demoted test old → Step old new
+    removes : (test : K → Bool) (result : Option V) → Remove rules test old result new → Step old new
+    pops_oldest : (result : Option (K × V)) → PopOldest rules old result new → Step old new
+    pops_newest : (result : Option (K × V)) → PopNewest rules old result new → Step old new
+    drains : (newest oldest : ℕ) (result : List (K × V)) → Drained rules newest oldest old result new → Step old new
+    clears : new ≡ cleared rules old → Step old new
+    reserves : (n : ℕ) (result : Result (Unit {0}) ReserveError) → Reserve rules n old result new → Step old new
+    shrinks : (result : Result Bool AllocError) → Shrink old result new → Step old new
+    trims : Trims rules old new → Step old new
+    retains : (asked : List ((K × V) × Bool)) → map (λ one. one.0) asked ≡ old.pairs
+        → Leaves old (retained rules asked old.limiter) new → Step old new
+
+  -- such a call, or a write of a value through a reference, or another limiter that is set
+  pub data AnyStep (old new : State K V S H) : Type 0 where
+    calls : Step old new → AnyStep old new
+    writes : (test : K → Bool) (value : V) → new ≡ written test value old → AnyStep old new
+    sets_limiter : (limiter : S) → new ≡ record old { limiter = limiter } → AnyStep old new
+
+  -- a call, or a value is written through a reference
+  abbrev pub StepOrWrite : State K V S H → State K V S H → Type 0
+  StepOrWrite old new = Step old new ⊎ ((test : K → Bool) × (value : V) × (new ≡ written test value old))
+
+  -- The call names only keys that pass the test, and does not pop the newest pair. A retain names the keys that it
+  -- rejects.
+  abbrev pub NamesOnly : (test : K → Bool) → (old new : State K V S H) → AnyStep old new → Type 0
+  NamesOnly test old new (calls (inserts key value result h)) = AreAmong (names key) test
+  NamesOnly test old new (calls (makes_newest value key result h)) = AreAmong (names key) test
+  NamesOnly test old new (calls (updates key value result h)) = AreAmong (names key) test
+  NamesOnly test old new (calls (gets named e)) = AreAmong named test
+  NamesOnly test old new (calls (demotes named e)) = AreAmong named test
+  NamesOnly test old new (calls (removes named result h)) = AreAmong named test
+  NamesOnly test old new (calls (pops_newest result h)) = ⊥
+  NamesOnly test old new (calls (retains asked each h)) =
+      (pair : K × V) → Contains asked (pair, false) → test pair.0 ≡ true
+  NamesOnly test old new (writes named value e) = AreAmong named test
+  NamesOnly test old new step = Unit {0}
+
+  -- such a call
+  abbrev pub StepAmong : (K → Bool) → State K V S H → State K V S H → Type 0
+  StepAmong test old new = (step : AnyStep old new) × NamesOnly test old new step
+
+-- Steps, one after another, each of which leaves a sound table, as every call does.
+pub data Run {K V S H : Type 0} (IsStep : State K V S H → State K V S H → Type 0) (new : State K V S H) : State K V S H
+    → Type 0 where
+  ends : Run IsStep new new
+  goes_on : {old : State K V S H} (mid : State K V S H) → IsStep old mid → IsSized mid → Run IsStep new mid
+      → Run IsStep new old

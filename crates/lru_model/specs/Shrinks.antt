@@ -1,0 +1,37 @@
+-- What `shrink_to_fit` does.
+use Rattle.std.specs.Prelude.{◌≡◌, ℕ, ◌≤◌, ◌<◌, ◌⊎◌, Bool, true, false, length, Some, IfSome, Result, Ok, IsErr}
+use Rattle.std.specs.declared.alloc.AllocError.{AllocError}
+use Rattle.group_table.specs.Sizes.{buckets_for}
+use Rattle.group_table.specs.Change.{count_up}
+use Rattle.lru_model.specs.State.{State, buckets, MovesTo}
+
+module _ {K V S H : Type 0} where
+  -- the table has no more buckets than its pairs need
+  abbrev pub IsTight : State K V S H → Type 0
+  IsTight st = IfSome (buckets_for st.max (length st.pairs)) (λ count. buckets st ≤ count)
+
+  -- the pairs need `count` buckets, and the table has more
+  abbrev pub IsLooseFor : ℕ → State K V S H → Type 0
+  IsLooseFor count st = (buckets_for st.max (length st.pairs) ≡ Some count) × (count < buckets st)
+
+  -- its pairs are counted as rehashed by a shrink
+  abbrev pub shrink_counted : State K V S H → State K V S H
+  shrink_counted st = record st { shrunk = count_up st.shrunk (length st.pairs) }
+
+  -- the pairs move into as few buckets as hold them, which is counted, and nothing else changes
+  pub data Shrink (old : State K V S H) (result : Result Bool AllocError) (new : State K V S H) : Type 0 where
+    -- There may be no fewer,
+    kept : IsTight old →
+        result ≡ Ok false → new ≡ old →
+        Shrink old result new
+    -- or the pairs move, and without pairs the table is given back, which needs no memory.
+    shrunk : (count : ℕ) → IsLooseFor count old →
+        result ≡ Ok true → MovesTo count (shrink_counted old) new →
+        Shrink old result new
+    no_memory_to_shrink : (count : ℕ) → IsLooseFor count old → 0 < length old.pairs →
+        IsErr result → new ≡ old →
+        Shrink old result new
+
+-- how many entries a call rehashes as a shrink: none, or all of a map that it shrinks
+abbrev pub RehashedByShrink : {K V S H : Type 0} → ℕ → State K V S H → State K V S H → Type 0
+RehashedByShrink anew old new = (anew ≡ 0) ⊎ (Shrink old (Ok true) new × (anew ≡ length old.pairs))

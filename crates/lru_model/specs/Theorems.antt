@@ -1,0 +1,90 @@
+-- Words of the laws in `src/laws`: what an insert evicts, stores and says, and what moves cost.
+use Rattle.std.specs.Prelude.{◌≡◌, ℕ, ◌+◌, ◌-◌, ◌*◌, ◌/◌, ◌^◌, ◌≤◌, ◌<◌, Bool, true, false, List, ◌∷◌, length}
+use Rattle.std.specs.Prelude.{sum_by, not}
+use Rattle.std.specs.List.{filter}
+use Rattle.std.specs.Prelude.{Some, None, Result, Ok, Err}
+use Rattle.std.specs.declared.alloc.AllocError.{AllocError}
+use Rattle.group_table.specs.Sizes.{full_capacity}
+use Rattle.group_table.specs.Change.{count_up}
+use Rattle.lru_limits.specs.Rules.{Rules, Offers}
+use Rattle.lru_model.specs.Sizes.{usage}
+use Rattle.lru_model.specs.Lists.{IsFront, lookup_entry, without}
+use Rattle.lru_model.specs.State.{State, buckets, contents, potential}
+use Rattle.lru_model.specs.Place.{IsFullWithPairs, CannotGrow}
+use Rattle.lru_model.specs.Inserts.{replacement, with_new_value, MayGive}
+
+module _ {K V S H : Type 0} where
+  -- `moved` and the potential together rise by at most 2 for each entry stored, and by 1 for each of `anew` entries
+  -- that shrinks rehashed, unless the count of stored entries has stopped
+  pub record PaysForMoves (anew : ℕ) (old new : State K V S H) : Type 0 where
+    pub placed : old.placed ≤ new.placed
+    pub shrunk : new.shrunk ≡ count_up old.shrunk anew
+    pub moved : new.placed < 2 ^ 64 - 1 →
+        new.moved + potential new + 2 * old.placed ≤ old.moved + potential old + 2 * new.placed + anew
+
+  -- the table's insertions are the entries moved and the entries stored, while no count has stopped
+  abbrev pub CountsPlacings : State K V S H → State K V S H → Type 0
+  CountsPlacings old new = new.placings < 2 ^ 64 - 1 → new.moved < 2 ^ 64 - 1 → new.placed < 2 ^ 64 - 1 →
+      new.placings + old.moved + old.placed ≡ old.placings + new.moved + new.placed
+
+  -- the table takes at most n bytes
+  abbrev pub UsesAtMost : ℕ → State K V S H → Type 0
+  UsesAtMost most st = (bytes : ℕ) × (usage st.entry_bytes (buckets st) ≡ Some bytes) × (bytes ≤ most)
+
+  -- the running total is the sum of the costs
+  abbrev pub IsSummed : (K → V → ℕ) → (S → ℕ) → State K V S H → Type 0
+  IsSummed cost account st = account st.limiter ≡ sum_by (λ p. cost p.0 p.1) st.pairs
+
+-- the pairs whose keys do not pass the test
+abbrev pub others : {K V : Type 0} → (K → Bool) → List (K × V) → List (K × V)
+others test pairs = filter (λ pair. not (test pair.0)) pairs
+
+-- the newest pair has a key that passes the test
+pub record IsNewest {K V : Type 0} (names : K → Bool) (pairs : List (K × V)) : Type 0 where
+  pub pair : K × V
+  pub rest : List (K × V)
+  pub first : pairs ≡ pair ∷ rest
+  pub named : names pair.0 ≡ true
+
+-- what an insert leaves of the pairs, if names accepts the inserted key
+pub data GivesUp {K V : Type 0} (names : K → Bool) (refuses : K × V → Type 0) (old new : List (K × V)) : Type 0 where
+  -- what is left begins with the pair of the key, followed by the newest others; or nothing is left
+  behind : (newest : K × V) → names newest.0 ≡ true → IsFront new (newest ∷ without names old) →
+      GivesUp names refuses old new
+  -- the oldest are evicted, and no pair is stored, nor was the key there
+  with_none : lookup_entry names old ≡ None → IsFront new old → GivesUp names refuses old new
+  -- the pair whose replacement is rejected is removed, and no other
+  without_one : (pair : K × V) → lookup_entry names old ≡ Some pair → refuses pair → new ≡ without names old →
+      GivesUp names refuses old new
+
+module _ {K V S H : Type 0} (rules : Rules K V S) where
+  -- the table has no growth left, would be more than half full, and cannot grow
+  pub record IsRefusedGrowth (st : State K V S H) : Type 0 where
+    pub is_full : IsFullWithPairs st
+    pub above_half : full_capacity (buckets st) / 2 < length st.pairs + 1
+    pub known : State K V S H
+    pub refused : CannotGrow rules st known
+
+  -- what the result of an insert says: true, that the key is there, as the newest, and the limiter is not over its
+  -- limit; false, or an error, that the key is not there
+  abbrev pub SaysWhether : (K → Bool) → Result Bool AllocError → State K V S H → Type 0
+  SaysWhether names (Ok true) new =
+      IsNewest names new.pairs × (rules.is_over_the_limit new.limiter (length new.pairs) ≡ false)
+  SaysWhether names (Ok false) new = lookup_entry names new.pairs ≡ None
+  SaysWhether names (Err e) new = lookup_entry names new.pairs ≡ None
+
+module _ {K V S H I : Type 0} (rules : Rules K V S) (offers : Offers K V S I) (names : I → K → Bool) where
+  -- the pair that an insert stores: what a replacement left of the one that was there, or what the limiter returned
+  pub data Stores (i : I) (v : V) (old : State K V S H) (pair : K × V) : Type 0 where
+    left : (was : K × V) → lookup_entry (names i) old.pairs ≡ Some was
+        → (replacement rules offers names was i v (contents old)).taken ≡ true →
+        pair ≡ with_new_value rules offers names was i v (contents old) →
+        Stores i v old pair
+    given : lookup_entry (names i) old.pairs ≡ None →
+        (s : S) → MayGive rules offers names i v (contents old) s (Some pair) →
+        Stores i v old pair
+
+-- the limiter stores each value as it was inserted
+pub record KeepsValues {K V S I : Type 0} (offers : Offers K V S I) : Type 0 where
+  pub given : (s : S) (n : ℕ) (i : I) (v : V) (t : S) (k : K) (w : V) → offers.on_insert s n i v t (Some (k, w)) → w ≡ v
+  pub replaced : (s : S) (n : ℕ) (k : K) (i : I) (v w : V) → (offers.on_replace s n k i v w).new_value ≡ w

@@ -1,0 +1,56 @@
+-- What `try_insert` does: it inserts a new pair only if nothing has to be evicted for it.
+--     terms               what the limiter accepts (`Terms` of `lru_limits`)
+--     rules, offers       what it says otherwise (`Rules`, `Offers` of `lru_limits`)
+--     eq                  whether two keys are equal
+--     hash_of h k         the hash of the key k, by the hasher h
+use Rattle.std.specs.Prelude.{◌≡◌, ℕ, ◌+◌, ◌<◌, Bool, true, false, not, if◌then◌else◌, length, Some, None}
+use Rattle.std.specs.Prelude.{Result, Ok, Err}
+use Rattle.lru_limits.specs.Rules.{Rules, Offers}
+use Rattle.lru_limits.specs.Admissions.{Terms}
+use Rattle.lru_model.specs.Lists.{lookup_entry}
+use Rattle.lru_model.specs.State.{State, Contents, contents, room, IsSized}
+use Rattle.lru_model.specs.Reservations.{Reserve}
+use Rattle.lru_model.specs.Inserts.{Insert}
+use Rattle.lru_model.specs.declared.results.ReserveError.{ReserveError}
+
+-- there is growth left for one pair more, or a reservation made some, which leaves a sound table, as every call does
+pub data IsReady {K V S H : Type 0} (rules : Rules K V S) (old ready : State K V S H) : Type 0 where
+  has_growth : 0 < room old → ready ≡ old →
+      IsReady rules old ready
+  reserved : room old ≡ 0 → Reserve rules 1 old (Ok tt) ready → IsSized ready →
+      IsReady rules old ready
+
+module _ {K V S : Type 0} (terms : Terms K V S) (rules : Rules K V S) where
+  -- the limiter accepts the pair of a new key, and is not over its limit once it is stored
+  abbrev pub can_store : K → V → Contents K V S → Bool
+  can_store key value c = if terms.accepts c.limiter (length c.pairs) key value
+      then not (rules.is_over_the_limit (terms.on_stored c.limiter (length c.pairs) key value) (length c.pairs + 1))
+      else false
+
+  module _ {H : Type 0} (key : K) (value : V) (old : State K V S H) where
+    -- a reservation fails, or leaves a limiter that cannot store the pair
+    pub data IsUnready (left : State K V S H) : Type 0 where
+      not_reserved : room old ≡ 0 → (error : ReserveError) → Reserve rules 1 old (Err error) left →
+          IsUnready left
+      cannot_store_then : room old ≡ 0 → Reserve rules 1 old (Ok tt) left →
+          can_store key value (contents left) ≡ false →
+          IsUnready left
+
+    module _ (offers : Offers K V S K) (eq : K → K → Bool) (hash_of : H → K → ℕ) where
+      pub data TryInsert (result : Result (Unit {0}) (K × V)) (new : State K V S H) : Type 0 where
+        -- The key is there, or the limiter cannot store the pair, and nothing changes.
+        there : (pair : K × V) → lookup_entry (eq key) old.pairs ≡ Some pair →
+            result ≡ Err (key, value) → new ≡ old →
+            TryInsert result new
+        cannot_store : lookup_entry (eq key) old.pairs ≡ None → can_store key value (contents old) ≡ false →
+            result ≡ Err (key, value) → new ≡ old →
+            TryInsert result new
+        -- There is no growth left, and none is made,
+        unready : lookup_entry (eq key) old.pairs ≡ None → IsUnready new →
+            result ≡ Err (key, value) →
+            TryInsert result new
+        -- or the pair is inserted.
+        inserted : lookup_entry (eq key) old.pairs ≡ None →
+            (ready : State K V S H) → IsReady rules old ready → can_store key value (contents ready) ≡ true →
+            result ≡ Ok tt → Insert rules offers eq hash_of key value ready (Ok true) new →
+            TryInsert result new

@@ -1,0 +1,46 @@
+-- What an update does, which offers the limiter a new value for a key that is there.
+--     rules, offers       what the limiter says (`Rules`, `Offers` of `lru_limits`)
+--     names i k           the given key i names the key k
+use Rattle.std.specs.Prelude.{◌≡◌, Bool, true, false, List, [], Some, None}
+use Rattle.lru_limits.specs.Rules.{Rules, Offers}
+use Rattle.lru_model.specs.Lists.{lookup_entry, set_entry}
+use Rattle.lru_model.specs.State.{State, Contents, contents, Leaves, trim}
+use Rattle.lru_model.specs.Inserts.{replacement, with_new_value, with_given_up}
+use Rattle.lru_model.specs.HandedOver.{noting, noting_offers, noted}
+use Rattle.lru_model.specs.declared.results.Updated.{Updated}
+use Rattle.lru_model.specs.declared.results.Updated.TheVariants.{Replaced, Rejected, Absent}
+
+module _ {K V S I : Type 0} (rules : Rules K V S) (offers : Offers K V S I) (names : I → K → Bool) where
+  -- after the limiter accepted the new value: the pair keeps its place
+  abbrev pub with_updated : K × V → I → V → Contents K V S → Contents K V S
+  with_updated pair i v c = record {
+    pairs = set_entry (names i) (with_new_value rules offers names pair i v c) c.pairs;
+    limiter = (replacement rules offers names pair i v c).limiter;
+  }
+
+  -- what an update returns and leaves
+  pub data Update {H : Type 0} (i : I) (v : V) (old : State K V S H) (result : Updated V) (new : State K V S H)
+      : Type 0 where
+    -- The limiter accepts the new value. What is over the limit then is evicted.
+    updated : (pair : K × V) → lookup_entry (names i) old.pairs ≡ Some pair →
+        (replacement rules offers names pair i v (contents old)).taken ≡ true →
+        result ≡ Replaced (replacement rules offers names pair i v (contents old)).old_value →
+        Leaves old (trim rules (with_updated pair i v (contents old))) new →
+        Update i v old result new
+    -- It rejects the new value, and the pair is removed.
+    rejected : (pair : K × V) → lookup_entry (names i) old.pairs ≡ Some pair →
+        (replacement rules offers names pair i v (contents old)).taken ≡ false →
+        result ≡ Rejected (replacement rules offers names pair i v (contents old)).new_value →
+        Leaves old (with_given_up rules offers names pair i v (contents old)) new →
+        Update i v old result new
+    -- The key is not there, and nothing has changed.
+    not_there : lookup_entry (names i) old.pairs ≡ None →
+        result ≡ Absent v → new ≡ old →
+        Update i v old result new
+
+-- an update whose callback gets these pairs: the list that `noting` keeps is empty before the call, and consists of
+-- these after it
+abbrev pub UpdateHands : {K V S H I : Type 0} → Rules K V S → Offers K V S I → (I → K → Bool) → I → V → State K V S H
+    → Updated V → List (K × V) → State K V S H → Type 0
+UpdateHands rules offers names i v old result handed new =
+    Update (noting rules) (noting_offers offers) names i v (noted [] old) result (noted handed new)

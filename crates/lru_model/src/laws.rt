@@ -1,0 +1,319 @@
+//! What is proved of inserts and other single calls, of what inserts keep (`kept`), of each call (`calls`) and of lists
+//! of calls (`runs`).
+//! Each theorem is the contract of a function that does nothing.
+
+ghost use Rattle.std.specs.Prelude.{◌≡◌, ◌≢◌, ℕ, ◌≤◌, ◌<◌, ◌+◌, ◌*◌, ◌/◌, ◌⊎◌, ◌∷◌, Bool, false, Option, Some, None};
+ghost use Rattle.std.specs.Prelude.{IfSome, Result, Ok, true, IsOk, IsErr, is_err, length, List};
+ghost use Rattle.std.specs.List.{IsDistinct};
+ghost use Rattle.std.specs.declared.alloc.AllocError.{AllocError};
+ghost use Rattle.group_table.specs.Bucket.{deleted};
+ghost use Rattle.group_table.specs.Sizes.{full_capacity};
+ghost use Rattle.lru_model.specs.Lists.{first, without_last, keys_of, lookup, lookup_entry, IsFront};
+ghost use Rattle.lru_model.specs.Sizes.{usage, IsGreatestUsage};
+ghost use Rattle.lru_model.specs.State.{State, Contents, contents, buckets, room, FirstFreeIs, IsSized, IsPaid, IsMap};
+ghost use Rattle.lru_model.specs.Place.{Place, Outcome, placed, no_memory, IsPlaced, IsFullWithPairs, FillsBucket};
+ghost use Rattle.lru_model.specs.Calls.{Get, promoted, Remove, PopOldest, PopNewest, cleared};
+ghost use Rattle.lru_model.specs.Reservations.{Reserve};
+ghost use Rattle.lru_model.specs.declared.results.ReserveError.{ReserveError};
+ghost use Rattle.lru_model.specs.HandedOver.{InsertHands};
+ghost use Rattle.lru_model.specs.Inserts.{Insert, replacement, LacksMemory};
+ghost use Rattle.lru_model.specs.Exact.{IsDetermined, NeverLacks, EndsExactly, EndsIfLanded, InsertsInList};
+ghost use Rattle.lru_model.specs.Exact.{Landing, EndsAlike, LookAlike, AlwaysGrants, HasTables};
+ghost use Rattle.lru_model.specs.Theorems.{PaysForMoves, CountsPlacings, Stores, KeepsValues, IsRefusedGrowth};
+ghost use Rattle.lru_model.specs.Theorems.{UsesAtMost, GivesUp, IsSummed, SaysWhether};
+
+use lru_limits::{ByLength, ByMemoryUsage, Insertion, KeyHasher, Limiter, LookupKey, Summing};
+use std::hash::Hash;
+
+mod calls;
+mod kept;
+mod runs;
+mod shrinks;
+
+pub use calls::{
+    calls_add_one_pair, calls_give_up_the_oldest, calls_keep_maps, calls_keep_sums,
+    calls_keep_the_cost, calls_keep_the_length, calls_keep_the_memory_usage, calls_keep_the_weight,
+    calls_pay_for_moves,
+};
+pub use kept::{
+    inserts_leave_the_newest, inserts_with_room_are_exact, maps_keep_to_their_length,
+    nothing_is_lost,
+};
+pub use runs::{
+    runs_begin_with_maps, runs_give_up_the_oldest, runs_keep_maps, runs_keep_sums,
+    runs_keep_the_cost, runs_keep_the_length, runs_keep_the_memory_usage, runs_keep_the_weight,
+    runs_pay_for_moves,
+};
+pub use shrinks::{shrinks_keep_the_list, shrinks_leave_a_tight_table, shrinks_pay_for_moves};
+
+/// An insert evicts from the old end alone. The one other entry that it may remove is the entry whose replacement is
+/// rejected.
+pub fn inserts_give_up_the_oldest<
+    K: Eq + Hash,
+    V,
+    I: LookupKey<K>,
+    L: Insertion<K, V, I>,
+    S: KeyHasher<K>,
+>()
+    ensures { (key : I) (value : V) (old : State K V L S) (result : Result Bool AllocError) (new : State K V L S) →
+        Insert L.rules L.offers I.names S.hash_of key value old result new →
+        GivesUp (I.names key)
+        (λ pair. (replacement L.rules L.offers I.names pair key value (contents old)).taken ≡ false) old.pairs
+        new.pairs }
+{}
+
+/// An insert returns true if and only if its key is there afterwards. The key is the newest then, and the limiter is
+/// not over its limit.
+pub fn inserts_say_whether<
+    K: Eq + Hash,
+    V,
+    I: LookupKey<K>,
+    L: Insertion<K, V, I>,
+    S: KeyHasher<K>,
+>()
+    ensures { (key : I) (value : V) (old : State K V L S) (result : Result Bool AllocError) (new : State K V L S) →
+        IsDistinct K.eq (keys_of old.pairs) →
+        Insert L.rules L.offers I.names S.hash_of key value old result new →
+        SaysWhether L.rules (I.names key) result new }
+{}
+
+/// The entries that an insert passes to its callback, together with those that are left, are at most one more than
+/// there were. So a callback that keeps them needs space for one entry more than the map contains. `InsertHands` is an
+/// insert like any other.
+pub fn inserts_hand_over_few<
+    K: Eq + Hash,
+    V,
+    I: LookupKey<K>,
+    L: Insertion<K, V, I>,
+    S: KeyHasher<K>,
+>()
+    ensures few { (key : I) (value : V) (old : State K V L S) (result : Result Bool AllocError)
+        (handed : List (K × V)) (new : State K V L S) →
+        InsertHands L.rules L.offers I.names S.hash_of key value old result
+        handed new → length handed + length new.pairs ≤ length old.pairs + 1 }
+    ensures step { (key : I) (value : V) (old : State K V L S) (result : Result Bool AllocError)
+        (handed : List (K × V)) (new : State K V L S) →
+        InsertHands L.rules L.offers I.names S.hash_of key value old result handed new →
+        Insert L.rules L.offers I.names S.hash_of key value old result new }
+{}
+
+/// If an insert returns true, the newest entry is what the limiter returned for the new key, or what it left of the
+/// entry that was there. So under a limiter that stores values as they come, a look-up of the key returns the value.
+pub fn inserts_store_the_value<
+    K: Eq + Hash,
+    V,
+    I: LookupKey<K>,
+    L: Insertion<K, V, I>,
+    S: KeyHasher<K>,
+>()
+    ensures stores { (key : I) (value : V) (old new : State K V L S) →
+        Insert L.rules L.offers I.names S.hash_of key value old (Ok true) new →
+        IfSome (first new.pairs) (Stores L.rules L.offers I.names key value old) }
+    ensures found { (key : I) (value : V) (old new : State K V L S) →
+        KeepsValues L.offers → IsDistinct K.eq (keys_of old.pairs) →
+        Insert L.rules L.offers I.names S.hash_of key value old (Ok true) new →
+        lookup (I.names key) new.pairs ≡ Some value }
+{}
+
+/// If an insert runs out of memory, `on_insert` did, or the table had no growth left. The entries that stay are the
+/// newest of the old ones.
+pub fn inserts_lack_memory_at_no_room<
+    K: Eq + Hash,
+    V,
+    I: LookupKey<K>,
+    L: Insertion<K, V, I>,
+    S: KeyHasher<K>,
+>()
+    ensures lacks { (key : I) (value : V) (old : State K V L S) (result : Result Bool AllocError)
+        (new : State K V L S) →
+        IsErr result →
+        Insert L.rules L.offers I.names S.hash_of key value old result new →
+        LacksMemory L.rules L.offers I.names S.hash_of key value old new }
+    ensures keeps { (key : I) (value : V) (old : State K V L S) (result : Result Bool AllocError)
+        (new : State K V L S) →
+        IsErr result →
+        Insert L.rules L.offers I.names S.hash_of key value old result new →
+        IsFront new.pairs old.pairs }
+{}
+
+/// An insert into a table of up to 16 buckets has one possible result for each outcome of its allocations: what it
+/// returns, the entries and the limiter follow from the entries and the limiter before. If the limiter's offers are
+/// determined too, two equal inserts end alike, wherever the limiter's entry is stored.
+pub fn small_inserts_are_exact<
+    K: Eq + Hash,
+    V,
+    I: LookupKey<K>,
+    L: Insertion<K, V, I>,
+    S: KeyHasher<K>,
+>()
+    ensures exact { (key : I) (value : V) (old : State K V L S) (result : Result Bool AllocError)
+        (new : State K V L S) →
+        buckets old ≤ 16 → IsOk result →
+        Insert L.rules L.offers I.names S.hash_of key value old result new →
+        EndsExactly L.rules L.offers I.names key value old result new }
+    ensures alike { (land : K × V → Contents K V L → Landing K V L) (key : I) (value : V) (old : Contents K V L)
+        (result other : Result Bool AllocError) (new others : Contents K V L) → IsDetermined L.offers →
+        EndsIfLanded L.rules L.offers I.names land key value old result new →
+        EndsIfLanded L.rules L.offers I.names land key value old other others →
+        EndsAlike result other new others }
+{}
+
+/// If two maps differ at most in which buckets are full, in tables of up to 16 buckets, so do they after equal inserts,
+/// and both inserts return the same. The premises: offers are determined and find their memory, and both inserts find
+/// memory or neither does.
+pub fn small_inserts_look_alike<
+    K: Eq + Hash,
+    V,
+    I: LookupKey<K>,
+    L: Insertion<K, V, I>,
+    S: KeyHasher<K>,
+>()
+    ensures { (key : I) (value : V) (old : State K V L S) (result : Result Bool AllocError) (new other : State K V L S)
+        (answer : Result Bool AllocError) (last : State K V L S) →
+        IsDetermined L.offers → NeverLacks L.offers →
+        buckets old ≤ 16 → buckets new ≤ 16 → buckets last ≤ 16 →
+        LookAlike old other → is_err result ≡ is_err answer →
+        Insert L.rules L.offers I.names S.hash_of key value old result new →
+        Insert L.rules L.offers I.names S.hash_of key value other answer last →
+        (result ≡ answer) × LookAlike new last }
+{}
+
+/// If the limiter permits every growth, as `ByLength` and the unlimited ones do, and the tables that an insert may need
+/// are within the reach of links and bytes, the insert does what it would do to a list of entries without a table. Only
+/// whether memory is there stays open.
+pub fn granted_inserts_are_exact<
+    K: Eq + Hash,
+    V,
+    I: LookupKey<K>,
+    L: Insertion<K, V, I>,
+    S: KeyHasher<K>,
+>()
+    ensures { (key : I) (value : V) (old : State K V L S) (result : Result Bool AllocError) (new : State K V L S) →
+        AlwaysGrants L.rules → HasTables old →
+        Insert L.rules L.offers I.names S.hash_of key value old result new →
+        InsertsInList L.rules L.offers I.names key value (contents old) result (contents new) }
+{}
+
+/// If an insert grows the table, the new table can hold fewer than four times the entries, the new one included.
+pub fn inserts_grow_little<
+    K: Eq + Hash,
+    V,
+    I: LookupKey<K>,
+    L: Insertion<K, V, I>,
+    S: KeyHasher<K>,
+>()
+    ensures { (key : I) (value : V) (old : State K V L S) (result : Result Bool AllocError) (new : State K V L S) →
+        IsSized old →
+        Insert L.rules L.offers I.names S.hash_of key value old result new →
+        buckets old < buckets new → full_capacity (buckets new) < 4 * (length old.pairs + 1) }
+{}
+
+/// If there are entries and no growth left, and a search for the new key meets a deleted bucket first, the new entry
+/// fills that bucket: the limiter is not queried and nothing moves. No other insertion into the table ends so.
+pub fn deleted_buckets_serve<K: Eq + Hash, V, L: Limiter<K, V>, S: KeyHasher<K>>()
+    ensures served { (pair : K × V) (old : State K V L S) (outcome : Outcome) (new : State K V L S) →
+        IsFullWithPairs old →
+        FirstFreeIs deleted (S.hash_of old.hasher pair.0) old →
+        Place L.rules S.hash_of pair old outcome new →
+        (outcome ≡ placed) × IsPlaced pair (buckets old) 0 0 old new ×
+        FillsBucket (S.hash_of old.hasher pair.0) old new }
+    ensures only { (pair : K × V) (old new : State K V L S) →
+        IsFullWithPairs old → IsSized old →
+        Place L.rules S.hash_of pair old placed new →
+        IsPlaced pair (buckets old) 0 0 old new →
+        FirstFreeIs deleted (S.hash_of old.hasher pair.0) old }
+{}
+
+/// An insert pays for the entries that it moves: the count of moved entries and the potential together rise by at most
+/// 2 for the entry that it stores. So inserts move at most twice as many entries as they store, plus those that shrinks
+/// rehashed. An insert moves and stores no entry that it does not count.
+pub fn inserts_pay_for_moves<
+    K: Eq + Hash,
+    V,
+    I: LookupKey<K>,
+    L: Insertion<K, V, I>,
+    S: KeyHasher<K>,
+>()
+    ensures rise { (key : I) (value : V) (old : State K V L S) (result : Result Bool AllocError) (new : State K V L S) →
+        IsSized old →
+        Insert L.rules L.offers I.names S.hash_of key value old result new →
+        PaysForMoves 0 old new }
+    ensures paid { (key : I) (value : V) (old : State K V L S) (result : Result Bool AllocError) (new : State K V L S) →
+        IsSized old → IsPaid old →
+        Insert L.rules L.offers I.names S.hash_of key value old result new →
+        IsPaid new }
+    ensures counted { (key : I) (value : V) (old : State K V L S) (result : Result Bool AllocError)
+        (new : State K V L S) →
+        Insert L.rules L.offers I.names S.hash_of key value old result new →
+        CountsPlacings old new }
+{}
+
+/// If the limiter refuses growth, the map keeps at least half of what the table may hold, the new entry included. In a
+/// table of up to 16 buckets exactly the oldest entry is evicted.
+pub fn refused_growth_keeps_half<K: Eq + Hash, V, L: Limiter<K, V>, S: KeyHasher<K>>()
+    ensures half { (pair : K × V) (old new : State K V L S) →
+        IsRefusedGrowth L.rules old →
+        Place L.rules S.hash_of pair old placed new →
+        full_capacity (buckets old) / 2 ≤ length new.pairs }
+    ensures without_memory { (pair : K × V) (old new : State K V L S) →
+        IsRefusedGrowth L.rules old →
+        Place L.rules S.hash_of pair old no_memory new →
+        full_capacity (buckets old) / 2 ≤ length new.pairs + 1 }
+    ensures one { (pair : K × V) (old new : State K V L S) →
+        IsRefusedGrowth L.rules old → buckets old ≤ 16 →
+        Place L.rules S.hash_of pair old placed new →
+        new.pairs ≡ pair ∷ without_last old.pairs }
+{}
+
+/// An insertion into the table evicts nothing, if the table grows or is at most half full after a rehash. Nor does one
+/// that runs out of memory. Only a refused growth makes the table evict.
+pub fn growth_keeps_the_list<K: Eq + Hash, V, L: Limiter<K, V>, S: KeyHasher<K>>()
+    ensures grown { (pair : K × V) (old new : State K V L S) →
+        buckets new ≢ buckets old →
+        Place L.rules S.hash_of pair old placed new →
+        new.pairs ≡ pair ∷ old.pairs }
+    ensures rehashed { (pair : K × V) (old new : State K V L S) →
+        length old.pairs + 1 ≤ full_capacity (buckets old) / 2 →
+        Place L.rules S.hash_of pair old placed new →
+        new.pairs ≡ pair ∷ old.pairs }
+    ensures otherwise { (pair : K × V) (old new : State K V L S) →
+        Place L.rules S.hash_of pair old placed new →
+        (new.pairs ≡ pair ∷ old.pairs) ⊎ IsRefusedGrowth L.rules old }
+    ensures without_memory { (pair : K × V) (old new : State K V L S) →
+        Place L.rules S.hash_of pair old no_memory new →
+        (new.pairs ≡ old.pairs) ⊎ IsRefusedGrowth L.rules old }
+{}
+
+/// After a removal the key is not there.
+pub fn removed_keys_are_absent<
+    K: Eq + Hash,
+    V,
+    I: LookupKey<K>,
+    L: Limiter<K, V>,
+    S: KeyHasher<K>,
+>()
+    ensures { (key : I) (old : State K V L S) (result : Option V) (new : State K V L S) →
+        IsDistinct K.eq (keys_of old.pairs) → Remove L.rules (I.names key) old result new →
+        lookup_entry (I.names key) new.pairs ≡ None }
+{}
+
+/// A reservation keeps the entries and the counts of moves.
+pub fn reservations_keep_the_list<K: Eq + Hash, V, L: Limiter<K, V>, S: KeyHasher<K>>()
+    ensures { (n : ℕ) (old : State K V L S) (result : Result (Unit {0}) ReserveError) (new : State K V L S) →
+        Reserve L.rules n old result new →
+        (new.pairs ≡ old.pairs) × (new.moved ≡ old.moved) × (new.placed ≡ old.placed)
+        × (new.shrunk ≡ old.shrunk) }
+{}
+
+/// After a successful reservation of n, the table takes n more entries without growth.
+pub fn reservations_make_room<K: Eq + Hash, V, L: Limiter<K, V>, S: KeyHasher<K>>()
+    ensures { (n : ℕ) (old new : State K V L S) →
+        IsSized old → Reserve L.rules n old (Ok tt) new → n ≤ room new }
+{}
+
+/// The number of bytes that a map uses, taken as a budget, gives a limit of the same number.
+pub fn usages_are_their_budgets<K: Eq + Hash, V, L: Limiter<K, V>, S: KeyHasher<K>>()
+    ensures { (old : State K V L S) (bytes greatest : ℕ) →
+        IsSized old → usage old.entry_bytes (buckets old) ≡ Some bytes →
+        IsGreatestUsage old.max old.entry_bytes bytes greatest → greatest ≡ bytes }
+{}

@@ -1,0 +1,132 @@
+//! What is proved of each call, whichever it is. A step is what one call makes of a map (`specs/Runs`): `Step` for the
+//! calls that write nothing through a reference, and `AnyStep` also for writes to a value or to the limiter.
+
+ghost use Rattle.std.specs.Prelude.{◌≡◌, ℕ, ◌+◌, ◌≤◌, Bool, length};
+ghost use Rattle.std.specs.List.{IsDistinct};
+ghost use Rattle.lru_limits.specs.Budget.{Budget};
+ghost use Rattle.lru_model.specs.Lists.{keys_of, IsFront};
+ghost use Rattle.lru_model.specs.State.{State, IsSized, IsMap};
+ghost use Rattle.lru_model.specs.Runs.{Step, AnyStep, StepAmong};
+ghost use Rattle.lru_model.specs.Shrinks.{RehashedByShrink};
+ghost use Rattle.lru_model.specs.Theorems.{PaysForMoves, UsesAtMost, IsSummed, others};
+
+use lru_limits::{
+    ByCost, ByLength, ByMemoryUsage, ByWeight, Costed, Insertion, KeyHasher, Limiter, LookupKey,
+    Summing,
+};
+use std::hash::Hash;
+
+/// After each call no two keys are equal (`keys`). If the table is sound after the call, as clause `map` of each call
+/// says, inserts moved at most twice as many entries as they stored, plus those that shrinks rehashed (`map`).
+pub fn calls_keep_maps<K: Eq + Hash, V, I: LookupKey<K>, L: Insertion<K, V, I>, S: KeyHasher<K>>()
+    ensures keys { (old new : State K V L S) →
+        AnyStep L.rules L.offers I.names S.hash_of old new →
+        IsDistinct K.eq (keys_of old.pairs) → IsDistinct K.eq (keys_of new.pairs) }
+    ensures map { (old new : State K V L S) →
+        AnyStep L.rules L.offers I.names S.hash_of old new →
+        IsMap K.eq old → IsSized new → IsMap K.eq new }
+{}
+
+/// A limiter's running total that was the sum of the costs is their sum after each call that writes nothing through a
+/// reference.
+pub fn calls_keep_sums<K: Eq + Hash, V, I: LookupKey<K>, L: Summing<K, V, I>, S: KeyHasher<K>>()
+    ensures { (old new : State K V L S) →
+        Step L.rules L.offers I.names S.hash_of old new →
+        IsSummed L.cost_of L.account old → IsSummed L.cost_of L.account new }
+{}
+
+/// Each call pays for what it moves: the count of moved entries and the potential together rise by at most two for each
+/// entry that it stores, and by one for each entry that a shrink rehashes.
+pub fn calls_pay_for_moves<
+    K: Eq + Hash,
+    V,
+    I: LookupKey<K>,
+    L: Insertion<K, V, I>,
+    S: KeyHasher<K>,
+>()
+    ensures { (old new : State K V L S) →
+        AnyStep L.rules L.offers I.names S.hash_of old new →
+        IsSized old → (anew : ℕ) × RehashedByShrink anew old new × PaysForMoves anew old new }
+{}
+
+/// With `ByLength` each call leaves the limiter as it is, and at most `max_length` entries, if there were no more
+/// before.
+pub fn calls_keep_the_length<K: Eq + Hash + Drop, V: Drop, S: KeyHasher<K>>()
+    ensures limiter { (old new : State K V ByLength S) →
+        Step ⟦<ByLength as Limiter<K, V>>⟧.rules ⟦<ByLength as Insertion<K, V, K>>⟧.offers K.eq S.hash_of old new →
+        new.limiter ≡ old.limiter }
+    ensures length { (old new : State K V ByLength S) →
+        Step ⟦<ByLength as Limiter<K, V>>⟧.rules ⟦<ByLength as Insertion<K, V, K>>⟧.offers K.eq S.hash_of old new →
+        length old.pairs ≤ old.limiter → length new.pairs ≤ old.limiter }
+{}
+
+/// With `ByMemoryUsage` each call leaves the limiter as it is, and a table of at most `max_memory_usage` bytes, if it
+/// had no more before.
+pub fn calls_keep_the_memory_usage<K: Eq + Hash + Drop, V: Drop, S: KeyHasher<K>>()
+    ensures limiter { (old new : State K V ByMemoryUsage S) →
+        Step ⟦<ByMemoryUsage as Limiter<K, V>>⟧.rules ⟦<ByMemoryUsage as Insertion<K, V, K>>⟧.offers K.eq
+        S.hash_of old new → new.limiter ≡ old.limiter }
+    ensures usage { (old new : State K V ByMemoryUsage S) →
+        Step ⟦<ByMemoryUsage as Limiter<K, V>>⟧.rules ⟦<ByMemoryUsage as Insertion<K, V, K>>⟧.offers K.eq
+        S.hash_of old new → UsesAtMost old.limiter old → UsesAtMost old.limiter new }
+{}
+
+/// With `ByCost` each call leaves the limit as it is, and a cost of at most the limit, if that held before and the cost
+/// was the sum of the costs of the entries.
+pub fn calls_keep_the_cost<K: Eq + Hash + Drop, V: Costed + Drop, S: KeyHasher<K>>()
+    ensures limit { (old new : State K V ByCost S) →
+        Step ⟦<ByCost as Limiter<K, V>>⟧.rules ⟦<ByCost as Insertion<K, V, K>>⟧.offers K.eq S.hash_of old new →
+        new.limiter.limit ≡ old.limiter.limit }
+    ensures cost { (old new : State K V ByCost S) →
+        Step ⟦<ByCost as Limiter<K, V>>⟧.rules ⟦<ByCost as Insertion<K, V, K>>⟧.offers K.eq S.hash_of old new →
+        IsSummed ⟦<ByCost as Summing<K, V, K>>⟧.cost_of ⟦<ByCost as Summing<K, V, K>>⟧.account old →
+        old.limiter.cost ≤ old.limiter.limit → new.limiter.cost ≤ old.limiter.limit }
+{}
+
+/// The same with `ByWeight`.
+pub fn calls_keep_the_weight<
+    K: Costed + Eq + Hash + Drop,
+    V: Costed + Drop,
+    S: KeyHasher<K>,
+    const OVERHEAD: u64,
+>()
+    ensures limit { (old new : State K V Budget S) →
+        Step ⟦<ByWeight<OVERHEAD> as Limiter<K, V>>⟧.rules ⟦<ByWeight<OVERHEAD> as Insertion<K, V, K>>⟧.offers K.eq
+        S.hash_of old new → new.limiter.limit ≡ old.limiter.limit }
+    ensures cost { (old new : State K V Budget S) →
+        Step ⟦<ByWeight<OVERHEAD> as Limiter<K, V>>⟧.rules ⟦<ByWeight<OVERHEAD> as Insertion<K, V, K>>⟧.offers K.eq
+        S.hash_of old new →
+        IsSummed ⟦<ByWeight<OVERHEAD> as Summing<K, V, K>>⟧.cost_of
+        ⟦<ByWeight<OVERHEAD> as Summing<K, V, K>>⟧.account old →
+        old.limiter.cost ≤ old.limiter.limit → new.limiter.cost ≤ old.limiter.limit }
+{}
+
+/// No call adds more than one entry.
+pub fn calls_add_one_pair<
+    K: Eq + Hash,
+    V,
+    I: LookupKey<K>,
+    L: Insertion<K, V, I>,
+    S: KeyHasher<K>,
+>()
+    ensures { (old new : State K V L S) →
+        AnyStep L.rules L.offers I.names S.hash_of old new →
+        length new.pairs ≤ length old.pairs + 1 }
+{}
+
+/// A call evicts from the old end alone: of the entries whose keys it does not name, those that are left are the
+/// newest, in their order. Only `pop_newest` takes from the other end, and is left out.
+///
+/// A call names the key that it inserts, looks up or removes, or whose value it writes, and a retain names the keys
+/// that its closure rejects. An insert may remove the entry of its key, too, if the replacement is rejected.
+pub fn calls_give_up_the_oldest<
+    K: Eq + Hash,
+    V,
+    I: LookupKey<K>,
+    L: Insertion<K, V, I>,
+    S: KeyHasher<K>,
+>()
+    ensures { (test : K → Bool) (old new : State K V L S) →
+        StepAmong L.rules L.offers I.names S.hash_of test old new →
+        IsFront (others test new.pairs) (others test old.pairs) }
+{}

@@ -1,0 +1,121 @@
+//! What is proved of runs: calls, one after another. Each law is the law of one call (`calls`), by induction.
+
+ghost use Rattle.std.specs.Prelude.{◌≡◌, ℕ, ◌≤◌, Bool, length};
+ghost use Rattle.lru_limits.specs.Budget.{Budget};
+ghost use Rattle.lru_model.specs.Lists.{IsFront};
+ghost use Rattle.lru_model.specs.State.{State, IsSized, IsMap, empty_map};
+ghost use Rattle.lru_model.specs.Runs.{Step, StepOrWrite, AnyStep, StepAmong, Run};
+ghost use Rattle.lru_model.specs.Theorems.{PaysForMoves, UsesAtMost, IsSummed, others};
+
+use lru_limits::{
+    ByCost, ByLength, ByMemoryUsage, ByWeight, Costed, Insertion, KeyHasher, Limiter, LookupKey,
+    Summing,
+};
+use std::hash::Hash;
+
+/// After any calls, whatever is written through the references that they lend, no two keys are equal, and inserts moved
+/// at most twice as many entries as they stored, plus those that shrinks rehashed. The table is sound after each call,
+/// as clause `map` of each call says (`Run`).
+pub fn runs_keep_maps<K: Eq + Hash, V, I: LookupKey<K>, L: Insertion<K, V, I>, S: KeyHasher<K>>()
+    ensures map { (old new : State K V L S) →
+        Run (AnyStep L.rules L.offers I.names S.hash_of) new old →
+        IsMap K.eq old → IsMap K.eq new }
+{}
+
+/// A limiter's running total that was the sum of the costs is their sum after any calls that write nothing through a
+/// reference.
+pub fn runs_keep_sums<K: Eq + Hash, V, I: LookupKey<K>, L: Summing<K, V, I>, S: KeyHasher<K>>()
+    ensures sum { (old new : State K V L S) →
+        Run (Step L.rules L.offers I.names S.hash_of) new old →
+        IsSummed L.cost_of L.account old → IsSummed L.cost_of L.account new }
+{}
+
+/// Over any calls the count of moved entries and the potential together rise by at most two for each entry that inserts
+/// store, and by one for each entry that shrinks rehash, while neither the count of stored entries nor the count of
+/// rehashed entries has reached `u64::MAX`.
+pub fn runs_pay_for_moves<
+    K: Eq + Hash,
+    V,
+    I: LookupKey<K>,
+    L: Insertion<K, V, I>,
+    S: KeyHasher<K>,
+>()
+    ensures rise { (old new : State K V L S) →
+        Run (AnyStep L.rules L.offers I.names S.hash_of) new old →
+        IsSized old → (anew : ℕ) × PaysForMoves anew old new }
+{}
+
+/// Any calls evict from the old end alone: of the entries whose keys none of them names, those that are left are the
+/// newest, in their order, unless one of the calls is `pop_newest`.
+pub fn runs_give_up_the_oldest<
+    K: Eq + Hash,
+    V,
+    I: LookupKey<K>,
+    L: Insertion<K, V, I>,
+    S: KeyHasher<K>,
+>()
+    ensures oldest { (test : K → Bool) (old new : State K V L S) →
+        Run (StepAmong L.rules L.offers I.names S.hash_of test) new old →
+        IsFront (others test new.pairs) (others test old.pairs) }
+{}
+
+/// With `ByLength` there are at most `max_length` entries after any calls and writes of values, if there were no more
+/// before. The limiter stays as it is.
+pub fn runs_keep_the_length<K: Eq + Hash + Drop, V: Drop, S: KeyHasher<K>>()
+    ensures length { (old new : State K V ByLength S) →
+        Run (StepOrWrite ⟦<ByLength as Limiter<K, V>>⟧.rules ⟦<ByLength as Insertion<K, V, K>>⟧.offers K.eq
+        S.hash_of) new old →
+        length old.pairs ≤ old.limiter → length new.pairs ≤ old.limiter }
+    ensures limiter { (old new : State K V ByLength S) →
+        Run (StepOrWrite ⟦<ByLength as Limiter<K, V>>⟧.rules ⟦<ByLength as Insertion<K, V, K>>⟧.offers K.eq
+        S.hash_of) new old → new.limiter ≡ old.limiter }
+{}
+
+/// With `ByMemoryUsage` the table uses at most `max_memory_usage` bytes after any calls and writes of values, if it
+/// used no more before. The limiter stays as it is.
+pub fn runs_keep_the_memory_usage<K: Eq + Hash + Drop, V: Drop, S: KeyHasher<K>>()
+    ensures usage { (old new : State K V ByMemoryUsage S) →
+        Run (StepOrWrite ⟦<ByMemoryUsage as Limiter<K, V>>⟧.rules ⟦<ByMemoryUsage as Insertion<K, V, K>>⟧.offers K.eq
+        S.hash_of) new old →
+        UsesAtMost old.limiter old → UsesAtMost old.limiter new }
+    ensures limiter { (old new : State K V ByMemoryUsage S) →
+        Run (StepOrWrite ⟦<ByMemoryUsage as Limiter<K, V>>⟧.rules ⟦<ByMemoryUsage as Insertion<K, V, K>>⟧.offers K.eq
+        S.hash_of) new old → new.limiter ≡ old.limiter }
+{}
+
+/// With `ByCost` the cost is at most the limit after any calls, if that held before and the cost was the sum of the
+/// costs of the entries. The limit stays as it is.
+pub fn runs_keep_the_cost<K: Eq + Hash + Drop, V: Costed + Drop, S: KeyHasher<K>>()
+    ensures cost { (old new : State K V ByCost S) →
+        Run (Step ⟦<ByCost as Limiter<K, V>>⟧.rules ⟦<ByCost as Insertion<K, V, K>>⟧.offers K.eq
+        S.hash_of) new old →
+        IsSummed ⟦<ByCost as Summing<K, V, K>>⟧.cost_of ⟦<ByCost as Summing<K, V, K>>⟧.account old →
+        old.limiter.cost ≤ old.limiter.limit → new.limiter.cost ≤ old.limiter.limit }
+    ensures limit { (old new : State K V ByCost S) →
+        Run (Step ⟦<ByCost as Limiter<K, V>>⟧.rules ⟦<ByCost as Insertion<K, V, K>>⟧.offers K.eq
+        S.hash_of) new old → new.limiter.limit ≡ old.limiter.limit }
+{}
+
+/// The same with `ByWeight`.
+pub fn runs_keep_the_weight<
+    K: Costed + Eq + Hash + Drop,
+    V: Costed + Drop,
+    S: KeyHasher<K>,
+    const OVERHEAD: u64,
+>()
+    ensures cost { (old new : State K V Budget S) →
+        Run (Step ⟦<ByWeight<OVERHEAD> as Limiter<K, V>>⟧.rules ⟦<ByWeight<OVERHEAD> as Insertion<K, V, K>>⟧.offers K.eq
+        S.hash_of) new old →
+        IsSummed ⟦<ByWeight<OVERHEAD> as Summing<K, V, K>>⟧.cost_of
+        ⟦<ByWeight<OVERHEAD> as Summing<K, V, K>>⟧.account old →
+        old.limiter.cost ≤ old.limiter.limit → new.limiter.cost ≤ old.limiter.limit }
+    ensures limit { (old new : State K V Budget S) →
+        Run (Step ⟦<ByWeight<OVERHEAD> as Limiter<K, V>>⟧.rules ⟦<ByWeight<OVERHEAD> as Insertion<K, V, K>>⟧.offers K.eq
+        S.hash_of) new old → new.limiter.limit ≡ old.limiter.limit }
+{}
+
+/// A map without entries and buckets, with which every run begins, is a map.
+pub fn runs_begin_with_maps<K: Eq + Hash, V, L: Limiter<K, V>, S: KeyHasher<K>>()
+    ensures empty { (limiter : L) (hasher : S) (entry_bytes : ℕ) →
+        IsMap K.eq (empty_map {K = K} {V = V} limiter hasher entry_bytes (L.LinkType.number L.LinkType.MAX)) }
+{}

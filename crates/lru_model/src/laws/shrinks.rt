@@ -1,0 +1,36 @@
+//! What is proved of a shrink.
+
+ghost use Rattle.std.specs.Prelude.{◌≡◌, ℕ, ◌≤◌, Bool, true, false, length, Result, Ok};
+ghost use Rattle.std.specs.declared.alloc.AllocError.{AllocError};
+ghost use Rattle.lru_model.specs.State.{State, buckets, IsSized};
+ghost use Rattle.lru_model.specs.Shrinks.{Shrink};
+ghost use Rattle.lru_model.specs.Theorems.{PaysForMoves, UsesAtMost};
+
+use lru_limits::{KeyHasher, Limiter};
+use std::hash::Hash;
+
+/// A shrink keeps the entries, the limiter and the counts of inserts.
+pub fn shrinks_keep_the_list<K: Eq + Hash, V, L: Limiter<K, V>, S: KeyHasher<K>>()
+    ensures { (old : State K V L S) (result : Result Bool AllocError) (new : State K V L S) →
+        Shrink old result new → (new.pairs ≡ old.pairs) × (new.limiter ≡ old.limiter)
+        × (new.moved ≡ old.moved) × (new.placed ≡ old.placed) }
+{}
+
+/// A shrink rehashes each entry, counts it, and lets the potential rise by at most one for each. If it does not shrink
+/// the table, nothing changes.
+pub fn shrinks_pay_for_moves<K: Eq + Hash, V, L: Limiter<K, V>, S: KeyHasher<K>>()
+    ensures shrunk { (old new : State K V L S) →
+        IsSized old → Shrink old (Ok true) new → PaysForMoves (length old.pairs) old new }
+    ensures kept { (old : State K V L S) (result : Result Bool AllocError) (new : State K V L S) →
+        (result ≡ Ok true → ⊥) → Shrink old result new → new ≡ old }
+{}
+
+/// No shrink makes the table larger, or lets it use more memory. A second shrink finds nothing to do.
+pub fn shrinks_leave_a_tight_table<K: Eq + Hash, V, L: Limiter<K, V>, S: KeyHasher<K>>()
+    ensures fewer { (old : State K V L S) (result : Result Bool AllocError) (new : State K V L S) →
+        Shrink old result new → buckets new ≤ buckets old }
+    ensures usage { (old : State K V L S) (result : Result Bool AllocError) (new : State K V L S) (most : ℕ) →
+        Shrink old result new → UsesAtMost most old → UsesAtMost most new }
+    ensures again { (old mid : State K V L S) (result : Result Bool AllocError) (new : State K V L S) →
+        Shrink old (Ok true) mid → Shrink mid result new → result ≡ Ok false }
+{}

@@ -1,0 +1,81 @@
+//! What the calls of a map return, besides numbers, entries and options.
+
+use thiserror::Error;
+
+/// What an insert did, with the value that the map does not keep.
+///
+/// - The key was not there: `unkept` is `None`. `kept` is false if the limiter rejected the entry, if the map could not
+///   store it, or if it was stored and then evicted.
+/// - The key was there, and the limiter accepted the new value: `unkept` is the old value. `kept` is false if the entry
+///   was evicted then, because the limiter was still over its limit.
+/// - The key was there, and the limiter rejected the new value: `unkept` is the new value, and `kept` is false. The
+///   entry was removed.
+///
+/// So a `kept` of false with a value has two causes. In both the callback got the entry of the key: with the new value
+/// if it was evicted, and with the old value if the new one was rejected.
+///
+/// ```
+/// let inserted = map.insert_full(1, 11, &mut |_, _| {})?;
+/// assert_eq!(rt; (inserted.kept, inserted.unkept), (true, Some(10)));
+/// ```
+#[derive(Clone, Copy, Debug, Drop, PartialEq, Eq)]
+pub struct Inserted<V> {
+    /// Whether the key is in the map.
+    pub kept: bool,
+    /// The old value of a key that was there, or the new value, if the limiter rejected it. `None` if the key was not
+    /// there.
+    pub unkept: Option<V>,
+}
+
+/// What an update did, with the value that is not in the map afterwards.
+///
+/// ```
+/// assert_eq!(rt; map.update(1, 11), Updated::Replaced(10));
+/// ```
+#[derive(Clone, Copy, Debug, Drop, PartialEq, Eq)]
+pub enum Updated<V> {
+    /// The entry had this value, and has the new one.
+    Replaced(V),
+    /// The limiter rejected this new value, and the entry was removed.
+    Rejected(V),
+    /// The key is not there. This is the new value.
+    Absent(V),
+}
+
+/// Why a reservation fails.
+///
+/// ```
+/// let mut map: LruMap<u64, u64, Unlimited> = LruMap::new(alloc, Unlimited, [1, 2, 3, 4], 16);
+/// assert_eq!(rt; map.try_reserve(usize::MAX), Err(ReserveError::TooLarge));
+/// assert_eq!(rt; map.try_reserve(1 << 50), Err(ReserveError::Memory));
+/// let mut map: LruMap<u64, u64, ByMemoryUsage> = LruMap::with_memory_budget(alloc, 84, [1, 2, 3, 4], 16);
+/// assert_eq!(rt; map.try_reserve(4), Err(ReserveError::Refused));
+/// ```
+#[derive(Clone, Copy, Debug, PartialEq, Eq, Error)]
+pub enum ReserveError {
+    /// There is no table for that many entries.
+    #[error("too large")]
+    TooLarge = 1,
+    /// The limiter refused the table.
+    #[error("refused")]
+    Refused = 2,
+    /// Out of memory.
+    #[error("no memory")]
+    Memory = 3,
+}
+
+/// Why no value is lent by `get_or_insert_fallible`.
+///
+/// ```
+/// let answer = map.ensure_newest_fallible(4, || Err(7u8));
+/// assert_eq!(rt; answer, Err(GetOrInsertError::Caller(7)));
+/// ```
+#[derive(Debug, Drop, PartialEq, Eq, Error)]
+pub enum GetOrInsertError<E> {
+    /// Out of memory.
+    #[error("no memory")]
+    Memory,
+    /// The closure failed.
+    #[error("the closure failed")]
+    Caller(E),
+}

@@ -1,6 +1,0 @@
-pub mod DistinctKeys
-pub mod NamedPairs
-pub mod SetEntries
-pub mod NamedPlaces
-pub mod Emptiness
-pub mod Positions

@@ -1,5 +1,0 @@
-use Rattle.schnellru.proofs.Theorems.AddedPairs.{any_adds}
-use Rattle.schnellru.proofs.laws.calls.calls_add_one_pair.Goals as goal
-
-pub returns : goal.returns
-returns g c = λ old new step. any_adds g.met.I.LookupKey.laws g.met.L.Insertion.laws old new step

@@ -1,5 +1,0 @@
-use Rattle.schnellru.proofs.Theorems.Runs.{step_summed}
-use Rattle.schnellru.proofs.laws.calls.calls_keep_sums.Goals as goal
-
-pub returns : goal.returns
-returns g c = λ old new step summed. step_summed g.met.L.Summing.laws old new step summed

@@ -1,7 +1,0 @@
-use Rattle.schnellru.proofs.Theorems.GrantedGrowth.{insert_granted}
-use Rattle.schnellru.proofs.laws.granted_inserts_are_exact.Goals as goal
-
-pub returns : goal.returns
-returns g c = λ key value old result new grants tables step.
-    insert_granted g.L.Limiter.rules g.L.Insertion.offers g.I.LookupKey.names key value old new result grants tables
-    step

@@ -1,7 +1,0 @@
-use Rattle.schnellru.proofs.Maps.EmptyMaps.{empty_is_map}
-use Rattle.schnellru.proofs.laws.runs.runs_begin_with_maps.Goals as goal
-
-pub returns : goal.returns
-returns g c = record {
-  empty = λ limiter hasher entry_bytes. empty_is_map limiter hasher entry_bytes _ g.K.PartialEq.eq;
-}

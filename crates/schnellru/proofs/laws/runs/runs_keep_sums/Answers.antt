@@ -1,5 +1,0 @@
-use Rattle.schnellru.proofs.Theorems.Runs.{run_summed}
-use Rattle.schnellru.proofs.laws.runs.runs_keep_sums.Goals as goal
-
-pub returns : goal.returns
-returns g c = record { sum = λ old new run summed. run_summed g.met.L.Summing.laws new old run summed }

@@ -1,5 +1,0 @@
-use Rattle.schnellru.proofs.TableSizes.Budgets.{usage_is_budget}
-use Rattle.schnellru.proofs.laws.usages_are_their_budgets.Goals as goal
-
-pub returns : goal.returns
-returns g c = λ old bytes greatest sized is best. usage_is_budget old bytes greatest sized is best
