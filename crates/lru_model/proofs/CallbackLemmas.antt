@@ -1,4 +1,5 @@
--- For proofs of callers that pass a callback: that it may be called with the entries that may leave.
+-- For proofs of callers that pass a callback: that it may be called with the entries that may be evicted, removed or
+-- rejected.
 --     always_each, always_replaced, always_inserted      if it may always be called
 --     may_take_always      the same for `search`: name it on the function, in `#[tactic(auto, using(..))]`
 --     takes_always         and it may always be called after the call

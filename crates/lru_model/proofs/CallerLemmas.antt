@@ -7,26 +7,26 @@
 --     read-all             what holds of each pair holds of each after a get through which nothing is written
 --     hands_over-keeps     a limiter that stores pairs as they come keeps their values
 --     weighs-keeps, charges-keeps      so do the limiters by a cost
---     hands_over-determined, weighs-determined, charges-determined      these limiters leave nothing open
---     hands_over-finds, weighs-finds, charges-finds                     and find the memory that they ask for
+--     hands_over-determined, weighs-determined, charges-determined      these limiters are determined
+--     hands_over-finds, weighs-finds, charges-finds                     and never run out of memory
 --     plain-grants, by_weight-grants, by_cost-grants                    if a limiter permits every growth
---     plain-changes_none, by_weight-changes_none, by_cost-changes_none  limiters that change no pair as it leaves
+--     plain-changes_none, by_weight-changes_none, by_cost-changes_none  limiters that change no removed pair
 --     hands_over-accepts, weighs-accepts, charges-accepts               when they accept a pair of a new key
 --     stored_key-same      a key that equals no other key is stored as it came
 --     stored-came          and so is the pair, by a limiter that stores pairs as they come
---     inserted-found       under such a limiter, after an insert that answered true, a look-up finds the value
---     inserted-only        whatever it answered, a look-up finds no other one
+--     inserted-found       under such a limiter, after an insert that returned true, a look-up finds the value
+--     inserted-only        whatever it returned, a look-up finds no other value
 --     inserted-all         what holds of each pair holds of each after an insert, if it holds of the inserted one
---     given-found          a search by a hash with a closure that tests a key gives the pair of that key
+--     given-found          a search by a hash with a closure that tests a key returns the pair of that key
 --     given-tag            and only one whose hash has the tag of the hash
 --     given-promoted       one through which nothing is written brings that pair to the front, and no more
---     none-found           if it gives none, no pair of that key has the hash
+--     none-found           if it returns none, no pair of that key has the hash
 --     sum-set              a write that keeps the cost of its pair keeps the sum of the costs
 --     empty_is_sized       a map without pairs and buckets has a sound table
 --     has_tables           there are tables for the pairs of a map, if links and bytes reach one for many more
---     Shape, shape         a map, but for which of its buckets are full; `same_shape` and `look_alike` say so
+--     Shape, shape         a map, except which of its buckets are full; `same_shape` and `look_alike` say so
 --     left_shape, cleared_shape, reserve_is      what calls make of it in tables of up to 16 buckets
---     shrinks_look_alike   two shrinks of maps of one shape answer alike, and leave such maps
+--     shrinks_look_alike   two shrinks of maps of one shape return the same, and leave such maps
 --     shrink_contents      a shrink leaves the pairs and the limiter
 --     usage_bytes          the bytes of a table that has a usage
 --     value_removed        of an entry that is removed, the value may be returned alone

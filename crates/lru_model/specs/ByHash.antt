@@ -9,7 +9,7 @@ use Rattle.group_table.specs.Probe.{hash_tag}
 use Rattle.lru_model.specs.Lists.{keys_of}
 
 module _ {K V F : Type 0} (closure : Mut F (Bor K × (Bor V × Unit {0})) Bool) where
-  -- a call of f with the pair may return so, and leave f as g
+  -- a call of f with references to the pair may return `answer`, and leave f as g
   pub record Asks (f : F) (pair : K × V) (answer : Bool) (g : F) : Type 0 where
     pub key : Bor K
     pub value : Bor V
@@ -21,14 +21,14 @@ module _ {K V F : Type 0} (closure : Mut F (Bor K × (Bor V × Unit {0})) Bool) 
   Refuses f pairs g = FoldsTo (λ p pair q. Asks p pair false q) f pairs g
 
 module _ {K V : Type 0} (eq : K → K → Bool) (hash_of : K → ℕ) (all : List (K × V)) (hash : ℕ) where
-  -- different pairs of the map, whose hashes have the tag of the hash
+  -- pairs of the map with distinct keys, whose hashes have the same tag (the top 7 bits) as the hash that is searched
   pub record AreCandidates (pairs : List (K × V)) : Type 0 where
     pub distinct : IsDistinct eq (keys_of pairs)
     pub there : (pair : K × V) → Contains pairs pair → Contains all pair
     pub tags : (pair : K × V) → Contains pairs pair → hash_tag (hash_of pair.0) ≡ hash_tag hash
 
   module _ {F : Type 0} (closure : Mut F (Bor K × (Bor V × Unit {0})) Bool) where
-    -- f was called with candidates, each once, and rejected all but the last, which is returned
+    -- f was called with candidates, each once, and rejected all but the last, which the search returns
     pub record GivesByHash (f : F) (pair : K × V) : Type 0 where
       pub before : List (K × V)
       pub candidates : AreCandidates (before ++ pair ∷ [])
@@ -37,7 +37,7 @@ module _ {K V : Type 0} (eq : K → K → Bool) (hash_of : K → ℕ) (all : Lis
       pub last : F
       pub accepted : Asks closure between pair true last
 
-    -- or it rejected all, and among them is each pair of the hash
+    -- f was called with candidates, each once, and rejected all; among them is each pair of the map with this hash
     pub record GivesNoneByHash (f : F) : Type 0 where
       pub asked : List (K × V)
       pub candidates : AreCandidates asked

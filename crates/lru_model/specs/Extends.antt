@@ -1,5 +1,5 @@
 -- Inserts of a list of pairs, one after another.
---     rules, offers       what the limiter says (`Rules`, `Offers` of `lru_limits`)
+--     rules, offers       what the limiter does (`Rules`, `Offers` of `lru_limits`)
 --     names i k           the inserted key i names the key k
 --     hash_of h k         the hash of the key k, by the hasher h
 use Rattle.std.specs.Prelude.{ℕ, Bool, List, [], ◌∷◌, ◌++◌, Ok, Err}
@@ -10,7 +10,7 @@ use Rattle.lru_model.specs.Inserts.{Insert}
 
 module _ {K V S H I : Type 0} (rules : Rules K V S) (offers : Offers K V S I) (names : I → K → Bool)
     (hash_of : H → K → ℕ) (old : State K V S H) where
-  -- each pair was inserted, in order, which left a sound table, as every call does
+  -- each pair of the list was inserted, in order; no insert failed, and each left a sound table, as every call does
   pub data InsertsAll : List (I × V) → State K V S H → Type 0 where
     no_insert : InsertsAll [] old
     one_insert_more : {pairs : List (I × V)} {before : State K V S H} → InsertsAll pairs before
@@ -18,7 +18,7 @@ module _ {K V S H I : Type 0} (rules : Rules K V S) (offers : Offers K V S I) (n
         → Insert rules offers names hash_of key value before (Ok kept) new → IsSized new
         → InsertsAll (pairs ++ (key, value) ∷ []) new
 
-  -- each pair was inserted, in order, until the insert of one ran out of memory
+  -- each of `pairs` was inserted, in order, and then the insert of `failed` ran out of memory
   pub record FailsAt (pairs : List (I × V)) (failed : I × V) (new : State K V S H) : Type 0 where
     pub before : State K V S H
     pub inserted : InsertsAll pairs before

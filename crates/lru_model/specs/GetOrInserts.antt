@@ -1,5 +1,5 @@
--- What a get does that inserts the key if it is not there.
---     rules, offers       what the limiter says (`Rules`, `Offers` of `lru_limits`)
+-- What `ensure_newest` and `get_or_insert` do: they look up a key, and insert it if it is not there.
+--     rules, offers       what the limiter does (`Rules`, `Offers` of `lru_limits`)
 --     names i k           the inserted key i names the key k
 --     hash_of h k         the hash of the key k, by the hasher h
 --     makes v             the closure may return v
@@ -14,8 +14,8 @@ use Rattle.lru_model.specs.Theorems.{IsNewest}
 
 module _ {K V S H I : Type 0} (rules : Rules K V S) (offers : Offers K V S I) (names : I → K → Bool)
     (hash_of : H → K → ℕ) where
-  -- A key that is there is promoted; else it is inserted with a value that the closure returns. The result is whether
-  -- the key is there.
+  -- If the key is there, its pair is promoted. Otherwise the key is inserted with a value that the closure returns. The
+  -- result says whether the key is there afterwards.
   pub data MakesNewest (makes : V → Type 0) (i : I) (old : State K V S H) (result : Result Bool AllocError)
       (new : State K V S H) : Type 0 where
     got : (w : V) → lookup (names i) old.pairs ≡ Some w →
@@ -30,7 +30,7 @@ module _ {K V S H I : Type 0} (rules : Rules K V S) (offers : Offers K V S I) (n
   LacksMemoryFor makes i old new = (v : V) × makes v × LacksMemory rules offers names hash_of i v old new
 
 module _ {K V S H E : Type 0} where
-  -- true says that the key is there, as the newest; false, or an error, that it is not there
+  -- If the result is true, the pair of the key is the newest. If it is false or an error, the key is not there.
   abbrev pub SaysNewest : (K → Bool) → Result Bool E → State K V S H → Type 0
   SaysNewest names (Ok true) new = IsNewest names new.pairs
   SaysNewest names (Ok false) new = lookup_entry names new.pairs ≡ None
@@ -38,7 +38,7 @@ module _ {K V S H E : Type 0} where
 
 module _ {K V S H I : Type 0} (rules : Rules K V S) (offers : Offers K V S I) (names : I → K → Bool)
     (hash_of : H → K → ℕ) where
-  -- what such a get does, what its result says, and why it fails
+  -- what such a call does (`step`), what its result says (`says`), and why it runs out of memory (`lacks`)
   pub record GetsOrInserts (makes : V → Type 0) (i : I) (old : State K V S H) (result : Result Bool AllocError)
       (new : State K V S H) : Type 0 where
     pub step : MakesNewest rules offers names hash_of makes i old result new

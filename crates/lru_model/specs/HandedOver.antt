@@ -1,6 +1,6 @@
--- Which pairs a call passes to its callback: those of which it notifies the limiter that they left, as the limiter
--- leaves each, in order.
---     rules, offers       what the limiter says (`Rules`, `Offers` of `lru_limits`)
+-- Which pairs a call passes to its callback: each pair that is evicted, removed or not stored, as the limiter leaves
+-- it, in the order in which the limiter is notified.
+--     rules, offers       what the limiter does (`Rules`, `Offers` of `lru_limits`)
 --     names i k           the inserted key i names the key k
 --     hash_of h k         the hash of the key k, by the hasher h
 --     closure             how the callback may be called
@@ -14,7 +14,8 @@ use Rattle.lru_model.specs.State.{State, Trims}
 use Rattle.lru_model.specs.Inserts.{Insert}
 
 module _ {K V S : Type 0} where
-  -- the limiter together with a list, to which it adds each pair of which it is notified that it left
+  -- The limiter with a list as part of its state. `on_removed` appends the pair to the list, as the limiter leaves it.
+  -- The list changes nothing else that the limiter does.
   abbrev pub noting : Rules K V S → Rules K V (S × List (K × V))
   noting rules = record {
     is_over_the_limit = λ s n. rules.is_over_the_limit s.0 n;
@@ -30,7 +31,7 @@ module _ {K V S : Type 0} where
     };
   }
 
-  -- no other call of the limiter adds to the list
+  -- the offers of that limiter, which leave the list as it is
   abbrev pub noting_offers : {I : Type 0} → Offers K V S I → Offers K V (S × List (K × V)) I
   noting_offers offers = record {
     on_insert = λ s n i v t given. offers.on_insert s.0 n i v t.0 given × (t.1 ≡ s.1);
@@ -44,7 +45,7 @@ module _ {K V S : Type 0} where
     };
   }
 
-  -- the map, whose limiter is together with this list
+  -- the map with this list as part of the limiter's state
   abbrev pub noted : {H : Type 0} → List (K × V) → State K V S H → State K V (S × List (K × V)) H
   noted list st = record {
     pairs = st.pairs;
@@ -66,12 +67,12 @@ Takes closure f pairs g = FoldsTo (λ p pair q. Called closure p (pair.0, (pair.
 
 module _ {K V S H I : Type 0} (rules : Rules K V S) (offers : Offers K V S I) (names : I → K → Bool)
     (hash_of : H → K → ℕ) where
-  -- an insert whose callback gets these pairs: the list that `noting` keeps is empty before the call, and consists of
-  -- these after it
+  -- An insert that passes the pairs `handed` to its callback: it is an insert under the limiter with a list, which is
+  -- empty before the call, and `handed` after it.
   abbrev pub InsertHands : I → V → State K V S H → Result Bool AllocError → List (K × V) → State K V S H → Type 0
   InsertHands i v old result handed new = Insert (noting rules) (noting_offers offers) names hash_of i v (noted [] old)
       result (noted handed new)
 
--- a trim that passes on these pairs
+-- a trim that passes the pairs `handed` to its callback
 abbrev pub TrimHands : {K V S H : Type 0} → Rules K V S → State K V S H → List (K × V) → State K V S H → Type 0
 TrimHands rules old handed new = Trims (noting rules) (noted [] old) (noted handed new)

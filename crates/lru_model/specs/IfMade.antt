@@ -1,4 +1,4 @@
--- The same as `GetOrInserts` with a closure that may fail.
+-- What `GetOrInserts` defines, for a closure that may fail (`ensure_newest_fallible`, `get_or_insert_fallible`).
 use Rattle.std.specs.Prelude.{◌≡◌, ℕ, Bool, None, Result, Ok, Err, IsErrOf}
 use Rattle.std.specs.declared.alloc.AllocError.{AllocError}
 use Rattle.lru_limits.specs.Rules.{Rules, Offers}
@@ -8,14 +8,15 @@ use Rattle.lru_model.specs.GetOrInserts.{MakesNewest, SaysNewest, LacksMemoryFor
 use Rattle.lru_model.specs.declared.results.GetOrInsertError.{GetOrInsertError}
 use Rattle.lru_model.specs.declared.results.GetOrInsertError.TheVariants.{Memory, Caller}
 
--- the result of an insert, with its error as one of two
+-- the result of an insert, with `Memory` as its error
 abbrev pub or_memory : {E : Type 0} → Result Bool AllocError → Result Bool (GetOrInsertError E)
 or_memory (Ok kept) = Ok kept
 or_memory (Err e) = Err Memory
 
 module _ {K V S H I E : Type 0} (rules : Rules K V S) (offers : Offers K V S I) (names : I → K → Bool)
     (hash_of : H → K → ℕ) where
-  -- A closure that fails changes nothing. Otherwise the call does what `MakesNewest` says, and `Memory` is its error.
+  -- If the closure fails, nothing changes, and the call returns the error of the closure. Otherwise the call does what
+  -- `MakesNewest` says, and its error is `Memory`.
   pub data MakesNewestIfMade (makes : Result V E → Type 0) (i : I) (old : State K V S H)
       (result : Result Bool (GetOrInsertError E)) (new : State K V S H) : Type 0 where
     failed : lookup (names i) old.pairs ≡ None →
@@ -25,7 +26,7 @@ module _ {K V S H I E : Type 0} (rules : Rules K V S) (offers : Offers K V S I) 
         MakesNewest rules offers names hash_of (λ v. makes (Ok v)) i old flag new → result ≡ or_memory flag →
         MakesNewestIfMade makes i old result new
 
-  -- what such a get does, what its result says, and why it runs out of memory
+  -- what such a call does (`step`), what its result says (`says`), and why it runs out of memory (`lacks`)
   pub record GetsOrInsertsIfMade (makes : Result V E → Type 0) (i : I) (old : State K V S H)
       (result : Result Bool (GetOrInsertError E)) (new : State K V S H) : Type 0 where
     pub step : MakesNewestIfMade makes i old result new

@@ -1,5 +1,5 @@
 -- What an insert does.
---     rules, offers       what the limiter says (`Rules`, `Offers` of `lru_limits`)
+--     rules, offers       what the limiter does (`Rules`, `Offers` of `lru_limits`)
 --     names i k           the inserted key i names the key k
 --     hash_of h k         the hash of the key k, by the hasher h
 use Rattle.std.specs.Prelude.{◌≡◌, ℕ, ◌+◌, ◌⊎◌, ◌<◌, Bool, true, false, not, if◌then◌else◌, ◌∷◌, length, Option, Some}
@@ -11,66 +11,70 @@ use Rattle.lru_model.specs.declared.results.Inserted.{Inserted}
 use Rattle.lru_model.specs.State.{State, buckets, room, Contents, contents, Leaves, pop, trim}
 use Rattle.lru_model.specs.Place.{Place, Outcome, placed, refused, no_memory}
 
--- of an old and a new value, the one that the pair does not have after an offer
+-- the value that the map does not keep after a new value was offered: the old one if the limiter accepted the new one,
+-- and the new one otherwise
 abbrev pub unkept_of : {K V S : Type 0} → Replaced K V S → V
 unkept_of r = if r.taken then r.old_value else r.new_value
 
--- what an insert that returns a value besides says of the key
+-- whether the key is in the map, from the result of an insert that also returns the value that the map does not keep
 abbrev pub kept_of : {V E : Type 0} → Result (Inserted V) E → Result Bool E
 kept_of (Ok inserted) = Ok inserted.kept
 kept_of (Err e) = Err e
 
--- the oldest pair is evicted, if the limiter would be over its limit with one pair more
+-- the oldest pair is evicted, if the limiter would be over its limit with one more pair
 abbrev pub make_room : {K V S : Type 0} → Rules K V S → Contents K V S → Contents K V S
 make_room rules c = if rules.is_over_the_limit c.limiter (length c.pairs + 1) then pop rules c else c
 
 module _ {K V S H : Type 0} (rules : Rules K V S) where
-  -- what follows an insertion into the table; the result is whether a pair is left
+  -- What follows an insertion into the table. If the pair was stored, the oldest pairs are evicted while the limiter is
+  -- over its limit, and the result is whether a pair is left. Otherwise nothing follows.
   abbrev pub Settles : Outcome → State K V S H → Result Bool AllocError → State K V S H → Type 0
   Settles placed landed result new =
       (result ≡ Ok (not (is_empty new.pairs))) × Leaves landed (trim rules (contents landed)) new
   Settles refused landed result new = (result ≡ Ok false) × (new ≡ landed)
   Settles no_memory landed result new = IsErr result × (new ≡ landed)
 
-  -- a pair of a new key is inserted into the table, and what follows
+  -- the pair of a new key is inserted into the table, with what follows
   abbrev pub PlacesAndTrims : (H → K → ℕ) → K × V → State K V S H → Result Bool AllocError → State K V S H → Type 0
   PlacesAndTrims hash_of pair old result new = (outcome : Outcome) × (landed : State K V S H)
       × Place rules hash_of pair old outcome landed × Settles outcome landed result new
 
-  -- the same for a pair that the limiter gave, after room was made for it
+  -- the same, after the oldest pair was evicted if the limiter would be over its limit with one more (`make_room`)
   abbrev pub PlacesNew : (H → K → ℕ) → K × V → State K V S H → Result Bool AllocError → State K V S H → Type 0
   PlacesNew hash_of pair old result new = (ready : State K V S H) × Leaves old (make_room rules (contents old)) ready
       × PlacesAndTrims hash_of pair ready result new
 
 module _ {K V S I : Type 0} (rules : Rules K V S) (offers : Offers K V S I) (names : I → K → Bool) where
-  -- what the limiter says of a new value for this pair
+  -- what `on_replace` of the limiter returns if the value v is offered for this pair
   abbrev pub replacement : K × V → I → V → Contents K V S → Replaced K V S
   replacement pair i v c = offers.on_replace c.limiter (length c.pairs) pair.0 i pair.1 v
 
-  -- what the limiter leaves of the pair, with the new value, or with the old one
+  -- the pair with the new value, as the limiter leaves both
   abbrev pub with_new_value : K × V → I → V → Contents K V S → K × V
   with_new_value pair i v c = let r = replacement pair i v c in (r.key, r.new_value)
 
+  -- the pair with the old value, as the limiter leaves both
   abbrev pub with_old_value : K × V → I → V → Contents K V S → K × V
   with_old_value pair i v c = let r = replacement pair i v c in (r.key, r.old_value)
 
-  -- after the limiter accepted the new value: the pair comes first
+  -- the contents after the limiter accepted the new value: the pair gets this value and becomes the newest
   abbrev pub with_replaced : K × V → I → V → Contents K V S → Contents K V S
   with_replaced pair i v c = record {
     pairs = with_new_value pair i v c ∷ without (names i) c.pairs;
     limiter = (replacement pair i v c).limiter;
   }
 
-  -- after it rejected the new value: the pair is removed, and the limiter is notified
+  -- the contents after the limiter rejected the new value: the pair is removed, and the limiter is notified of the
+  -- removal
   abbrev pub with_given_up : K × V → I → V → Contents K V S → Contents K V S
   with_given_up pair i v c = let r = replacement pair i v c in
       record { pairs = without (names i) c.pairs; limiter = (rules.on_removed r.limiter r.key r.old_value).limiter }
 
-  -- of a key that is there, the value that the map does not have after an insert
+  -- the value that the map does not keep after an insert, if the key was there
   abbrev pub unkept_value : I → V → Contents K V S → Option V
   unkept_value i v c = option_map (λ pair. unkept_of (replacement pair i v c)) (lookup_entry (names i) c.pairs)
 
-  -- for a new key the limiter may return this, and be s then
+  -- for a new key, `on_insert` of the limiter may return `given`, a pair to store or none, and leave the limiter s
   abbrev pub MayGive : I → V → Contents K V S → S → Option (K × V) → Type 0
   MayGive i v c s given = offers.on_insert c.limiter (length c.pairs) i v s given
 
@@ -78,16 +82,18 @@ module _ {K V S I : Type 0} (rules : Rules K V S) (offers : Offers K V S I) (nam
     -- what an insert may return and leave
     pub data Insert (i : I) (v : V) (old : State K V S H) (result : Result Bool AllocError)
         (new : State K V S H) : Type 0 where
-      -- The key is there: its pair gets the new value and comes first, or it is removed.
+      -- The key is there, and the limiter accepts the new value: the pair becomes the newest with this value, and the
+      -- oldest pairs are evicted while the limiter is over its limit.
       replaced : (pair : K × V) → lookup_entry (names i) old.pairs ≡ Some pair →
           (replacement pair i v (contents old)).taken ≡ true →
           result ≡ Ok (not (is_empty new.pairs)) → Leaves old (trim rules (with_replaced pair i v (contents old))) new →
           Insert i v old result new
+      -- The key is there, and the limiter rejects the new value: the pair is removed.
       given_up : (pair : K × V) → lookup_entry (names i) old.pairs ≡ Some pair →
           (replacement pair i v (contents old)).taken ≡ false →
           result ≡ Ok false → Leaves old (with_given_up pair i v (contents old)) new →
           Insert i v old result new
-      -- The key is new: the limiter finds no memory, or returns no pair,
+      -- The key is new: the limiter runs out of memory, or returns no pair to store,
       no_memory_to_admit : lookup_entry (names i) old.pairs ≡ None →
           offers.may_lack old.limiter (length old.pairs) i v →
           IsErr result → new ≡ old →
@@ -96,14 +102,14 @@ module _ {K V S I : Type 0} (rules : Rules K V S) (offers : Offers K V S I) (nam
           (s : S) → MayGive i v (contents old) s None →
           result ≡ Ok false → new ≡ record old { limiter = s } →
           Insert i v old result new
-      -- or the pair that it returns is inserted into the table, with all that this takes.
+      -- or it returns a pair, which is inserted into the table, with evictions before and after.
       admitted : lookup_entry (names i) old.pairs ≡ None →
           (s : S) (pair : K × V) → MayGive i v (contents old) s (Some pair) →
           PlacesNew rules hash_of pair (record old { limiter = s }) result new →
           Insert i v old result new
 
-    -- The table may need memory: no growth is left, and there are no buckets, or some pair is left once room was made.
-    -- The limiter returned `pair`, and is `s` then.
+    -- The table may need memory for the pair that the limiter returned: no growth is left, and either there are no
+    -- buckets, or the map contains a pair even after `make_room`. (A rehash of a table without pairs needs no memory.)
     pub record IsShort (i : I) (v : V) (old : State K V S H) : Type 0 where
       pub no_room : room old ≡ 0
       pub s : S
@@ -111,8 +117,8 @@ module _ {K V S I : Type 0} (rules : Rules K V S) (offers : Offers K V S I) (nam
       pub given : MayGive i v (contents old) s (Some pair)
       pub beside : (buckets old ≡ 0) ⊎ (0 < length (make_room rules (record { pairs = old.pairs; limiter = s })).pairs)
 
-    -- why an insert runs out of memory: the key is new, and the limiter found none for it, so that nothing has changed,
-    -- or the table had no growth left
+    -- Why an insert runs out of memory: the key is new, and either `on_insert` of the limiter ran out of memory, and
+    -- nothing has changed, or the table needed memory.
     abbrev pub LacksMemory : I → V → State K V S H → State K V S H → Type 0
     LacksMemory i v old new = (lookup_entry (names i) old.pairs ≡ None)
         × ((offers.may_lack old.limiter (length old.pairs) i v × (new ≡ old)) ⊎ IsShort i v old)

@@ -1,6 +1,6 @@
 -- What an insert keeps: it loses no pair; it evicts none if growth is left and the limiter is not over its limit with
--- the new pair; and by length it leaves the newest pairs.
---     rules, offers       what the limiter says (`Rules`, `Offers` of `lru_limits`)
+-- the new pair; and with `ByLength` it leaves the newest pairs.
+--     rules, offers       what the limiter does (`Rules`, `Offers` of `lru_limits`)
 --     names i k           the inserted key i names the key k
 use Rattle.std.specs.Prelude.{◌≡◌, ◌⊎◌, ℕ, ◌+◌, ◌-◌, ◌^◌, ◌≤◌, ◌<◌, Bool, true, false, not, List, []}
 use Rattle.std.specs.Prelude.{◌∷◌, ◌++◌, length, reverse, take, fold, nat_lt, Option, Some, None, unwrap_or}
@@ -13,17 +13,17 @@ use Rattle.lru_model.specs.State.{State, Contents, contents, buckets, room, IsSi
 use Rattle.lru_model.specs.Inserts.{replacement, with_old_value, MayGive}
 use Rattle.lru_model.specs.Theorems.{Stores}
 
--- the limiter changes no pair when it is notified that the pair left
+-- `on_removed` of the limiter leaves each removed pair as it is
 pub record ChangesNoPair {K V S : Type 0} (rules : Rules K V S) : Type 0 where
   pub key : (s : S) (k : K) (v : V) → (rules.on_removed s k v).key ≡ k
   pub value : (s : S) (k : K) (v : V) → (rules.on_removed s k v).value ≡ v
 
 module _ {K V S H I : Type 0} (rules : Rules K V S) (offers : Offers K V S I) (names : I → K → Bool) where
-  -- An insert loses nothing: the pairs that it leaves, followed by those that it passed to its callback, oldest last,
-  -- are the new pair and the old ones, except for the pair whose value was replaced.
+  -- An insert loses nothing but a value that it replaces: each old pair, and the pair that the limiter returned for a
+  -- new key, is left or was passed to the callback. `handed` lists what the callback got, oldest first.
   pub data LosesNothing (i : I) (v : V) (old : State K V S H) (result : Result Bool AllocError)
       (handed : List (K × V)) (new : State K V S H) : Type 0 where
-    -- A pair is stored, and comes first, before the pairs of other keys. (If none is left, it was evicted, too.)
+    -- A pair is stored as the newest, before the pairs of other keys. (If no pair is left, this one was evicted, too.)
     stored : (pair : K × V) → Stores rules offers names i v old pair →
         result ≡ Ok (not (is_empty new.pairs)) →
         new.pairs ++ reverse handed ≡ pair ∷ without (names i) old.pairs →
@@ -35,20 +35,20 @@ module _ {K V S H I : Type 0} (rules : Rules K V S) (offers : Offers K V S I) (n
         handed ≡ with_old_value rules offers names was i v (contents old) ∷ [] →
         new.pairs ≡ without (names i) old.pairs →
         LosesNothing i v old result handed new
-    -- The key is new, and the limiter finds no memory or returns no pair: all pairs stay.
+    -- The key is new, and the limiter runs out of memory or returns no pair to store: all pairs stay.
     nothing_to_store : lookup_entry (names i) old.pairs ≡ None →
         (offers.may_lack old.limiter (length old.pairs) i v × IsErr result)
         ⊎ ((s : S) × MayGive rules offers names i v (contents old) s None × (result ≡ Ok false)) →
         handed ≡ [] → new.pairs ≡ old.pairs →
         LosesNothing i v old result handed new
-    -- The key is new, and the pair that the limiter returns is not stored: it is the last that the callback gets.
+    -- The key is new, and the pair that the limiter returns is not stored: it is the last pair that the callback gets.
     pair_not_stored : lookup_entry (names i) old.pairs ≡ None →
         (s : S) (pair : K × V) → MayGive rules offers names i v (contents old) s (Some pair) →
         (result ≡ Ok true → ⊥) →
         (evicted : List (K × V)) → handed ≡ evicted ++ pair ∷ [] → new.pairs ++ reverse evicted ≡ old.pairs →
         LosesNothing i v old result handed new
 
-  -- The pair is added to all the others. The table stays, and at most one of its growth left is used.
+  -- The pair is added to all the others. The number of buckets stays, and the growth left falls by at most one.
   pub record IsAdded (i : I) (v : V) (pair : K × V) (old : State K V S H) (result : Result Bool AllocError)
       (new : State K V S H) : Type 0 where
     pub answer : result ≡ Ok true
@@ -58,8 +58,8 @@ module _ {K V S H I : Type 0} (rules : Rules K V S) (offers : Offers K V S I) (n
     pub room : room old ≤ room new + 1
 
 module _ {K V S I : Type 0} (rules : Rules K V S) (offers : Offers K V S I) (names : I → K → Bool) where
-  -- for this key and value the limiter has memory, returns this pair to be stored, and is not over its limit then with
-  -- one pair more
+  -- For this key and value the limiter does not run out of memory, returns this pair to store, and is then not over its
+  -- limit with one more pair.
   pub record AcceptsNew (i : I) (v : V) (c : Contents K V S) (pair : K × V) : Type 0 where
     pub finds : offers.may_lack c.limiter (length c.pairs) i v → ⊥
     pub gives : (s : S) (given : Option (K × V)) → MayGive rules offers names i v c s given →
@@ -69,25 +69,26 @@ module _ {K V S I : Type 0} (rules : Rules K V S) (offers : Offers K V S I) (nam
 abbrev pub stored_key : {K V : Type 0} → (K → Bool) → K → List (K × V) → K
 stored_key names key pairs = unwrap_or (option_map (λ pair. pair.0) (lookup_entry names pairs)) key
 
--- what is left of these pairs, newest first, at most n, after others were inserted one after another
+-- what is left of the pairs `old` after the pairs `inserted` were inserted one after another, with at most `most` pairs
+-- left after each insert
 abbrev pub newest_after : {K V : Type 0} → (K → K → Bool) → ℕ → List (K × V) → List (K × V) → List (K × V)
 newest_after eq most inserted old = fold
     (λ left pair. take most ((stored_key (eq pair.0) pair.0 left, pair.1) ∷ without (eq pair.0) left)) old inserted
 
 -- What an insert leaves with a maximum length: the new pair first, and then the newest of the others, up to that
--- length. Out of memory, it leaves those others alone.
+-- length. If it runs out of memory, it leaves only the newest of the old pairs, up to one less than that length.
 pub record LeavesTheNewest {K V : Type 0} (eq : K → K → Bool) (most : ℕ) (key : K) (value : V) (old : List (K × V))
     (result : Result Bool AllocError) (new : List (K × V)) : Type 0 where
   pub answer : IsOk result → result ≡ Ok (nat_lt 0 most)
   pub newest : OnOk result (new ≡ take most ((stored_key (eq key) key old, value) ∷ without (eq key) old))
   pub others : OnErr result (new ≡ take (most - 1) old)
 
--- half of what the largest table may hold whose buckets links of 32 bits can number
+-- half of the full capacity of the largest table whose buckets links of 32 bits can number
 abbrev pub most_exact_length : ℕ
 most_exact_length = 939524096
 
--- A map keeps to its maximum length, if that is at most `most_exact_length`, and an entry has fewer than 2 ^ 32 - 1
--- bytes.
+-- The map is within its maximum length, and links and bytes reach each table that this length needs: the length is at
+-- most `most_exact_length`, links have 32 bits, and an entry takes fewer than 2 ^ 32 - 1 bytes.
 pub record KeepsToLength {K V H : Type 0} (st : State K V ℕ H) : Type 0 where
   pub within : length st.pairs ≤ st.limiter
   pub half : st.limiter ≤ most_exact_length

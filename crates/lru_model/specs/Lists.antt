@@ -1,10 +1,10 @@
--- Words on lists of pairs, newest first.
+-- Functions on lists, mostly of pairs, newest first.
 use Rattle.std.specs.Prelude.{◌≡◌, ℕ, zero, suc, Bool, true, false, if◌then◌else◌, List, [], ◌∷◌, ◌++◌, Option, Some}
 use Rattle.std.specs.Prelude.{None, slice_get, option_to_list}
 pub use Rattle.std.specs.Map.{lookup, lookup_entry, remove_entry as without, keys_of}
 
 module _ {X : Type 0} where
-  -- there is nothing in the list
+  -- whether the list is empty
   abbrev pub is_empty : List X → Bool
   is_empty [] = true
   is_empty (x ∷ xs) = false
@@ -36,12 +36,12 @@ module _ {X : Type 0} where
   last_of zero xs = None
   last_of (suc n) xs = slice_get xs n
 
-  -- with x in front, if it is there
+  -- the list with x in front, if there is an x
   abbrev pub after : Option X → List X → List X
   after None xs = xs
   after (Some x) xs = x ∷ xs
 
-  -- xs is ys as far as it goes
+  -- ys begins with xs
   abbrev pub IsFront : List X → List X → Type 0
   IsFront xs ys = (rest : List X) × (ys ≡ xs ++ rest)
 
@@ -54,7 +54,7 @@ module _ {K V : Type 0} where
   abbrev pub back : (K → Bool) → List (K × V) → List (K × V)
   back names pairs = without names pairs ++ option_to_list (lookup_entry names pairs)
 
-  -- the place of the pair of the named key, if the places are those of the pairs in order
+  -- the place (a bucket number) of the pair of the named key; `places` lists the places of the pairs, in their order
   abbrev pub place_of : (K → Bool) → List (K × V) → List ℕ → Option ℕ
   place_of names [] places = None
   place_of names (pair ∷ pairs) [] = None
@@ -74,7 +74,7 @@ module _ {K V : Type 0} where
   abbrev pub back_places : (K → Bool) → List (K × V) → List ℕ → List ℕ
   back_places names pairs places = other_places names pairs places ++ option_to_list (place_of names pairs places)
 
-  -- this pair replaces the pair of the named key
+  -- the list with `entry` in place of the pair of the named key
   abbrev pub set_entry : (K → Bool) → K × V → List (K × V) → List (K × V)
   set_entry names entry [] = []
   set_entry names entry (pair ∷ pairs) = if names pair.0 then entry ∷ pairs else pair ∷ set_entry names entry pairs
@@ -84,13 +84,13 @@ module _ {K V : Type 0} where
   newest_value [] = None
   newest_value (pair ∷ pairs) = Some pair.1
 
-  -- with this value in the pair at this position, counted from 0
+  -- the list with the value w in the pair at position i, counted from 0
   abbrev pub set_value_at : List (K × V) → ℕ → V → List (K × V)
   set_value_at [] i w = []
   set_value_at (pair ∷ pairs) zero w = (pair.0, w) ∷ pairs
   set_value_at (pair ∷ pairs) (suc i) w = pair ∷ set_value_at pairs i w
 
-  -- with this value in the first pair
+  -- the list with the value w in the first pair
   abbrev pub set_newest : List (K × V) → V → List (K × V)
   set_newest [] w = []
   set_newest (pair ∷ pairs) w = (pair.0, w) ∷ pairs

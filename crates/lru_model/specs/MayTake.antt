@@ -1,6 +1,6 @@
--- What a call requires of its callback: that it may be called with any entry that may leave, as often as there are such
--- entries.
---     rules, offers       what the limiter says (`Rules`, `Offers` of `lru_limits`)
+-- What a call requires of its callback: that it may be called n times, each time with any pair that may be evicted,
+-- removed or rejected, if there are n such pairs.
+--     rules, offers       what the limiter does (`Rules`, `Offers` of `lru_limits`)
 --     names i k           the inserted key i names the key k
 --     closure             how the callback may be called
 --     f                   the callback before the call
@@ -19,21 +19,21 @@ MayTake {K} {V} {F} closure passes n f = (before : List (K × V)) (g : F) (pair 
     → All passes before → Takes closure f before g → passes pair → MayBeCalled closure g (pair.0, (pair.1, tt))
 
 module _ {K V S : Type 0} (rules : Rules K V S) where
-  -- what the limiter leaves of one of these pairs, when it is notified that the pair leaves
+  -- `left` is what the limiter may leave of one of these pairs when it is notified of the removal
   abbrev pub IsLeftOf : List (K × V) → K × V → Type 0
   IsLeftOf pairs left = (s : S) × (pair : K × V) × Contains pairs pair × (left_of rules s (Some pair) ≡ Some left)
 
   module _ {F : Type 0} (closure : Mut F (K × (V × Unit {0})) (Unit {0})) where
-    -- f may be called with any of these pairs, as the limiter leaves it, as often as there are pairs
+    -- f may be called once for each of these pairs, each time with any of them, as the limiter leaves it
     abbrev pub MayTakeEach : List (K × V) → F → Type 0
     MayTakeEach pairs f = MayTake closure (IsLeftOf pairs) (length pairs) f
 
-    -- if the limiter rejects a new value, with the pair that leaves
+    -- if the limiter rejects a new value, f may be called with the pair, which is removed
     abbrev pub MayTakeRejected : Replaced K V S → F → Type 0
     MayTakeRejected by f = by.taken ≡ false → MayTakeEach ((by.key, by.old_value) ∷ []) f
 
     module _ {I : Type 0} (offers : Offers K V S I) (names : I → K → Bool) where
-      -- if the key is there, with what an insert or an update may evict or remove
+      -- if the key is there, f may be called with each pair that an insert or an update may evict or remove
       pub record MayTakeReplaced (i : I) (v : V) (c : Contents K V S) (f : F) : Type 0 where
         pub accepted : (pair : K × V) → lookup_entry (names i) c.pairs ≡ Some pair
             → (replacement rules offers names pair i v c).taken ≡ true
@@ -41,12 +41,12 @@ module _ {K V S : Type 0} (rules : Rules K V S) where
         pub rejected : (pair : K × V) → lookup_entry (names i) c.pairs ≡ Some pair
             → MayTakeRejected (replacement rules offers names pair i v c) f
 
-      -- if it is new, with the pair that the limiter gives, and with the others
+      -- if the key is new, f may be called with the pair that the limiter returns, and with each pair of the map
       abbrev pub MayTakeNew : I → V → Contents K V S → F → Type 0
       MayTakeNew i v c f = lookup_entry (names i) c.pairs ≡ None → (s : S) (pair : K × V)
           → MayGive rules offers names i v c s (Some pair) → MayTakeEach (pair ∷ c.pairs) f
 
-      -- with what an insert may pass on
+      -- f may be called with each pair that an insert may pass to it
       pub record MayTakeInserted (i : I) (v : V) (c : Contents K V S) (f : F) : Type 0 where
         pub replaced : MayTakeReplaced i v c f
         pub new : MayTakeNew i v c f

@@ -10,7 +10,8 @@ use Rattle.lru_limits.specs.Rules.{Rules}
 use Rattle.lru_model.specs.Sizes.{target, Target, no_table, new_table}
 use Rattle.lru_model.specs.State.{State, buckets, room, FirstFreeIs, contents, Leaves, pop}
 
--- what comes of it: the pair is stored, the limiter or the sizes allow no table for it, or the map ran out of memory
+-- What comes of it: the pair is stored (`placed`), the table cannot grow and there is no pair to evict (`refused`), or
+-- the map ran out of memory.
 pub data Outcome : Type 0 where
   placed refused no_memory : Outcome
 
@@ -40,8 +41,8 @@ module _ {K V S H : Type 0} where
   IsPlacedInTable pair old new = IsPlaced pair (buckets old) (room new) 0 old new
 
   -- The first free bucket that a search for the hash finds is full now, with the newest pair, and no other bucket has
-  -- changed. It was empty, and takes one of the growth left, or it was deleted, in a table of more than 16 buckets, and
-  -- takes none.
+  -- changed. If the bucket was empty, the growth left falls by one. If it was deleted, which happens only above 16
+  -- buckets, the growth left stays.
   pub record FillsBucket (hash : ℕ) (old new : State K V S H) : Type 0 where
     pub bucket : ℕ
     pub first : IsFirstFree old.marks hash bucket
@@ -50,19 +51,21 @@ module _ {K V S H : Type 0} where
     pub spends : ((bucket_at old.marks bucket ≡ empty) × (room new + 1 ≡ room old))
         ⊎ ((bucket_at old.marks bucket ≡ deleted) × (16 < buckets old) × (room new ≡ room old))
 
-  -- No bucket takes a pair of this hash: there is no growth left, and the first free bucket that a search finds is an
-  -- empty one. (It is `HasNoPlace`, or the map has no pairs and no growth is left: its table is rehashed then.)
+  -- No bucket takes a pair of this hash: no growth is left, and the first free bucket that a search finds is empty. A
+  -- map without pairs is not searched: without growth left it is rehashed, even if a deleted bucket could take the
+  -- pair.
   pub record HasNoBucket (hash : ℕ) (st : State K V S H) : Type 0 where
     pub no_room : room st ≡ 0
     pub first_empty : 0 < length st.pairs → FirstFreeIs empty hash st
 
-  -- nor would a rehash help: with one pair more the table would be over half full, or there is no table yet
+  -- No bucket takes a pair of this hash, and a rehash is no remedy: with one pair more the table would be over half
+  -- full. Either there is no table yet, or the map contains pairs.
   pub record IsOutgrown (hash : ℕ) (st : State K V S H) : Type 0 where
     pub no_bucket : HasNoBucket hash st
     pub above_half : full_capacity (buckets st) / 2 < length st.pairs + 1
     pub begun : (buckets st ≡ 0) ⊎ (0 < length st.pairs)
 
-  -- into which table a map grows for n pairs more
+  -- into which table a map grows for n more pairs
   abbrev pub table_for : ℕ → State K V S H → Target
   table_for n st = target st.max st.entry_bytes (buckets st) (length st.pairs + n)
 
@@ -71,7 +74,7 @@ module _ {K V S H : Type 0} where
   IsFullWithPairs st = (0 < length st.pairs) × (room st ≡ 0)
 
 module _ {K V S H : Type 0} (rules : Rules K V S) where
-  -- after the limiter was asked to permit a table of n bytes
+  -- the map after its limiter was queried for a table of n bytes (`on_grow`)
   abbrev pub asked : ℕ → State K V S H → State K V S H
   asked bytes st = record st { limiter = (rules.on_grow st.limiter bytes).limiter }
 
@@ -79,11 +82,11 @@ module _ {K V S H : Type 0} (rules : Rules K V S) where
   abbrev pub Grants : ℕ → State K V S H → Type 0
   Grants bytes st = (rules.on_grow st.limiter bytes).allowed ≡ true
 
-  -- the limiter refuses it
+  -- the limiter refuses a table of n bytes
   abbrev pub Denies : ℕ → State K V S H → Type 0
   Denies bytes st = (rules.on_grow st.limiter bytes).allowed ≡ false
 
-  -- after the limiter was notified of a pair that was not stored
+  -- the map after its limiter was notified of a pair that was not stored
   abbrev pub turned_away : K × V → State K V S H → State K V S H
   turned_away pair st = record st { limiter = (rules.on_removed st.limiter pair.0 pair.1).limiter }
 
@@ -93,26 +96,26 @@ module _ {K V S H : Type 0} (rules : Rules K V S) where
   OldestLeave hash (suc n) old new = (before : State K V S H) × OldestLeave hash n old before
       × HasNoPlace before.marks hash × Leaves before (pop rules (contents before)) new
 
-  -- the pair is stored, or there was no memory for it and the rest stays
+  -- the pair is stored as `IsPlaced` says, or the map ran out of memory, and the limiter was notified of the pair
   abbrev pub IsPlacedIfMemory : K × V → ℕ → ℕ → ℕ → State K V S H → Outcome → State K V S H → Type 0
   IsPlacedIfMemory pair count spare moves old placed new = IsPlaced pair count spare moves old new
   IsPlacedIfMemory pair count spare moves old no_memory new = new ≡ turned_away pair old
   IsPlacedIfMemory pair count spare moves old refused new = ⊥
 
-  -- all entries were moved into a table of `count` buckets, and the pair with them, if there was memory for that
+  -- all entries moved into a table of `count` buckets, in which the pair was stored, unless the map ran out of memory
   abbrev pub IsPlacedByMove : K × V → ℕ → State K V S H → Outcome → State K V S H → Type 0
   IsPlacedByMove pair count old =
       IsPlacedIfMemory pair count (full_capacity count - length old.pairs - 1) (length old.pairs) old
 
-  -- there is no larger table, and mid is the state in which this is known: links or bytes do not reach one, or the
-  -- limiter refuses it
+  -- The table cannot grow: links or bytes do not reach a larger one, or the limiter, which was queried, refuses it.
+  -- `mid` is the map after that.
   pub data CannotGrow (old mid : State K V S H) : Type 0 where
     no_target : table_for 1 old ≡ no_table → mid ≡ old → CannotGrow old mid
     denied : (count bytes : ℕ) → table_for 1 old ≡ new_table count bytes → Denies bytes old →
         mid ≡ asked bytes old → CannotGrow old mid
 
   -- The oldest pairs of mid are evicted until the new pair finds a bucket, or until fewer than half of what the table
-  -- may hold are left, and it is rehashed. If there are none to evict, the new pair is rejected. `old` is the map
+  -- may hold are left, and it is rehashed. If there is no pair to evict, the new pair is rejected. `old` is the map
   -- before the limiter was queried for a larger table, and `mid` the map after.
   pub data Evicts (hash : ℕ) (pair : K × V) (old mid : State K V S H) (outcome : Outcome)
       (new : State K V S H) : Type 0 where
@@ -133,22 +136,23 @@ module _ {K V S H : Type 0} (rules : Rules K V S) where
 module _ {K V S H : Type 0} (rules : Rules K V S) (hash_of : H → K → ℕ) where
   -- what may come of inserting the pair into the table
   pub data Place (pair : K × V) (old : State K V S H) (outcome : Outcome) (new : State K V S H) : Type 0 where
-    -- A free bucket takes the pair. The limiter is not asked, and no memory is needed.
+    -- A free bucket takes the pair. The limiter is not queried, and no memory is needed.
     in_bucket : length old.pairs < full_capacity (buckets old) → (0 < room old) ⊎ (0 < length old.pairs) →
         FillsBucket (hash_of old.hasher pair.0) old new →
         outcome ≡ placed → IsPlacedInTable pair old new →
         Place pair old outcome new
-    -- Or none does, and the table is rehashed, if it is at most half full then. Without pairs that needs no memory.
+    -- Or no bucket takes it, and with it the table is at most half full: the table is rehashed. Without pairs this
+    -- needs no memory.
     rehashed : HasNoBucket (hash_of old.hasher pair.0) old → length old.pairs + 1 ≤ full_capacity (buckets old) / 2 →
         (outcome ≡ no_memory → 0 < length old.pairs) →
         IsPlacedByMove rules pair (buckets old) old outcome new →
         Place pair old outcome new
-    -- Or it grows, if there is a larger table and the limiter grants it,
+    -- Or the table grows, if there is a larger one and the limiter permits it.
     grown : IsOutgrown (hash_of old.hasher pair.0) old →
         (count bytes : ℕ) → table_for 1 old ≡ new_table count bytes → Grants rules bytes old →
         IsPlacedByMove rules pair count (asked rules bytes old) outcome new →
         Place pair old outcome new
-    -- and else the oldest pairs are evicted, at least one.
+    -- Otherwise the oldest pairs are evicted, at least one. If there is none, the new pair is rejected.
     not_grown : IsOutgrown (hash_of old.hasher pair.0) old →
         (mid : State K V S H) → CannotGrow rules old mid →
         Evicts rules (hash_of old.hasher pair.0) pair old mid outcome new →

@@ -1,5 +1,5 @@
--- A pop of the oldest pair on which a closure decides.
---     rules              what the limiter says (`Rules` of `lru_limits`)
+-- What `pop_oldest_if` and `try_pop_oldest` do: a closure decides whether the oldest pair is popped.
+--     rules              what the limiter does (`Rules` of `lru_limits`)
 --     says pair answer   the closure may return this for the pair
 use Rattle.std.specs.Prelude.{◌≡◌, Bool, true, false, Option, Some, None, Result, Ok, Err}
 use Rattle.std.specs.Borrow.{Bor}
@@ -8,7 +8,7 @@ use Rattle.lru_model.specs.Lists.{last}
 use Rattle.lru_model.specs.State.{State}
 use Rattle.lru_model.specs.Calls.{PopOldest}
 
--- a closure may return the answer for references to the key and the value of a pair
+-- a closure may return `answer` for references to the key and the value of a pair
 abbrev pub Says : {K V A : Type 0} → (Bor K → Bor V → A → Type 0) → K × V → A → Type 0
 Says {K} {V} returns pair answer = (key : Bor K) × (value : Bor V)
     × (key.now ≡ pair.0) × (value.now ≡ pair.1) × returns key value answer

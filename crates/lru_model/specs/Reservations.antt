@@ -8,7 +8,7 @@ use Rattle.lru_model.specs.declared.results.ReserveError.{ReserveError}
 use Rattle.lru_model.specs.declared.results.ReserveError.TheVariants.{TooLarge, Refused, Memory}
 
 module _ {K V S H : Type 0} (n : ℕ) (st : State K V S H) where
-  -- n is more than the growth left, and n more pairs are fewer than 2 ^ 64
+  -- n is more than the growth left, and the number of pairs with n more is below 2 ^ 64
   abbrev pub LacksRoomFor : Type 0
   LacksRoomFor = (room st < n) × (length st.pairs + n < 2 ^ 64)
 
@@ -16,34 +16,35 @@ module _ {K V S H : Type 0} (n : ℕ) (st : State K V S H) where
   pub data ReservesNothing (result : Result (Unit {0}) ReserveError) : Type 0 where
     -- there is enough growth left,
     enough_room : n ≤ room st → length st.pairs + n < 2 ^ 64 → result ≡ Ok tt → ReservesNothing result
-    -- or there is no such number of pairs, or no table for it,
+    -- or the number of pairs would pass 64 bits, or no table holds them,
     too_many : 2 ^ 64 ≤ length st.pairs + n → result ≡ Err TooLarge → ReservesNothing result
     no_such_table : LacksRoomFor → table_for n st ≡ no_table → result ≡ Err TooLarge → ReservesNothing result
-    -- or there is no memory to rehash the table; without pairs a rehash needs none
+    -- or the allocation for a rehash fails; without pairs a rehash needs no memory
     no_memory_to_rehash : LacksRoomFor → table_for n st ≡ same_table → 0 < length st.pairs → result ≡ Err Memory →
         ReservesNothing result
 
 module _ {K V S H : Type 0} (rules : Rules K V S) where
-  -- why a table does not grow after the limiter was asked
+  -- why a table does not grow after the limiter was queried: the allocation fails, or the limiter refuses the table
   abbrev pub FailsToGrow : ℕ → State K V S H → Result (Unit {0}) ReserveError → Type 0
   FailsToGrow bytes st result =
       (Grants rules bytes st × (result ≡ Err Memory)) ⊎ (Denies rules bytes st × (result ≡ Err Refused))
 
-  -- The growth left is made n at least; the pairs and the counts stay.
+  -- A reservation leaves growth for n pairs or more, or fails. The pairs and the counts of moves stay.
   pub data Reserve (n : ℕ) (old : State K V S H) (result : Result (Unit {0}) ReserveError)
       (new : State K V S H) : Type 0 where
     -- Nothing changes,
     unchanged : ReservesNothing n old result → new ≡ old →
         Reserve n old result new
-    -- or the table is rehashed at its size, for which the limiter is not asked,
+    -- or the table is rehashed at its size, for which the limiter is not queried,
     rehashed : LacksRoomFor n old → table_for n old ≡ same_table →
         result ≡ Ok tt → MovesTo (buckets old) old new →
         Reserve n old result new
-    -- or it grows, if the limiter permits it, and else the limiter was asked, and no more.
+    -- or the table grows, if the limiter permits it,
     reserved : LacksRoomFor n old → (count bytes : ℕ) → table_for n old ≡ new_table count bytes
         → Grants rules bytes old →
         result ≡ Ok tt → MovesTo count (asked rules bytes old) new →
         Reserve n old result new
+    -- or the table does not grow, and the limiter was only queried.
     asked_only : LacksRoomFor n old → (count bytes : ℕ) → table_for n old ≡ new_table count bytes
         → FailsToGrow bytes old result → new ≡ asked rules bytes old →
         Reserve n old result new

@@ -1,5 +1,5 @@
--- A retain, which removes the pairs that its closure rejects.
---     rules      what the limiter says (`Rules` of `lru_limits`)
+-- What `retain` does: it removes the pairs that its closure rejects.
+--     rules      what the limiter does (`Rules` of `lru_limits`)
 --     closure    how the closure may be called
 use Rattle.std.specs.Prelude.{◌≡◌, Bool, true, false, List, [], ◌∷◌, Some, map}
 use Rattle.std.specs.Borrow.{Bor}
@@ -10,19 +10,20 @@ use Rattle.lru_model.specs.ByHash.{Asks}
 use Rattle.lru_model.specs.HandedOver.{noting, noted}
 
 module _ {K V S : Type 0} (rules : Rules K V S) where
-  -- a pair stays if the closure returned true for it, and else the limiter is notified of its removal
+  -- The contents with one more pair, if the closure returned true for it. Otherwise the pair is removed, and the
+  -- limiter is notified.
   abbrev pub answered : (K × V) × Bool → Contents K V S → Contents K V S
   answered (pair, true) c = record { pairs = pair ∷ c.pairs; limiter = c.limiter }
   answered (pair, false) c = record { pairs = c.pairs; limiter = notified_of rules (Some pair) c.limiter }
 
-  -- what is left of these pairs, newest first, by what the closure returned for each; it was called for the last pair
-  -- first
+  -- What is left of these pairs, newest first, if the closure returned for each the flag that is paired with it. The
+  -- closure was called with the oldest pair first.
   abbrev pub retained : List ((K × V) × Bool) → S → Contents K V S
   retained [] s = record { pairs = []; limiter = s }
   retained (newest ∷ older) s = answered newest (retained older s)
 
 module _ {K V F : Type 0} (closure : Mut F (Bor K × (Bor V × Unit {0})) Bool) where
-  -- f was called with these pairs, the last one first, returned these, and is then g
+  -- f was called with these pairs, oldest first, returned for each the flag that is paired with it, and is then g
   abbrev pub Answers : F → List ((K × V) × Bool) → F → Type 0
   Answers f [] g = g ≡ f
   Answers f (newest ∷ older) g = (between : F) × Answers f older between × Asks closure between newest.0 newest.1 g
@@ -35,7 +36,7 @@ module _ {K V F : Type 0} (closure : Mut F (Bor K × (Bor V × Unit {0})) Bool) 
     pub answers : Answers f asked last
     pub state : Leaves old (retained rules asked old.limiter) new
 
--- a retain that passes on these pairs, which the limiter left so
+-- a retain that passes the pairs `handed` to its callback, as the limiter leaves them
 abbrev pub RetainHands : {K V S H F : Type 0} → Rules K V S → Mut F (Bor K × (Bor V × Unit {0})) Bool → F
     → State K V S H → List (K × V) → State K V S H → Type 0
 RetainHands rules closure f old handed new = Retains closure (noting rules) f (noted [] old) (noted handed new)

@@ -1,5 +1,5 @@
--- Calls of a map, one after another.
---     rules, offers       what the limiter says (`Rules`, `Offers` of `lru_limits`)
+-- What one call makes of a map (`Step`), and what calls one after another make of it (`Run`).
+--     rules, offers       what the limiter does (`Rules`, `Offers` of `lru_limits`)
 --     names i k           the key i, as a call gets it, names the key k
 --     hash_of h k         the hash of the key k, by the hasher h
 use Rattle.std.specs.Prelude.{◌≡◌, ◌⊎◌, ℕ, Bool, true, false, List, Option, Result, Contains, map}
@@ -46,13 +46,13 @@ module _ {K V S H I : Type 0} (rules : Rules K V S) (offers : Offers K V S I) (n
     retains : (asked : List ((K × V) × Bool)) → map (λ one. one.0) asked ≡ old.pairs
         → Leaves old (retained rules asked old.limiter) new → Step old new
 
-  -- such a call, or a write of a value through a reference, or another limiter that is set
+  -- a call, a write of a value through a reference, or a change of the limiter
   pub data AnyStep (old new : State K V S H) : Type 0 where
     calls : Step old new → AnyStep old new
     writes : (test : K → Bool) (value : V) → new ≡ written test value old → AnyStep old new
     sets_limiter : (limiter : S) → new ≡ record old { limiter = limiter } → AnyStep old new
 
-  -- a call, or a value is written through a reference
+  -- a call, or a write of a value through a reference
   abbrev pub StepOrWrite : State K V S H → State K V S H → Type 0
   StepOrWrite old new = Step old new ⊎ ((test : K → Bool) × (value : V) × (new ≡ written test value old))
 
@@ -71,11 +71,11 @@ module _ {K V S H I : Type 0} (rules : Rules K V S) (offers : Offers K V S I) (n
   NamesOnly test old new (writes named value e) = AreAmong named test
   NamesOnly test old new step = Unit {0}
 
-  -- such a call
+  -- such a step that names only keys that pass the test
   abbrev pub StepAmong : (K → Bool) → State K V S H → State K V S H → Type 0
   StepAmong test old new = (step : AnyStep old new) × NamesOnly test old new step
 
--- Steps, one after another, each of which leaves a sound table, as every call does.
+-- `Run IsStep new old`: steps, one after another, lead from `old` to `new`. Each leaves a sound table, as calls do.
 pub data Run {K V S H : Type 0} (IsStep : State K V S H → State K V S H → Type 0) (new : State K V S H) : State K V S H
     → Type 0 where
   ends : Run IsStep new new

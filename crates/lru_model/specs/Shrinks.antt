@@ -14,24 +14,25 @@ module _ {K V S H : Type 0} where
   abbrev pub IsLooseFor : ℕ → State K V S H → Type 0
   IsLooseFor count st = (buckets_for st.max (length st.pairs) ≡ Some count) × (count < buckets st)
 
-  -- its pairs are counted as rehashed by a shrink
+  -- the map with all its pairs counted as rehashed by a shrink
   abbrev pub shrink_counted : State K V S H → State K V S H
   shrink_counted st = record st { shrunk = count_up st.shrunk (length st.pairs) }
 
-  -- the pairs move into as few buckets as hold them, which is counted, and nothing else changes
+  -- The pairs move into the least number of buckets that holds them. The moves are counted, and nothing else changes.
   pub data Shrink (old : State K V S H) (result : Result Bool AllocError) (new : State K V S H) : Type 0 where
-    -- There may be no fewer,
+    -- The table has no more buckets than the pairs need,
     kept : IsTight old →
         result ≡ Ok false → new ≡ old →
         Shrink old result new
-    -- or the pairs move, and without pairs the table is given back, which needs no memory.
+    -- or the pairs move (without pairs the table is freed, which needs no memory),
     shrunk : (count : ℕ) → IsLooseFor count old →
         result ≡ Ok true → MovesTo count (shrink_counted old) new →
         Shrink old result new
+    -- or the allocation fails, and nothing changes.
     no_memory_to_shrink : (count : ℕ) → IsLooseFor count old → 0 < length old.pairs →
         IsErr result → new ≡ old →
         Shrink old result new
 
--- how many entries a call rehashes as a shrink: none, or all of a map that it shrinks
+-- a call rehashes this number of entries as a shrink: none, or all entries of a map that it shrinks
 abbrev pub RehashedByShrink : {K V S H : Type 0} → ℕ → State K V S H → State K V S H → Type 0
 RehashedByShrink anew old new = (anew ≡ 0) ⊎ (Shrink old (Ok true) new × (anew ≡ length old.pairs))

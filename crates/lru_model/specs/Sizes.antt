@@ -18,7 +18,7 @@ max_of_64_bits = 2 ^ 64 - 1
 abbrev pub bytes_of : ℕ → ℕ → ℕ
 bytes_of entry_bytes buckets = (entry_bytes * buckets + 15) / 16 * 16 + buckets + 16
 
--- the memory that a table uses, if there can be such a table; no buckets use none
+-- the bytes that a table of this number of buckets uses, if these are at most 2 ^ 63 - 16; no buckets use 0 bytes
 unfoldable pub usage : ℕ → ℕ → Option ℕ
 usage entry_bytes buckets =
     if buckets == 0 then Some 0
@@ -33,12 +33,13 @@ pub record IsGreatestUsage (max entry_bytes budget bytes : ℕ) : Type 0 where
   pub greatest : (buckets other : ℕ) → IsPowerFromFour buckets → buckets < max →
       usage entry_bytes buckets ≡ Some other → other ≤ budget → other ≤ bytes
 
--- Into which table a map grows: into none, a table as large as it is, or one of these buckets and bytes.
+-- Into which table a map grows: into none, into one of the same size (a rehash), or into one of this number of buckets
+-- and of bytes.
 pub data Target : Type 0 where
   no_table same_table : Target
   new_table : ℕ → ℕ → Target
 
--- a table of this number of buckets and these bytes, or none without a number of bytes
+-- the table of this number of buckets and of bytes, or none without a number of bytes
 abbrev pub table_of : ℕ → Option ℕ → Target
 table_of buckets None = no_table
 table_of buckets (Some bytes) = new_table buckets bytes

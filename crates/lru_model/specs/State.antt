@@ -1,4 +1,4 @@
--- A map as a list of pairs under a limiter, in a table whose bucket states are known.
+-- What a contract sees of a map: its entries as a list of pairs, its limiter, hasher, bucket states and counts.
 use Rattle.std.specs.Prelude.{◌≡◌, ℕ, zero, suc, ◌+◌, ◌-◌, ◌*◌, ◌^◌, ◌≤◌, ◌<◌, ◌⊎◌, Bool, false, if◌then◌else◌, List}
 use Rattle.std.specs.Prelude.{[], length, Option, Some, None, filter, not, nat_eq}
 use Rattle.std.specs.List.{IsDistinct}
@@ -34,7 +34,7 @@ pub record State (K V S H : Type 0) : Type 0 where
   pub placed : ℕ
   -- how many entries shrinks rehashed
   pub shrunk : ℕ
-  -- what a bucket counts in bytes, as the constructor was given it
+  -- how many bytes of the table an entry takes, as passed to the constructor
   pub entry_bytes : ℕ
   -- the number of the link `MAX`, above that of each bucket
   pub max : ℕ
@@ -72,28 +72,29 @@ module _ {K V S H : Type 0} where
   abbrev pub FirstFreeIs : Mark → ℕ → State K V S H → Type 0
   FirstFreeIs mark hash st = (b : ℕ) × IsFirstFree st.marks hash b × (bucket_at st.marks b ≡ mark)
 
-  -- what holds of every map's table and numbers
+  -- A sound table: what holds of the table and the counts of every map, whatever its keys.
   pub record IsSized (st : State K V S H) : Type 0 where
     pub table : IsTable st.marks
     -- each pair has a bucket, and each full bucket a pair
     pub taken : entry_count st.marks ≡ length st.pairs
     -- links reach every bucket
     pub reachable : (buckets st ≡ 0) ⊎ (buckets st < st.max)
-    -- there can be such a table
+    -- the table takes at most 2 ^ 63 - 16 bytes
     pub usable : (bytes : ℕ) × (usage st.entry_bytes (buckets st) ≡ Some bytes)
     -- the counts fit 64 bits
     pub moved : st.moved < 2 ^ 64
     pub placed : st.placed < 2 ^ 64
     pub shrunk : st.shrunk < 2 ^ 64
 
-  -- twice the number of buckets in use above half of what the table may hold, or 0
+  -- twice the number of full and deleted buckets above half of the full capacity, or 0
   abbrev pub potential : State K V S H → ℕ
   potential st = full_capacity (buckets st) - 2 * room st
 
-  -- the moves of inserts are paid for by what they stored, two for each, and by what shrinks rehashed
+  -- Moves are paid for: inserts moved at most two entries for each entry that they stored, plus one for each entry that
+  -- shrinks rehashed.
   pub record IsPaid (st : State K V S H) : Type 0 where
     pub moved : st.moved ≤ 2 * st.placed + st.shrunk
-    -- and the potential with them, while the count of shrinks goes on
+    -- the same with the potential added, unless the count of shrinks has stopped at its maximum
     pub ahead : st.shrunk < 2 ^ 64 - 1 → st.moved + potential st ≤ 2 * st.placed + st.shrunk
 
   -- what holds of every map
@@ -103,13 +104,13 @@ module _ {K V S H : Type 0} where
     pub sized : IsSized st
     pub paid : IsPaid st
 
-  -- A pair that leaves may give back growth left; up to 16 buckets it does.
+  -- Each pair that is removed may give back one of the growth left. In a table of up to 16 buckets it does.
   pub record FreesRoom (old new : State K V S H) : Type 0 where
     pub table : buckets new ≡ buckets old
     pub keeps : room old ≤ room new
     pub at_most : length new.pairs + room new ≤ length old.pairs + room old
     pub exact : buckets old ≤ 16 → length new.pairs + room new ≡ length old.pairs + room old
-    -- if no pair left, no bucket has changed its state
+    -- if no pair was removed, no bucket has changed its state
     pub untouched : length new.pairs ≡ length old.pairs → new.marks ≡ old.marks
 
   -- all pairs moved into a table of `count` buckets, none of which is deleted
@@ -122,13 +123,14 @@ module _ {K V S H : Type 0} where
       placings = count_up old.placings (length old.pairs);
     }
 
-  -- new is old with these contents, after some pairs left
+  -- `new` is `old` with the contents `left`, after some pairs were evicted or removed. Bucket states and places may
+  -- differ; nothing else does.
   pub record Leaves (old : State K V S H) (left : Contents K V S) (new : State K V S H) : Type 0 where
     pub is : new ≡ record old { pairs = left.pairs; limiter = left.limiter; marks = new.marks; places = new.places }
     pub room : FreesRoom old new
 
-  -- the bucket in which a pair was is free: it is empty if every 16 neighbours contain an empty one, and deleted
-  -- otherwise; each other bucket stays as it was
+  -- The bucket of a removed pair, `place`, is free now: it is empty if every 16 neighbouring buckets around it contain
+  -- an empty one, and deleted otherwise. Each other bucket stays as it was.
   pub record Frees (place : Option ℕ) (old new : State K V S H) : Type 0 where
     pub bucket : ℕ
     pub there : place ≡ Some bucket
@@ -136,20 +138,20 @@ module _ {K V S H : Type 0} where
     pub others : new.places ≡ filter (λ b. not (nat_eq b bucket)) old.places
 
 module _ {K V S : Type 0} (rules : Rules K V S) where
-  -- the limiter, after it was notified of the pair that left, if there was one
+  -- the limiter after it was notified of a removed pair, if there is one
   abbrev pub notified_of : Option (K × V) → S → S
   notified_of None s = s
   notified_of (Some pair) s = (rules.on_removed s pair.0 pair.1).limiter
 
-  -- these pairs are left, and the limiter was notified of the pair that is gone, if there is one
+  -- the pairs `left`, and the limiter after it was notified of the removed pair `gone`, if there is one
   abbrev pub after_removal : Option (K × V) → List (K × V) → S → Contents K V S
   after_removal gone left s = record { pairs = left; limiter = notified_of gone s }
 
-  -- without the oldest pair, of which the limiter is notified
+  -- the contents without the oldest pair, after the limiter was notified of its removal
   abbrev pub pop : Contents K V S → Contents K V S
   pop c = after_removal (last c.pairs) (without_last c.pairs) c.limiter
 
-  -- without the n oldest pairs, one after another
+  -- the contents after n pops of the oldest pair
   abbrev pub pops : ℕ → Contents K V S → Contents K V S
   pops zero c = c
   pops (suc n) c = pops n (pop c)

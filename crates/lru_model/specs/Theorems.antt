@@ -1,4 +1,4 @@
--- Words of the laws in `src/laws`: what an insert evicts, stores and says, and what moves cost.
+-- Definitions for the laws in `src/laws`: what an insert evicts and stores, what its result says, and what moves cost.
 use Rattle.std.specs.Prelude.{◌≡◌, ℕ, ◌+◌, ◌-◌, ◌*◌, ◌/◌, ◌^◌, ◌≤◌, ◌<◌, Bool, true, false, List, ◌∷◌, length}
 use Rattle.std.specs.Prelude.{sum_by, not}
 use Rattle.std.specs.List.{filter}
@@ -15,19 +15,20 @@ use Rattle.lru_model.specs.Inserts.{replacement, with_new_value, MayGive}
 
 module _ {K V S H : Type 0} where
   -- `moved` and the potential together rise by at most 2 for each entry stored, and by 1 for each of `anew` entries
-  -- that shrinks rehashed, unless the count of stored entries has stopped
+  -- that shrinks rehashed, unless the count of stored entries has stopped at its maximum
   pub record PaysForMoves (anew : ℕ) (old new : State K V S H) : Type 0 where
     pub placed : old.placed ≤ new.placed
     pub shrunk : new.shrunk ≡ count_up old.shrunk anew
     pub moved : new.placed < 2 ^ 64 - 1 →
         new.moved + potential new + 2 * old.placed ≤ old.moved + potential old + 2 * new.placed + anew
 
-  -- the table's insertions are the entries moved and the entries stored, while no count has stopped
+  -- the count of insertions into the table rises by the entries moved and the entries stored, unless a count has
+  -- stopped at its maximum
   abbrev pub CountsPlacings : State K V S H → State K V S H → Type 0
   CountsPlacings old new = new.placings < 2 ^ 64 - 1 → new.moved < 2 ^ 64 - 1 → new.placed < 2 ^ 64 - 1 →
       new.placings + old.moved + old.placed ≡ old.placings + new.moved + new.placed
 
-  -- the table takes at most n bytes
+  -- the table uses at most n bytes
   abbrev pub UsesAtMost : ℕ → State K V S H → Type 0
   UsesAtMost most st = (bytes : ℕ) × (usage st.entry_bytes (buckets st) ≡ Some bytes) × (bytes ≤ most)
 
@@ -46,12 +47,13 @@ pub record IsNewest {K V : Type 0} (names : K → Bool) (pairs : List (K × V)) 
   pub first : pairs ≡ pair ∷ rest
   pub named : names pair.0 ≡ true
 
--- what an insert leaves of the pairs, if names accepts the inserted key
+-- What an insert evicts or removes. `names` tests whether a key is the inserted one, and `refuses pair` says that the
+-- limiter rejects the new value for this pair.
 pub data GivesUp {K V : Type 0} (names : K → Bool) (refuses : K × V → Type 0) (old new : List (K × V)) : Type 0 where
   -- what is left begins with the pair of the key, followed by the newest others; or nothing is left
   behind : (newest : K × V) → names newest.0 ≡ true → IsFront new (newest ∷ without names old) →
       GivesUp names refuses old new
-  -- the oldest are evicted, and no pair is stored, nor was the key there
+  -- The key was not there, and its pair is not stored. The oldest pairs may have been evicted.
   with_none : lookup_entry names old ≡ None → IsFront new old → GivesUp names refuses old new
   -- the pair whose replacement is rejected is removed, and no other
   without_one : (pair : K × V) → lookup_entry names old ≡ Some pair → refuses pair → new ≡ without names old →
@@ -65,8 +67,8 @@ module _ {K V S H : Type 0} (rules : Rules K V S) where
     pub known : State K V S H
     pub refused : CannotGrow rules st known
 
-  -- what the result of an insert says: true, that the key is there, as the newest, and the limiter is not over its
-  -- limit; false, or an error, that the key is not there
+  -- What the result of an insert says. If it is true, the pair of the key is the newest, and the limiter is not over
+  -- its limit. If it is false or an error, the key is not there.
   abbrev pub SaysWhether : (K → Bool) → Result Bool AllocError → State K V S H → Type 0
   SaysWhether names (Ok true) new =
       IsNewest names new.pairs × (rules.is_over_the_limit new.limiter (length new.pairs) ≡ false)
@@ -74,7 +76,8 @@ module _ {K V S H : Type 0} (rules : Rules K V S) where
   SaysWhether names (Err e) new = lookup_entry names new.pairs ≡ None
 
 module _ {K V S H I : Type 0} (rules : Rules K V S) (offers : Offers K V S I) (names : I → K → Bool) where
-  -- the pair that an insert stores: what a replacement left of the one that was there, or what the limiter returned
+  -- the pair that an insert stores: the old pair of the key, with what the replacement left of the new value, or the
+  -- pair that the limiter returned for a new key
   pub data Stores (i : I) (v : V) (old : State K V S H) (pair : K × V) : Type 0 where
     left : (was : K × V) → lookup_entry (names i) old.pairs ≡ Some was
         → (replacement rules offers names was i v (contents old)).taken ≡ true →

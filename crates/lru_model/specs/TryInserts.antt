@@ -1,6 +1,6 @@
 -- What `try_insert` does: it inserts a new pair only if nothing has to be evicted for it.
 --     terms               what the limiter accepts (`Terms` of `lru_limits`)
---     rules, offers       what it says otherwise (`Rules`, `Offers` of `lru_limits`)
+--     rules, offers       what the limiter does (`Rules`, `Offers` of `lru_limits`)
 --     eq                  whether two keys are equal
 --     hash_of h k         the hash of the key k, by the hasher h
 use Rattle.std.specs.Prelude.{◌≡◌, ℕ, ◌+◌, ◌<◌, Bool, true, false, not, if◌then◌else◌, length, Some, None}
@@ -13,7 +13,7 @@ use Rattle.lru_model.specs.Reservations.{Reserve}
 use Rattle.lru_model.specs.Inserts.{Insert}
 use Rattle.lru_model.specs.declared.results.ReserveError.{ReserveError}
 
--- there is growth left for one pair more, or a reservation made some, which leaves a sound table, as every call does
+-- growth is left for one more pair, or a reservation made some and left a sound table, as every call does
 pub data IsReady {K V S H : Type 0} (rules : Rules K V S) (old ready : State K V S H) : Type 0 where
   has_growth : 0 < room old → ready ≡ old →
       IsReady rules old ready
@@ -37,6 +37,7 @@ module _ {K V S : Type 0} (terms : Terms K V S) (rules : Rules K V S) where
           IsUnready left
 
     module _ (offers : Offers K V S K) (eq : K → K → Bool) (hash_of : H → K → ℕ) where
+      -- what `try_insert` may return and leave
       pub data TryInsert (result : Result (Unit {0}) (K × V)) (new : State K V S H) : Type 0 where
         -- The key is there, or the limiter cannot store the pair, and nothing changes.
         there : (pair : K × V) → lookup_entry (eq key) old.pairs ≡ Some pair →

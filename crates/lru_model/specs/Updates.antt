@@ -1,5 +1,5 @@
--- What an update does, which offers the limiter a new value for a key that is there.
---     rules, offers       what the limiter says (`Rules`, `Offers` of `lru_limits`)
+-- What `update` does: it offers the limiter a new value for a key that is there.
+--     rules, offers       what the limiter does (`Rules`, `Offers` of `lru_limits`)
 --     names i k           the given key i names the key k
 use Rattle.std.specs.Prelude.{◌≡◌, Bool, true, false, List, [], Some, None}
 use Rattle.lru_limits.specs.Rules.{Rules, Offers}
@@ -11,7 +11,7 @@ use Rattle.lru_model.specs.declared.results.Updated.{Updated}
 use Rattle.lru_model.specs.declared.results.Updated.TheVariants.{Replaced, Rejected, Absent}
 
 module _ {K V S I : Type 0} (rules : Rules K V S) (offers : Offers K V S I) (names : I → K → Bool) where
-  -- after the limiter accepted the new value: the pair keeps its place
+  -- the contents after the limiter accepted the new value: the pair gets it, and keeps its place in the order
   abbrev pub with_updated : K × V → I → V → Contents K V S → Contents K V S
   with_updated pair i v c = record {
     pairs = set_entry (names i) (with_new_value rules offers names pair i v c) c.pairs;
@@ -21,7 +21,7 @@ module _ {K V S I : Type 0} (rules : Rules K V S) (offers : Offers K V S I) (nam
   -- what an update returns and leaves
   pub data Update {H : Type 0} (i : I) (v : V) (old : State K V S H) (result : Updated V) (new : State K V S H)
       : Type 0 where
-    -- The limiter accepts the new value. What is over the limit then is evicted.
+    -- The limiter accepts the new value. The oldest pairs are evicted while it is over its limit.
     updated : (pair : K × V) → lookup_entry (names i) old.pairs ≡ Some pair →
         (replacement rules offers names pair i v (contents old)).taken ≡ true →
         result ≡ Replaced (replacement rules offers names pair i v (contents old)).old_value →
@@ -38,8 +38,8 @@ module _ {K V S I : Type 0} (rules : Rules K V S) (offers : Offers K V S I) (nam
         result ≡ Absent v → new ≡ old →
         Update i v old result new
 
--- an update whose callback gets these pairs: the list that `noting` keeps is empty before the call, and consists of
--- these after it
+-- An update that passes the pairs `handed` to its callback: it is an update under the limiter with a list, which is
+-- empty before the call, and `handed` after it.
 abbrev pub UpdateHands : {K V S H I : Type 0} → Rules K V S → Offers K V S I → (I → K → Bool) → I → V → State K V S H
     → Updated V → List (K × V) → State K V S H → Type 0
 UpdateHands rules offers names i v old result handed new =

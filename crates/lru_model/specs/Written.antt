@@ -1,4 +1,4 @@
--- What a closure that is called with each pair writes into the values.
+-- What `for_each_mut` does: it calls a closure with each pair, which may write the value.
 --     closure    how the closure may be called
 --     f, g       the closure before and after
 use Rattle.std.specs.Prelude.{◌≡◌, List, [], ◌∷◌}
@@ -22,7 +22,7 @@ module _ {K V F : Type 0} (closure : Mut F (Bor K × (MutBor V × Unit {0})) (Un
   WritesEach f (pair ∷ pairs) new g = (w : V) × (between : F) × (rest : List (K × V)) × Writes f pair w between
       × WritesEach between pairs rest g × (new ≡ (pair.0, w) ∷ rest)
 
-  -- f was called with each pair of the map, newest first, and nothing else changed than the values that it wrote
+  -- f was called with each pair of the map, newest first, and nothing has changed except the values that it wrote
   pub record WritesAll {S H : Type 0} (f : F) (old new : State K V S H) : Type 0 where
     pub last : F
     pub each : WritesEach f old.pairs new.pairs last

@@ -1,6 +1,6 @@
-//! What is proved of inserts and other single calls, of what inserts keep (`kept`), of each call (`calls`) and of lists
-//! of calls (`runs`).
-//! Each theorem is the contract of a function that does nothing.
+//! What is proved of inserts and other single calls, of what inserts keep (`kept`), of shrinks (`shrinks`), of each
+//! call (`calls`) and of calls one after another (`runs`). Each theorem is the contract of a function that does
+//! nothing.
 
 ghost use Rattle.std.specs.Prelude.{◌≡◌, ◌≢◌, ℕ, ◌≤◌, ◌<◌, ◌+◌, ◌*◌, ◌/◌, ◌⊎◌, ◌∷◌, Bool, false, Option, Some, None};
 ghost use Rattle.std.specs.Prelude.{IfSome, Result, Ok, true, IsOk, IsErr, is_err, length, List};
@@ -78,8 +78,8 @@ pub fn inserts_say_whether<
 {}
 
 /// The entries that an insert passes to its callback, together with those that are left, are at most one more than
-/// there were. So a callback that keeps them needs space for one entry more than the map contains. `InsertHands` is an
-/// insert like any other.
+/// there were. So a callback that keeps them needs space for one entry more than the map contains. An insert with such
+/// a callback is an insert like any other (`step`).
 pub fn inserts_hand_over_few<
     K: Eq + Hash,
     V,
@@ -226,7 +226,7 @@ pub fn deleted_buckets_serve<K: Eq + Hash, V, L: Limiter<K, V>, S: KeyHasher<K>>
 
 /// An insert pays for the entries that it moves: the count of moved entries and the potential together rise by at most
 /// 2 for the entry that it stores. So inserts move at most twice as many entries as they store, plus those that shrinks
-/// rehashed. An insert moves and stores no entry that it does not count.
+/// rehashed. Each entry that an insert moves or stores is counted.
 pub fn inserts_pay_for_moves<
     K: Eq + Hash,
     V,
@@ -305,13 +305,13 @@ pub fn reservations_keep_the_list<K: Eq + Hash, V, L: Limiter<K, V>, S: KeyHashe
         × (new.shrunk ≡ old.shrunk) }
 {}
 
-/// After a successful reservation of n, the table takes n more entries without growth.
+/// After a successful reservation of n, the table holds n more entries without growth.
 pub fn reservations_make_room<K: Eq + Hash, V, L: Limiter<K, V>, S: KeyHasher<K>>()
     ensures { (n : ℕ) (old new : State K V L S) →
         IsSized old → Reserve L.rules n old (Ok tt) new → n ≤ room new }
 {}
 
-/// The number of bytes that a map uses, taken as a budget, gives a limit of the same number.
+/// If the bytes that a map uses are taken as a budget, the greatest usage within that budget is the same number.
 pub fn usages_are_their_budgets<K: Eq + Hash, V, L: Limiter<K, V>, S: KeyHasher<K>>()
     ensures { (old : State K V L S) (bytes greatest : ℕ) →
         IsSized old → usage old.entry_bytes (buckets old) ≡ Some bytes →

@@ -1,4 +1,4 @@
-//! What the calls of a map return, besides numbers, entries and options.
+//! The types that the calls of a map return, except those of std.
 
 use thiserror::Error;
 
@@ -34,7 +34,7 @@ pub struct Inserted<V> {
 /// ```
 #[derive(Clone, Copy, Debug, Drop, PartialEq, Eq)]
 pub enum Updated<V> {
-    /// The entry had this value, and has the new one.
+    /// The entry contains the new value in place of this one.
     Replaced(V),
     /// The limiter rejected this new value, and the entry was removed.
     Rejected(V),

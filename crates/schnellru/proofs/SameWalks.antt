@@ -1,4 +1,4 @@
--- Walks of the same map, at the same places, are the same: what they know of their buckets is known in one way.
+-- Walks of the same map at the same positions are equal, because proofs of the same fact are equal.
 use Rattle.std.proofs.Common.{◌≡◌, ℕ, ◌≤◌, Option, length, sym, ◌∙◌, subst}
 use Rattle.std.specs.Prelude.{slice_get}
 use Rattle.std.specs.Borrow.{MutBor}

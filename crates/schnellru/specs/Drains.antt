@@ -26,7 +26,7 @@ module _ {K V L S N H : Type 0} where
       pub pops : PopNewest rules (drain_map old) result (drain_map new)
       pub same_reference : drain_lender new ≡ drain_lender old
 
-    -- or the oldest
+    -- it takes the oldest pair, if there is one
     pub record TakesOldest (old : Drain K V L S N H) (result : Option (K × V)) (new : Drain K V L S N H) : Type 0 where
       pub pops : PopOldest rules (drain_map old) result (drain_map new)
       pub same_reference : drain_lender new ≡ drain_lender old

@@ -1,4 +1,4 @@
--- What a contract sees of an `IterMut`, and what it ends as once a value that it lent has ended.
+-- What a contract sees of an `IterMut`, and what it ends as once the loan of a value has ended.
 use Rattle.std.proofs.Common.{refl, arith}
 use Rattle.std.specs.Prelude.{ℕ, ◌+◌, ◌-◌, ◌≤◌, [], length, slice_get, Option, None, Some, if◌then◌else◌, nat_lt}
 use Rattle.std.specs.Borrow.{Fml, GName, RattleType, Bor, MutBor, follows, follows_if}

@@ -1,5 +1,5 @@
--- From every map with a sound table a clear leaves one, and a reservation can end: there is an answer that it may give,
--- and a map that it may leave.
+-- From every map with a sound table a clear leaves one, and a reservation can end: there is a result that it may
+-- return, and a map that it may leave.
 use Rattle.std.proofs.Common.{◌≡◌, ℕ, ◌+◌, ◌-◌, ◌^◌, ◌≤◌, Bool, true, false, Result, Ok, Err, List, [], length}
 use Rattle.std.proofs.Common.{replicate, refl, subst, arith, inl, inr}
 use native.Mathlib.Decide.{dec_lt}

@@ -1,4 +1,5 @@
--- From every map with a sound table a shrink can end: there is an answer that it may give, and a map that it may leave.
+-- From every map with a sound table a shrink can end: there is a result that it may return, and a map that it may
+-- leave.
 use Rattle.std.proofs.Common.{◌≡◌, ℕ, Bool, true, false, Option, Some, None, Result, Ok, Err, List, [], ◌∷◌, length}
 use Rattle.std.proofs.Common.{inl, refl, sym, ap, ◌∙◌, arith}
 use Rattle.std.proofs.lemmas.Option.{same_Some}

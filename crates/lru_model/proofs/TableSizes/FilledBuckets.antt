@@ -1,4 +1,4 @@
--- A table with a deleted bucket is a large one, and some of its room is spent.
+-- A table with a deleted bucket has more than 16 buckets, and not all of its growth is left.
 use Rattle.std.proofs.Common.{inl, inr, ◌≡◌, ℕ, ◌+◌, ◌<◌, ◌⊎◌, ◌∷◌, length, refl, sym, ap, ◌∙◌, arith, count_by}
 use Rattle.std.proofs.Common.{slice_set, if◌then◌else◌}
 use Rattle.std.proofs.lemmas.Bool.{false≢true}
@@ -15,7 +15,7 @@ empty-not_deleted : ◌≡◌ {A = Mark} empty deleted → ⊥
 empty-not_deleted e = cc
 
 module _ {K V S H : Type 0} (old : State K V S H) (ok : IsSized old) (b : ℕ) (within : b < buckets old) where
-  -- a table with a deleted bucket has more than 16, and its pairs and its room are less than it takes
+  -- a table with a deleted bucket has more than 16, and its pairs and its growth left are less than its full capacity
   pub deleted_large : bucket_at old.marks b ≡ deleted → (16 < buckets old)
       × (length old.pairs + room old.marks < full_capacity (buckets old))
   deleted_large there = (

@@ -1,4 +1,4 @@
--- What the marks of a sized map's table say of its pairs.
+-- What the bucket states of a sound table say of the pairs of the map.
 use Rattle.std.proofs.Common.{◌≡◌, ◌+◌, ◌<◌, ◌≤◌, inl, inr, length, arith}
 use Rattle.group_table.specs.Sizes.{IsPowerFromFour, full_capacity}
 use Rattle.lru_model.specs.State.{State, buckets, room, IsSized}

@@ -1,4 +1,4 @@
--- A table's marks, made up by how many are full and how many deleted.
+-- Bucket states of a table with given numbers of full and of deleted buckets.
 use Rattle.std.proofs.Common.{◌≡◌, ℕ, ◌+◌, ◌-◌, ◌*◌, ◌^◌, ◌<◌, ◌≤◌, ◌⊎◌, Bool, List, ◌++◌, length, Some, refl, sym, ap}
 use Rattle.std.proofs.Common.{subst, arith, cond, count_by}
 use Rattle.std.proofs.Math.ListN.{replicate}

@@ -1,4 +1,4 @@
--- A pair for which the limiter has a place, by what it says in advance.
+-- A pair that the limiter can store, as its `terms` say in advance.
 --     accepts_new      an insert of the pair finds the limiter ready
 --     adds             with growth left, an insert adds it to all the others
 --     says             what a caller learns of `try_insert`

@@ -1,4 +1,4 @@
--- An insert counts each placing that its table makes.
+-- The table counts each insertion that an insert makes into it.
 use Rattle.std.proofs.Common.{◌≡◌, ℕ, Bool, Result, ap, arith}
 use Rattle.std.specs.declared.alloc.AllocError.{AllocError}
 use Rattle.lru_limits.specs.Rules.{Rules, Offers}

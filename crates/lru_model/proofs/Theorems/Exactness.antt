@@ -1,4 +1,5 @@
--- Where each placing leaves nothing open, an insert does not either, as in tables of up to 16 buckets, memory aside.
+-- If each insertion into the table is determined, unless it runs out of memory, so is an insert. In tables of up to 16
+-- buckets it is.
 use Rattle.std.proofs.Common.{◌≡◌, ℕ, ◌+◌, ◌-◌, ◌/◌, ◌<◌, ◌≤◌, inl, inr, Bool, true, false, length, Option, Some, None}
 use Rattle.std.proofs.Common.{Result, Ok, refl, sym, ap, ◌∙◌, subst, arith, le_of_eq}
 use Rattle.std.specs.Prelude.{not, IsOk}

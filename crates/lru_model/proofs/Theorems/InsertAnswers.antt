@@ -1,4 +1,4 @@
--- What the answer of an insert says.
+-- What the result of an insert says.
 use Rattle.std.proofs.Common.{None, ◌≡◌, ℕ, zero, suc, ◌⊎◌, inl, inr, Bool, true, false, cond, not, List, [], ◌∷◌}
 use Rattle.std.proofs.Common.{length, Result, Ok, Err, refl, sym, ap, ◌∙◌, subst, arith}
 use Rattle.std.proofs.lemmas.Bool.{false≢true, true≢false, not-true}

@@ -1,4 +1,4 @@
--- What clears, reservations and shrinks make of a map, but for which of its buckets are full.
+-- What clears, reservations and shrinks make of a map, except which of its buckets are full.
 use Rattle.std.proofs.Common.{◌≡◌, ℕ, ◌+◌, ◌-◌, ◌^◌, ◌≤◌, Bool, true, false, cond, [], length, Result, Ok, Err, refl}
 use Rattle.std.proofs.Common.{Option, Some, None, sym, ap, ◌∙◌, arith, inl, inr}
 use Rattle.std.specs.Prelude.{nat_lt, nat_le, is_err, IfSome, if◌then◌else◌}

@@ -1,4 +1,4 @@
--- What placing a pair and an insert make of a map, once for all laws.
+-- What an insertion into the table and an insert make of a map, stated once for all laws.
 use Rattle.std.proofs.Common.{◌≡◌, ℕ, ◌+◌, ◌-◌, ◌*◌, ◌<◌, ◌≤◌, inl, inr, Bool, true, [], ◌∷◌, length, Result, refl, sym}
 use Rattle.std.proofs.Common.{ap, ◌∙◌, subst, arith}
 use Rattle.std.specs.declared.alloc.AllocError.{AllocError}

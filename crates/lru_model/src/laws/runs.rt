@@ -1,4 +1,4 @@
-//! What is proved of runs: calls, one after another. Each law is the law of one call (`calls`), by induction.
+//! What is proved of runs, which are calls one after another. Each law is the law of one call (`calls`), by induction.
 
 ghost use Rattle.std.specs.Prelude.{◌≡◌, ℕ, ◌≤◌, Bool, length};
 ghost use Rattle.lru_limits.specs.Budget.{Budget};
@@ -114,7 +114,7 @@ pub fn runs_keep_the_weight<
         S.hash_of) new old → new.limiter.limit ≡ old.limiter.limit }
 {}
 
-/// A map without entries and buckets, with which every run begins, is a map.
+/// A new map, which contains no entries and no buckets, satisfies `IsMap`, the premise of `runs_keep_maps`.
 pub fn runs_begin_with_maps<K: Eq + Hash, V, L: Limiter<K, V>, S: KeyHasher<K>>()
     ensures empty { (limiter : L) (hasher : S) (entry_bytes : ℕ) →
         IsMap K.eq (empty_map {K = K} {V = V} limiter hasher entry_bytes (L.LinkType.number L.LinkType.MAX)) }

@@ -1,4 +1,4 @@
--- What a map has besides its entries, from its fields.
+-- The fields of a map except its entries, as `Beside`.
 use Rattle.std.proofs.Common.{ℕ}
 use Rattle.schnellru.specs.Inside.Holds.{Beside}
 use Rattle.schnellru.specs.declared.map.LruMap.TheInside.{Inside}

@@ -1,4 +1,4 @@
--- What a callback has that keeps each pair that it gets, while there is space.
+-- What a callback contains that keeps each pair that it gets, while there is space.
 use Rattle.std.proofs.Common.{◌≡◌, ℕ, ◌+◌, ◌<◌, ◌≤◌, List, [], ◌∷◌, ◌++◌, length, Vec, Global, MutBor, vec_len}
 use Rattle.std.proofs.Common.{vec_capacity, refl, ap, ◌∙◌, arith}
 use Rattle.std.proofs.lemmas.Fn.{chained_keeps}

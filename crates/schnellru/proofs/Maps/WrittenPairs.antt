@@ -1,4 +1,4 @@
--- How far a closure has written into the values of a map, and one value more.
+-- A closure that has written some values of a map, and one more value.
 use Rattle.std.proofs.Common.{◌≡◌, ℕ, zero, suc, ◌+◌, ◌≤◌, Some, None, List, [], ◌∷◌, ◌++◌, length, refl, ap, sym, ◌∙◌}
 use Rattle.std.proofs.Common.{subst, arith}
 use Rattle.std.proofs.lemmas.List.{append_assoc}

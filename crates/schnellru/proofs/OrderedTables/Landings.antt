@@ -1,4 +1,4 @@
--- A pair lands in the first free bucket of a linked table, as the newest.
+-- A pair is stored in the first free bucket of a linked table, as the newest.
 use Rattle.std.proofs.Common.{◌≡◌, ℕ, ◌^◌, ◌<◌, ◌∷◌, ◌++◌, length, refl, sym, ap, ◌∙◌, arith}
 use Rattle.std.proofs.Common.{slice_set, subst, Bool, None}
 use Rattle.std.specs.Prelude.{option_to_list}

@@ -1,4 +1,4 @@
--- An entry left the table, and its bucket the chain. What stands then, seen as pairs.
+-- An entry was taken out of the table, and its bucket out of the chain: what is left, seen as pairs.
 use Rattle.std.proofs.Common.{◌≡◌, ℕ, ◌+◌, Bool, List, length, ◌∙◌}
 use Rattle.group_table.specs.Link.{IsLinkType}
 use Rattle.group_table.specs.Bucket.{Slot, IsFull, marks_of, room, room_at}

@@ -1,5 +1,5 @@
--- How links keep an order of buckets: each entry has the numbers of its two neighbours.
--- No public clause cites this module.
+-- How links keep an order of buckets: each entry contains the numbers of its two neighbours. No public clause cites
+-- this module.
 use Rattle.std.specs.Prelude.{◌≡◌, ◌≢◌, ◌⊎◌, ℕ, zero, suc, ◌<◌, slice_index_or, List, [], ◌∷◌, length, map, nat_eq}
 use Rattle.std.specs.Prelude.{if◌then◌else◌, Option, Some, None, option_map, unwrap_or, Contains, AllPairs}
 use Rattle.group_table.specs.Bucket.{empty, deleted, full, Slot, IsFull, bucket_at, entry_at, entry_count}
@@ -8,11 +8,12 @@ use Rattle.lru_model.specs.Lists.{first, last}
 use Rattle.schnellru.specs.declared.ordered.Entry.{Entry}
 use Rattle.schnellru.specs.declared.ordered.chain.Chain.{Chain}
 
--- the bucket after this one, and the one before it
+-- the bucket after this one in the order, if there is one
 abbrev pub bucket_after : ℕ → List ℕ → Option ℕ
 bucket_after b [] = None
 bucket_after b (c ∷ cs) = if nat_eq c b then first cs else bucket_after b cs
 
+-- the bucket before this one in the order, if there is one
 abbrev pub bucket_before : ℕ → List ℕ → Option ℕ
 bucket_before b [] = None
 bucket_before b (c ∷ []) = None
@@ -33,14 +34,14 @@ module _ {N : Type 0} (link : ℕ → N) (none : N) where
   link_to None = none
   link_to (Some b) = link b
 
--- the buckets that are met from a link on, going n times to the older one
+-- the first n buckets from a link on, each followed by its older neighbour
 abbrev pub along : {K V N : Type 0} → (N → ℕ) → ℕ → List (Slot (Entry K V N)) → N → List ℕ
 along number zero slots from = []
 along number (suc n) slots from = unwrap_or (option_map (λ entry. number from ∷ along number n slots entry.older)
     (entry_at slots (number from))) []
 
 module _ {K V N : Type 0} where
-  -- the links of the entry in a bucket
+  -- the link of the entry in a bucket to its newer neighbour, and the link to its older one
   abbrev pub newer_at : List (Slot (Entry K V N)) → ℕ → Option N
   newer_at slots b = option_map (λ entry. entry.newer) (entry_at slots b)
 
@@ -74,7 +75,7 @@ module _ {N : Type 0} (number : N → ℕ) (none : N) (links : List N) where
   abbrev pub moved_link : N → N
   moved_link l = slice_index_or links (number l) none
 
-  -- a link is none, or one to a bucket that the links have a place for
+  -- the link is `none`, or leads to a bucket for which `links` contains the new number
   abbrev pub HasPlace : N → Type 0
   HasPlace l = (l ≡ none) ⊎ (number l < length links)
 
@@ -85,14 +86,13 @@ module _ {N : Type 0} (number : N → ℕ) (none : N) (links : List N) where
     pub older_there : older_at new b ≡ option_map moved_link (older_at old b)
     pub others : (c : ℕ) → c ≢ b → entry_at new c ≡ entry_at old c
 
--- the end of a chain is another now, if a link is that of no entry, and else stays
+-- the end of a chain is `to` now if the link `at` is `none`, and stays otherwise
 pub record SetsEnd {N : Type 0} (none old new at to : N) : Type 0 where
   pub ends : at ≡ none → new ≡ to
   pub stays : at ≢ none → new ≡ old
 
 module _ {K V N : Type 0} (number : N → ℕ) (link : ℕ → N) (none : N) where
-  -- the links, which reach every bucket, keep the order of some full buckets:
-  -- its ends, and the neighbours of each bucket
+  -- The links keep an order of some full buckets: its ends, and the neighbours of each bucket. They reach every bucket.
   pub record IsChain (slots : List (Slot (Entry K V N))) (newest oldest : N) (order : List ℕ) : Type 0 where
     pub reached : length slots < number none
     pub distinct : AllPairs ◌≢◌ order
@@ -108,8 +108,8 @@ module _ {K V N : Type 0} (number : N → ℕ) (link : ℕ → N) (none : N) whe
     pub all : (b : ℕ) → IsFull slots b → Contains order b
     pub count : entry_count slots ≡ length order
 
-  -- a bucket is to leave the chain of these buckets, and has these links. Its entry may be gone from the slots; all
-  -- others are there.
+  -- A bucket with these links is about to be taken out of the chain of these buckets. Its entry may be gone from the
+  -- slots already; all other entries are there.
   pub record IsGap (slots : List (Slot (Entry K V N))) (newest oldest : N) (order : List ℕ) (b : ℕ) (newer older : N)
       : Type 0 where
     pub before : List (Slot (Entry K V N))
@@ -120,21 +120,23 @@ module _ {K V N : Type 0} (number : N → ℕ) (link : ℕ → N) (none : N) whe
     pub same : length slots ≡ length before
     pub others : (c : ℕ) → c ≢ b → bucket_at slots c ≡ bucket_at before c
 
-  -- the links of a chain keep this order, or a bucket is to leave it
+  -- the links of a chain keep this order
   abbrev pub KeepsOrder : Chain K V N → List ℕ → Type 0
   KeepsOrder chain = IsChain chain.table.slots chain.newest chain.oldest
 
+  -- a bucket with these links is about to be taken out of a chain with this order
   abbrev pub HasGap : Chain K V N → List ℕ → ℕ → N → N → Type 0
   HasGap chain = IsGap chain.table.slots chain.newest chain.oldest
 
-  -- the links keep an order of some buckets, this one among them, or not among them
+  -- the links keep an order of some buckets, and this one is among them
   abbrev pub InChain : Chain K V N → ℕ → Type 0
   InChain chain b = (order : List ℕ) × KeepsOrder chain order × Contains order b
 
+  -- the links keep an order of some buckets, and this one is not among them
   abbrev pub OutOfChain : Chain K V N → ℕ → Type 0
   OutOfChain chain b = (order : List ℕ) × KeepsOrder chain order × (Contains order b → ⊥)
 
-  -- the entries have moved into the slots, and still have the links of the table before
+  -- the entries have moved into the slots, still with the links that they had in the table before
   abbrev pub Moved : Chain K V N → List N → Type 0
   Moved chain links = (before : List (Slot (Entry K V N))) × (order : List ℕ)
       × IsWhole before chain.newest chain.oldest order × Renumbers number none before chain.table.slots links

@@ -5,8 +5,8 @@ use Rattle.lru_limits.specs.Rules.{Rules, Replaced}
 use Rattle.lru_model.specs.HandedOver.{Takes}
 
 module _ {K V F : Type 0} (closure : Mut F (K × (V × Unit {0})) (Unit {0})) where
-  -- The callback was f after the pairs that were passed before, got more, and is then g. This is stated of the lists of
-  -- all pairs that were passed before and after.
+  -- The callback is f before this part of the call, and g after it. `step` relates the list of all pairs that were
+  -- passed before to the list after.
   abbrev pub Hands : F → F → (List (K × V) → List (K × V) → Type 0) → Type 0
   Hands f g step = (first : F) (before : List (K × V)) → Takes closure first before f → (after : List (K × V))
       × Takes closure first after g × step before after

@@ -4,7 +4,7 @@ use Rattle.group_table.specs.Bucket.{marks_of}
 use Rattle.lru_model.specs.State.{State, IsMap}
 use Rattle.schnellru.specs.Inside.OrderedTable.{OrderedTable, IsLinked, KeysFit, pairs_of}
 
--- what a map has besides its entries
+-- the fields of a map except its entries
 pub record Beside (S H : Type 0) : Type 0 where
   pub limiter : S
   pub hasher : H

@@ -38,11 +38,11 @@ module _ {K V : Type 0} where
   abbrev pub hash_in : (K → ℕ) → List (Slot (K × V)) → ℕ → ℕ
   hash_in hash_of slots b = unwrap_or (option_map (λ pair. hash_of pair.0) (entry_at slots b)) 0
 
-  -- the hashes of the keys fit
+  -- the hashes of the keys fit the table: each tag is right, and a search for a key reaches its bucket
   abbrev pub KeysFit : (K → ℕ) → List (Slot (K × V)) → Type 0
   KeysFit hash_of slots = Fits slots (hash_in hash_of slots)
 
-  -- the pair filled the first free bucket, as the newest
+  -- the pair filled the first free bucket that a search for its hash finds, as the newest
   pub record Lands (old new : OrderedTable K V) (hash : ℕ) (pair : K × V) (b : ℕ) : Type 0 where
     pub first : IsFirstFree (marks_of old.slots) hash b
     pub may : MayFill (marks_of old.slots) b
@@ -54,7 +54,7 @@ module _ {K V : Type 0} where
   -- what holds of every table whose buckets are linked
   pub record IsLinked (t : OrderedTable K V) : Type 0 where
     pub table : IsTable (marks_of t.slots)
-    -- each full bucket is once in the order, and no other bucket is
+    -- each full bucket is in the order once, and no other bucket is
     pub distinct : AllPairs ◌≢◌ t.order
     pub all : (b : ℕ) → IsFull t.slots b → Contains t.order b
     pub only : (b : ℕ) → Contains t.order b → IsFull t.slots b

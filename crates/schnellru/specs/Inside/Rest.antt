@@ -10,11 +10,11 @@ from_bucket (Some b) [] = []
 from_bucket (Some b) (c ∷ cs) = if nat_eq c b then c ∷ cs else from_bucket (Some b) cs
 
 module _ {K V : Type 0} (t : OrderedTable K V) where
-  -- n pairs, from the one in the bucket in front on
+  -- the next pairs of the walk, `left` in number, from the one in the bucket `front` on
   abbrev pub rest_of : Option ℕ → ℕ → List (K × V)
   rest_of front left = entries_in t.slots (take left (from_bucket front t.order))
 
-  -- some buckets were given from the front, some from the back, and n are left between
+  -- some buckets were returned from the front, some from the back, and `left` buckets are left between
   pub record IsRest (front back : Option ℕ) (left : ℕ) : Type 0 where
     pub linked : IsLinked t
     pub before : List ℕ

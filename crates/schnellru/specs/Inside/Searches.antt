@@ -9,13 +9,13 @@ use Rattle.group_table.specs.Search.{IsSearch}
 use Rattle.lru_model.specs.ByHash.{Asks}
 
 module _ {K V F : Type 0} (closure : Mut F (Bor K × (Bor V × Unit {0})) Bool) (slots : List (Slot (K × V))) where
-  -- f was asked about the pair in a bucket, and is then g
+  -- f was called with the pair in bucket b, returned `answer`, and is then g
   pub record AnswersPair (f : F) (b : ℕ) (answer : Bool) (g : F) : Type 0 where
     pub pair : K × V
     pub there : entry_at slots b ≡ Some pair
     pub asked : Asks closure f pair answer g
 
-  -- a search for the hash asked f about these buckets, and f rejected all but the last, which is b
+  -- a search for the hash called f for these buckets, and f rejected all but the last, which is b
   pub record FindsPair (hash : ℕ) (f : F) (b : ℕ) : Type 0 where
     pub before : List ℕ
     pub search : IsSearch slots hash (before ++ b ∷ [])
@@ -24,7 +24,7 @@ module _ {K V F : Type 0} (closure : Mut F (Bor K × (Bor V × Unit {0})) Bool) 
     pub last : F
     pub accepted : AnswersPair between b true last
 
-  -- or it rejected all, and among them is each with the hash, whatever hashes fit
+  -- or f rejected all; for any hashes that fit the table, each bucket whose entry has the hash is among them
   pub record FindsNoPair (hash : ℕ) (f : F) : Type 0 where
     pub asked : List ℕ
     pub search : IsSearch slots hash asked

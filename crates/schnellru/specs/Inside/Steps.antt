@@ -1,4 +1,4 @@
--- What becomes of a pair in a bucket: it is replaced, evicted, or taken out. No public clause cites this module.
+-- What becomes of a pair in a bucket: its value is replaced, or it is removed. No public clause cites this module.
 use Rattle.std.specs.Prelude.{◌≡◌, ℕ, ◌+◌, Bool, true, false, Some}
 use Rattle.group_table.specs.Bucket.{marks_of, entry_at, room as room_of, room_at}
 use Rattle.group_table.specs.Change.{Removes}
@@ -18,7 +18,7 @@ pub record IsReplaced {K V S : Type 0} (by : Replaced K V S) (b : ℕ) (old new 
   pub placings : new.placings ≡ old.placings
   pub notified : limiter ≡ by.limiter
 
--- The limiter rejected it, and the pair left.
+-- The limiter rejected the new value, and the pair was removed.
 pub record IsGivenUp {K V S : Type 0} (rules : Rules K V S) (by : Replaced K V S) (b : ℕ) (old new : OrderedTable K V)
     (limiter : S) : Type 0 where
   pub slots : Removes (with_pair old b (by.key, by.old_value)).slots new.slots b
@@ -27,7 +27,8 @@ pub record IsGivenUp {K V S : Type 0} (rules : Rules K V S) (by : Replaced K V S
   pub room : room_of (marks_of new.slots) ≡ room_of (marks_of old.slots) + room_at (marks_of new.slots) b
   pub notified : limiter ≡ (rules.on_removed by.limiter by.key by.old_value).limiter
 
--- The pair in a bucket left, the limiter was notified, and what it left of the pair is returned.
+-- The pair in a bucket was evicted or removed. The limiter was notified, and the pair is returned as the limiter leaves
+-- it.
 pub record IsTakenOut {K V S : Type 0} (rules : Rules K V S) (b : ℕ) (old new : OrderedTable K V) (limiter : S)
     (result : K × V) (after : S) : Type 0 where
   pub pair : K × V
@@ -39,8 +40,8 @@ pub record IsTakenOut {K V S : Type 0} (rules : Rules K V S) (b : ℕ) (old new 
   pub placings : new.placings ≡ old.placings
   pub room : room_of (marks_of new.slots) ≡ room_of (marks_of old.slots) + room_at (marks_of new.slots) b
 
--- The limiter was offered a new value for the pair of the key, in a map. It said whether it accepts, and the value that
--- the pair does not have then is returned besides.
+-- The limiter was offered a new value for the pair of the key, in a map. The result is whether the limiter accepts the
+-- value, and the value that the map does not keep.
 pub record IsOffered {K V S H I : Type 0} (rules : Rules K V S) (offers : Offers K V S I) (names : I → K → Bool) (i : I)
     (v : V) (old : State K V S H) (result : Bool × V) (new : State K V S H) : Type 0 where
   pub pair : K × V

@@ -1,5 +1,5 @@
--- A get that inserts a key lends the value of the newest pair. Step says which map the get made, and whether there is a
--- value to lend.
+-- A get that inserts a key lends the value of the newest pair. `Step` says which map the get leaves, and whether there
+-- is a value to lend.
 use Rattle.std.specs.Prelude.{◌≡◌, Bool, Option, Result}
 use Rattle.std.specs.Borrow.{Fml, RattleType, MutBor, LendsSoOk, follows_so}
 use Rattle.std.specs.declared.cmp.PartialEq as equality
@@ -21,17 +21,18 @@ module _ (K V L S N H : RattleType) (key : HashMembers K.Denot)
     (hashed : HasherMembers S.Denot K.Denot H.Denot) (hash : hasher.Ghosts H.Denot)
     (m : MutBor (State K.Denot V.Denot L.Denot S.Denot)) {E : Type 0}
     (Step : Result Bool E → State K.Denot V.Denot L.Denot S.Denot → Type 0) where
-  -- the get made a map whose newest value is lent, and the map is n once w was written there
+  -- the get left a map whose newest value is lent, and the map is n once w was written there
   abbrev pub Made : Result (Option (MutBor V.Denot)) E → State K.Denot V.Denot L.Denot S.Denot → V.Denot → Type 0
   Made r n w = (made : State K.Denot V.Denot L.Denot S.Denot) × Step (is_kept r) made
       × (newest_value made.pairs ≡ value_lent r)
       × (n ≡ record made { pairs = set_newest made.pairs w })
 
+  -- what the map ends as, if the error of the result may say that the key is not there (`NotKept`)
   abbrev pub lends_or : Result (MutBor V.Denot) (NotLent E) → Fml
   lends_or r = LendsSoOk (map_row K V L S N H key limits links link_eq link_shown hashed hash) V m r
       (λ n w. Made (lent_or_none r) n w) (λ n. Step (is_kept (lent_or_none r)) n)
 
-  -- the same for an answer that has no error if the key is not there
+  -- the same for a result that is `Ok None` if the key is not there
   abbrev pub lends_made : Result (Option (MutBor V.Denot)) E → Fml
   lends_made r = follows_so (map_row K V L S N H key limits links link_eq link_shown hashed hash) V m.ghost_name
       (name_lent r)

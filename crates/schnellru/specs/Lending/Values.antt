@@ -26,17 +26,17 @@ module _ (K V L S N H : RattleType) (key : HashMembers K.Denot)
       (record { hash_of = hashed.hash_of }) (record { build_hasher = hashed.build_hasher }) hash
 
   module _ (m : MutBor (State K.Denot V.Denot L.Denot S.Denot)) where
-    -- it ends as this map, but with the last value written through r at the key that is named, and at `None` it stays
-    -- as it is
+    -- The map ends as `base`, with the last value that was written through r for the named key. If r is `None`, it
+    -- stays as it is.
     abbrev pub lends_value : (K.Denot → Bool) → State K.Denot V.Denot L.Denot S.Denot → Option (MutBor V.Denot) → Fml
     lends_value names base r = LendsIf map_row V m r (λ last. written names last base) m.now
 
-    -- it ends as this map, of which a part was lent for reading
+    -- the map ends as `last`; a part of it was lent for reading
     abbrev pub ends_as : State K.Denot V.Denot L.Denot S.Denot → Fml
     ends_as last = follows_so map_row map_row m.ghost_name none (λ _ _. ⊤) (λ n. n ≡ last)
 
-    -- It ends as turned makes it of a pair that is given, with the last value written through r at that pair's key. At
-    -- `None` it stays as it is.
+    -- The map ends as `turned` makes it for the key of a pair that satisfies `gives`, with the last value that was
+    -- written through r for that key. If r is `None`, it stays as it is.
     abbrev pub lends_given : (K.Denot × V.Denot → Type 0)
         → ((K.Denot → Bool) → State K.Denot V.Denot L.Denot S.Denot → State K.Denot V.Denot L.Denot S.Denot)
         → Option (MutBor V.Denot) → Fml
@@ -45,18 +45,20 @@ module _ (K V L S N H : RattleType) (key : HashMembers K.Denot)
         × (n ≡ written (key.eq pair.0) last (turned (key.eq pair.0) m.now))))
         (λ n. IfNone r (n ≡ m.now))
 
-    -- its newest pair has the last value written through r, and at `None` it stays as it is
+    -- The newest pair of the map ends with the last value that was written through r. If r is `None`, the map stays as
+    -- it is.
     abbrev pub lends_newest : Option (MutBor V.Denot) → Fml
     lends_newest r = LendsIf map_row V m r (λ last. record m.now { pairs = set_newest m.now.pairs last }) m.now
 
+    -- the same for a reference that is always there
     abbrev pub lends_newest_value : MutBor V.Denot → Fml
     lends_newest_value r = Lends map_row V m r (λ last. record m.now { pairs = set_newest m.now.pairs last })
 
-    -- its pair at the position has the last value written through r
+    -- the pair at position i ends with the last value that was written through r
     abbrev pub lends_value_at : ℕ → Bor K.Denot × MutBor V.Denot → Fml
     lends_value_at i r = follows map_row V m.ghost_name r.1.ghost_name
         (λ last. record m.now { pairs = set_value_at m.now.pairs i last })
 
-    -- it has the last limiter written through r
+    -- the map ends with the last limiter that was written through r
     abbrev pub lends_limiter : MutBor L.Denot → Fml
     lends_limiter r = Lends map_row L m r (λ last. record m.now { limiter = last })

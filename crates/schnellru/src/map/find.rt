@@ -1,4 +1,4 @@
-//! What every look-up begins with: the search for a key. And what is done then: its pair is promoted, or taken out.
+//! The search for a key, with which every look-up begins, and what follows it: a promotion, a demotion or a removal.
 ghost use Rattle.std.specs.Prelude.{◌≡◌, ℕ, ◌<◌, Bool, List, Some, None, IfSome, IfNone, IsTrue, Contains, length};
 ghost use Rattle.lru_model.specs.Lists.{lookup_entry, place_of, last, without_last, after};
 ghost use Rattle.lru_model.specs.State.{Frees, IsMap};

@@ -42,9 +42,10 @@ impl<K: Eq + Hash + Drop, V: Drop, L: Limiter<K, V>, S: KeyHasher<K>> LruMap<K, 
     /// left are the newest of the old ones: some of the oldest may have been evicted to make room. The limiter was
     /// notified of each, and of the new entry.
     ///
-    /// There are two causes. Either `on_insert` found no memory; then nothing has changed. Or the table had no growth
-    /// left and found none for a larger one. While there is growth left, only `on_insert` takes memory. Running out of
-    /// memory evicts nothing by itself: the same entries would have been evicted had the insert succeeded.
+    /// There are two causes. Either `on_insert` ran out of memory; then nothing has changed. Or the table had no growth
+    /// left, and the allocation for a rehash or a larger table failed. While there is growth left, only `on_insert`
+    /// takes memory. Running out of memory evicts nothing by itself: the same entries would have been evicted had the
+    /// insert succeeded.
     ///
     /// After schnellru's `LruMap::insert`.
     #[inline(always)]
@@ -82,7 +83,7 @@ impl<K: Eq + Hash, V: Drop, L: Limiter<K, V>, S: KeyHasher<K>> LruMap<K, V, L, S
     ///
     /// # Errors
     ///
-    /// Fails as `insert` does. The new entry was passed to the callback then, unless `on_insert` found no memory.
+    /// Fails as `insert` does. The new entry was passed to the callback then, unless `on_insert` ran out of memory.
     #[inline(always)]
     pub fn insert_with<I: LookupKey<K>, F: FnMut(K, V)>(
         &mut self,
@@ -280,7 +281,8 @@ impl<K: Eq + Hash, V, L: Limiter<K, V>, S: KeyHasher<K>> LruMap<K, V, L, S> {
         }
     }
 
-    // Makes room for a pair that the limiter gave, stores it, and evicts what is over the limit then.
+    // Evicts the oldest pair, if the limiter would be over its limit with one more, and stores a pair that the limiter
+    // returned. Then evicts the oldest pairs while the limiter is over its limit.
     fn insert_pair<F: FnMut(K, V)>(
         &mut self,
         hash: u64,

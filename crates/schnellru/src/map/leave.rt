@@ -1,4 +1,4 @@
-//! What leaves a map: removals, a clear, and evictions. The limiter is notified of each.
+//! Removals, pops, a clear and evictions. The limiter is notified of each.
 ghost use Rattle.std.specs.Prelude.{◌≡◌, ℕ, ◌<◌, true, not, ◌∷◌, length, Some, IfSome, IsTrue};
 ghost use Rattle.group_table.specs.Bucket.{IsFull};
 ghost use Rattle.lru_model.specs.Lists.{is_empty, first, last, place_of};
@@ -139,7 +139,7 @@ impl<K: Eq + Hash, V, L: Limiter<K, V>, S: KeyHasher<K>> LruMap<K, V, L, S> {
 }
 
 impl<K: Eq + Hash, V, L: Limiter<K, V>, S: KeyHasher<K>> LruMap<K, V, L, S> {
-    // Evicts the oldest pair, if the limiter would be over with one more.
+    // Evicts the oldest pair, if the limiter would be over its limit with one more.
     #[inline]
     pub(super) fn make_room<F: FnMut(K, V)>(&mut self, sink: &mut F)
         requires callable { MayTakeEach L.rules F.FnMut self.old.pairs sink.old }
@@ -154,7 +154,7 @@ impl<K: Eq + Hash, V, L: Limiter<K, V>, S: KeyHasher<K>> LruMap<K, V, L, S> {
         }
     }
 
-    // Evicts the oldest pairs while the limiter is over its limit, of a map with pairs. Returns whether some are left.
+    // Evicts the oldest pairs of a map with pairs while the limiter is over its limit. Returns whether some are left.
     #[inline]
     pub(super) fn evict_over_limit<F: FnMut(K, V)>(&mut self, sink: &mut F) -> bool
         requires some { 0 < length self.old.pairs }
@@ -210,7 +210,8 @@ pub(super) fn take_out<K: Eq + Hash, V, L: Limiter<K, V>>(
     notify(limiter, entries.take(b, last))
 }
 
-// Notifies the limiter of a pair that left or could not be stored, and returns what the limiter left of it.
+// Notifies the limiter of a pair that was evicted, removed or not stored, and returns the pair as the limiter leaves
+// it.
 #[inline]
 pub(super) fn notify<K, V, L: Limiter<K, V>>(limiter: &mut L, pair: (K, V)) -> (K, V)
     ensures limiter { limiter.new ≡ notified_of L.rules (Some pair) limiter.old }

@@ -11,7 +11,7 @@ use lru_model::ReserveError;
 use std::hash::Hash;
 
 impl<K: Eq + Hash, V, L: Limiter<K, V>, S: KeyHasher<K>> LruMap<K, V, L, S> {
-    /// Makes room for n more entries: afterwards `guaranteed_capacity` is at least `len` + n.
+    /// Reserves growth for n more entries: afterwards `guaranteed_capacity` is at least `len` + n.
     ///
     /// The entries stay, and so do the counts of moves. If there is enough growth left, nothing happens. If at most
     /// half of what the table may hold is needed, the table is rehashed at its size, and the limiter is not queried.

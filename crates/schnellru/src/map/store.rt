@@ -208,7 +208,7 @@ impl<K: Eq + Hash, V, L: Limiter<K, V>, S: KeyHasher<K>> LruMap<K, V, L, S> {
     }
 }
 
-// Takes one off a full count, so that it is full again after one more is counted.
+// Takes one off a count of `u64::MAX`, so that counting one more neither overflows nor changes it.
 #[inline]
 fn make_count_room(count: &mut u64)
     ensures { count.new + 1 ≡ count_up count.old 1 }

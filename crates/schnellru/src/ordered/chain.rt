@@ -33,7 +33,7 @@ impl<K, V, N: LinkType> Chain<K, V, N> {
         self.close_gap(newer, older);
     }
 
-    // Links the neighbours of a bucket to each other, which had these links. Its entry may have left the table before.
+    // Links the neighbours of a bucket with these links to each other. Its entry may be gone from the table already.
     #[inline]
     pub(crate) fn close_gap(&mut self, newer: N, older: N)
         requires { (order : List ℕ) × (b : ℕ) × HasGap N.number N.link N.MAX self.old order b newer older }

@@ -1,4 +1,4 @@
-//! What an iterator needs of a map: the bucket of each pair, by its position from the newest on.
+//! The bucket of each pair by its position, counted from the newest, which iterators need.
 ghost use Rattle.std.specs.Prelude.{◌≡◌, ℕ, ◌+◌, length, slice_get, Some, Contains};
 ghost use Rattle.std.specs.Borrow.{sem};
 ghost use Rattle.std.specs.Map.Iter.{deref_pair_mut};

@@ -1,4 +1,5 @@
--- The limiter is over, and there are pairs. What left was passed to the callback, and the rest is still to leave.
+-- The limiter is over its limit, and there are pairs. The evicted pairs were passed to the callback, and others are
+-- still to be evicted.
 use Rattle.std.proofs.Common.{◌≡◌, ◌<◌, true, length}
 use Rattle.lru_model.specs.MayTake.{MayTakeEach}
 use Rattle.schnellru.proofs.Maps.Trims.{IsTrimmedTo}

@@ -1,4 +1,4 @@
--- The newest `left` pairs are still to be asked. The others were, and those that left were passed to the callback.
+-- The closure was called with all pairs but the newest `left`. The pairs that it rejected were passed to the callback.
 use denote.Param.Always.{always_mut}
 use Rattle.lru_model.specs.MayTake.{MayTakeEach}
 use Rattle.schnellru.proofs.Maps.Retains.{IsRetainedTo}
