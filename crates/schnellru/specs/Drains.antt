@@ -1,10 +1,8 @@
--- What a contract sees of a drain. Each step is one of `PopNewest` and `PopOldest`, and its drop is `cleared`.
+-- What a contract sees of a drain: each step is a `PopNewest` or a `PopOldest`. Its drop is `cleared`.
 use Rattle.std.specs.Prelude.{◌≡◌, length, Option}
 use Rattle.std.specs.Borrow.{GName}
 use Rattle.std.specs.Iterator.{at_most, Count}
-use Rattle.lru_limits.specs.Rules.{Rules}
 use Rattle.lru_model.specs.State.{State}
-use Rattle.lru_model.specs.Calls.{PopNewest, PopOldest}
 use Rattle.schnellru.specs.declared.walk.drain.Drain.{Drain}
 
 module _ {K V L S N H : Type 0} where
@@ -20,13 +18,8 @@ module _ {K V L S N H : Type 0} where
   abbrev pub drain_left : Drain K V L S N H → Count
   drain_left d = at_most (length (drain_map d).pairs)
 
-  module _ (rules : Rules K V L) where
-    -- it takes the newest pair, if there is one
-    pub record TakesNewest (old : Drain K V L S N H) (result : Option (K × V)) (new : Drain K V L S N H) : Type 0 where
-      pub pops : PopNewest rules (drain_map old) result (drain_map new)
-      pub same_reference : drain_lender new ≡ drain_lender old
-
-    -- it takes the oldest pair, if there is one
-    pub record TakesOldest (old : Drain K V L S N H) (result : Option (K × V)) (new : Drain K V L S N H) : Type 0 where
-      pub pops : PopOldest rules (drain_map old) result (drain_map new)
-      pub same_reference : drain_lender new ≡ drain_lender old
+  -- it takes the pair that the pop removes, if there is one
+  pub record TakesBy (pop : State K V L S → Option (K × V) → State K V L S → Type 0) (old : Drain K V L S N H)
+      (result : Option (K × V)) (new : Drain K V L S N H) : Type 0 where
+    pub pops : pop (drain_map old) result (drain_map new)
+    pub same_reference : drain_lender new ≡ drain_lender old

@@ -10,7 +10,7 @@ use Rattle.lru_limits.specs.Hashing.{HasherMembers}
 use Rattle.group_table.specs.declared.link.LinkType as link_type
 use Rattle.lru_limits.specs.declared.limiter.Limiter as limiter
 use Rattle.lru_model.specs.Lists.{newest_value, set_newest}
-use Rattle.lru_model.specs.State.{State}
+use Rattle.lru_model.specs.State.{State, IsMap}
 use Rattle.schnellru.specs.Lending.Answers.{lent_or_none, is_kept, IsLent, NoneLent, value_lent, name_lent}
 use Rattle.schnellru.specs.Lending.Values.{map_row}
 use Rattle.schnellru.specs.declared.map.get_or_insert.NotLent.{NotLent}
@@ -25,15 +25,19 @@ module _ (K V L S N H : RattleType) (key : HashMembers K.Denot)
   abbrev pub Made : Result (Option (MutBor V.Denot)) E → State K.Denot V.Denot L.Denot S.Denot → V.Denot → Type 0
   Made r n w = (made : State K.Denot V.Denot L.Denot S.Denot) × Step (is_kept r) made
       × (newest_value made.pairs ≡ value_lent r)
-      × (n ≡ record made { pairs = set_newest made.pairs w })
+      × (n ≡ record made { pairs = set_newest made.pairs w }) × IsMap key.eq n
+
+  -- the get left the map n, and lends no value
+  abbrev pub Lacks : Result (Option (MutBor V.Denot)) E → State K.Denot V.Denot L.Denot S.Denot → Type 0
+  Lacks r n = Step (is_kept r) n × IsMap key.eq n
 
   -- what the map ends as, if the error of the result may say that the key is not there (`NotKept`)
   abbrev pub lends_or : Result (MutBor V.Denot) (NotLent E) → Fml
   lends_or r = LendsSoOk (map_row K V L S N H key limits links link_eq link_shown hashed hash) V m r
-      (λ n w. Made (lent_or_none r) n w) (λ n. Step (is_kept (lent_or_none r)) n)
+      (λ n w. Made (lent_or_none r) n w) (λ n. Lacks (lent_or_none r) n)
 
   -- the same for a result that is `Ok None` if the key is not there
   abbrev pub lends_made : Result (Option (MutBor V.Denot)) E → Fml
   lends_made r = follows_so (map_row K V L S N H key limits links link_eq link_shown hashed hash) V m.ghost_name
       (name_lent r)
-      (λ w n. IsLent r → Made r n w) (λ n. NoneLent r → Step (is_kept r) n)
+      (λ w n. IsLent r → Made r n w) (λ n. NoneLent r → Lacks r n)

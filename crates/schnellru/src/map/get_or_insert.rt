@@ -20,8 +20,9 @@ pub(crate) enum NotLent<E> {
     Failed(E),
 }
 
-// This and the next are not one function of the type of the error, because the proofs of their callers pass on the
-// lifetime of each type parameter.
+// `kept_or_error` and `kept_or` do the same for two types of error. One function with the error as a type parameter
+// would do for both, but its callers' proofs would have to pass it a lifetime for that parameter, and `AllocError` has
+// none.
 fn kept_or_error<V, E>(
     lent: Result<&mut V, NotLent<GetOrInsertError<E>>>,
 ) -> Result<Option<&mut V>, GetOrInsertError<E>>

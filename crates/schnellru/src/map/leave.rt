@@ -7,7 +7,6 @@ ghost use Rattle.lru_model.specs.Calls.{left_of, Remove, RemoveEntry, PopOldest,
 ghost use Rattle.lru_model.specs.Inserts.{make_room};
 ghost use Rattle.lru_model.specs.HandedOver.{noting, noted};
 ghost use Rattle.lru_model.specs.MayTake.{MayTakeEach};
-ghost use Rattle.lru_model.specs.Lists.{last as last_bucket};
 ghost use Rattle.schnellru.specs.Inside.OrderedTable.{IsLinked, KeysFit};
 ghost use Rattle.schnellru.specs.Inside.Handing.{Hands};
 ghost use Rattle.schnellru.specs.Inside.Steps.{IsTakenOut};
@@ -193,21 +192,21 @@ impl<K: Eq + Hash, V, L: Limiter<K, V>, S: KeyHasher<K>> LruMap<K, V, L, S> {
     }
 }
 
-// Takes the pair out of a full bucket, which is known to be the oldest if `last`, and notifies the limiter.
+// Takes the pair out of a full bucket, which is known to be the oldest if `is_oldest`, and notifies the limiter.
 #[inline]
 pub(super) fn take_out<K: Eq + Hash, V, L: Limiter<K, V>>(
     entries: &mut OrderedTable<K, V, L::LinkType>,
     limiter: &mut L,
     b: usize,
-    last: bool,
+    is_oldest: bool,
 ) -> (K, V)
     requires full { IsFull entries.old.slots b }
-    requires last { IsTrue last → last_bucket entries.old.order ≡ Some b }
+    requires last { IsTrue is_oldest → last entries.old.order ≡ Some b }
     ensures taken { IsTakenOut L.rules b entries.old entries.new limiter.old result limiter.new }
     ensures linked { IsLinked entries.new }
     ensures fits { (hash_of : K → ℕ) → KeysFit hash_of entries.old.slots → KeysFit hash_of entries.new.slots }
 {
-    notify(limiter, entries.take(b, last))
+    notify(limiter, entries.take(b, is_oldest))
 }
 
 // Notifies the limiter of a pair that was evicted, removed or not stored, and returns the pair as the limiter leaves

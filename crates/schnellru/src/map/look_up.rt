@@ -157,6 +157,7 @@ impl<K: Eq + Hash, V, L: Limiter<K, V>, S: KeyHasher<K>> LruMap<K, V, L, S> {
             L.LinkType.LinkType.own L.LinkType.PartialEq L.LinkType.Debug S.KeyHasher S.Hasher.Hasher
             self.entry result) }
         ensures value { newest_value self.old.pairs ≡ Some result.now }
+        ensures map { (last : V) → IsMap K.eq (record self.old { pairs = set_newest self.old.pairs last }) }
     {
         let b = self.entries.newest();
         &mut self.entries.pair_mut(b).value

@@ -41,11 +41,12 @@ impl<'a, K: Eq + Hash + Drop, V: Drop, L: Limiter<K, V>, S: KeyHasher<K>> Drop
 
 impl<'a, K: Eq + Hash + Drop, V: Drop, L: Limiter<K, V>, S: KeyHasher<K>> Iterator
     for Drain<'a, K, V, L, S> {
-    ghost use Rattle.schnellru.specs.Drains.{TakesNewest, drain_left};
+    ghost use Rattle.lru_model.specs.Calls.{PopNewest};
+    ghost use Rattle.schnellru.specs.Drains.{TakesBy, drain_left};
 
     type Item = (K, V);
 
-    ghost next_gives = { TakesNewest L.rules };
+    ghost next_gives = { TakesBy (PopNewest L.rules) };
 
     ghost remaining = { drain_left };
 
@@ -66,9 +67,10 @@ impl<'a, K: Eq + Hash + Drop, V: Drop, L: Limiter<K, V>, S: KeyHasher<K>> Iterat
 
 impl<'a, K: Eq + Hash + Drop, V: Drop, L: Limiter<K, V>, S: KeyHasher<K>> DoubleEndedIterator
     for Drain<'a, K, V, L, S> {
-    ghost use Rattle.schnellru.specs.Drains.{TakesOldest};
+    ghost use Rattle.lru_model.specs.Calls.{PopOldest};
+    ghost use Rattle.schnellru.specs.Drains.{TakesBy};
 
-    ghost next_back_gives = { TakesOldest L.rules };
+    ghost next_back_gives = { TakesBy (PopOldest L.rules) };
 
     fn next_back(&mut self) -> Option<(K, V)> {
         self.map.pop_oldest()

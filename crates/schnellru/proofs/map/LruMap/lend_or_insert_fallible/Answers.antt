@@ -14,6 +14,7 @@ returns-in-Ok-true g c = (
       },
       c.newest_value_mut.ensures.value,
       refl,
+      c.newest_value_mut.ensures.map w,
     ),
     tt,
   ),
@@ -25,11 +26,14 @@ returns-in-Ok-false g c = (
   (
     refl,
     λ w t. absurd cc,
-    record {
-      step = rw c.in-Ok-false.field-0-test at c.in-Ok-false.ensures.step;
-      says = rw c.in-Ok-false.field-0-test at c.in-Ok-false.ensures.says;
-      lacks = rw c.in-Ok-false.field-0-test at c.in-Ok-false.ensures.lacks;
-    },
+    (
+      record {
+        step = rw c.in-Ok-false.field-0-test at c.in-Ok-false.ensures.step;
+        says = rw c.in-Ok-false.field-0-test at c.in-Ok-false.ensures.says;
+        lacks = rw c.in-Ok-false.field-0-test at c.in-Ok-false.ensures.lacks;
+      },
+      c.in-Ok-false.ensures.map,
+    ),
   ),
   record { writes_back = tt },
 )
@@ -39,11 +43,14 @@ returns-in-Err g c = (
   (
     refl,
     λ w t. absurd cc,
-    record {
-      step = c.in-Err.ensures.step;
-      says = c.in-Err.ensures.says;
-      lacks = c.in-Err.ensures.lacks;
-    },
+    (
+      record {
+        step = c.in-Err.ensures.step;
+        says = c.in-Err.ensures.says;
+        lacks = c.in-Err.ensures.lacks;
+      },
+      c.in-Err.ensures.map,
+    ),
   ),
   record { writes_back = tt },
 )

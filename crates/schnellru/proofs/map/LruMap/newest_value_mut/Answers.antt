@@ -1,4 +1,5 @@
-use Rattle.std.proofs.Common.{refl}
+use Rattle.std.proofs.Common.{refl, subst}
+use Rattle.lru_model.specs.State.{IsMap}
 use Rattle.schnellru.proofs.OrderedTables.NewestPair.{newest_state, newest_holds, newest_is}
 use Rattle.schnellru.proofs.map.LruMap.newest_value_mut.Goals as goal
 
@@ -17,6 +18,7 @@ pub returns : goal.returns
 returns g c =
     let m = c.self.inside in
     let t = m.entries in let holds = c.self.invariant in
+    let hash_of = g.S.KeyHasher.hash_of in
     let first = c.newest-b.ensures.newest in
     rw (← c.self.view_is) (
       (
@@ -29,5 +31,12 @@ returns g c =
         writes_back = tt;
         value = newest_is t holds.linked c.newest-b.result
             (c.pair_mut.result.now.key, c.pair_mut.result.now.value) c.pair_mut.ensures.pair first;
+        map = λ w. subst (IsMap g.K.PartialEq.eq)
+            (newest_state t holds.linked c.newest-b.result (c.pair_mut.result.now.key, c.pair_mut.result.now.value)
+            c.pair_mut.ensures.pair first w _)
+            (newest_holds t holds.linked c.newest-b.result (c.pair_mut.result.now.key, c.pair_mut.result.now.value)
+            c.pair_mut.ensures.pair first w _ g.met.K.Eq.laws hash_of holds
+            (c.pair_mut.ensures.linked (c.pair_mut.result.now.key, w))
+            (c.pair_mut.ensures.fits (hash_of m.hasher) holds.fits (c.pair_mut.result.now.key, w) refl)).map;
       },
     )
