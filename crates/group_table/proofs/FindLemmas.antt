@@ -14,9 +14,12 @@ use Rattle.group_table.specs.Probe.{hash_tag, probed, mark_probed, Reaches}
 use Rattle.group_table.specs.Search.{candidates, Answers, RejectsEach, Finds, FindsNone}
 use Rattle.group_table.specs.Layout.{slot_of, slots_of, marks_by, IsLaidOut}
 use Rattle.group_table.specs.Group.{width, tagged_lanes, IsEmptyLane, HasEmptyLane, HasNoEmptyLane, AcceptsIn}
-use Rattle.group_table.specs.Group.{RejectsGroup}
+use Rattle.group_table.specs.Group.{RejectsGroup, IsProbe, passed_by}
+use Rattle.group_table.specs.Control.{buckets_of}
+use Rattle.group_table.specs.declared.probe.Probe.{Probe}
+use Rattle.group_table.proofs.ControlLemmas.{buckets_are}
 use Rattle.group_table.proofs.BucketLemmas.{full_lt, empty_not_full, bucket_at-past, length-marks_of}
-use Rattle.group_table.proofs.ProbeLemmas.{probed-meets, probed-lane, up_to_lane, up_to_end, group_within}
+use Rattle.group_table.proofs.ProbeLemmas.{probed-meets, probed-lane, up_to_lane, up_to_end, group_within, probe_within}
 use Rattle.group_table.proofs.LayoutLemmas.{length-laid_out, bucket_at-laid_out}
 use Rattle.group_table.proofs.LayoutLemmas.{power_of}
 use Rattle.group_table.proofs.SearchLemmas.{FoldsTo-append, full_by_tag, held_by, has_tag-full, tagged_lanes-more}
@@ -220,3 +223,71 @@ module _ {T : Type 0} (control : List ℕ) (entries : List (Option T)) (laid_out
   pub none_on : s + 16 < length entries → (t : ℕ) → t < s + 16 → mark_probed (marks_by control entries) hash t ≢ empty
   none_on q t p = rw (length-marks_of (slots_of control entries), length-laid_out control entries laid_out)
       (none_up_to t (omega arith))
+
+-- a search for the hash goes past its first n steps: `f` refused the candidates there and is then `g`, and none of the
+-- buckets there is empty
+pub record GoesPast {T F : Type 0} (closure : Mut F (Bor T × Unit {0}) Bool) (slots : List (Slot T)) (hash n : ℕ)
+    (f g : F) : Type 0 where
+  pub within : n < length slots
+  pub refused : RejectsEach closure slots f (candidates slots hash n) g
+  pub not_empty : (before : ℕ) → before < n → mark_probed (marks_of slots) hash before ≢ empty
+
+-- the search comes to a group
+module _ {T F : Type 0} (closure : Mut F (Bor T × Unit {0}) Bool) (control : List ℕ) (entries : List (Option T))
+    (laid_out : IsLaidOut control entries)
+    (some : (b : ℕ) × (b < length entries) × (bucket_at (marks_by control entries) b ≡ empty)) (hash : ℕ) where
+  abbrev slots : List (Slot T)
+  slots = slots_of control entries
+
+  same : length slots ≡ length entries
+  same = length-laid_out control entries laid_out
+
+  -- no bucket is before the first
+  pub GoesPast-none : (f : F) (n : ℕ) → n ≡ 0 → GoesPast closure slots hash n f f
+  GoesPast-none f n e = record {
+    within = omega (arith, same, some.1, e);
+    refused = rw e refl;
+    not_empty = λ before below met. absurd {A = ⊥} (omega (arith, e));
+  }
+
+  module _ (probe : Probe) (at : IsProbe (buckets_of control) hash probe) where
+    at_slots : IsProbe (length slots) hash probe
+    at_slots = rw same (rw (buckets_are _ _ laid_out) at at)
+
+    pub group_starts : probe.start < length entries
+    group_starts = rw same at (probe_within _ hash probe at_slots (omega (arith, same, some.1)))
+
+    module _ (f between g : F) (past : GoesPast closure slots hash (passed_by probe) f between)
+        (tag : ℕ) (tag_is : tag ≡ hash_tag hash) where
+      power : IsPowerFromFour (length slots)
+      power = rw same (power_of _ _ laid_out (omega (arith, some.1)))
+
+      -- and ends there
+      pub Finds-here : (b : ℕ) → AcceptsIn closure slots tag probe.start between b g → Finds closure slots hash f b
+      Finds-here b here =
+          Finds-from closure slots hash (passed_by probe) power at_slots.whole past.within past.not_empty f between g
+          past.refused b (rw (at_slots.start, tag_is) at here)
+
+      pub FindsNone-here : RejectsGroup closure slots tag probe.start between g
+          × HasEmptyLane slots probe.start (width slots) → FindsNone closure slots hash f
+      FindsNone-here here =
+          FindsNone-from closure slots hash (passed_by probe) power at_slots.whole past.within past.not_empty f between
+          g past.refused (rw (at_slots.start, tag_is) at here.0) (rw at_slots.start at here.1)
+
+      -- or goes past it
+      module _ (here : RejectsGroup closure slots tag probe.start between g
+          × HasNoEmptyLane slots probe.start (width slots)) where
+        more : passed_by probe + 16 < length entries
+        more = not_ended _ _ laid_out hash (passed_by probe) (omega (arith, some.1)) at_slots.whole past.not_empty
+            (rw at_slots.start at here.1) some.0 some.1 some.2
+
+        pub GoesPast-here : GoesPast closure slots hash (passed_by probe + 16) f g
+        GoesPast-here =
+            let wide : min 16 (length slots) ≡ 16 = omega (arith, same, more) in
+            record {
+              within = rw same more;
+              refused = rw wide at (refused_group closure slots hash (passed_by probe) power at_slots.whole past.within
+                  past.not_empty f between g past.refused (rw (at_slots.start, tag_is) at here.0));
+              not_empty = none_on _ _ laid_out hash (passed_by probe) (omega (arith, some.1)) at_slots.whole
+                  past.not_empty (rw at_slots.start at here.1) more;
+            }

@@ -11,8 +11,9 @@ use lru_limits::{KeyHasher, Limiter, LookupKey};
 use std::hash::Hash;
 
 impl<K: Eq + Hash, V, L: Limiter<K, V>, S: KeyHasher<K>> LruMap<K, V, L, S> {
-    // Returns the bucket of the pair of a key, if the key is there.
-    #[inline]
+    // Returns the bucket of the pair of a key, if the key is there. Always in line: in a program with many look-ups the
+    // compiler would call it from each.
+    #[inline(always)]
     pub(crate) fn find<Q: LookupKey<K>>(&self, key: &Q) -> Option<usize>
         ensures found { IfSome result (λ b. place_of (Q.names key.now) self.now.pairs self.now.places ≡ Some b) }
         ensures there { IfSome result (Contains self.now.places) }

@@ -30,7 +30,8 @@ impl<K: Eq + Hash, V, L: Limiter<K, V>, S: KeyHasher<K>> LruMap<K, V, L, S> {
     /// Cost: `O(1)` expected.
     ///
     /// After schnellru's `LruMap::get`.
-    #[inline]
+    // Always in line: the compiler finds it too long with its search, and would call it.
+    #[inline(always)]
     pub fn get<Q: LookupKey<K>>(&mut self, key: &Q) -> Option<&mut V>
         ensures* writes_back { sem 𝓛 (lends_value K.row V.row L.row S.row L.LinkType.row S.Hasher.row K.Hash L.Limiter
             L.LinkType.LinkType.own L.LinkType.PartialEq L.LinkType.Debug S.KeyHasher S.Hasher.Hasher
