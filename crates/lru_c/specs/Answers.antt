@@ -3,7 +3,7 @@ use Rattle.std.specs.Prelude.{◌≡◌, ℕ, suc, Bool, true, false, Option, No
 use Rattle.std.specs.Prelude.{if◌then◌else◌, nat_eq}
 use Rattle.std.specs.declared.alloc.AllocError.{AllocError}
 use Rattle.lru_limits.specs.Limiters.{length_rules, length_offers}
-use Rattle.lru_model.specs.HandedOver.{InsertHands}
+use Rattle.lru_model.specs.Callbacks.{InsertPasses}
 use Rattle.lru_model.specs.Lists.{lookup}
 use Rattle.lru_c.specs.Handle.{Map, hash_of}
 use Rattle.lru_c.specs.declared.answers.Entry.{Entry}
@@ -60,7 +60,7 @@ put_code (Err error) = 2
 pub record Inserts (key value : ℕ) (old : Map) (answer : Inserted) (place left : Entry) (new : Map) : Type 0 where
   pub result : Result Bool AllocError
   pub handed : List (ℕ × ℕ)
-  pub step : InsertHands length_rules length_offers nat_eq hash_of key value old result handed new
+  pub step : InsertPasses length_rules length_offers nat_eq hash_of key value old result handed new
   pub evicted : noted_pair answer.evicted left ≡ first_other key handed
   pub untouched : answer.evicted ≡ false → left ≡ place
   pub replaced : replaced_value answer ≡ lookup (nat_eq key) old.pairs

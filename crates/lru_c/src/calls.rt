@@ -3,7 +3,7 @@ ghost use Rattle.std.specs.Prelude.{◌≡◌, ℕ, nat_eq, false, List, None, I
 ghost use Rattle.lru_limits.specs.Limiters.{length_rules, length_offers};
 ghost use Rattle.lru_model.specs.Calls.{Remove, PopOldest, promoted};
 ghost use Rattle.lru_model.specs.Lists.{lookup, first, last};
-ghost use Rattle.lru_model.specs.HandedOver.{InsertHands};
+ghost use Rattle.lru_model.specs.Callbacks.{InsertPasses};
 ghost use Rattle.lru_model.specs.Inserts.{kept_of};
 ghost use Rattle.lru_c.specs.Answers.{found_value, found_pair, noted_pair, filled, fitting, first_other, Inserts};
 ghost use Rattle.lru_c.specs.Handle.{hash_of};
@@ -38,7 +38,7 @@ fn insert_and_note(
 ) -> Result<schnellru::Inserted<u64>, AllocError>
     requires { noted.old ≡ false }
     ensures handed { (handed : List (ℕ × ℕ)) × (noted_pair noted.new place.new ≡ first_other key handed)
-        × InsertHands length_rules length_offers nat_eq hash_of key value map.old (kept_of result) handed map.new }
+        × InsertPasses length_rules length_offers nat_eq hash_of key value map.old (kept_of result) handed map.new }
     ensures untouched { noted.new ≡ false → place.new ≡ place.old }
     ensures replaced { IfOk result (λ inserted. inserted.unkept ≡ lookup (nat_eq key) map.old.pairs) }
     ensures lacks { OnErr result (lookup (nat_eq key) map.old.pairs ≡ None) }

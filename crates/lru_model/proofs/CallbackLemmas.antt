@@ -10,19 +10,19 @@ use Rattle.std.specs.Prelude.{All}
 use Rattle.std.specs.Fn.{Mut, Called, Takes as MayBeCalled}
 use denote.Param.Always.{always_mut, mut_next}
 use Rattle.lru_limits.specs.Rules.{Rules, Offers}
-use Rattle.lru_model.specs.HandedOver.{Takes}
+use Rattle.lru_model.specs.Callbacks.{CalledWith}
 use Rattle.lru_model.specs.MayTake.{MayTake, MayTakeEach, MayTakeReplaced, MayTakeInserted, IsLeftOf}
 use Rattle.lru_model.specs.State.{Contents}
 
 module _ {K V F : Type 0} (closure : Mut F (K × (V × Unit {0})) (Unit {0})) where
-  pub takes_always : (pairs : List (K × V)) (f g : F) → Takes closure f pairs g → always_mut closure f
+  pub takes_always : (pairs : List (K × V)) (f g : F) → CalledWith closure f pairs g → always_mut closure f
       → always_mut closure g
   takes_always [] f g e h = subst (always_mut closure) e h
   takes_always (p ∷ ps) f g (between, called, rest) h = takes_always ps between g rest
       (mut_next closure f (p.0, (p.1, tt)) tt between between called refl h)
 
   pub may_take_always : (f : F) (before : List (K × V)) (g : F) (pair : K × V) → always_mut closure f
-      → Takes closure f before g → MayBeCalled closure g (pair.0, (pair.1, tt))
+      → CalledWith closure f before g → MayBeCalled closure g (pair.0, (pair.1, tt))
   may_take_always f before g pair h taken = ((takes_always before f g taken h).at ((pair.0, (pair.1, tt)) ∷ [])).0
 
   -- an invariant of the callback after m calls, of at most n
@@ -32,7 +32,7 @@ module _ {K V F : Type 0} (closure : Mut F (K × (V × Unit {0})) (Unit {0})) wh
       (keeps : (m : ℕ) (g h : F) (pair : K × V) → m < n → Inv m g → passes pair
       → Called closure g (pair.0, (pair.1, tt)) tt h → Inv (suc m) h) where
     reached : (pairs : List (K × V)) (m k : ℕ) (f g : F) → k ≡ m + length pairs → k ≤ n → All passes pairs → Inv m f
-        → Takes closure f pairs g → Inv k g
+        → CalledWith closure f pairs g → Inv k g
     reached [] m k f g is few all inv e =
         let same : m ≡ k = omega (arith, is) in subst (λ i. Inv i g) same (subst (Inv m) e inv)
     reached (p ∷ ps) m k f g is few all inv (between, called, rest) =

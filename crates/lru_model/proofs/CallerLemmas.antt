@@ -80,7 +80,7 @@ use Rattle.lru_model.specs.Lists.{place_of, other_places, front_places, back_pla
 use Rattle.lru_model.specs.State.{State}
 use Rattle.lru_model.specs.Calls.{promoted, demoted, written}
 use Rattle.lru_model.specs.Exact.{IsDetermined, NeverLacks, AlwaysGrants}
-use Rattle.lru_model.specs.Theorems.{SaysWhether, Stores, KeepsValues, IsSummed, GivesUp, behind, with_none}
+use Rattle.lru_model.specs.Theorems.{SaysWhether, Stores, KeepsValues, IsSummed, EvictsOldest, behind, with_none}
 use Rattle.lru_model.specs.Theorems.{without_one}
 use Rattle.lru_model.proofs.Theorems.InsertAnswers.{insert_found}
 use Rattle.lru_model.proofs.Theorems.Sums.{total-is, total-front}
@@ -196,8 +196,8 @@ module _ {K V : Type 0} (P : K × V → Type 0) (names : K → Bool) where
       go (Some p) e = All-cons P p (without names xs) (found-all xs p e h) (all-without xs h)
 
   -- the pair that comes by an insert is the one that is found under the inserted key then
-  pub inserted-all : {refuses : K × V → Type 0} (old new : List (K × V)) → GivesUp names refuses old new → All P old
-      → ((p : K × V) → names p.0 ≡ true → lookup names new ≡ Some p.1 → P p) → All P new
+  pub inserted-all : {refuses : K × V → Type 0} (old new : List (K × V)) → EvictsOldest names refuses old new
+      → All P old → ((p : K × V) → names p.0 ≡ true → lookup names new ≡ Some p.1 → P p) → All P new
   inserted-all old new (behind newest named (rest, e)) h one = go new e one
     where
       go : (xs : List (K × V)) → newest ∷ without names old ≡ xs ++ rest

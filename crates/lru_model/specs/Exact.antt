@@ -9,7 +9,7 @@ use Rattle.lru_model.specs.Sizes.{usage, Target, target, no_table, same_table, n
 use Rattle.lru_model.specs.Lists.{is_empty, lookup_entry}
 use Rattle.lru_model.specs.State.{State, buckets, room, Contents, contents, pops, trim}
 use Rattle.lru_model.specs.Place.{table_for}
-use Rattle.lru_model.specs.Inserts.{make_room, replacement, with_replaced, with_given_up, MayGive}
+use Rattle.lru_model.specs.Inserts.{make_room, replacement, with_replaced, with_removed, MayGive}
 
 -- what an insertion into the table comes to: whether the pair is stored (`there`), and the pairs and the limiter then
 pub record Landing (K V S : Type 0) : Type 0 where
@@ -27,13 +27,13 @@ module _ {K V S : Type 0} (rules : Rules K V S) (pair : K × V) where
   lands c = record { there = true; left = record { pairs = pair ∷ c.pairs; limiter = c.limiter } }
 
   -- the pair is not stored, and the limiter is notified of it
-  abbrev pub turns_away : Contents K V S → Landing K V S
-  turns_away c = let s = (rules.on_removed c.limiter pair.0 pair.1).limiter in
+  abbrev pub not_landed : Contents K V S → Landing K V S
+  not_landed c = let s = (rules.on_removed c.limiter pair.0 pair.1).limiter in
       record { there = false; left = record { pairs = c.pairs; limiter = s } }
 
   -- The oldest pair is evicted, and the new pair is stored. If there is no pair to evict, the new pair is not stored.
   abbrev pub evicts : Contents K V S → Landing K V S
-  evicts c = if is_empty c.pairs then turns_away c else lands (pops rules 1 c)
+  evicts c = if is_empty c.pairs then not_landed c else lands (pops rules 1 c)
 
   -- the contents after the limiter was queried for a table of n bytes (`on_grow`)
   abbrev pub asks : ℕ → Contents K V S → Contents K V S
@@ -82,7 +82,7 @@ module _ {K V S I : Type 0} (rules : Rules K V S) (offers : Offers K V S I) (nam
   abbrev pub ending_there : K × V → Ending K V S
   ending_there pair = if (replacement rules offers names pair i v old).taken
       then trimmed rules (with_replaced rules offers names pair i v old)
-      else record { flag = false; left = with_given_up rules offers names pair i v old }
+      else record { flag = false; left = with_removed rules offers names pair i v old }
 
   -- if the key is new, `on_insert` of the limiter returned this pair or none, and the limiter is s then
   abbrev pub ending_new : S → Option (K × V) → Ending K V S
@@ -122,7 +122,7 @@ module _ {K V S I : Type 0} (rules : Rules K V S) (offers : Offers K V S I) (nam
     not_placed : lookup_entry (names i) old.pairs ≡ None →
         (s : S) (pair : K × V) → MayGive rules offers names i v old s (Some pair) →
         IsErr result →
-        new ≡ (turns_away rules pair (make_room rules (record { pairs = old.pairs; limiter = s }))).left →
+        new ≡ (not_landed rules pair (make_room rules (record { pairs = old.pairs; limiter = s }))).left →
         InsertsInList old result new
 
 -- two inserts return the same, and leave the same contents

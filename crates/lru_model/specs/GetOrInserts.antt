@@ -9,7 +9,7 @@ use Rattle.lru_limits.specs.Rules.{Rules, Offers}
 use Rattle.lru_model.specs.Lists.{lookup, lookup_entry}
 use Rattle.lru_model.specs.State.{State}
 use Rattle.lru_model.specs.Calls.{promoted}
-use Rattle.lru_model.specs.Inserts.{Insert, LacksMemory}
+use Rattle.lru_model.specs.Inserts.{Insert, IsOutOfMemory}
 use Rattle.lru_model.specs.Theorems.{IsNewest}
 
 module _ {K V S H I : Type 0} (rules : Rules K V S) (offers : Offers K V S I) (names : I → K → Bool)
@@ -26,8 +26,8 @@ module _ {K V S H I : Type 0} (rules : Rules K V S) (offers : Offers K V S I) (n
         MakesNewest makes i old result new
 
   -- why it fails: the closure returned v, and the insert of v ran out of memory
-  abbrev pub LacksMemoryFor : (makes : V → Type 0) → I → State K V S H → State K V S H → Type 0
-  LacksMemoryFor makes i old new = (v : V) × makes v × LacksMemory rules offers names hash_of i v old new
+  abbrev pub IsOutOfMemoryFor : (makes : V → Type 0) → I → State K V S H → State K V S H → Type 0
+  IsOutOfMemoryFor makes i old new = (v : V) × makes v × IsOutOfMemory rules offers names hash_of i v old new
 
 module _ {K V S H E : Type 0} where
   -- If the result is true, the pair of the key is the newest. If it is false or an error, the key is not there.
@@ -43,4 +43,4 @@ module _ {K V S H I : Type 0} (rules : Rules K V S) (offers : Offers K V S I) (n
       (new : State K V S H) : Type 0 where
     pub step : MakesNewest rules offers names hash_of makes i old result new
     pub says : SaysNewest (names i) result new
-    pub lacks : OnErr result (LacksMemoryFor rules offers names hash_of makes i old new)
+    pub lacks : OnErr result (IsOutOfMemoryFor rules offers names hash_of makes i old new)

@@ -4,7 +4,7 @@ use Rattle.std.specs.declared.alloc.AllocError.{AllocError}
 use Rattle.lru_limits.specs.Rules.{Rules, Offers}
 use Rattle.lru_model.specs.Lists.{lookup}
 use Rattle.lru_model.specs.State.{State}
-use Rattle.lru_model.specs.GetOrInserts.{MakesNewest, SaysNewest, LacksMemoryFor}
+use Rattle.lru_model.specs.GetOrInserts.{MakesNewest, SaysNewest, IsOutOfMemoryFor}
 use Rattle.lru_model.specs.declared.results.GetOrInsertError.{GetOrInsertError}
 use Rattle.lru_model.specs.declared.results.GetOrInsertError.TheVariants.{Memory, Caller}
 
@@ -31,4 +31,4 @@ module _ {K V S H I E : Type 0} (rules : Rules K V S) (offers : Offers K V S I) 
       (result : Result Bool (GetOrInsertError E)) (new : State K V S H) : Type 0 where
     pub step : MakesNewestIfMade makes i old result new
     pub says : SaysNewest (names i) result new
-    pub lacks : IsErrOf result Memory → LacksMemoryFor rules offers names hash_of (λ v. makes (Ok v)) i old new
+    pub lacks : IsErrOf result Memory → IsOutOfMemoryFor rules offers names hash_of (λ v. makes (Ok v)) i old new

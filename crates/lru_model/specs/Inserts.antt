@@ -66,8 +66,8 @@ module _ {K V S I : Type 0} (rules : Rules K V S) (offers : Offers K V S I) (nam
 
   -- the contents after the limiter rejected the new value: the pair is removed, and the limiter is notified of the
   -- removal
-  abbrev pub with_given_up : K × V → I → V → Contents K V S → Contents K V S
-  with_given_up pair i v c = let r = replacement pair i v c in
+  abbrev pub with_removed : K × V → I → V → Contents K V S → Contents K V S
+  with_removed pair i v c = let r = replacement pair i v c in
       record { pairs = without (names i) c.pairs; limiter = (rules.on_removed r.limiter r.key r.old_value).limiter }
 
   -- the value that the map does not keep after an insert, if the key was there
@@ -89,9 +89,9 @@ module _ {K V S I : Type 0} (rules : Rules K V S) (offers : Offers K V S I) (nam
           result ≡ Ok (not (is_empty new.pairs)) → Leaves old (trim rules (with_replaced pair i v (contents old))) new →
           Insert i v old result new
       -- The key is there, and the limiter rejects the new value: the pair is removed.
-      given_up : (pair : K × V) → lookup_entry (names i) old.pairs ≡ Some pair →
+      not_replaced : (pair : K × V) → lookup_entry (names i) old.pairs ≡ Some pair →
           (replacement pair i v (contents old)).taken ≡ false →
-          result ≡ Ok false → Leaves old (with_given_up pair i v (contents old)) new →
+          result ≡ Ok false → Leaves old (with_removed pair i v (contents old)) new →
           Insert i v old result new
       -- The key is new: the limiter runs out of memory, or returns no pair to store,
       no_memory_to_admit : lookup_entry (names i) old.pairs ≡ None →
@@ -110,15 +110,15 @@ module _ {K V S I : Type 0} (rules : Rules K V S) (offers : Offers K V S I) (nam
 
     -- The table may need memory for the pair that the limiter returned: no growth is left, and either there are no
     -- buckets, or the map contains a pair even after `make_room`. (A rehash of a table without pairs needs no memory.)
-    pub record IsShort (i : I) (v : V) (old : State K V S H) : Type 0 where
+    pub record NeedsMemory (i : I) (v : V) (old : State K V S H) : Type 0 where
       pub no_room : room old ≡ 0
       pub s : S
       pub pair : K × V
       pub given : MayGive i v (contents old) s (Some pair)
-      pub beside : (buckets old ≡ 0) ⊎ (0 < length (make_room rules (record { pairs = old.pairs; limiter = s })).pairs)
+      pub needed : (buckets old ≡ 0) ⊎ (0 < length (make_room rules (record { pairs = old.pairs; limiter = s })).pairs)
 
     -- Why an insert runs out of memory: the key is new, and either `on_insert` of the limiter ran out of memory, and
     -- nothing has changed, or the table needed memory.
-    abbrev pub LacksMemory : I → V → State K V S H → State K V S H → Type 0
-    LacksMemory i v old new = (lookup_entry (names i) old.pairs ≡ None)
-        × ((offers.may_lack old.limiter (length old.pairs) i v × (new ≡ old)) ⊎ IsShort i v old)
+    abbrev pub IsOutOfMemory : I → V → State K V S H → State K V S H → Type 0
+    IsOutOfMemory i v old new = (lookup_entry (names i) old.pairs ≡ None)
+        × ((offers.may_lack old.limiter (length old.pairs) i v × (new ≡ old)) ⊎ NeedsMemory i v old)

@@ -6,7 +6,7 @@ pub mod Calls
 pub mod Pops
 pub mod Inserts
 pub mod Extends
-pub mod HandedOver
+pub mod Callbacks
 pub mod MayTake
 pub mod Reservations
 pub mod Shrinks

@@ -11,12 +11,12 @@ use Rattle.lru_model.specs.Lists.{lookup_entry}
 use Rattle.lru_model.specs.State.{Contents}
 use Rattle.lru_model.specs.Calls.{left_of}
 use Rattle.lru_model.specs.Inserts.{replacement, with_replaced, MayGive}
-use Rattle.lru_model.specs.HandedOver.{Takes}
+use Rattle.lru_model.specs.Callbacks.{CalledWith}
 
 -- f may be called with n pairs that pass the test, one after another
 abbrev pub MayTake : {K V F : Type 0} → Mut F (K × (V × Unit {0})) (Unit {0}) → (K × V → Type 0) → ℕ → F → Type 0
 MayTake {K} {V} {F} closure passes n f = (before : List (K × V)) (g : F) (pair : K × V) → length before < n
-    → All passes before → Takes closure f before g → passes pair → MayBeCalled closure g (pair.0, (pair.1, tt))
+    → All passes before → CalledWith closure f before g → passes pair → MayBeCalled closure g (pair.0, (pair.1, tt))
 
 module _ {K V S : Type 0} (rules : Rules K V S) where
   -- `left` is what the limiter may leave of one of these pairs when it is notified of the removal

@@ -87,19 +87,19 @@ module _ {K V S H : Type 0} (rules : Rules K V S) where
   Denies bytes st = (rules.on_grow st.limiter bytes).allowed ≡ false
 
   -- the map after its limiter was notified of a pair that was not stored
-  abbrev pub turned_away : K × V → State K V S H → State K V S H
-  turned_away pair st = record st { limiter = (rules.on_removed st.limiter pair.0 pair.1).limiter }
+  abbrev pub unstored : K × V → State K V S H → State K V S H
+  unstored pair st = record st { limiter = (rules.on_removed st.limiter pair.0 pair.1).limiter }
 
   -- The n oldest pairs were evicted, one after another, each because no bucket took a pair of this hash.
-  abbrev pub OldestLeave : ℕ → ℕ → State K V S H → State K V S H → Type 0
-  OldestLeave hash zero old new = new ≡ old
-  OldestLeave hash (suc n) old new = (before : State K V S H) × OldestLeave hash n old before
+  abbrev pub OldestEvicted : ℕ → ℕ → State K V S H → State K V S H → Type 0
+  OldestEvicted hash zero old new = new ≡ old
+  OldestEvicted hash (suc n) old new = (before : State K V S H) × OldestEvicted hash n old before
       × HasNoPlace before.marks hash × Leaves before (pop rules (contents before)) new
 
   -- the pair is stored as `IsPlaced` says, or the map ran out of memory, and the limiter was notified of the pair
   abbrev pub IsPlacedIfMemory : K × V → ℕ → ℕ → ℕ → State K V S H → Outcome → State K V S H → Type 0
   IsPlacedIfMemory pair count spare moves old placed new = IsPlaced pair count spare moves old new
-  IsPlacedIfMemory pair count spare moves old no_memory new = new ≡ turned_away pair old
+  IsPlacedIfMemory pair count spare moves old no_memory new = new ≡ unstored pair old
   IsPlacedIfMemory pair count spare moves old refused new = ⊥
 
   -- all entries moved into a table of `count` buckets, in which the pair was stored, unless the map ran out of memory
@@ -120,16 +120,16 @@ module _ {K V S H : Type 0} (rules : Rules K V S) where
   pub data Evicts (hash : ℕ) (pair : K × V) (old mid : State K V S H) (outcome : Outcome)
       (new : State K V S H) : Type 0 where
     nothing_to_evict : old.pairs ≡ [] →
-        outcome ≡ refused → new ≡ turned_away pair mid →
+        outcome ≡ refused → new ≡ unstored pair mid →
         Evicts hash pair old mid outcome new
     finds_bucket : (n : ℕ) → 0 < n → (buckets old ≤ 16 → n ≡ 1) →
         full_capacity (buckets old) / 2 + n ≤ length old.pairs →
-        (left : State K V S H) → OldestLeave hash n mid left → FillsBucket hash left new →
+        (left : State K V S H) → OldestEvicted hash n mid left → FillsBucket hash left new →
         outcome ≡ placed → IsPlaced pair (buckets old) (room new) 0 left new →
         Evicts hash pair old mid outcome new
     rehashes : 0 < length old.pairs → (n : ℕ) → 0 < n → (buckets old ≤ 16 → n ≡ 1) →
         length old.pairs + 1 ≡ full_capacity (buckets old) / 2 + n →
-        (left : State K V S H) → OldestLeave hash n mid left →
+        (left : State K V S H) → OldestEvicted hash n mid left →
         IsPlacedIfMemory pair (buckets old) (full_capacity (buckets old) / 2) (length left.pairs) left outcome new →
         Evicts hash pair old mid outcome new
 

@@ -9,8 +9,8 @@ use Rattle.lru_model.specs.declared.results.ReserveError.TheVariants.{TooLarge, 
 
 module _ {K V S H : Type 0} (n : ℕ) (st : State K V S H) where
   -- n is more than the growth left, and the number of pairs with n more is below 2 ^ 64
-  abbrev pub LacksRoomFor : Type 0
-  LacksRoomFor = (room st < n) × (length st.pairs + n < 2 ^ 64)
+  abbrev pub NeedsGrowthFor : Type 0
+  NeedsGrowthFor = (room st < n) × (length st.pairs + n < 2 ^ 64)
 
   -- why a reservation changes nothing
   pub data ReservesNothing (result : Result (Unit {0}) ReserveError) : Type 0 where
@@ -18,9 +18,9 @@ module _ {K V S H : Type 0} (n : ℕ) (st : State K V S H) where
     enough_room : n ≤ room st → length st.pairs + n < 2 ^ 64 → result ≡ Ok tt → ReservesNothing result
     -- or the number of pairs would pass 64 bits, or no table holds them,
     too_many : 2 ^ 64 ≤ length st.pairs + n → result ≡ Err TooLarge → ReservesNothing result
-    no_such_table : LacksRoomFor → table_for n st ≡ no_table → result ≡ Err TooLarge → ReservesNothing result
+    no_such_table : NeedsGrowthFor → table_for n st ≡ no_table → result ≡ Err TooLarge → ReservesNothing result
     -- or the allocation for a rehash fails; without pairs a rehash needs no memory
-    no_memory_to_rehash : LacksRoomFor → table_for n st ≡ same_table → 0 < length st.pairs → result ≡ Err Memory →
+    no_memory_to_rehash : NeedsGrowthFor → table_for n st ≡ same_table → 0 < length st.pairs → result ≡ Err Memory →
         ReservesNothing result
 
 module _ {K V S H : Type 0} (rules : Rules K V S) where
@@ -36,15 +36,15 @@ module _ {K V S H : Type 0} (rules : Rules K V S) where
     unchanged : ReservesNothing n old result → new ≡ old →
         Reserve n old result new
     -- or the table is rehashed at its size, for which the limiter is not queried,
-    rehashed : LacksRoomFor n old → table_for n old ≡ same_table →
+    rehashed : NeedsGrowthFor n old → table_for n old ≡ same_table →
         result ≡ Ok tt → MovesTo (buckets old) old new →
         Reserve n old result new
     -- or the table grows, if the limiter permits it,
-    reserved : LacksRoomFor n old → (count bytes : ℕ) → table_for n old ≡ new_table count bytes
+    reserved : NeedsGrowthFor n old → (count bytes : ℕ) → table_for n old ≡ new_table count bytes
         → Grants rules bytes old →
         result ≡ Ok tt → MovesTo count (asked rules bytes old) new →
         Reserve n old result new
     -- or the table does not grow, and the limiter was only queried.
-    asked_only : LacksRoomFor n old → (count bytes : ℕ) → table_for n old ≡ new_table count bytes
+    asked_only : NeedsGrowthFor n old → (count bytes : ℕ) → table_for n old ≡ new_table count bytes
         → FailsToGrow bytes old result → new ≡ asked rules bytes old →
         Reserve n old result new

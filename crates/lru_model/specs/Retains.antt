@@ -7,7 +7,7 @@ use Rattle.std.specs.Fn.{Mut}
 use Rattle.lru_limits.specs.Rules.{Rules}
 use Rattle.lru_model.specs.State.{State, Contents, Leaves, notified_of}
 use Rattle.lru_model.specs.ByHash.{Asks}
-use Rattle.lru_model.specs.HandedOver.{noting, noted}
+use Rattle.lru_model.specs.Callbacks.{noting, noted}
 
 module _ {K V S : Type 0} (rules : Rules K V S) where
   -- The contents with one more pair, if the closure returned true for it. Otherwise the pair is removed, and the
@@ -37,6 +37,6 @@ module _ {K V F : Type 0} (closure : Mut F (Bor K × (Bor V × Unit {0})) Bool) 
     pub state : Leaves old (retained rules asked old.limiter) new
 
 -- a retain that passes the pairs `handed` to its callback, as the limiter leaves them
-abbrev pub RetainHands : {K V S H F : Type 0} → Rules K V S → Mut F (Bor K × (Bor V × Unit {0})) Bool → F
+abbrev pub RetainPasses : {K V S H F : Type 0} → Rules K V S → Mut F (Bor K × (Bor V × Unit {0})) Bool → F
     → State K V S H → List (K × V) → State K V S H → Type 0
-RetainHands rules closure f old handed new = Retains closure (noting rules) f (noted [] old) (noted handed new)
+RetainPasses rules closure f old handed new = Retains closure (noting rules) f (noted [] old) (noted handed new)

@@ -49,15 +49,16 @@ pub record IsNewest {K V : Type 0} (names : K → Bool) (pairs : List (K × V)) 
 
 -- What an insert evicts or removes. `names` tests whether a key is the inserted one, and `refuses pair` says that the
 -- limiter rejects the new value for this pair.
-pub data GivesUp {K V : Type 0} (names : K → Bool) (refuses : K × V → Type 0) (old new : List (K × V)) : Type 0 where
+pub data EvictsOldest {K V : Type 0} (names : K → Bool) (refuses : K × V → Type 0) (old new : List (K × V))
+    : Type 0 where
   -- what is left begins with the pair of the key, followed by the newest others; or nothing is left
   behind : (newest : K × V) → names newest.0 ≡ true → IsFront new (newest ∷ without names old) →
-      GivesUp names refuses old new
+      EvictsOldest names refuses old new
   -- The key was not there, and its pair is not stored. The oldest pairs may have been evicted.
-  with_none : lookup_entry names old ≡ None → IsFront new old → GivesUp names refuses old new
+  with_none : lookup_entry names old ≡ None → IsFront new old → EvictsOldest names refuses old new
   -- the pair whose replacement is rejected is removed, and no other
   without_one : (pair : K × V) → lookup_entry names old ≡ Some pair → refuses pair → new ≡ without names old →
-      GivesUp names refuses old new
+      EvictsOldest names refuses old new
 
 module _ {K V S H : Type 0} (rules : Rules K V S) where
   -- the table has no growth left, would be more than half full, and cannot grow

@@ -5,8 +5,8 @@ use Rattle.std.specs.Prelude.{◌≡◌, Bool, true, false, List, [], Some, None
 use Rattle.lru_limits.specs.Rules.{Rules, Offers}
 use Rattle.lru_model.specs.Lists.{lookup_entry, set_entry}
 use Rattle.lru_model.specs.State.{State, Contents, contents, Leaves, trim}
-use Rattle.lru_model.specs.Inserts.{replacement, with_new_value, with_given_up}
-use Rattle.lru_model.specs.HandedOver.{noting, noting_offers, noted}
+use Rattle.lru_model.specs.Inserts.{replacement, with_new_value, with_removed}
+use Rattle.lru_model.specs.Callbacks.{noting, noting_offers, noted}
 use Rattle.lru_model.specs.declared.results.Updated.{Updated}
 use Rattle.lru_model.specs.declared.results.Updated.TheVariants.{Replaced, Rejected, Absent}
 
@@ -31,7 +31,7 @@ module _ {K V S I : Type 0} (rules : Rules K V S) (offers : Offers K V S I) (nam
     rejected : (pair : K × V) → lookup_entry (names i) old.pairs ≡ Some pair →
         (replacement rules offers names pair i v (contents old)).taken ≡ false →
         result ≡ Rejected (replacement rules offers names pair i v (contents old)).new_value →
-        Leaves old (with_given_up rules offers names pair i v (contents old)) new →
+        Leaves old (with_removed rules offers names pair i v (contents old)) new →
         Update i v old result new
     -- The key is not there, and nothing has changed.
     not_there : lookup_entry (names i) old.pairs ≡ None →
@@ -40,7 +40,7 @@ module _ {K V S I : Type 0} (rules : Rules K V S) (offers : Offers K V S I) (nam
 
 -- An update that passes the pairs `handed` to its callback: it is an update under the limiter with a list, which is
 -- empty before the call, and `handed` after it.
-abbrev pub UpdateHands : {K V S H I : Type 0} → Rules K V S → Offers K V S I → (I → K → Bool) → I → V → State K V S H
+abbrev pub UpdatePasses : {K V S H I : Type 0} → Rules K V S → Offers K V S I → (I → K → Bool) → I → V → State K V S H
     → Updated V → List (K × V) → State K V S H → Type 0
-UpdateHands rules offers names i v old result handed new =
+UpdatePasses rules offers names i v old result handed new =
     Update (noting rules) (noting_offers offers) names i v (noted [] old) result (noted handed new)

@@ -15,12 +15,12 @@ ghost use Rattle.lru_model.specs.Place.{Place, Outcome, placed, no_memory, IsPla
 ghost use Rattle.lru_model.specs.Calls.{Get, promoted, Remove, PopOldest, PopNewest, cleared};
 ghost use Rattle.lru_model.specs.Reservations.{Reserve};
 ghost use Rattle.lru_model.specs.declared.results.ReserveError.{ReserveError};
-ghost use Rattle.lru_model.specs.HandedOver.{InsertHands};
-ghost use Rattle.lru_model.specs.Inserts.{Insert, replacement, LacksMemory};
+ghost use Rattle.lru_model.specs.Callbacks.{InsertPasses};
+ghost use Rattle.lru_model.specs.Inserts.{Insert, replacement, IsOutOfMemory};
 ghost use Rattle.lru_model.specs.Exact.{IsDetermined, NeverLacks, EndsExactly, EndsIfLanded, InsertsInList};
 ghost use Rattle.lru_model.specs.Exact.{Landing, EndsAlike, LookAlike, AlwaysGrants, HasTables};
 ghost use Rattle.lru_model.specs.Theorems.{PaysForMoves, CountsPlacings, Stores, KeepsValues, IsRefusedGrowth};
-ghost use Rattle.lru_model.specs.Theorems.{UsesAtMost, GivesUp, IsSummed, SaysWhether};
+ghost use Rattle.lru_model.specs.Theorems.{UsesAtMost, EvictsOldest, IsSummed, SaysWhether};
 
 use lru_limits::{ByLength, ByMemoryUsage, Insertion, KeyHasher, Limiter, LookupKey, Summing};
 use std::hash::Hash;
@@ -57,7 +57,7 @@ pub fn inserts_give_up_the_oldest<
 >()
     ensures { (key : I) (value : V) (old : State K V L S) (result : Result Bool AllocError) (new : State K V L S) →
         Insert L.rules L.offers I.names S.hash_of key value old result new →
-        GivesUp (I.names key)
+        EvictsOldest (I.names key)
         (λ pair. (replacement L.rules L.offers I.names pair key value (contents old)).taken ≡ false) old.pairs
         new.pairs }
 {}
@@ -89,11 +89,11 @@ pub fn inserts_hand_over_few<
 >()
     ensures few { (key : I) (value : V) (old : State K V L S) (result : Result Bool AllocError)
         (handed : List (K × V)) (new : State K V L S) →
-        InsertHands L.rules L.offers I.names S.hash_of key value old result
+        InsertPasses L.rules L.offers I.names S.hash_of key value old result
         handed new → length handed + length new.pairs ≤ length old.pairs + 1 }
     ensures step { (key : I) (value : V) (old : State K V L S) (result : Result Bool AllocError)
         (handed : List (K × V)) (new : State K V L S) →
-        InsertHands L.rules L.offers I.names S.hash_of key value old result handed new →
+        InsertPasses L.rules L.offers I.names S.hash_of key value old result handed new →
         Insert L.rules L.offers I.names S.hash_of key value old result new }
 {}
 
@@ -128,7 +128,7 @@ pub fn inserts_lack_memory_at_no_room<
         (new : State K V L S) →
         IsErr result →
         Insert L.rules L.offers I.names S.hash_of key value old result new →
-        LacksMemory L.rules L.offers I.names S.hash_of key value old new }
+        IsOutOfMemory L.rules L.offers I.names S.hash_of key value old new }
     ensures keeps { (key : I) (value : V) (old : State K V L S) (result : Result Bool AllocError)
         (new : State K V L S) →
         IsErr result →

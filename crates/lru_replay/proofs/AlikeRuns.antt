@@ -16,7 +16,7 @@ use Rattle.lru_model.specs.Calls.{promoted, left_of, removal, pop_first}
 use Rattle.lru_model.specs.Drains.{pops_first, newest_given, oldest_given}
 use Rattle.lru_model.specs.Exact.{IsDetermined, NeverLacks, LookAlike}
 use Rattle.lru_model.specs.GetOrInserts.{MakesNewest, got, inserted}
-use Rattle.lru_model.specs.HandedOver.{noting, noting_offers, noted}
+use Rattle.lru_model.specs.Callbacks.{noting, noting_offers, noted}
 use Rattle.lru_model.specs.Inserts.{Insert}
 use Rattle.lru_model.specs.Lists.{first, last as last_of, front, back, lookup, lookup_entry, newest_value}
 use Rattle.lru_model.specs.Reservations.{Reserve}

@@ -8,7 +8,7 @@ use Rattle.lru_model.proofs.CallerLemmas.{any_step_same, has_tables, shrink_cont
 use Rattle.lru_model.proofs.HandingLemmas.{insert_granted}
 use Rattle.lru_model.specs.Exact.{AlwaysGrants, HasTables, HasTableFor, InsertsInList}
 use Rattle.lru_model.specs.GetOrInserts.{MakesNewest, got, inserted}
-use Rattle.lru_model.specs.HandedOver.{noting, noting_offers, noted, InsertHands}
+use Rattle.lru_model.specs.Callbacks.{noting, noting_offers, noted, InsertPasses}
 use Rattle.lru_model.specs.Inserts.{Insert}
 use Rattle.lru_model.specs.Lists.{lookup, lookup_entry, after, newest_value, keys_of}
 use Rattle.lru_model.specs.Place.{asked}
@@ -78,7 +78,7 @@ module _ {K V S H : Type 0} (rules : Rules K V S) (offers : Offers K V S K) (eq 
 
     module _ (old new : State K V S H) (tables : HasTables old) where
       handed_in_list : (key : K) (v : V) (result : Result Bool AllocError) (out : List (K × V))
-          → InsertHands rules offers eq hash_of key v old result out new
+          → InsertPasses rules offers eq hash_of key v old result out new
           → InsertsInList (noting rules) (noting_offers offers) eq key v (beside [] (contents old)) result
           (beside out (contents new))
       handed_in_list key v result out step = insert_granted (noting rules) (noting_offers offers) eq key v

@@ -9,8 +9,8 @@ use Rattle.lru_limits.specs.Rules.{Rules, Offers}
 use Rattle.lru_model.specs.Calls.{left_of, removal, pop_first}
 use Rattle.lru_model.specs.Drains.{pops_first, newest_given, oldest_given}
 use Rattle.lru_model.specs.Exact.{InsertsInList}
-use Rattle.lru_model.specs.HandedOver.{noting, noting_offers}
-use Rattle.lru_model.specs.Inserts.{replacement, with_given_up}
+use Rattle.lru_model.specs.Callbacks.{noting, noting_offers}
+use Rattle.lru_model.specs.Inserts.{replacement, with_removed}
 use Rattle.lru_model.specs.Lists.{first, last, front, back, lookup, lookup_entry}
 use Rattle.lru_model.specs.State.{Contents, pop, pops, trim}
 use Rattle.lru_model.specs.Updates.{with_updated}
@@ -36,7 +36,7 @@ module _ {K V S : Type 0} (rules : Rules K V S) (offers : Offers K V S K) (eq : 
   abbrev pub updates_pair : K × V → Updated V × Contents K V S
   updates_pair there = let r = replacement rules offers eq there key v c in
       if r.taken then (Replaced r.old_value, trim rules (with_updated rules offers eq there key v c))
-      else (Rejected r.new_value, with_given_up rules offers eq there key v c)
+      else (Rejected r.new_value, with_removed rules offers eq there key v c)
 
   -- or of the key, if it is there
   abbrev pub updated_in_list : Updated V × Contents K V S

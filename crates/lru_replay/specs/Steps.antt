@@ -10,7 +10,7 @@ use Rattle.lru_limits.specs.Rules.{Rules, Offers}
 use Rattle.lru_model.specs.Calls.{promoted, demoted, written, Remove, RemoveEntry, PopOldest, PopNewest, cleared}
 use Rattle.lru_model.specs.Drains.{Drained}
 use Rattle.lru_model.specs.GetOrInserts.{MakesNewest}
-use Rattle.lru_model.specs.HandedOver.{InsertHands}
+use Rattle.lru_model.specs.Callbacks.{InsertPasses}
 use Rattle.lru_model.specs.Inserts.{Insert}
 use Rattle.lru_model.specs.Lists.{first, last, lookup, lookup_entry}
 use Rattle.lru_model.specs.Reservations.{Reserve}
@@ -42,7 +42,7 @@ module _ {K V S H : Type 0} (rules : Rules K V S) (offers : Offers K V S K) (eq 
   ReplyStep old (calls.Insert key v) reply new = (result : Result Bool AllocError)
       × Insert rules offers eq hash_of key v old result new × (reply ≡ insert_reply result)
   ReplyStep old (calls.InsertWith key v) reply new = (result : Result Bool AllocError) × (out : List (K × V))
-      × InsertHands rules offers eq hash_of key v old result out new × (reply ≡ given result out)
+      × InsertPasses rules offers eq hash_of key v old result out new × (reply ≡ given result out)
   ReplyStep old (calls.GetOrInsert key v) reply new = (result : Result Bool AllocError)
       × MakesNewest rules offers eq hash_of (λ made. made ≡ v) key old result new
       × (reply ≡ made_reply result new.pairs)

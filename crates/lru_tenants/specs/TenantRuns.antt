@@ -8,7 +8,7 @@ use Rattle.std.specs.Prelude.{Result, Ok, Err}
 use Rattle.std.specs.declared.alloc.AllocError.{AllocError}
 use Rattle.lru_limits.specs.Rules.{Rules, Offers}
 use Rattle.lru_model.specs.Calls.{promoted}
-use Rattle.lru_model.specs.HandedOver.{InsertHands, TrimHands}
+use Rattle.lru_model.specs.Callbacks.{InsertPasses, TrimPasses}
 use Rattle.lru_model.specs.Inserts.{Insert}
 use Rattle.lru_model.specs.Lists.{lookup}
 use Rattle.lru_model.specs.State.{State, Trims}
@@ -90,7 +90,7 @@ module _ {K V L S : Type 0} where
   abbrev pub BudgetHands : Rules K V L → (L → L) → Bool → State K V L S → List (K × V) → Option (State K V L S) → Type 0
   BudgetHands rules rebudgeted true old handed new = (handed ≡ []) × (new ≡ Some old)
   BudgetHands rules rebudgeted false old handed new = (left : State K V L S)
-      × TrimHands rules (with_limiter (rebudgeted old.limiter) old) handed left × (new ≡ Some left)
+      × TrimPasses rules (with_limiter (rebudgeted old.limiter) old) handed left × (new ≡ Some left)
 
   -- it closes, and passes on its pairs, oldest first
   abbrev pub CloseHands : State K V L S → List (K × V) → Option (State K V L S) → Type 0
@@ -114,7 +114,7 @@ module _ {K V L S : Type 0} where
     pub record PutHands (old : State K V L S) (handed : List (K × V)) (new : Option (State K V L S)) : Type 0 where
       pub left : State K V L S
       pub result : Result Bool AllocError
-      pub inserts : InsertHands rules offers eq hash_of key value old result handed left
+      pub inserts : InsertPasses rules offers eq hash_of key value old result handed left
       pub is : new ≡ Some left
 
     abbrev pub Puts : Option (State K V L S) → Result Bool TenantError → Option (State K V L S) → Type 0

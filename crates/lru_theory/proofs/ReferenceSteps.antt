@@ -13,11 +13,11 @@ use Rattle.group_table.specs.Change.{count_up}
 use Rattle.lru_limits.specs.Limiters.{length_rules, length_offers}
 use Rattle.lru_model.proofs.CallerLemmas.{found_named}
 use Rattle.lru_model.specs.GetOrInserts.{got, inserted}
-use Rattle.lru_model.specs.Inserts.{Insert, replaced, given_up, no_memory_to_admit, not_admitted, admitted}
+use Rattle.lru_model.specs.Inserts.{Insert, replaced, not_replaced, no_memory_to_admit, not_admitted, admitted}
 use Rattle.lru_model.specs.Kept.{LeavesTheNewest, KeepsToLength, stored_key}
 use Rattle.lru_model.specs.Lists.{keys_of, lookup, lookup_entry, without, after, front}
 use Rattle.lru_model.specs.Place.{Place, Outcome, placed, refused, no_memory, in_bucket, rehashed, grown, not_grown}
-use Rattle.lru_model.specs.Place.{IsPlacedIfMemory, OldestLeave, CannotGrow, no_target, denied, Evicts}
+use Rattle.lru_model.specs.Place.{IsPlacedIfMemory, OldestEvicted, CannotGrow, no_target, denied, Evicts}
 use Rattle.lru_model.specs.Place.{nothing_to_evict, finds_bucket, rehashes}
 use Rattle.lru_model.specs.Runs.{Step, inserts, makes_newest}
 use Rattle.lru_model.specs.State.{State, IsSized}
@@ -99,7 +99,7 @@ module _ {K V : Type 0} where
 
 module _ {K V H : Type 0} (hash_of : H → K → ℕ) where
   -- each pair that leaves leaves the count of stored entries as it is
-  oldest_placed : (hash n : ℕ) (old new : State K V ℕ H) → OldestLeave length_rules hash n old new → new.placed ≡
+  oldest_placed : (hash n : ℕ) (old new : State K V ℕ H) → OldestEvicted length_rules hash n old new → new.placed ≡
       old.placed
   oldest_placed hash zero old new e = ap (λ st. st.placed) e
   oldest_placed hash (suc n) old new (before, more, none, leaves) =
@@ -144,7 +144,7 @@ module _ {K V H : Type 0} (hash_of : H → K → ℕ) where
         → new.placed ≡ count_up old.placed (cond (is_in eq key (keys_of old.pairs)) 0 1)
     insert_counts fits result ok (replaced pair found taken is leaves) =
         rw (there (eq key) old.pairs pair found) (ap (λ st. st.placed) leaves.is ∙ same_count fits)
-    insert_counts fits result ok (given_up pair found taken is leaves) = absurd cc
+    insert_counts fits result ok (not_replaced pair found taken is leaves) = absurd cc
     insert_counts fits result ok (no_memory_to_admit none never is same) = absurd never
     insert_counts fits result ok (not_admitted none s gives is same) = absurd cc
     insert_counts fits result ok (admitted none s pair gives (ready, way, (placed, landed, place, settles))) =

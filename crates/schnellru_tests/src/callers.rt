@@ -4,7 +4,7 @@ ghost use Rattle.std.specs.Prelude.{OnOk, OnErr, true, is_some};
 ghost use Rattle.std.specs.List.{All};
 ghost use Rattle.lru_model.specs.Lists.{lookup, lookup_entry, without};
 ghost use Rattle.lru_model.specs.Calls.{promoted};
-ghost use Rattle.lru_model.specs.HandedOver.{Takes};
+ghost use Rattle.lru_model.specs.Callbacks.{CalledWith};
 ghost use Rattle.lru_model.specs.Kept.{KeepsToLength};
 ghost use Rattle.lru_model.specs.Theorems.{IsSummed, KeepsValues};
 
@@ -118,7 +118,7 @@ fn put_and_show<F: FnMut(u64, u64)>(
     callback: &mut F,
 ) -> Result<bool, AllocError>
     requires callable { F.IsAlwaysCallable callback.old }
-    ensures shown { result ≡ Ok true → (handed : List (ℕ × ℕ)) × Takes F.FnMut callback.old handed callback.new
+    ensures shown { result ≡ Ok true → (handed : List (ℕ × ℕ)) × CalledWith F.FnMut callback.old handed callback.new
         × (map.new.pairs ++ reverse handed ≡ (key, value) ∷ without (nat_eq key) map.old.pairs) }
 {
     laws::nothing_is_lost::<u64, u64, u64, ByLength, RandomState>();

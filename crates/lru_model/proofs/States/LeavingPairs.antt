@@ -5,7 +5,7 @@ use Rattle.lru_model.specs.Lists.{without_first, without_last}
 use Rattle.lru_limits.specs.Rules.{Rules}
 use Rattle.lru_model.specs.State.{State, buckets, room, Contents, contents, FreesRoom, Leaves, pop, pops, trim}
 use Rattle.lru_model.specs.State.{trim_from}
-use Rattle.lru_model.specs.Place.{CannotGrow, no_target, denied, OldestLeave}
+use Rattle.lru_model.specs.Place.{CannotGrow, no_target, denied, OldestEvicted}
 
 pub length-without_first : {X : Type 0} (xs : List X) → length (without_first xs) ≤ length xs
 length-without_first [] = omega arith
@@ -102,7 +102,7 @@ module _ {K V S H : Type 0} (rules : Rules K V S) where
       (leaves_trans old before new (pops rules n (contents old)) (pop rules (contents before)) first last)
 
   -- those of the oldest that left one after another left
-  pub oldest_leaves : (hash n : ℕ) (old new : State K V S H) → OldestLeave rules hash n old new
+  pub oldest_leaves : (hash n : ℕ) (old new : State K V S H) → OldestEvicted rules hash n old new
       → Leaves old (pops rules n (contents old)) new
   oldest_leaves hash zero old new h = rw h (leaves_self old)
   oldest_leaves hash (suc n) old new (before, first, no_place, last) = leaves_more n old before new

@@ -4,7 +4,7 @@ use Rattle.lru_limits.specs.Rules.{Rules}
 use Rattle.lru_model.specs.Lists.{lookup_entry, IsFront}
 use Rattle.lru_model.specs.State.{State, contents, Leaves}
 use Rattle.lru_model.specs.Inserts.{make_room}
-use Rattle.lru_model.specs.HandedOver.{noting, noted}
+use Rattle.lru_model.specs.Callbacks.{noting, noted}
 use Rattle.lru_model.proofs.Theorems.Fronts.{front_make_room, front_absent}
 
 pub record IsNew {K V S H : Type 0} (hash_of : H → K → ℕ) (eq : K → K → Bool) (number : ℕ) (pair : K × V)

@@ -12,7 +12,7 @@ use Rattle.lru_limits.specs.Rules.{Rules}
 use Rattle.lru_model.specs.Sizes.{no_table, new_table}
 use Rattle.lru_model.specs.State.{State, buckets, room, contents, IsSized, Leaves, pop, pops}
 use Rattle.lru_model.specs.Place.{Place, rehashed, grown, not_grown, HasNoBucket, IsOutgrown, CannotGrow}
-use Rattle.lru_model.specs.Place.{no_target, denied, Evicts, nothing_to_evict, finds_bucket, rehashes, OldestLeave}
+use Rattle.lru_model.specs.Place.{no_target, denied, Evicts, nothing_to_evict, finds_bucket, rehashes, OldestEvicted}
 use Rattle.lru_model.specs.Place.{Outcome, outcome_of, placed, no_memory, IsPlaced, IsPlacedIfMemory}
 use Rattle.lru_model.specs.Place.{IsFullWithPairs, FillsBucket, table_for}
 use Rattle.lru_model.proofs.TableSizes.SizedMarks.{fits, exact}
@@ -139,10 +139,10 @@ pub record IsStuck (hash least : ℕ) (marks : List Mark) (pairs : ℕ) : Type 0
 
 -- The n oldest pairs were evicted, after none of which the new pair had a place, and then one more.
 module _ {K V S H : Type 0} (rules : Rules K V S) (hash : ℕ) (pair : K × V) (old before left : State K V S H)
-    (ok : IsSized old) (lacks : IsFullWithPairs old) (n : ℕ) (gone : OldestLeave rules hash n old before)
+    (ok : IsSized old) (lacks : IsFullWithPairs old) (n : ℕ) (gone : OldestEvicted rules hash n old before)
     (stuck : IsStuck hash (full_capacity (buckets old) / 2) before.marks (length before.pairs))
     (step : Leaves before (pop rules (contents before)) left) where
-  pub one_more : OldestLeave rules hash (suc n) old left
+  pub one_more : OldestEvicted rules hash (suc n) old left
   one_more = (before, gone, stuck.no_place, step)
 
   leaves : Leaves old (pops rules n (contents old)) before

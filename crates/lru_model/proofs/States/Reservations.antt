@@ -5,7 +5,7 @@ use Rattle.lru_limits.specs.Rules.{Rules}
 use Rattle.lru_model.specs.Sizes.{new_table}
 use Rattle.lru_model.specs.State.{State, MovesTo}
 use Rattle.lru_model.specs.Place.{table_for}
-use Rattle.lru_model.specs.Reservations.{LacksRoomFor, Reserve, reserved, asked_only}
+use Rattle.lru_model.specs.Reservations.{NeedsGrowthFor, Reserve, reserved, asked_only}
 use Rattle.lru_model.specs.declared.results.ReserveError.TheVariants.{Refused, Memory}
 
 pub some_there : {X : Type 0} (xs : List X) → (xs ≡ [] → ⊥) → 0 < length xs
@@ -13,7 +13,7 @@ some_there [] some = absurd (some refl)
 some_there (x ∷ xs) some = omega arith
 
 -- the limiter was asked for a larger table
-module _ {K V S H : Type 0} (rules : Rules K V S) (n : ℕ) (old new : State K V S H) (lacks : LacksRoomFor n old)
+module _ {K V S H : Type 0} (rules : Rules K V S) (n : ℕ) (old new : State K V S H) (lacks : NeedsGrowthFor n old)
     (count bytes : ℕ) (is : table_for n old ≡ new_table count bytes)
     (s : S) (queried : s ≡ (rules.on_grow old.limiter bytes).limiter) where
   pub is_reserved : (rules.on_grow old.limiter bytes).allowed ≡ true → MovesTo count (record old { limiter = s }) new

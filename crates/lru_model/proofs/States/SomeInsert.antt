@@ -6,8 +6,8 @@ use Rattle.lru_limits.specs.Rules.{Rules, Offers}
 use Rattle.lru_model.specs.Lists.{is_empty, lookup_entry}
 use Rattle.lru_model.specs.State.{State, Contents, contents, IsSized, Leaves, trim}
 use Rattle.lru_model.specs.Place.{Place, Outcome, placed, refused, no_memory}
-use Rattle.lru_model.specs.Inserts.{Insert, replaced, given_up, not_admitted, admitted, make_room, replacement}
-use Rattle.lru_model.specs.Inserts.{with_replaced, with_given_up}
+use Rattle.lru_model.specs.Inserts.{Insert, replaced, not_replaced, not_admitted, admitted, make_room, replacement}
+use Rattle.lru_model.specs.Inserts.{with_replaced, with_removed}
 use Rattle.lru_model.proofs.Theorems.Fronts.{length-front, front_trim, front_make_room}
 use Rattle.lru_model.proofs.Theorems.Limits.{length-without_found}
 use Rattle.lru_model.proofs.Theorems.Potential.{sized_with_limiter}
@@ -34,9 +34,9 @@ module _ {K V S H I : Type 0} (rules : Rules K V S) (offers : Offers K V S I) (n
       )) in
       (Ok (not (is_empty new.pairs)), new, replaced pair found y refl left, after)
   there pair found false y =
-      let (new, left, after, freed) = some_leave old (with_given_up rules offers names pair i v (contents old)) ok
+      let (new, left, after, freed) = some_leave old (with_removed rules offers names pair i v (contents old)) ok
       (omega (arith, length-without_found (names i) old.pairs pair found)) in
-      (Ok false, new, given_up pair found y refl left, after)
+      (Ok false, new, not_replaced pair found y refl left, after)
 
   given_pair : lookup_entry (names i) old.pairs ≡ None → (s : S) (pair : K × V)
       → offers.on_insert old.limiter (length old.pairs) i v s (Some pair) → Inserts

@@ -18,7 +18,7 @@ use Rattle.lru_model.specs.State.{State, Contents, buckets, room, contents, IsSi
 use Rattle.lru_model.specs.Place.{Place, in_bucket, rehashed, grown, not_grown, nothing_to_evict, finds_bucket}
 use Rattle.lru_model.specs.Place.{rehashes}
 use Rattle.lru_model.specs.Place.{Outcome, placed, refused, no_memory, IsPlaced, HasNoBucket, IsOutgrown, FillsBucket}
-use Rattle.lru_model.specs.Place.{CannotGrow, no_target, denied, table_for, asked, turned_away, OldestLeave}
+use Rattle.lru_model.specs.Place.{CannotGrow, no_target, denied, table_for, asked, unstored, OldestEvicted}
 use Rattle.lru_model.proofs.TableSizes.Growth.{full_capacity-at_most, full_capacity-some, target-same}
 use Rattle.lru_model.proofs.States.LeavingPairs.{length-pops}
 use Rattle.lru_model.proofs.States.Outcomes.{placed-not_no_memory}
@@ -233,7 +233,7 @@ module _ {K V S H : Type 0} (rules : Rules K V S) (hash_of : H → K → ℕ) (p
     | yes some ↦ with_pairs some
     | no none ↦ (
       refused,
-      turned_away rules pair mid,
+      unstored rules pair mid,
       not_grown outgrown mid cannot
           (nothing_to_evict (nil_from_length old.pairs (omega (arith, none))) refl refl),
       sized_with_limiter old _ ok,
@@ -249,7 +249,7 @@ module _ {K V S H : Type 0} (rules : Rules K V S) (hash_of : H → K → ℕ) (p
           let left = pops rules 1 (contents mid) in
           let fewer = length-pops rules 1 (contents mid) in
           let (end, leaves, sized, freed) = some_leave mid left (sized_with_limiter old s ok) (omega (arith, fewer)) in
-          let gone : OldestLeave rules hash 1 mid end = (mid, refl, inr (none, free.0, free.1, free.2), leaves) in
+          let gone : OldestEvicted rules hash 1 mid end = (mid, refl, inr (none, free.0, free.1, free.2), leaves) in
           elim (dec_lt half (length old.pairs)) [
             | yes l ↦
                 let (new, is, fills, after) = some_filled pair end sized hash (omega (arith, freed, fewer, some)) in (
@@ -262,7 +262,7 @@ module _ {K V S H : Type 0} (rules : Rules K V S) (hash_of : H → K → ℕ) (p
                 )
             | no l ↦ (
               no_memory,
-              turned_away rules pair end,
+              unstored rules pair end,
               not_grown outgrown mid cannot
                   (rehashes some 1 (omega arith) (λ _. refl) (omega (arith, l, outgrown.above_half)) end gone refl),
               sized_with_limiter end _ sized,
@@ -276,7 +276,7 @@ module _ {K V S H : Type 0} (rules : Rules K V S) (hash_of : H → K → ℕ) (p
           → (rules.on_grow old.limiter bytes).allowed ≡ allowed → Ends
       asks count bytes t true g = (
         no_memory,
-        turned_away rules pair (asked rules bytes old),
+        unstored rules pair (asked rules bytes old),
         grown outgrown count bytes t g refl,
         sized_with_limiter old _ ok,
       )
@@ -314,7 +314,7 @@ module _ {K V S H : Type 0} (rules : Rules K V S) (hash_of : H → K → ℕ) (p
     | yes more ↦ growing_ends (record { no_bucket = none; above_half = more; begun = inr some })
     | no few ↦ (
       no_memory,
-      turned_away rules pair old,
+      unstored rules pair old,
       rehashed none (omega (arith, few)) (λ _. some) refl,
       sized_with_limiter old _ ok,
     )

@@ -11,7 +11,8 @@ use Rattle.lru_limits.specs.Rules.{Rules}
 use Rattle.lru_model.specs.Calls.{cleared}
 use Rattle.lru_model.specs.State.{State, buckets, room, IsSized}
 use Rattle.lru_model.specs.Place.{table_for, asked}
-use Rattle.lru_model.specs.Reservations.{LacksRoomFor, Reserve, unchanged, rehashed, asked_only, enough_room, too_many}
+use Rattle.lru_model.specs.Reservations.{NeedsGrowthFor, Reserve, unchanged, rehashed, asked_only, enough_room}
+use Rattle.lru_model.specs.Reservations.{too_many}
 use Rattle.lru_model.specs.Reservations.{no_such_table}
 use Rattle.lru_model.specs.Sizes.{Target, no_table, same_table, new_table}
 use Rattle.lru_model.specs.declared.results.ReserveError.{ReserveError}
@@ -56,7 +57,7 @@ module _ {K V S H : Type 0} (rules : Rules K V S) (n : ℕ) (old : State K V S H
   }
 
   -- the table is rehashed at its size
-  some_remade : LacksRoomFor n old → table_for n old ≡ same_table → CanReserve
+  some_remade : NeedsGrowthFor n old → table_for n old ≡ same_table → CanReserve
   some_remade lacks is =
       let placings = count_up old.placings (length old.pairs) in
       let within : length old.pairs + 0 ≤ full_capacity (buckets old) = omega
@@ -74,14 +75,14 @@ module _ {K V S H : Type 0} (rules : Rules K V S) (n : ℕ) (old : State K V S H
       )
 
   -- the limiter is asked for a larger one
-  some_asked : LacksRoomFor n old → (count bytes : ℕ) → table_for n old ≡ new_table count bytes → (allowed : Bool)
+  some_asked : NeedsGrowthFor n old → (count bytes : ℕ) → table_for n old ≡ new_table count bytes → (allowed : Bool)
       → (rules.on_grow old.limiter bytes).allowed ≡ allowed → CanReserve
   some_asked lacks count bytes is true grants =
       (Err Memory, asked rules bytes old, asked_only lacks count bytes is (inl (grants, refl)) refl, sized_with _)
   some_asked lacks count bytes is false denies =
       (Err Refused, asked rules bytes old, asked_only lacks count bytes is (inr (denies, refl)) refl, sized_with _)
 
-  some_table : LacksRoomFor n old → (t : Target) → table_for n old ≡ t → CanReserve
+  some_table : NeedsGrowthFor n old → (t : Target) → table_for n old ≡ t → CanReserve
   some_table lacks no_table is = (Err TooLarge, old, unchanged (no_such_table lacks is refl) refl, ok)
   some_table lacks same_table is = some_remade lacks is
   some_table lacks (new_table count bytes) is = some_asked lacks count bytes is

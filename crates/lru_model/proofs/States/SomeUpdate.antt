@@ -3,7 +3,7 @@ use Rattle.std.proofs.Common.{◌≡◌, Bool, true, false, Option, Some, None, 
 use Rattle.lru_limits.specs.Rules.{Rules, Offers}
 use Rattle.lru_model.specs.Lists.{lookup_entry}
 use Rattle.lru_model.specs.State.{State, contents, IsSized, trim}
-use Rattle.lru_model.specs.Inserts.{replacement, with_given_up}
+use Rattle.lru_model.specs.Inserts.{replacement, with_removed}
 use Rattle.lru_model.specs.Updates.{Update, updated, rejected, not_there, with_updated}
 use Rattle.lru_model.specs.declared.results.Updated.{Updated}
 use Rattle.lru_model.proofs.PairLists.SetEntries.{length-set_entry}
@@ -30,7 +30,7 @@ module _ {K V S H I : Type 0} (rules : Rules K V S) (offers : Offers K V S I) (n
       )) in
       (_, new, updated pair found y refl left, after)
   there pair found false y =
-      let (new, left, after, freed) = some_leave old (with_given_up rules offers names pair i v (contents old)) ok
+      let (new, left, after, freed) = some_leave old (with_removed rules offers names pair i v (contents old)) ok
       (length-without (names i) old.pairs) in
       (_, new, rejected pair found y refl left, after)
 

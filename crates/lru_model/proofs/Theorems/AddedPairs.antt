@@ -10,7 +10,7 @@ use Rattle.lru_model.specs.Runs.{Step, inserts, makes_newest, updates, gets, dem
 use Rattle.lru_model.specs.Runs.{pops_newest, drains, clears}
 use Rattle.lru_model.specs.Runs.{reserves, shrinks, trims, retains, AnyStep, calls, writes, sets_limiter}
 use Rattle.lru_model.specs.State.{State, contents}
-use Rattle.lru_model.specs.Theorems.{GivesUp, behind, with_none, without_one}
+use Rattle.lru_model.specs.Theorems.{EvictsOldest, behind, with_none, without_one}
 use Rattle.lru_model.specs.declared.results.ReserveError.{ReserveError}
 use Rattle.lru_model.proofs.States.LeavingPairs.{length-without_first, length-without_last}
 use Rattle.lru_model.proofs.States.Promotions.{length-front_pairs, length-back_pairs}
@@ -20,7 +20,7 @@ use Rattle.lru_model.proofs.Theorems.RetainedPairs.{length-retained}
 use Rattle.lru_model.proofs.Theorems.Shrinks.{shrunk_list}
 
 gives_up_adds : {K V : Type 0} (names : K → Bool) (refuses : K × V → Type 0) (xs ys : List (K × V))
-    → GivesUp names refuses xs ys → length ys ≤ length xs + 1
+    → EvictsOldest names refuses xs ys → length ys ≤ length xs + 1
 gives_up_adds names refuses xs ys (behind newest named f) =
     omega (arith, length-front ys (newest ∷ without names xs) f, length-without names xs)
 gives_up_adds names refuses xs ys (with_none absent f) = omega (arith, length-front ys xs f)

@@ -3,8 +3,8 @@ use Rattle.std.proofs.Common.{◌≡◌, ℕ, Bool, Result, ap, arith}
 use Rattle.std.specs.declared.alloc.AllocError.{AllocError}
 use Rattle.lru_limits.specs.Rules.{Rules, Offers}
 use Rattle.lru_model.specs.State.{State}
-use Rattle.lru_model.specs.Place.{Place, Outcome, placed, refused, no_memory, turned_away}
-use Rattle.lru_model.specs.Inserts.{Insert, replaced, given_up, no_memory_to_admit, not_admitted, admitted}
+use Rattle.lru_model.specs.Place.{Place, Outcome, placed, refused, no_memory, unstored}
+use Rattle.lru_model.specs.Inserts.{Insert, replaced, not_replaced, no_memory_to_admit, not_admitted, admitted}
 use Rattle.lru_model.specs.Theorems.{CountsPlacings}
 use Rattle.lru_model.proofs.Theorems.Moves.{keeps_any}
 use Rattle.lru_model.proofs.Theorems.TableGrowth.{Calm, calm_trans, self_calm, limiter_calm, leaves_calm, settles_calm}
@@ -31,9 +31,9 @@ module _ {K V S H : Type 0} (rules : Rules K V S) (hash_of : H → K → ℕ) (p
       in
       around_counts old way.mid new new way.calm (self_calm new) (land outcome way.mid way.lands)
     where
-      away : (mid : State K V S H) → new ≡ turned_away rules pair mid → CountsPlacings mid new
-      away mid e = rw e (calm_counts mid (turned_away rules pair mid)
-          (limiter_calm mid (turned_away rules pair mid).limiter))
+      away : (mid : State K V S H) → new ≡ unstored rules pair mid → CountsPlacings mid new
+      away mid e = rw e (calm_counts mid (unstored rules pair mid)
+          (limiter_calm mid (unstored rules pair mid).limiter))
 
       land : (outcome : Outcome) (mid : State K V S H) → Lands rules (λ _. Unit {0}) pair old outcome mid new
           → CountsPlacings mid new
@@ -50,7 +50,7 @@ module _ {K V S H I : Type 0} {rules : Rules K V S} {offers : Offers K V S I} {n
     {new : State K V S H} where
   pub insert_counts : Insert rules offers names hash_of i v old result new → CountsPlacings old new
   insert_counts (replaced pair found y r l) = calm_counts old new (leaves_calm old _ new l)
-  insert_counts (given_up pair found y r l) = calm_counts old new (leaves_calm old _ new l)
+  insert_counts (not_replaced pair found y r l) = calm_counts old new (leaves_calm old _ new l)
   insert_counts (no_memory_to_admit a l r e) = rw e (calm_counts old old (self_calm old))
   insert_counts (not_admitted a s n r e) = rw e (calm_counts old _ (limiter_calm old s))
   insert_counts (admitted a s pair n (ready, l, (outcome, landed, step, rest))) =

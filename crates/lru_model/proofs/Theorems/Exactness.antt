@@ -10,11 +10,12 @@ use Rattle.lru_model.specs.State.{State, buckets, room, Contents, contents, Leav
 use Rattle.lru_model.specs.Place.{Place, in_bucket, rehashed, grown, not_grown}
 use Rattle.lru_model.specs.Place.{nothing_to_evict, finds_bucket, rehashes, FillsBucket}
 use Rattle.lru_model.specs.Place.{CannotGrow, no_target, denied, table_for, Outcome, placed, refused, no_memory}
-use Rattle.lru_model.specs.Place.{IsPlaced, IsPlacedIfMemory, IsOutgrown, asked, OldestLeave}
+use Rattle.lru_model.specs.Place.{IsPlaced, IsPlacedIfMemory, IsOutgrown, asked, OldestEvicted}
 use Rattle.std.specs.declared.alloc.AllocError.{AllocError}
 use Rattle.std.proofs.lemmas.Bool.{lt-ltb, le-ltb, le-leb, lt-leb}
 use Rattle.lru_model.proofs.PairLists.Emptiness.{is_empty-some}
-use Rattle.lru_model.specs.Inserts.{Insert, replaced, given_up, no_memory_to_admit, not_admitted, admitted, make_room}
+use Rattle.lru_model.specs.Inserts.{Insert, replaced, not_replaced, no_memory_to_admit, not_admitted, admitted}
+use Rattle.lru_model.specs.Inserts.{make_room}
 use Rattle.lru_model.specs.Inserts.{with_replaced, Settles}
 use Rattle.lru_model.proofs.States.LeavingPairs.{oldest_leaves}
 use Rattle.lru_model.proofs.States.Outcomes.{ok-not_err}
@@ -74,7 +75,7 @@ module _ {K V S H : Type 0} (rules : Rules K V S) (hash_of : H → K → ℕ) (p
       → evicts rules pair (contents mid) ≡ lands rules pair (pops rules 1 (contents mid))
   evicts_one mid c some = rw (is_empty-some mid.pairs (omega (arith, ap length (same_pairs mid c), some))) refl
 
-  one_left : (n : ℕ) (mid left : State K V S H) → n ≡ 1 → OldestLeave rules (hash_of old.hasher pair.0) n mid left
+  one_left : (n : ℕ) (mid left : State K V S H) → n ≡ 1 → OldestEvicted rules (hash_of old.hasher pair.0) n mid left
       → contents left ≡ pops rules 1 (contents mid)
   one_left n mid left one gone = ap contents (oldest_leaves rules _ n mid left gone).is
       ∙ ap (λ k. pops rules k (contents mid)) one
@@ -141,7 +142,7 @@ module _ {K V S H I : Type 0} {rules : Rules K V S} {offers : Offers K V S I} {n
       → EndsExactly rules offers names i v old result new
   insert_ends small {result} {new} ok (replaced pair found y r l) = rw (found, y)
       (trimmed_ends rules old (with_replaced rules offers names pair i v (contents old)) result new r l)
-  insert_ends small {new = new} ok (given_up pair found y r l) = rw (found, y) (r, left_are old _ new l)
+  insert_ends small {new = new} ok (not_replaced pair found y r l) = rw (found, y) (r, left_are old _ new l)
   insert_ends small {result} ok (no_memory_to_admit a k r e) = ok-not_err result ok r
   insert_ends small ok (not_admitted a s n r e) = rw a (s, None, n, (r, ap contents e))
   insert_ends small {result} {new} ok (admitted a s pair n (ready, l, (outcome, landed, p, t))) =

@@ -8,9 +8,10 @@ use Rattle.lru_limits.specs.Rules.{Rules, Offers}
 use Rattle.lru_limits.specs.Laws.{IsLookup, IsInsertion}
 use Rattle.lru_model.specs.State.{State, Contents, contents, pops, trim}
 use Rattle.lru_model.specs.Place.{Place, Outcome, placed, refused, no_memory}
-use Rattle.lru_model.specs.Inserts.{Insert, replaced, given_up, no_memory_to_admit, not_admitted, admitted, make_room}
+use Rattle.lru_model.specs.Inserts.{Insert, replaced, not_replaced, no_memory_to_admit, not_admitted, admitted}
+use Rattle.lru_model.specs.Inserts.{make_room}
 use Rattle.lru_model.specs.Inserts.{MayGive, replacement, with_replaced}
-use Rattle.lru_model.specs.Theorems.{GivesUp, behind, with_none, without_one}
+use Rattle.lru_model.specs.Theorems.{EvictsOldest, behind, with_none, without_one}
 use Rattle.lru_model.proofs.Theorems.Moves.{KeepsWay, pops_keep, trim_keeps, make_room_keeps, settles_keep}
 use Rattle.lru_model.proofs.Theorems.Ways.{Lands, place_lands}
 
@@ -142,13 +143,13 @@ module _ {K V S H I : Type 0} {rules : Rules K V S} {offers : Offers K V S I} {n
   -- Inserts evict pairs from the old end alone, except one whose new value is rejected.
   pub insert_gives_up : (result : Result Bool AllocError) (new : State K V S H)
       → Insert rules offers names hash_of i v old result new
-      → GivesUp (names i) (λ pair. (replacement rules offers names pair i v (contents old)).taken ≡ false) old.pairs
-      new.pairs
+      → EvictsOldest (names i) (λ pair. (replacement rules offers names pair i v (contents old)).taken ≡ false)
+      old.pairs new.pairs
   insert_gives_up result new (replaced pair found y r l) =
       behind _ (replaced_named rules offers names looks_up laws i v old pair found)
       (front_trans _ (front_same (ap (λ st. st.pairs) l.is))
       (front_trim rules (with_replaced rules offers names pair i v (contents old))))
-  insert_gives_up result new (given_up pair found y r l) = without_one pair found y (ap (λ st. st.pairs) l.is)
+  insert_gives_up result new (not_replaced pair found y r l) = without_one pair found y (ap (λ st. st.pairs) l.is)
   insert_gives_up result new (no_memory_to_admit a k r e) = with_none a (front_same (ap (λ st. st.pairs) e))
   insert_gives_up result new (not_admitted a s n r e) = with_none a (front_same (ap (λ st. st.pairs) e))
   insert_gives_up result new (admitted a s pair n (ready, l, (outcome, landed, p, t))) = go
@@ -162,8 +163,8 @@ module _ {K V S H I : Type 0} {rules : Rules K V S} {offers : Offers K V S I} {n
       others = subst (IsFront ready.pairs) (sym (without_none (names i) old.pairs a)) ready_front
 
       go : Ends rules pair ready landed
-          → GivesUp (names i) (λ pair. (replacement rules offers names pair i v (contents old)).taken ≡ false) old.pairs
-          new.pairs
+          → EvictsOldest (names i) (λ pair. (replacement rules offers names pair i v (contents old)).taken ≡ false)
+          old.pairs new.pairs
       go (inl f) = behind pair (given_named rules offers names looks_up laws i v old s pair n)
           (front_trans _ (settles_keep rules _ (front_way rules) outcome landed result new t)
           (front_trans _ f (front_more pair _ _ others)))

@@ -8,7 +8,7 @@ use Rattle.lru_limits.specs.Laws.{IsLookup, IsInsertion}
 use Rattle.lru_model.specs.Lists.{lookup, lookup_entry, without, front, after}
 use Rattle.lru_model.specs.State.{State}
 use Rattle.lru_model.specs.Theorems.{IsNewest, SaysWhether}
-use Rattle.lru_model.specs.GetOrInserts.{MakesNewest, got, inserted, SaysNewest, LacksMemoryFor}
+use Rattle.lru_model.specs.GetOrInserts.{MakesNewest, got, inserted, SaysNewest, IsOutOfMemoryFor}
 use Rattle.lru_model.specs.IfMade.{MakesNewestIfMade, failed, as_made, or_memory}
 use Rattle.lru_model.specs.declared.results.GetOrInsertError.{GetOrInsertError}
 use Rattle.lru_model.proofs.PairLists.DistinctKeys.{AreDistinct}
@@ -73,13 +73,13 @@ module _ {K V S H I : Type 0} {rules : Rules K V S} {offers : Offers K V S I} {n
     {hash_of : H → K → ℕ} {i : I} {old new : State K V S H} where
   pub makes_lacks : {makes : V → Type 0} {result : Result Bool AllocError} → IsErr result
       → MakesNewest rules offers names hash_of makes i old result new
-      → LacksMemoryFor rules offers names hash_of makes i old new
+      → IsOutOfMemoryFor rules offers names hash_of makes i old new
   makes_lacks {result = result} h (got w there r step) = ok-not_err result (rw r refl) h
   makes_lacks h (inserted absent v made step) = (v, made, err_is h step)
 
   pub lacks_if_made : {E : Type 0} {makes : Result V E → Type 0} {result : Result Bool (GetOrInsertError E)}
       → result ≡ Err Memory → MakesNewestIfMade rules offers names hash_of makes i old result new
-      → LacksMemoryFor rules offers names hash_of (λ v. makes (Ok v)) i old new
+      → IsOutOfMemoryFor rules offers names hash_of (λ v. makes (Ok v)) i old new
   lacks_if_made h (failed none e made r step) = absurd (grind (arith, sym r ∙ h))
   lacks_if_made {E} h (as_made flag step r) = makes_lacks (is_err flag (sym r ∙ h)) step
     where

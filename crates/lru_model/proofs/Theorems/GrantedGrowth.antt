@@ -11,10 +11,11 @@ use Rattle.lru_model.specs.State.{State, Contents, contents, buckets, room, Leav
 use Rattle.lru_model.specs.Place.{Place, in_bucket, rehashed, grown, not_grown}
 use Rattle.lru_model.specs.Place.{CannotGrow, no_target, denied, table_for, Outcome, placed, refused, no_memory, asked}
 use Rattle.lru_model.specs.Place.{IsPlaced, IsPlacedIfMemory, FillsBucket}
-use Rattle.lru_model.specs.Inserts.{Insert, replaced, given_up, no_memory_to_admit, not_admitted, admitted, make_room}
+use Rattle.lru_model.specs.Inserts.{Insert, replaced, not_replaced, no_memory_to_admit, not_admitted, admitted}
+use Rattle.lru_model.specs.Inserts.{make_room}
 use Rattle.lru_model.specs.Inserts.{with_replaced, Settles, MayGive}
 use Rattle.lru_model.specs.Lists.{lookup_entry}
-use Rattle.lru_model.specs.Exact.{lands, turns_away, AlwaysGrants, HasTables, InsertsInList, ends, not_offered}
+use Rattle.lru_model.specs.Exact.{lands, not_landed, AlwaysGrants, HasTables, InsertsInList, ends, not_offered}
 use Rattle.lru_model.specs.Exact.{not_placed, IsEnding, trimmed}
 use Rattle.lru_model.proofs.States.LeavingPairs.{length-without_last}
 use Rattle.lru_model.proofs.Theorems.Exactness.{trimmed_ends}
@@ -25,12 +26,12 @@ module _ {K V S H : Type 0} (rules : Rules K V S) (pair : K × V) (old : State K
   abbrev pub LandsBeside : Outcome → State K V S H → Type 0
   LandsBeside placed new = contents new ≡ (lands rules pair (contents old)).left
   LandsBeside refused new = ⊥
-  LandsBeside no_memory new = contents new ≡ (turns_away rules pair (contents old)).left
+  LandsBeside no_memory new = contents new ≡ (not_landed rules pair (contents old)).left
 
   if_memory : (st : State K V S H) → contents st ≡ contents old → (count spare moves : ℕ) (outcome : Outcome)
       (new : State K V S H) → IsPlacedIfMemory rules pair count spare moves st outcome new → LandsBeside outcome new
   if_memory st same count spare moves placed new h = ap contents h.state ∙ ap (λ c. (lands rules pair c).left) same
-  if_memory st same count spare moves no_memory new h = ap contents h ∙ ap (λ c. (turns_away rules pair c).left) same
+  if_memory st same count spare moves no_memory new h = ap contents h ∙ ap (λ c. (not_landed rules pair c).left) same
   if_memory st same count spare moves refused new h = absurd h
 
   is_placed : (count spare moves : ℕ) (outcome : Outcome) (new : State K V S H) → outcome ≡ placed
@@ -120,7 +121,7 @@ module _ {K V S H I : Type 0} (rules : Rules K V S) (offers : Offers K V S I) (n
       ))
   settles a s pair n ready same refused landed beside t = absurd beside
   settles a s pair n ready same no_memory landed beside t =
-      not_placed a s pair n t.0 (ap contents t.1 ∙ beside ∙ ap (λ c. (turns_away rules pair c).left) same)
+      not_placed a s pair n t.0 (ap contents t.1 ∙ beside ∙ ap (λ c. (not_landed rules pair c).left) same)
 
   -- If each pair that the limiter returns is stored with all the others, an insert is one into a list.
   pub insert_in_list : {hash_of : H → K → ℕ}
@@ -131,7 +132,7 @@ module _ {K V S H I : Type 0} (rules : Rules K V S) (offers : Offers K V S I) (n
       → Insert rules offers names hash_of i v old result new → EndsSo
   insert_in_list beside (replaced pair found y r l) = ends (rw (found, y)
       (trimmed_ends rules old (with_replaced rules offers names pair i v (contents old)) result new r l))
-  insert_in_list beside (given_up pair found y r l) = ends (rw (found, y) (r, left_are old _ new l))
+  insert_in_list beside (not_replaced pair found y r l) = ends (rw (found, y) (r, left_are old _ new l))
   insert_in_list beside (no_memory_to_admit a k r e) = not_offered a k r (ap contents e)
   insert_in_list beside (not_admitted a s n r e) = ends (rw a (s, None, n, (r, ap contents e)))
   insert_in_list beside (admitted a s pair n (ready, l, (outcome, landed, p, t))) =

@@ -8,11 +8,12 @@ use Rattle.lru_model.specs.Lists.{last, without_last}
 use Rattle.lru_model.specs.State.{State, Contents, contents, Leaves, notified_of, pop, trim, trim_from}
 use Rattle.lru_model.specs.Place.{Place, in_bucket, rehashed, grown, not_grown}
 use Rattle.lru_model.specs.Place.{Evicts, nothing_to_evict, finds_bucket, rehashes, CannotGrow, no_target, denied}
-use Rattle.lru_model.specs.Place.{OldestLeave}
-use Rattle.lru_model.specs.Place.{Outcome, placed, refused, no_memory, IsPlaced, IsPlacedIfMemory, turned_away, asked}
-use Rattle.lru_model.specs.Inserts.{Insert, replaced, given_up, no_memory_to_admit, not_admitted, admitted, make_room}
-use Rattle.lru_model.specs.Inserts.{Settles, PlacesNew, with_replaced, with_given_up}
-use Rattle.lru_model.specs.HandedOver.{noting, noting_offers, noted, InsertHands}
+use Rattle.lru_model.specs.Place.{OldestEvicted}
+use Rattle.lru_model.specs.Place.{Outcome, placed, refused, no_memory, IsPlaced, IsPlacedIfMemory, unstored, asked}
+use Rattle.lru_model.specs.Inserts.{Insert, replaced, not_replaced, no_memory_to_admit, not_admitted, admitted}
+use Rattle.lru_model.specs.Inserts.{make_room}
+use Rattle.lru_model.specs.Inserts.{Settles, PlacesNew, with_replaced, with_removed}
+use Rattle.lru_model.specs.Callbacks.{noting, noting_offers, noted, InsertPasses}
 use Rattle.lru_model.proofs.Theorems.Limits.{length-without}
 
 module _ {K V S : Type 0} where
@@ -66,7 +67,7 @@ module _ {K V S H : Type 0} (rules : Rules K V S) where
   placed_adds pair count spare moves old new is = omega (arith, ap in_map is.state)
 
   away_adds : (pair : K × V) (old : State K V (S × List (K × V)) H)
-      → in_map (turned_away (noting rules) pair old) ≡ in_map old + 1
+      → in_map (unstored (noting rules) pair old) ≡ in_map old + 1
   away_adds pair old = let notified = rules.on_removed old.limiter.0 pair.0 pair.1 in
       omega (arith, one_noted rules old.limiter.1 (notified.key, notified.value))
 
@@ -77,7 +78,7 @@ module _ {K V S H : Type 0} (rules : Rules K V S) where
   memory_adds pair count spare moves old no_memory new h = ap in_map h ∙ away_adds pair old
   memory_adds pair count spare moves old refused new h = absurd h
 
-  gone_keeps : (hash n : ℕ) (old new : State K V (S × List (K × V)) H) → OldestLeave (noting rules) hash n old new
+  gone_keeps : (hash n : ℕ) (old new : State K V (S × List (K × V)) H) → OldestEvicted (noting rules) hash n old new
       → in_map new ≡ in_map old
   gone_keeps hash zero old new h = ap in_map h
   gone_keeps hash (suc n) old new (before, gone, no_place, leaves) =
@@ -137,11 +138,11 @@ module _ {K V S H I : Type 0} (rules : Rules K V S) (offers : Offers K V S I) (n
         trim_keeps rules c,
         length-without (names i) old.pairs,
       )
-  insert_adds old new (given_up pair there untaken r leaves) =
+  insert_adds old new (not_replaced pair there untaken r leaves) =
       let by = offers.on_replace old.limiter.0 (length old.pairs) pair.0 i pair.1 v in
       let notified = rules.on_removed by.limiter by.key by.old_value in omega (
         arith,
-        left_is rules old new (with_given_up (noting rules) (noting_offers offers) names pair i v (contents old))
+        left_is rules old new (with_removed (noting rules) (noting_offers offers) names pair i v (contents old))
             leaves,
         one_noted rules old.limiter.1 (notified.key, notified.value),
         length-without (names i) old.pairs,
@@ -159,6 +160,6 @@ module _ {K V S H I : Type 0} (rules : Rules K V S) (offers : Offers K V S I) (n
   )
 
   pub few_handed : (old : State K V S H) (handed : List (K × V)) (new : State K V S H)
-      → InsertHands rules offers names hash_of i v old result handed new
+      → InsertPasses rules offers names hash_of i v old result handed new
       → length handed + length new.pairs ≤ length old.pairs + 1
   few_handed old handed new step = omega (arith, insert_adds (noted [] old) (noted handed new) step)

@@ -11,7 +11,8 @@ use Rattle.lru_limits.specs.Laws.{IsLookup, IsInsertion}
 use Rattle.lru_model.specs.Lists.{is_empty, first, IsFront, lookup, lookup_entry, without}
 use Rattle.lru_model.specs.State.{State, Contents, contents, IsWithin, Leaves, pop, trim, trim_from}
 use Rattle.lru_model.specs.Place.{Place, Outcome, placed, refused, no_memory}
-use Rattle.lru_model.specs.Inserts.{Insert, replaced, given_up, no_memory_to_admit, not_admitted, admitted, replacement}
+use Rattle.lru_model.specs.Inserts.{Insert, replaced, not_replaced, no_memory_to_admit, not_admitted, admitted}
+use Rattle.lru_model.specs.Inserts.{replacement}
 use Rattle.lru_model.specs.Inserts.{with_replaced, unkept_of, Settles}
 use Rattle.lru_model.specs.Theorems.{IsNewest, SaysWhether, Stores, left, given, KeepsValues}
 use Rattle.lru_model.proofs.States.LeavingPairs.{length-without_last}
@@ -132,7 +133,7 @@ module _ {K V S H I : Type 0} {rules : Rules K V S} {offers : Offers K V S I} {n
         first = refl;
         named = replaced_named rules offers names looks_up laws i v old pair found;
       })
-  insert_says {result} {new} d (given_up pair found y r l) = rw r (ap (λ st. lookup_entry (names i) st.pairs) l.is
+  insert_says {result} {new} d (not_replaced pair found y r l) = rw r (ap (λ st. lookup_entry (names i) st.pairs) l.is
       ∙ absent_without eq (names i) (λ x y n. looks_up.one i x y n) old.pairs d)
   insert_says {result} {new} d (no_memory_to_admit a k r e) = err_says rules (names i) result new r
       (ap (λ st. lookup_entry (names i) st.pairs) e ∙ a)
@@ -164,7 +165,7 @@ module _ {K V S H I : Type 0} {rules : Rules K V S} {offers : Offers K V S I} {n
       → IfSome (first new.pairs) (Stores rules offers names i v old)
   insert_stores {new = new} q (replaced pair found y r l) = stored
       (with_replaced rules offers names pair i v (contents old)) old new l (sym q ∙ r) _ _ refl (left pair found y refl)
-  insert_stores q (given_up pair found y r l) = absurd (false≢true (same_kept false true (sym r ∙ q)))
+  insert_stores q (not_replaced pair found y r l) = absurd (false≢true (same_kept false true (sym r ∙ q)))
   insert_stores {result = result} q (no_memory_to_admit a k r e) = ok-not_err result (rw q refl) r
   insert_stores q (not_admitted a s n r e) = absurd (false≢true (same_kept false true (sym r ∙ q)))
   insert_stores {hash_of} {result} {new} q (admitted a s pair n (ready, l, (outcome, landed, p, t))) = go outcome

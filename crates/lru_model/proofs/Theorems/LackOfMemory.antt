@@ -8,10 +8,11 @@ use Rattle.lru_limits.specs.Rules.{Rules, Offers}
 use Rattle.lru_model.specs.State.{State, buckets, room}
 use Rattle.lru_model.specs.Place.{Place, in_bucket, rehashed, grown, not_grown}
 use Rattle.lru_model.specs.Place.{nothing_to_evict, finds_bucket, rehashes, Outcome, placed, refused, no_memory}
-use Rattle.lru_model.specs.Inserts.{Insert, replaced, given_up, no_memory_to_admit, not_admitted, admitted, make_room}
+use Rattle.lru_model.specs.Inserts.{Insert, replaced, not_replaced, no_memory_to_admit, not_admitted, admitted}
+use Rattle.lru_model.specs.Inserts.{make_room}
 use Rattle.lru_model.specs.Inserts.{kept_of}
 use Rattle.lru_model.specs.declared.results.Inserted.{Inserted}
-use Rattle.lru_model.specs.Inserts.{Settles, IsShort, LacksMemory}
+use Rattle.lru_model.specs.Inserts.{Settles, NeedsMemory, IsOutOfMemory}
 use Rattle.lru_model.specs.Lists.{IsFront}
 use Rattle.lru_model.proofs.Theorems.Fronts.{front_same, front_trans, front_make_room}
 use Rattle.lru_model.proofs.Theorems.InsertAnswers.{place_comes}
@@ -44,20 +45,20 @@ module _ {K V S H I : Type 0} {rules : Rules K V S} {offers : Offers K V S I} {n
     {new : State K V S H} where
   -- The limiter ran out of memory, or the table did.
   pub err_is : IsErr result → Insert rules offers names hash_of i v old result new
-      → LacksMemory rules offers names hash_of i v old new
+      → IsOutOfMemory rules offers names hash_of i v old new
   err_is h (replaced pair found y r l) = ok-not_err result (rw r refl) h
-  err_is h (given_up pair found y r l) = ok-not_err result (rw r refl) h
+  err_is h (not_replaced pair found y r l) = ok-not_err result (rw r refl) h
   err_is h (no_memory_to_admit a k r e) = (a, inl (k, e))
   err_is h (not_admitted a s n r e) = ok-not_err result (rw r refl) h
   err_is h (admitted a s pair n (ready, l, (outcome, landed, p, t))) = (a, inr (go outcome p t))
     where
-      short : LacksTable rules hash_of pair ready → IsShort rules offers names hash_of i v old
+      short : LacksTable rules hash_of pair ready → NeedsMemory rules offers names hash_of i v old
       short k = record {
         no_room = omega (arith, l.room.keeps, k.0);
         s = s;
         pair = pair;
         given = n;
-        beside = side k.1;
+        needed = side k.1;
       }
         where
           side : (buckets ready ≡ 0) ⊎ (0 < length ready.pairs) → (buckets old ≡ 0)
@@ -66,7 +67,7 @@ module _ {K V S H I : Type 0} {rules : Rules K V S} {offers : Offers K V S I} {n
           side (inr f) = inr (subst (λ ps. 0 < length ps) (ap (λ st. st.pairs) l.is) f)
 
       go : (outcome : Outcome) → Place rules hash_of pair ready outcome landed
-          → Settles rules outcome landed result new → IsShort rules offers names hash_of i v old
+          → Settles rules outcome landed result new → NeedsMemory rules offers names hash_of i v old
       go placed p t = ok-not_err result (rw t.0 refl) h
       go refused p t = ok-not_err result (rw t.0 refl) h
       go no_memory p t = short (place_lacks rules hash_of pair ready landed no_memory refl p)
@@ -74,7 +75,7 @@ module _ {K V S H I : Type 0} {rules : Rules K V S} {offers : Offers K V S I} {n
   -- It leaves a front part of the pairs.
   pub err_keeps : IsErr result → Insert rules offers names hash_of i v old result new → IsFront new.pairs old.pairs
   err_keeps h (replaced pair found y r l) = ok-not_err result (rw r refl) h
-  err_keeps h (given_up pair found y r l) = ok-not_err result (rw r refl) h
+  err_keeps h (not_replaced pair found y r l) = ok-not_err result (rw r refl) h
   err_keeps h (no_memory_to_admit a k r e) = front_same (ap (λ st. st.pairs) e)
   err_keeps h (not_admitted a s n r e) = ok-not_err result (rw r refl) h
   err_keeps h (admitted a s pair n (ready, l, (outcome, landed, p, t))) = go outcome p t

@@ -10,7 +10,7 @@ use Rattle.lru_model.specs.Sizes.{usage}
 use Rattle.lru_model.specs.Lists.{last, lookup_entry, without, set_entry}
 use Rattle.lru_model.specs.State.{State, buckets, contents, IsWithin, notified_of}
 use Rattle.lru_model.specs.Place.{Outcome, placed, refused, no_memory}
-use Rattle.lru_model.specs.Inserts.{Insert, replaced, given_up, no_memory_to_admit, not_admitted, admitted, Settles}
+use Rattle.lru_model.specs.Inserts.{Insert, replaced, not_replaced, no_memory_to_admit, not_admitted, admitted, Settles}
 use Rattle.lru_model.specs.Inserts.{replacement}
 use Rattle.lru_model.specs.Theorems.{UsesAtMost}
 use Rattle.lru_model.specs.Updates.{Update, updated, rejected, not_there, with_updated}
@@ -87,7 +87,7 @@ module _ {K V : Type 0} (f : K × V → ℕ) where
         ⊎ (total f new.pairs ≤ total f old.pairs)
     insert_within {new = new} (replaced pair found y r l) = inl
         (subst (IsWithin rules) (sym (left_are old _ new l)) (trim_ends rules _))
-    insert_within (given_up pair found y r l) = inr
+    insert_within (not_replaced pair found y r l) = inr
         (omega (arith, ap (λ st. total f st.pairs) l.is, total-without (names i) old.pairs))
     insert_within (no_memory_to_admit a k r e) = inr (omega (arith, ap (λ st. total f st.pairs) e))
     insert_within (not_admitted a s n r e) = inr (omega (arith, ap (λ st. total f st.pairs) e))

@@ -14,10 +14,10 @@ use Rattle.std.specs.declared.alloc.AllocError.{AllocError}
 use Rattle.lru_limits.specs.Rules.{Rules, Offers}
 use Rattle.lru_model.specs.Lists.{last, lookup_entry, without, without_last}
 use Rattle.lru_model.specs.State.{State, Contents, contents, notified_of}
-use Rattle.lru_model.specs.Place.{Outcome, placed, refused, no_memory, turned_away}
-use Rattle.lru_model.specs.Inserts.{replaced, given_up, no_memory_to_admit, not_admitted, admitted, MayGive}
+use Rattle.lru_model.specs.Place.{Outcome, placed, refused, no_memory, unstored}
+use Rattle.lru_model.specs.Inserts.{replaced, not_replaced, no_memory_to_admit, not_admitted, admitted, MayGive}
 use Rattle.lru_model.specs.Inserts.{Settles}
-use Rattle.lru_model.specs.HandedOver.{noting, noted, InsertHands}
+use Rattle.lru_model.specs.Callbacks.{noting, noted, InsertPasses}
 use Rattle.lru_model.specs.Kept.{ChangesNoPair, LosesNothing, stored, value_rejected, nothing_to_store, pair_not_stored}
 use Rattle.lru_model.proofs.States.Outcomes.{ok-not_err, same_kept}
 use Rattle.lru_model.proofs.Theorems.Moves.{KeepsWay, left_are, leaves_keep, make_room_keeps, trim_keeps}
@@ -64,7 +64,7 @@ module _ {K V S H I : Type 0} (rules : Rules K V S) (offers : Offers K V S I) (n
   turned : lookup_entry (names i) old.pairs ≡ None → (s : S) (pair : K × V)
       → MayGive rules offers names i v (contents old) s (Some pair) → (result ≡ Ok true → ⊥)
       → (mid : State K V (S × List (K × V)) H) → all_of (contents mid) ≡ old.pairs
-      → noted handed new ≡ turned_away (noting rules) pair mid → EndsSo
+      → noted handed new ≡ unstored (noting rules) pair mid → EndsSo
   turned a s pair n untrue mid same e = pair_not_stored a s pair n untrue mid.limiter.1
       (ap (λ st. st.limiter.1) e ∙ noted_same rules leaves mid.limiter.1 mid.limiter.0 pair)
       (ap (λ st. st.pairs ++ reverse mid.limiter.1) e ∙ same)
@@ -85,11 +85,11 @@ module _ {K V S H I : Type 0} (rules : Rules K V S) (offers : Offers K V S I) (n
   settles a s pair n no_memory ready mid landed same l t =
       turned a s pair n (λ e. ok-not_err result (rw e refl) t.0) mid same (t.1 ∙ l)
 
-  pub loses_nothing : {hash_of : H → K → ℕ} → InsertHands rules offers names hash_of i v old result handed new → EndsSo
+  pub loses_nothing : {hash_of : H → K → ℕ} → InsertPasses rules offers names hash_of i v old result handed new → EndsSo
   loses_nothing (replaced was found y r l) = stored _ (left was found y refl) r
       (ap all_of (left_are _ _ (noted handed new) l)
       ∙ trim_keeps (noting rules) _ (way_all rules leaves) _ ∙ append-nil _)
-  loses_nothing (given_up was found y r l) = value_rejected was found y r
+  loses_nothing (not_replaced was found y r l) = value_rejected was found y r
       (ap (λ st. st.limiter.1) l.is ∙ noted_same rules leaves [] _ _)
       (ap (λ st. st.pairs) l.is)
   loses_nothing (no_memory_to_admit a k r e) = nothing_to_store a (inl (k, r)) (ap (λ st. st.limiter.1) e)

@@ -16,7 +16,7 @@ use Rattle.lru_model.specs.Runs.{NamesOnly, StepAmong}
 use Rattle.lru_model.specs.Runs.{Run, ends, goes_on}
 use Rattle.lru_model.specs.Retains.{retained}
 use Rattle.lru_model.specs.State.{State, contents}
-use Rattle.lru_model.specs.Theorems.{GivesUp, behind, with_none, without_one, others}
+use Rattle.lru_model.specs.Theorems.{EvictsOldest, behind, with_none, without_one, others}
 use Rattle.lru_model.proofs.Theorems.AddedPairs.{reserve_stays}
 use Rattle.lru_model.proofs.Theorems.Fronts.{insert_gives_up, front_same, front_self, front_trans, front_trim}
 use Rattle.lru_model.proofs.Theorems.Fronts.{front_without_last}
@@ -97,7 +97,7 @@ module _ {K V : Type 0} (test : K → Bool) where
         go true e h = others_behind (x.0, value) xs (among x.0 e) ∙ sym (others_behind x xs (among x.0 e))
         go false e h = ap (λ l. cond (not (test x.0)) (x ∷ l) l) h
 
-    gives_up_others : (refuses : K × V → Type 0) (old new : List (K × V)) → GivesUp names refuses old new
+    gives_up_others : (refuses : K × V → Type 0) (old new : List (K × V)) → EvictsOldest names refuses old new
         → IsFront (others test new) (others test old)
     gives_up_others refuses old new (behind newest named f) = subst (IsFront (others test new))
         (others_behind newest (without names old) (among newest.0 named) ∙ others_without old)

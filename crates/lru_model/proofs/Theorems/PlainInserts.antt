@@ -10,13 +10,14 @@ use Rattle.lru_model.specs.State.{State, Contents, contents, FreesRoom, Leaves, 
 use Rattle.lru_model.specs.State.{trim_from}
 use Rattle.lru_model.specs.Place.{Place, in_bucket, rehashed, grown, not_grown}
 use Rattle.lru_model.specs.Place.{Evicts, nothing_to_evict, finds_bucket, rehashes, CannotGrow, no_target, denied}
-use Rattle.lru_model.specs.Place.{OldestLeave}
+use Rattle.lru_model.specs.Place.{OldestEvicted}
 use Rattle.lru_model.specs.Place.{Outcome, placed, refused, no_memory, IsPlaced, IsPlacedIfMemory, FillsBucket}
 use Rattle.lru_model.specs.Place.{HasNoBucket, IsOutgrown}
-use Rattle.lru_model.specs.Inserts.{Insert, replaced, given_up, no_memory_to_admit, not_admitted, admitted, make_room}
+use Rattle.lru_model.specs.Inserts.{Insert, replaced, not_replaced, no_memory_to_admit, not_admitted, admitted}
+use Rattle.lru_model.specs.Inserts.{make_room}
 use Rattle.lru_model.specs.Inserts.{Settles, PlacesNew}
-use Rattle.lru_model.specs.HandedOver.{noting, noting_offers, noted}
-use Rattle.lru_model.specs.Retains.{retained, Retains, RetainHands}
+use Rattle.lru_model.specs.Callbacks.{noting, noting_offers, noted}
+use Rattle.lru_model.specs.Retains.{retained, Retains, RetainPasses}
 use Rattle.lru_model.specs.Updates.{Update, updated, rejected, not_there}
 use Rattle.lru_model.specs.declared.results.Updated.{Updated}
 use Rattle.std.specs.Borrow.{Bor}
@@ -116,8 +117,8 @@ module _ {K V S H : Type 0} (rules : Rules K V S) where
   plain_if_memory pair count spare moves old no_memory new h = ap plain h
   plain_if_memory pair count spare moves old refused new h = h
 
-  plain_gone : (hash n : ℕ) (old new : State K V (S × List (K × V)) H) → OldestLeave (noting rules) hash n old new
-      → OldestLeave rules hash n (plain old) (plain new)
+  plain_gone : (hash n : ℕ) (old new : State K V (S × List (K × V)) H) → OldestEvicted (noting rules) hash n old new
+      → OldestEvicted rules hash n (plain old) (plain new)
   plain_gone hash zero old new h = ap plain h
   plain_gone hash (suc n) old new (before, gone, no_place, leaves) = (
     plain before,
@@ -199,8 +200,8 @@ module _ {K V S H I : Type 0} {rules : Rules K V S} {offers : Offers K V S I} {n
       → Insert rules offers names hash_of i v (plain old) result (plain new)
   plain_insert_of old new (replaced pair there taken r leaves) =
       replaced pair there taken r (plain_leaves old new _ _ (plain_trim rules _) leaves)
-  plain_insert_of old new (given_up pair there untaken r leaves) =
-      given_up pair there untaken r (plain_leaves old new _ _ refl leaves)
+  plain_insert_of old new (not_replaced pair there untaken r leaves) =
+      not_replaced pair there untaken r (plain_leaves old new _ _ refl leaves)
   plain_insert_of old new (no_memory_to_admit absent lacks r e) = no_memory_to_admit absent lacks r (ap plain e)
   plain_insert_of old new (not_admitted absent s given r e) = not_admitted absent s.0 given.0 r (ap plain e)
   plain_insert_of old new (admitted absent s pair given places) =
@@ -241,7 +242,7 @@ module _ {K V S : Type 0} (rules : Rules K V S) where
       (λ c. record { pairs = c.pairs; limiter = notified_of rules (Some pair) c.limiter }) (plain_retained older s)
 
   pub plain_retains : {H F : Type 0} (closure : Mut F (Bor K × (Bor V × Unit {0})) Bool) (f : F) (handed : List (K × V))
-      (old new : State K V S H) → RetainHands rules closure f old handed new → Retains closure rules f old new
+      (old new : State K V S H) → RetainPasses rules closure f old handed new → Retains closure rules f old new
   plain_retains closure f handed old new step = record {
     asked = step.asked;
     each = step.each;

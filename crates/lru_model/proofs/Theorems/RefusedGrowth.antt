@@ -10,7 +10,8 @@ use Rattle.lru_model.specs.Sizes.{no_table, new_table}
 use Rattle.lru_model.specs.Place.{Place, in_bucket, rehashed, grown, not_grown}
 use Rattle.lru_model.specs.Place.{nothing_to_evict, finds_bucket, rehashes}
 use Rattle.lru_model.specs.Place.{CannotGrow, no_target, denied, Outcome, placed, refused, no_memory, IsPlaced}
-use Rattle.lru_model.specs.Place.{IsPlacedIfMemory, Grants, asked, table_for, IsFullWithPairs, FillsBucket, OldestLeave}
+use Rattle.lru_model.specs.Place.{IsPlacedIfMemory, Grants, asked, table_for, IsFullWithPairs, FillsBucket}
+use Rattle.lru_model.specs.Place.{OldestEvicted}
 use Rattle.lru_model.specs.Theorems.{IsRefusedGrowth}
 use Rattle.lru_model.proofs.States.Outcomes.{placed-not_no_memory, refused-not_no_memory, refused-not_placed}
 use Rattle.lru_model.proofs.States.LeavingPairs.{length-pops, known_is, oldest_leaves}
@@ -55,7 +56,7 @@ module _ {K V S H : Type 0} (rules : Rules K V S) (hash_of : H → K → ℕ) (p
 
   -- how many are left after n of the oldest left
   pub left_length : (n : ℕ) (mid left : State K V S H) → CannotGrow rules old mid
-      → OldestLeave rules (hash_of old.hasher pair.0) n mid left
+      → OldestEvicted rules (hash_of old.hasher pair.0) n mid left
       → length left.pairs ≡ length old.pairs - n
   left_length n mid left c gone = let gone = oldest_leaves rules _ n mid left gone in
       ap (λ st. length st.pairs) gone.is ∙ length-pops rules n (contents mid)
@@ -64,7 +65,7 @@ module _ {K V S H : Type 0} (rules : Rules K V S) (hash_of : H → K → ℕ) (p
   -- growth is refused, n of the oldest are evicted, and the pair is stored with the others
   gives_way : IsFullWithPairs old → full_capacity (buckets old) / 2 < length old.pairs + 1 → (mid : State K V S H)
       → CannotGrow rules old mid → (n : ℕ) → (buckets old ≤ 16 → n ≡ 1)
-      → (left : State K V S H) → OldestLeave rules (hash_of old.hasher pair.0) n mid left → (new : State K V S H)
+      → (left : State K V S H) → OldestEvicted rules (hash_of old.hasher pair.0) n mid left → (new : State K V S H)
       → (length left.pairs ≡ length old.pairs - n → full_capacity (buckets old) / 2 ≤ suc (length left.pairs))
       → new.pairs ≡ pair ∷ left.pairs → buckets new ≡ buckets old
       → KeepsAll new ⊎ (IsRefusedGrowth rules old × GivesWay new)

@@ -8,9 +8,10 @@ use Rattle.lru_limits.specs.Rules.{Rules, Offers}
 use Rattle.lru_model.specs.Lists.{is_empty, lookup_entry}
 use Rattle.lru_model.specs.State.{State, Contents, contents, room}
 use Rattle.lru_model.specs.Place.{placed}
-use Rattle.lru_model.specs.Inserts.{Insert, replaced, given_up, no_memory_to_admit, not_admitted, admitted, make_room}
+use Rattle.lru_model.specs.Inserts.{Insert, replaced, not_replaced, no_memory_to_admit, not_admitted, admitted}
+use Rattle.lru_model.specs.Inserts.{make_room}
 use Rattle.lru_model.specs.Inserts.{Settles}
-use Rattle.lru_model.specs.HandedOver.{noting, noting_offers, noted, InsertHands}
+use Rattle.lru_model.specs.Callbacks.{noting, noting_offers, noted, InsertPasses}
 use Rattle.lru_model.specs.Kept.{AcceptsNew, IsAdded}
 use Rattle.lru_model.proofs.States.LeavingPairs.{trim-within}
 use Rattle.lru_model.proofs.Theorems.GrantedGrowth.{place_with_room}
@@ -22,7 +23,7 @@ module _ {K V S H I : Type 0} (rules : Rules K V S) (offers : Offers K V S I) (n
       → lookup_entry (names i) old.pairs ≡ None → 0 < room old
       → Insert rules offers names hash_of i v old result new → IsAdded rules offers names i v pair old result new
   is_added w absent some (replaced was found y r l) = absurd (none-some was (sym absent ∙ found))
-  is_added w absent some (given_up was found y r l) = absurd (none-some was (sym absent ∙ found))
+  is_added w absent some (not_replaced was found y r l) = absurd (none-some was (sym absent ∙ found))
   is_added w absent some (no_memory_to_admit a k r e) = absurd (w.finds k)
   is_added w absent some (not_admitted a s n r e) = absurd (none-some pair (w.gives s None n).0)
   is_added {hash_of} w absent some (admitted a s given n (ready, l, (outcome, landed, p, t))) =
@@ -55,7 +56,7 @@ module _ {K V S H I : Type 0} (rules : Rules K V S) (offers : Offers K V S I) (n
   pub hands_nothing : {hash_of : H → K → ℕ} (handed : List (K × V))
       → AcceptsNew rules offers names i v (contents old) pair
       → lookup_entry (names i) old.pairs ≡ None → 0 < room old
-      → InsertHands rules offers names hash_of i v old result handed new → handed ≡ []
+      → InsertPasses rules offers names hash_of i v old result handed new → handed ≡ []
   hands_nothing handed w absent some step =
       (is_added (noting rules) (noting_offers offers) names i v pair (noted [] old) result (noted handed new)
       (record { finds = w.finds; gives = λ s given n. w.gives s.0 given n.0 }) absent some step).limiter.1

@@ -11,7 +11,8 @@ use Rattle.group_table.specs.Sizes.{full_capacity, buckets_for}
 use Rattle.lru_limits.specs.Rules.{Rules}
 use Rattle.lru_model.specs.Calls.{cleared}
 use Rattle.lru_model.specs.Place.{asked, table_for}
-use Rattle.lru_model.specs.Reservations.{LacksRoomFor, Reserve, unchanged, rehashed, reserved, asked_only, enough_room}
+use Rattle.lru_model.specs.Reservations.{NeedsGrowthFor, Reserve, unchanged, rehashed, reserved, asked_only}
+use Rattle.lru_model.specs.Reservations.{enough_room}
 use Rattle.lru_model.specs.Reservations.{too_many, no_such_table, no_memory_to_rehash}
 use Rattle.lru_model.specs.Exact.{LookAlike}
 use Rattle.lru_model.specs.Shrinks.{Shrink, shrink_counted, kept, shrunk, no_memory_to_shrink}
@@ -73,7 +74,7 @@ module _ {K V S H : Type 0} (rules : Rules K V S) (n : ℕ) (lacks : Bool) where
       else (Err TooLarge, sh)
 
 module _ {K V S H : Type 0} (rules : Rules K V S) (n : ℕ) (old : State K V S H) where
-  lacks_room : (lacks : Bool) → LacksRoomFor n old
+  lacks_room : (lacks : Bool) → NeedsGrowthFor n old
       → reserve_in rules n lacks (shape old) ≡ reserve_to rules n lacks (table_for n old) (shape old)
   lacks_room lacks l = rw (lt-ltb (length old.pairs + n) (2 ^ 64) l.1, lt-leb n (room old) l.0) refl
 

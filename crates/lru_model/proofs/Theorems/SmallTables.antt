@@ -8,11 +8,12 @@ use Rattle.group_table.specs.Change.{count_up}
 use Rattle.group_table.specs.Sizes.{full_capacity}
 use Rattle.lru_limits.specs.Rules.{Rules, Offers}
 use Rattle.lru_model.specs.Exact.{LookAlike, IsDetermined, NeverLacks}
-use Rattle.lru_model.specs.Inserts.{Insert, replaced, given_up, no_memory_to_admit, not_admitted, admitted, make_room}
-use Rattle.lru_model.specs.Inserts.{MayGive, replacement, with_replaced, with_given_up, Settles}
+use Rattle.lru_model.specs.Inserts.{Insert, replaced, not_replaced, no_memory_to_admit, not_admitted, admitted}
+use Rattle.lru_model.specs.Inserts.{make_room}
+use Rattle.lru_model.specs.Inserts.{MayGive, replacement, with_replaced, with_removed, Settles}
 use Rattle.lru_model.specs.Lists.{is_empty, lookup_entry}
 use Rattle.lru_model.specs.Place.{Place, in_bucket, rehashed, grown, not_grown}
-use Rattle.lru_model.specs.Place.{nothing_to_evict, finds_bucket, rehashes, FillsBucket, OldestLeave, IsOutgrown}
+use Rattle.lru_model.specs.Place.{nothing_to_evict, finds_bucket, rehashes, FillsBucket, OldestEvicted, IsOutgrown}
 use Rattle.lru_model.specs.Place.{CannotGrow, no_target, denied, table_for, Outcome, placed, refused, no_memory, asked}
 use Rattle.lru_model.specs.Place.{IsPlaced, IsPlacedIfMemory}
 use Rattle.lru_model.specs.Sizes.{Target, target, no_table, same_table, new_table}
@@ -152,14 +153,14 @@ module _ {K V S H : Type 0} (rules : Rules K V S) (hash_of : H → K → ℕ) (p
         go (no_target t e) = rw (t, e) refl
         go (denied count bytes t d e) = rw (t, d, e) refl
 
-    one_left : (n : ℕ) (left : State K V S H) → n ≡ 1 → OldestLeave rules (hash_of old.hasher pair.0) n mid left
+    one_left : (n : ℕ) (left : State K V S H) → n ≡ 1 → OldestEvicted rules (hash_of old.hasher pair.0) n mid left
         → shape left ≡ with_left (pops rules 1 (contents mid)) (shape mid)
     one_left n left one gone = left_shape mid (pops rules 1 (contents mid)) left (omega (arith, small, same_table_mid))
         (subst (λ k. Leaves mid (pops rules k (contents mid)) left) one (oldest_leaves rules _ n mid left gone))
 
     found_is : (n : ℕ) (left new : State K V S H) (outcome : Outcome) → n ≡ 1
         → full_capacity (buckets old) / 2 + n ≤ length old.pairs
-        → OldestLeave rules (hash_of old.hasher pair.0) n mid left → FillsBucket (hash_of old.hasher pair.0) left new
+        → OldestEvicted rules (hash_of old.hasher pair.0) n mid left → FillsBucket (hash_of old.hasher pair.0) left new
         → outcome ≡ placed → IsPlaced pair (buckets old) (room new) 0 left new
         → evict rules pair (lacks_memory outcome) (shape mid) ≡ (outcome, shape new)
     found_is n left new outcome one half gone fills o p =
@@ -180,7 +181,7 @@ module _ {K V S H : Type 0} (rules : Rules K V S) (hash_of : H → K → ℕ) (p
 
     anew_is : 0 < length old.pairs → (n : ℕ) (left new : State K V S H) (outcome : Outcome) → n ≡ 1
         → length old.pairs + 1 ≡ full_capacity (buckets old) / 2 + n
-        → OldestLeave rules (hash_of old.hasher pair.0) n mid left
+        → OldestEvicted rules (hash_of old.hasher pair.0) n mid left
         → IsPlacedIfMemory rules pair (buckets old) (full_capacity (buckets old) / 2) (length left.pairs) left outcome
         new
         → evict rules pair (lacks_memory outcome) (shape mid) ≡ (outcome, shape new)
@@ -278,7 +279,7 @@ module _ {K V S H I : Type 0} (rules : Rules K V S) (offers : Offers K V S I) (n
     abbrev ends_there : K × V → Shape K V S H → Option Bool × Shape K V S H
     ends_there pair sh = cond (replacement rules offers names pair i v (contents sh.bare)).taken
         (trimmed rules (with_replaced rules offers names pair i v (contents sh.bare)) sh)
-        (Some false, with_left (with_given_up rules offers names pair i v (contents sh.bare)) sh)
+        (Some false, with_left (with_removed rules offers names pair i v (contents sh.bare)) sh)
 
     abbrev ends_new : Bool → Shape K V S H → S → Option (K × V) → Option Bool × Shape K V S H
     ends_new lacks sh s None = (Some false, relimited s sh)
@@ -306,7 +307,7 @@ module _ {K V S H I : Type 0} (rules : Rules K V S) (offers : Offers K V S I) (n
           (said result, shape new)
       insert_is (replaced pair found y r l) = rw (found, y)
           (trimmed_is rules (with_replaced rules offers names pair i v (contents old)) old result new small r l)
-      insert_is (given_up pair found y r l) = rw (found, y, r)
+      insert_is (not_replaced pair found y r l) = rw (found, y, r)
           (ap (λ sh. (Some false, sh)) (sym (left_shape old _ new small l)))
       insert_is (no_memory_to_admit a k r e) = absurd (never old.limiter (length old.pairs) i v k)
       insert_is (not_admitted a s n r e) = rw (a, r) (s, None, n, ap (λ st. (Some false, shape st)) (sym e))

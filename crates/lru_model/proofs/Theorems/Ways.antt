@@ -12,8 +12,9 @@ use Rattle.lru_model.specs.Sizes.{target, new_table}
 use Rattle.lru_model.specs.Place.{Place, in_bucket, rehashed, grown, not_grown, FillsBucket}
 use Rattle.lru_model.specs.Place.{nothing_to_evict, finds_bucket, rehashes, Outcome, placed, refused, no_memory}
 use Rattle.lru_model.specs.Place.{IsPlaced}
-use Rattle.lru_model.specs.Place.{asked, turned_away, IsPlacedIfMemory, CannotGrow, no_target, denied}
-use Rattle.lru_model.specs.Inserts.{Insert, replaced, given_up, no_memory_to_admit, not_admitted, admitted, replacement}
+use Rattle.lru_model.specs.Place.{asked, unstored, IsPlacedIfMemory, CannotGrow, no_target, denied}
+use Rattle.lru_model.specs.Inserts.{Insert, replaced, not_replaced, no_memory_to_admit, not_admitted, admitted}
+use Rattle.lru_model.specs.Inserts.{replacement}
 use Rattle.lru_model.specs.Updates.{Update, updated, rejected, not_there}
 use Rattle.lru_model.specs.declared.results.Updated.{Updated}
 use Rattle.lru_model.proofs.States.LeavingPairs.{length-pops, oldest_leaves, known_is}
@@ -44,8 +45,8 @@ module _ {K V S H : Type 0} (rules : Rules K V S) (P : S → Type 0) (pair : K �
   -- the pair is stored so, or not at all; if it is refused, no pair was there
   abbrev pub Lands : Outcome → State K V S H → State K V S H → Type 0
   Lands placed mid new = Fills mid new
-  Lands refused mid new = (mid.pairs ≡ []) × (new ≡ turned_away rules pair mid)
-  Lands no_memory mid new = new ≡ turned_away rules pair mid
+  Lands refused mid new = (mid.pairs ≡ []) × (new ≡ unstored rules pair mid)
+  Lands no_memory mid new = new ≡ unstored rules pair mid
 
   -- an insertion makes room for the pair, and then stores it
   pub record MakesWay (R : Contents K V S → Contents K V S → Type 0) (outcome : Outcome)
@@ -70,9 +71,9 @@ module _ {K V S H : Type 0} (rules : Rules K V S) (P : S → Type 0) (pair : K �
     little = λ ok h. rw l.is.table (l.little ok (omega (arith, l.is.table, h)));
   }
   lands_tables refused mid new f l = calm_tables rules P 1 old new
-      (rw l.1 (calm_trans old mid (turned_away rules pair mid) f (limiter_calm mid _)))
+      (rw l.1 (calm_trans old mid (unstored rules pair mid) f (limiter_calm mid _)))
   lands_tables no_memory mid new f l = calm_tables rules P 1 old new
-      (rw l (calm_trans old mid (turned_away rules pair mid) f (limiter_calm mid _)))
+      (rw l (calm_trans old mid (unstored rules pair mid) f (limiter_calm mid _)))
 
 module _ {K V S H : Type 0} (rules : Rules K V S) (R : Contents K V S → Contents K V S → Type 0) (k : KeepsWay rules R)
     (P : S → Type 0) (hash_of : H → K → ℕ) (pair : K × V)
@@ -219,7 +220,7 @@ module _ {K V S : Type 0} (rules : Rules K V S) (R : Contents K V S → Contents
       end outcome m.mid m.way m.lands
     where
       away : (mid : State K V S H) → R (behind pair (contents old)) (behind pair (contents mid)) → new
-          ≡ turned_away rules pair mid → R (behind pair (contents old)) (contents new)
+          ≡ unstored rules pair mid → R (behind pair (contents old)) (contents new)
       away mid r e = subst (R _) (sym (ap contents e)) (k.way.trans r (k.left (λ _. true) (behind pair (contents mid))))
 
       end : (outcome : Outcome) (mid : State K V S H) → R (behind pair (contents old)) (behind pair (contents mid))
@@ -281,7 +282,7 @@ module _ {K V S H I : Type 0} {rules : Rules K V S} {offers : Offers K V S I} {n
       leaves_changes rules R 1 old _ new l
       (k.keeps.way.trans (exchanges pair _ (rw y refl) (k.exchanged i v (contents old) pair found))
       (trim_keeps rules R k.keeps.way _))
-  insert_changes result new (given_up pair found y r l) =
+  insert_changes result new (not_replaced pair found y r l) =
       leaves_changes rules R 1 old _ new l
       (k.keeps.way.trans (exchanges pair _ (rw y refl) (k.exchanged i v (contents old) pair found))
       (k.keeps.left (λ _. true) _))

@@ -9,7 +9,7 @@ ghost use Rattle.lru_model.specs.Lists.{lookup_entry, without};
 ghost use Rattle.lru_model.specs.Sizes.{max_of_32_bits};
 ghost use Rattle.lru_model.specs.State.{State, contents, room, IsSized, empty_map};
 ghost use Rattle.lru_model.specs.Inserts.{Insert};
-ghost use Rattle.lru_model.specs.HandedOver.{InsertHands};
+ghost use Rattle.lru_model.specs.Callbacks.{InsertPasses};
 ghost use Rattle.lru_model.specs.Calls.{written};
 ghost use Rattle.lru_model.specs.Runs.{Step};
 ghost use Rattle.lru_model.specs.Theorems.{Stores};
@@ -29,17 +29,17 @@ pub fn nothing_is_lost<K: Eq + Hash, V, I: LookupKey<K>, L: Insertion<K, V, I>, 
     ensures all { (key : I) (value : V) (old : State K V L S) (result : Result Bool AllocError)
         (handed : List (K × V)) (new : State K V L S) →
         ChangesNoPair L.rules →
-        InsertHands L.rules L.offers I.names S.hash_of key value old result handed new →
+        InsertPasses L.rules L.offers I.names S.hash_of key value old result handed new →
         LosesNothing L.rules L.offers I.names key value old result handed new }
     ensures stored { (key : I) (value : V) (old : State K V L S) (handed : List (K × V)) (new : State K V L S) →
         ChangesNoPair L.rules →
-        InsertHands L.rules L.offers I.names S.hash_of key value old (Ok true) handed new →
+        InsertPasses L.rules L.offers I.names S.hash_of key value old (Ok true) handed new →
         (pair : K × V) × Stores L.rules L.offers I.names key value old pair
         × (new.pairs ++ reverse handed ≡ pair ∷ without (I.names key) old.pairs) }
     ensures others { (key : I) (value : V) (old : State K V L S) (result : Result Bool AllocError)
         (handed : List (K × V)) (new : State K V L S) →
         ChangesNoPair L.rules →
-        InsertHands L.rules L.offers I.names S.hash_of key value old result handed new →
+        InsertPasses L.rules L.offers I.names S.hash_of key value old result handed new →
         (pair : K × V) → I.names key pair.0 ≡ false →
         Contains old.pairs pair → Contains new.pairs pair ⊎ Contains handed pair }
 {}
@@ -69,7 +69,7 @@ pub fn inserts_with_room_are_exact<
         (handed : List (K × V)) (new : State K V L S) →
         0 < room old → lookup_entry (I.names key) old.pairs ≡ None →
         AcceptsNew L.rules L.offers I.names key value (contents old) pair →
-        InsertHands L.rules L.offers I.names S.hash_of key value old result handed new → handed ≡ [] }
+        InsertPasses L.rules L.offers I.names S.hash_of key value old result handed new → handed ≡ [] }
 {}
 
 /// With `ByLength` an insert leaves its entry first, under the key that is stored, and then the newest others, up to

@@ -4,7 +4,7 @@ use Rattle.std.proofs.Common.{vec_capacity, refl, ap, ◌∙◌, arith}
 use Rattle.std.proofs.lemmas.Fn.{chained_keeps}
 use Rattle.std.proofs.lemmas.List.{length-append}
 use Rattle.std.specs.Fn.{Mut, Called}
-use Rattle.lru_model.specs.HandedOver.{Takes}
+use Rattle.lru_model.specs.Callbacks.{CalledWith}
 
 -- the pair was added, if there was space for it
 pub record IsKept {K V : Type 0} (old new : MutBor (Vec (K × V) Global)) (pair : K × V) : Type 0 where
@@ -42,7 +42,7 @@ module _ {K V F : Type 0} (closure : Mut F (K × (V × Unit {0})) (Unit {0})) (k
 
   -- it has all that it got, from none on, if there is space for them
   pub all_kept : (handed : List (K × V)) (last : F) → vec_capacity (kept first).now ≡ room
-      → (kept first).now.items ≡ [] → vec_len (kept first).now ≡ 0 → Takes closure first handed last
+      → (kept first).now.items ≡ [] → vec_len (kept first).now ≡ 0 → CalledWith closure first handed last
       → AllKept handed last
   all_kept handed last capacity none empty took = chained_keeps _ AllKept one_more handed first last (record {
     same = refl;

@@ -10,16 +10,16 @@ use Rattle.lru_limits.specs.Rules.{Rules, Offers, Replaced, Notified}
 use Rattle.lru_model.specs.Lists.{last, without, set_entry}
 use Rattle.lru_model.specs.State.{State, Contents, IsSized, FreesRoom, Leaves, contents, notified_of, pop}
 use Rattle.lru_model.specs.Calls.{PopOldest, left_of}
-use Rattle.lru_model.specs.Place.{IsPlaced, FillsBucket, HasNoBucket, IsOutgrown, turned_away}
+use Rattle.lru_model.specs.Place.{IsPlaced, FillsBucket, HasNoBucket, IsOutgrown, unstored}
 use Rattle.lru_model.specs.Inserts.{make_room, replacement}
-use Rattle.lru_model.specs.HandedOver.{noting, noting_offers, noted, Takes}
+use Rattle.lru_model.specs.Callbacks.{noting, noting_offers, noted, CalledWith}
 use Rattle.schnellru.specs.Inside.Handing.{Hands, HandsGivenUp}
 use Rattle.schnellru.specs.Inside.Steps.{IsOffered}
 
 -- the sink was handed one pair more
 pub takes_more : {K V F : Type 0} (closure : Mut F (K × (V × Unit {0})) (Unit {0})) (first : F) (before : List (K × V))
-    (f : F) (pair : K × V) (g : F) → Takes closure first before f → Called closure f (pair.0, (pair.1, tt)) tt g →
-    Takes closure first (before ++ pair ∷ []) g
+    (f : F) (pair : K × V) (g : F) → CalledWith closure first before f → Called closure f (pair.0, (pair.1, tt)) tt g →
+    CalledWith closure first (before ++ pair ∷ []) g
 takes_more closure first before f pair g taken called =
     FoldsTo-push (λ p x q. Called closure p (x.0, (x.1, tt)) tt q) first before f pair g taken called
 
@@ -123,7 +123,7 @@ make_room-over rules c over = rw over refl
 pub noted_turned_away : {K V S H : Type 0} (rules : Rules K V S) (before : List (K × V)) (old new : State K V S H)
     (pair left : K × V) (s : S) → new ≡ record old { limiter = s } → s ≡ notified_of rules (Some pair) old.limiter →
     Some left ≡ left_of rules old.limiter (Some pair) →
-    noted (before ++ left ∷ []) new ≡ turned_away (noting rules) pair (noted before old)
+    noted (before ++ left ∷ []) new ≡ unstored (noting rules) pair (noted before old)
 noted_turned_away {K} {V} {S} {H} rules before old new pair left s is notified e =
     ap (noted (before ++ left ∷ [])) is
     ∙ ap {A = S} {B = State K V (S × List (K × V)) H}
@@ -168,11 +168,11 @@ module _ {K V S H I F : Type 0} (closure : Mut F (K × (V × Unit {0})) (Unit {0
         }) (noted after new)) (sym (more e)) (noted_leaves before after old new _ (offer.rejected e));
       }
 
-      go : (y : Bool) → result.0 ≡ y → (after : List (K × V)) × Takes closure first after g
+      go : (y : Bool) → result.0 ≡ y → (after : List (K × V)) × CalledWith closure first after g
           × IsOffered (noting rules) (noting_offers offers) names i v (noted before old) result (noted after new)
       go true e = (
         before,
-        subst (Takes closure first before) (sym (accepted e)) taken,
+        subst (CalledWith closure first before) (sym (accepted e)) taken,
         with_list before (λ _. refl) (λ no. absurd (true≢false (sym e ∙ no))),
       )
       go false e = (

@@ -11,8 +11,8 @@ use Rattle.lru_model.specs.ByHash.{Asks}
 use Rattle.lru_model.specs.Lists.{last, without_last, after}
 use Rattle.lru_model.specs.State.{State, Contents, contents, Leaves, notified_of}
 use Rattle.lru_model.specs.Calls.{PopOldest}
-use Rattle.lru_model.specs.HandedOver.{noting, noted, Takes}
-use Rattle.lru_model.specs.Retains.{retained, Answers, RetainHands}
+use Rattle.lru_model.specs.Callbacks.{noting, noted, CalledWith}
+use Rattle.lru_model.specs.Retains.{retained, Answers, RetainPasses}
 use Rattle.lru_model.proofs.States.LeavingPairs.{leaves_trans, leaves_self, length-without_last}
 use Rattle.schnellru.proofs.Maps.NotedStates.{takes_more, noted_pop}
 use Rattle.lru_model.proofs.PairLists.Emptiness.{last-length}
@@ -64,7 +64,7 @@ module _ {K V S H F G : Type 0} (rules : Rules K V S) (closure : Mut F (Bor K ×
     pub many : length rest ≡ left
     pub answers : Answers closure keep asked f
     pub handed : List (K × V)
-    pub takes : Takes sinks sink handed g
+    pub takes : CalledWith sinks sink handed g
     pub pairs : st.pairs ≡ (after_asked asked).pairs ++ rest
     pub notified : ◌≡◌ {A = S × List (K × V)} (st.limiter, handed) (after_asked asked).limiter
     pub leaves : Leaves (noted [] old) (contents (noted handed st)) (noted handed st)
@@ -167,7 +167,7 @@ module _ {K V S H F G : Type 0} (rules : Rules K V S) (closure : Mut F (Bor K ×
 
   -- all were asked
   pub retains_all : (st : State K V S H) (f : F) (g : G) → (i : IsRetainedTo 0 st f g)
-      → RetainHands rules closure keep old i.handed st
+      → RetainPasses rules closure keep old i.handed st
   retains_all st f g i = record {
     asked = i.asked;
     each = ap (λ l. l ++ map (λ one. one.0) i.asked) (sym (no_items i.rest i.many)) ∙ i.whole;

@@ -4,7 +4,7 @@ use Rattle.std.specs.Fn.{Mut, Called}
 use Rattle.lru_limits.specs.Rules.{Rules}
 use Rattle.lru_model.specs.State.{State, contents, trim, Leaves}
 use Rattle.lru_model.specs.Calls.{PopOldest}
-use Rattle.lru_model.specs.HandedOver.{noting, noted}
+use Rattle.lru_model.specs.Callbacks.{noting, noted}
 use Rattle.schnellru.specs.Inside.Handing.{Hands}
 use Rattle.lru_model.proofs.States.LeavingPairs.{leaves_trans, trim-over}
 use Rattle.schnellru.proofs.Maps.NotedStates.{takes_more, noted_pop}

@@ -6,7 +6,7 @@ use Rattle.lru_limits.specs.Rules.{Rules, Offers, Replaced}
 use Rattle.lru_model.specs.Lists.{lookup_entry}
 use Rattle.lru_model.specs.State.{State, Leaves, contents, notified_of}
 use Rattle.lru_model.specs.Calls.{left_of}
-use Rattle.lru_model.specs.Inserts.{replacement, unkept_of, with_given_up}
+use Rattle.lru_model.specs.Inserts.{replacement, unkept_of, with_removed}
 use Rattle.lru_model.specs.Updates.{with_updated}
 use Rattle.schnellru.specs.Inside.OrderedTable.{OrderedTable, with_pair, without_bucket}
 
@@ -51,4 +51,4 @@ pub record IsOffered {K V S H I : Type 0} (rules : Rules K V S) (offers : Offers
   pub accepted : result.0 ≡ true → Leaves old (with_updated rules offers names pair i v (contents old)) new
   -- it is in the same bucket
   pub place : result.0 ≡ true → new.places ≡ old.places
-  pub rejected : result.0 ≡ false → Leaves old (with_given_up rules offers names pair i v (contents old)) new
+  pub rejected : result.0 ≡ false → Leaves old (with_removed rules offers names pair i v (contents old)) new

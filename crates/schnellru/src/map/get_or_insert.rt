@@ -2,7 +2,7 @@
 ghost use Rattle.std.specs.Prelude.{◌≡◌, None, Ok, OnErr, IsErrOf};
 ghost use Rattle.lru_model.specs.Lists.{lookup};
 ghost use Rattle.lru_model.specs.State.{IsMap};
-ghost use Rattle.lru_model.specs.GetOrInserts.{MakesNewest, GetsOrInserts, SaysNewest, LacksMemoryFor};
+ghost use Rattle.lru_model.specs.GetOrInserts.{MakesNewest, GetsOrInserts, SaysNewest, IsOutOfMemoryFor};
 ghost use Rattle.lru_model.specs.IfMade.{MakesNewestIfMade, GetsOrInsertsIfMade};
 ghost use Rattle.std.specs.Borrow.{sem};
 ghost use Rattle.schnellru.specs.Lending.Answers.{lent_or_none};
@@ -78,7 +78,7 @@ impl<K: Eq + Hash + Drop, V: Drop, L: Limiter<K, V>, S: KeyHasher<K>> LruMap<K, 
         ensures step { MakesNewest L.rules L.offers I.names S.hash_of (F.post make) key self.old result self.new }
         ensures says { SaysNewest (I.names key) result self.new }
         ensures lacks { OnErr result
-            (LacksMemoryFor L.rules L.offers I.names S.hash_of (F.post make) key self.old self.new) }
+            (IsOutOfMemoryFor L.rules L.offers I.names S.hash_of (F.post make) key self.old self.new) }
         ensures map { IsMap K.eq self.new }
     {
         // Nothing at run time: it opens the map, whose invariant is the clause `map`.
@@ -188,7 +188,7 @@ impl<K: Eq + Hash + Drop, V: Drop, L: Limiter<K, V>, S: KeyHasher<K>> LruMap<K, 
         ensures step { MakesNewestIfMade L.rules L.offers I.names S.hash_of
             (F.post make) key self.old result self.new }
         ensures says { SaysNewest (I.names key) result self.new }
-        ensures lacks { IsErrOf result GetOrInsertError.Memory → LacksMemoryFor L.rules L.offers I.names S.hash_of
+        ensures lacks { IsErrOf result GetOrInsertError.Memory → IsOutOfMemoryFor L.rules L.offers I.names S.hash_of
             (λ value. F.post make (Ok value)) key self.old self.new }
         ensures map { IsMap K.eq self.new }
     {

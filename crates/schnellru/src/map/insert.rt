@@ -3,12 +3,12 @@ ghost use Rattle.std.specs.Prelude.{◌≡◌, ◌+◌, true, false, not, ◌∷
 ghost use Rattle.std.specs.Prelude.{IsTrue};
 ghost use Rattle.lru_model.specs.Lists.{first, lookup_entry, is_empty, IsFront};
 ghost use Rattle.lru_model.specs.State.{contents, room, IsMap};
-ghost use Rattle.lru_model.specs.Inserts.{Insert, PlacesNew, PlacesAndTrims, LacksMemory, make_room, kept_of};
+ghost use Rattle.lru_model.specs.Inserts.{Insert, PlacesNew, PlacesAndTrims, IsOutOfMemory, make_room, kept_of};
 ghost use Rattle.lru_model.specs.Inserts.{unkept_value};
 ghost use Rattle.lru_model.specs.Place.{HasNoBucket};
 ghost use Rattle.lru_model.specs.Theorems.{SaysWhether, Stores};
 ghost use Rattle.lru_model.specs.MayTake.{MayTakeEach, MayTakeNew, MayTakeInserted};
-ghost use Rattle.lru_model.specs.HandedOver.{noting, noting_offers, noted, Takes, InsertHands};
+ghost use Rattle.lru_model.specs.Callbacks.{noting, noting_offers, noted, CalledWith, InsertPasses};
 ghost use Rattle.schnellru.specs.Inside.Handing.{Hands};
 
 use crate::map::LruMap;
@@ -57,7 +57,7 @@ impl<K: Eq + Hash + Drop, V: Drop, L: Limiter<K, V>, S: KeyHasher<K>> LruMap<K, 
         ensures stores { result ≡ Ok true
             → IfSome (first self.new.pairs) (Stores L.rules L.offers I.names key value self.old) }
         ensures lacks { OnErr result
-            (LacksMemory L.rules L.offers I.names S.hash_of key value self.old self.new) }
+            (IsOutOfMemory L.rules L.offers I.names S.hash_of key value self.old self.new) }
         ensures keeps { OnErr result (IsFront self.new.pairs self.old.pairs) }
         ensures map { IsMap K.eq self.new }
     {
@@ -95,14 +95,14 @@ impl<K: Eq + Hash, V: Drop, L: Limiter<K, V>, S: KeyHasher<K>> LruMap<K, V, L, S
         L: Insertion<K, V, I>,
         requires callable { MayTakeInserted L.rules F.FnMut L.offers I.names key value (contents self.old) sink.old }
         ensures step { Insert L.rules L.offers I.names S.hash_of key value self.old result self.new }
-        ensures handed { (handed : List (K × V)) × Takes F.FnMut sink.old handed sink.new
-            × InsertHands L.rules L.offers I.names S.hash_of key value self.old result handed self.new }
+        ensures handed { (handed : List (K × V)) × CalledWith F.FnMut sink.old handed sink.new
+            × InsertPasses L.rules L.offers I.names S.hash_of key value self.old result handed self.new }
         ensures callable { F.IsAlwaysCallable sink.old → F.IsAlwaysCallable sink.new }
         ensures says { SaysWhether L.rules (I.names key) result self.new }
         ensures stores { result ≡ Ok true
             → IfSome (first self.new.pairs) (Stores L.rules L.offers I.names key value self.old) }
         ensures lacks { OnErr result
-            (LacksMemory L.rules L.offers I.names S.hash_of key value self.old self.new) }
+            (IsOutOfMemory L.rules L.offers I.names S.hash_of key value self.old self.new) }
         ensures keeps { OnErr result (IsFront self.new.pairs self.old.pairs) }
         ensures map { IsMap K.eq self.new }
     {
@@ -145,14 +145,14 @@ impl<K: Eq + Hash, V, L: Limiter<K, V>, S: KeyHasher<K>> LruMap<K, V, L, S> {
         ensures step { Insert L.rules L.offers I.names S.hash_of key value self.old (kept_of result) self.new }
         ensures unkept { IfOk result (λ inserted. inserted.unkept
             ≡ unkept_value L.rules L.offers I.names key value (contents self.old)) }
-        ensures handed { (handed : List (K × V)) × Takes F.FnMut sink.old handed sink.new
-            × InsertHands L.rules L.offers I.names S.hash_of key value self.old (kept_of result) handed self.new }
+        ensures handed { (handed : List (K × V)) × CalledWith F.FnMut sink.old handed sink.new
+            × InsertPasses L.rules L.offers I.names S.hash_of key value self.old (kept_of result) handed self.new }
         ensures callable { F.IsAlwaysCallable sink.old → F.IsAlwaysCallable sink.new }
         ensures says { SaysWhether L.rules (I.names key) (kept_of result) self.new }
         ensures stores { kept_of result ≡ Ok true
             → IfSome (first self.new.pairs) (Stores L.rules L.offers I.names key value self.old) }
         ensures lacks { OnErr result
-            (LacksMemory L.rules L.offers I.names S.hash_of key value self.old self.new) }
+            (IsOutOfMemory L.rules L.offers I.names S.hash_of key value self.old self.new) }
         ensures keeps { OnErr result (IsFront self.new.pairs self.old.pairs) }
         ensures map { IsMap K.eq self.new }
     {
@@ -192,14 +192,14 @@ impl<K: Eq + Hash, V, L: Limiter<K, V>, S: KeyHasher<K>> LruMap<K, V, L, S> {
         ensures step { Insert L.rules L.offers I.names S.hash_of key value self.old (kept_of result) self.new }
         ensures unkept { IfOk result (λ inserted. inserted.unkept
             ≡ unkept_value L.rules L.offers I.names key value (contents self.old)) }
-        ensures handed { (handed : List (K × V)) × Takes F.FnMut sink.old handed sink.new
-            × InsertHands L.rules L.offers I.names S.hash_of key value self.old (kept_of result) handed self.new }
+        ensures handed { (handed : List (K × V)) × CalledWith F.FnMut sink.old handed sink.new
+            × InsertPasses L.rules L.offers I.names S.hash_of key value self.old (kept_of result) handed self.new }
         ensures callable { F.IsAlwaysCallable sink.old → F.IsAlwaysCallable sink.new }
         ensures says { SaysWhether L.rules (I.names key) (kept_of result) self.new }
         ensures stores { kept_of result ≡ Ok true
             → IfSome (first self.new.pairs) (Stores L.rules L.offers I.names key value self.old) }
         ensures lacks { OnErr result
-            (LacksMemory L.rules L.offers I.names S.hash_of key value self.old self.new) }
+            (IsOutOfMemory L.rules L.offers I.names S.hash_of key value self.old self.new) }
         ensures keeps { OnErr result (IsFront self.new.pairs self.old.pairs) }
         ensures map { IsMap K.eq self.new }
     {

@@ -1,15 +1,15 @@
 //! An insert that returns the entries that it evicts, rejects or does not store.
 ghost use Rattle.std.specs.Prelude.{◌≡◌, ◌+◌, ◌<◌, ◌++◌, [], ◌∷◌, true, Ok, IfOk, IfSome, OnErr};
 ghost use Rattle.std.specs.Vec.{vec_len, vec_capacity};
-ghost use Rattle.lru_model.specs.HandedOver.{InsertHands};
-ghost use Rattle.lru_model.specs.Inserts.{LacksMemory};
+ghost use Rattle.lru_model.specs.Callbacks.{InsertPasses};
+ghost use Rattle.lru_model.specs.Inserts.{IsOutOfMemory};
 ghost use Rattle.lru_model.specs.Lists.{first, IsFront};
 ghost use Rattle.lru_model.specs.State.{IsMap};
 ghost use Rattle.lru_model.specs.Theorems.{SaysWhether, Stores};
 
-use lru_model::laws::inserts_hand_over_few;
 use crate::map::LruMap;
 use lru_limits::{Insertion, KeyHasher, Limiter, LookupKey};
+use lru_model::laws::inserts_hand_over_few;
 use std::alloc::AllocError;
 use std::hash::Hash;
 
@@ -37,13 +37,13 @@ impl<K: Eq + Hash + Drop, V: Drop, L: Limiter<K, V>, S: KeyHasher<K>> LruMap<K, 
     ) -> Result<(Result<bool, AllocError>, Vec<(K, V)>), AllocError>
     where
         L: Insertion<K, V, I>,
-        ensures handed { IfOk result (λ answer. InsertHands L.rules L.offers I.names
+        ensures handed { IfOk result (λ answer. InsertPasses L.rules L.offers I.names
             S.hash_of key value self.old answer.0 answer.1.items self.new) }
         ensures says { IfOk result (λ answer. SaysWhether L.rules (I.names key) answer.0 self.new) }
         ensures stores { IfOk result (λ answer. answer.0 ≡ Ok true
             → IfSome (first self.new.pairs) (Stores L.rules L.offers I.names key value self.old)) }
         ensures lacks { IfOk result (λ answer. OnErr answer.0
-            (LacksMemory L.rules L.offers I.names S.hash_of key value self.old self.new)) }
+            (IsOutOfMemory L.rules L.offers I.names S.hash_of key value self.old self.new)) }
         ensures keeps { IfOk result (λ answer. OnErr answer.0 (IsFront self.new.pairs self.old.pairs)) }
         ensures unchanged { OnErr result (self.new ≡ self.old) }
         ensures map { IsMap K.eq self.new }

@@ -5,7 +5,7 @@ ghost use Rattle.lru_model.specs.Lists.{is_empty, first, last, place_of};
 ghost use Rattle.lru_model.specs.State.{contents, notified_of, trim, Frees, Leaves, IsMap};
 ghost use Rattle.lru_model.specs.Calls.{left_of, Remove, RemoveEntry, PopOldest, PopNewest, cleared};
 ghost use Rattle.lru_model.specs.Inserts.{make_room};
-ghost use Rattle.lru_model.specs.HandedOver.{noting, noted};
+ghost use Rattle.lru_model.specs.Callbacks.{noting, noted};
 ghost use Rattle.lru_model.specs.MayTake.{MayTakeEach};
 ghost use Rattle.schnellru.specs.Inside.OrderedTable.{IsLinked, KeysFit};
 ghost use Rattle.schnellru.specs.Inside.Handing.{Hands};

@@ -6,7 +6,7 @@ ghost use Rattle.lru_model.specs.Inserts.{replacement, unkept_of};
 ghost use Rattle.lru_model.specs.Lists.{lookup_entry, place_of};
 ghost use Rattle.lru_model.specs.MayTake.{MayTakeRejected};
 ghost use Rattle.lru_model.specs.State.{contents};
-ghost use Rattle.lru_model.specs.HandedOver.{noting, noting_offers, noted};
+ghost use Rattle.lru_model.specs.Callbacks.{noting, noting_offers, noted};
 ghost use Rattle.schnellru.specs.Inside.Steps.{IsReplaced, IsGivenUp, IsOffered};
 ghost use Rattle.schnellru.specs.Inside.Handing.{Hands, HandsGivenUp};
 

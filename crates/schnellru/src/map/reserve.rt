@@ -2,7 +2,7 @@
 ghost use Rattle.std.specs.Prelude.{◌≡◌, ◌+◌, ◌/◌, ◌<◌, ◌≤◌, length, OnOk};
 ghost use Rattle.group_table.specs.Sizes.{full_capacity};
 ghost use Rattle.lru_model.specs.State.{buckets, room, IsMap};
-ghost use Rattle.lru_model.specs.Reservations.{LacksRoomFor, Reserve};
+ghost use Rattle.lru_model.specs.Reservations.{NeedsGrowthFor, Reserve};
 
 use crate::map::LruMap;
 use group_table::full_capacity;
@@ -57,7 +57,7 @@ impl<K: Eq + Hash, V, L: Limiter<K, V>, S: KeyHasher<K>> LruMap<K, V, L, S> {
 
     // Makes room in a larger table.
     fn reserve_larger(&mut self, n: usize) -> Result<(), ReserveError>
-        requires lacks { LacksRoomFor n self.old }
+        requires lacks { NeedsGrowthFor n self.old }
         requires half { full_capacity (buckets self.old) / 2 < length self.old.pairs + n }
         ensures step { Reserve L.rules n self.old result self.new }
         ensures map { IsMap K.eq self.new }

@@ -1,10 +1,10 @@
 //! Removing the entries that a closure rejects.
 ghost use Rattle.std.specs.Prelude.{◌≡◌, ◌<◌, length, Some, List};
 ghost use Rattle.lru_model.specs.ByHash.{Asks};
-ghost use Rattle.lru_model.specs.HandedOver.{Takes};
+ghost use Rattle.lru_model.specs.Callbacks.{CalledWith};
 ghost use Rattle.lru_model.specs.Lists.{last};
 ghost use Rattle.lru_model.specs.MayTake.{MayTakeEach};
-ghost use Rattle.lru_model.specs.Retains.{Retains, RetainHands};
+ghost use Rattle.lru_model.specs.Retains.{Retains, RetainPasses};
 ghost use Rattle.lru_model.specs.State.{IsMap};
 
 use crate::map::LruMap;
@@ -53,8 +53,8 @@ impl<K: Eq + Hash, V, L: Limiter<K, V>, S: KeyHasher<K>> LruMap<K, V, L, S> {
         requires keep { F.IsAlwaysCallable keep }
         requires callable { MayTakeEach L.rules G.FnMut self.old.pairs sink.old }
         ensures step { Retains F.FnMut L.rules keep self.old self.new }
-        ensures handed { (handed : List (K × V)) × Takes G.FnMut sink.old handed sink.new
-            × RetainHands L.rules F.FnMut keep self.old handed self.new }
+        ensures handed { (handed : List (K × V)) × CalledWith G.FnMut sink.old handed sink.new
+            × RetainPasses L.rules F.FnMut keep self.old handed self.new }
         ensures callable { G.IsAlwaysCallable sink.old → G.IsAlwaysCallable sink.new }
         ensures map { IsMap K.eq self.new }
     {

@@ -8,8 +8,8 @@ ghost use Rattle.lru_model.specs.Lists.{lookup_entry};
 ghost use Rattle.lru_model.specs.Sizes.{usage};
 ghost use Rattle.lru_model.specs.State.{buckets, room};
 ghost use Rattle.lru_model.specs.Place.{Place, Evicts, IsPlacedInTable, IsPlacedByMove, FillsBucket, HasNoBucket};
-ghost use Rattle.lru_model.specs.Place.{IsOutgrown, outcome_of, turned_away};
-ghost use Rattle.lru_model.specs.HandedOver.{noting, noted};
+ghost use Rattle.lru_model.specs.Place.{IsOutgrown, outcome_of, unstored};
+ghost use Rattle.lru_model.specs.Callbacks.{noting, noted};
 ghost use Rattle.lru_model.specs.MayTake.{MayTakeEach};
 ghost use Rattle.schnellru.specs.Inside.Handing.{Hands};
 
@@ -200,7 +200,7 @@ impl<K: Eq + Hash, V, L: Limiter<K, V>, S: KeyHasher<K>> LruMap<K, V, L, S> {
     // Notifies the limiter of a pair that was not stored, and passes what it left of the pair to the callback.
     fn turn_away<F: FnMut(K, V)>(&mut self, pair: (K, V), sink: &mut F)
         requires callable { MayTakeEach L.rules F.FnMut (pair ∷ []) sink.old }
-        ensures handed { Hands F.FnMut sink.old sink.new (λ before after. noted after self.new ≡ turned_away
+        ensures handed { Hands F.FnMut sink.old sink.new (λ before after. noted after self.new ≡ unstored
             (noting L.rules) pair (noted before self.old)) }
     {
         let (key, value) = notify(&mut self.limiter, pair);

@@ -1,7 +1,7 @@
 //! Bringing a map within its limit without an insert.
 ghost use Rattle.std.specs.Prelude.{◌≡◌, List};
 ghost use Rattle.lru_model.specs.State.{IsMap, IsWithin, Trims, contents};
-ghost use Rattle.lru_model.specs.HandedOver.{Takes, TrimHands};
+ghost use Rattle.lru_model.specs.Callbacks.{CalledWith, TrimPasses};
 ghost use Rattle.lru_model.specs.MayTake.{MayTakeEach};
 
 use crate::map::LruMap;
@@ -70,8 +70,8 @@ impl<K: Eq + Hash, V, L: Limiter<K, V>, S: KeyHasher<K>> LruMap<K, V, L, S> {
         requires callable { MayTakeEach L.rules F.FnMut self.old.pairs sink.old }
         ensures step { Trims L.rules self.old self.new }
         ensures within { IsWithin L.rules (contents self.new) }
-        ensures handed { (handed : List (K × V)) × Takes F.FnMut sink.old handed sink.new
-            × TrimHands L.rules self.old handed self.new }
+        ensures handed { (handed : List (K × V)) × CalledWith F.FnMut sink.old handed sink.new
+            × TrimPasses L.rules self.old handed self.new }
         ensures callable { F.IsAlwaysCallable sink.old → F.IsAlwaysCallable sink.new }
         ensures map { IsMap K.eq self.new }
     {
@@ -97,8 +97,8 @@ impl<K: Eq + Hash, V, L: Limiter<K, V>, S: KeyHasher<K>> LruMap<K, V, L, S> {
         ensures limiter { result ≡ self.old.limiter }
         ensures step { Trims L.rules (record self.old { limiter = limiter }) self.new }
         ensures within { IsWithin L.rules (contents self.new) }
-        ensures handed { (handed : List (K × V)) × Takes F.FnMut sink.old handed sink.new
-            × TrimHands L.rules (record self.old { limiter = limiter }) handed self.new }
+        ensures handed { (handed : List (K × V)) × CalledWith F.FnMut sink.old handed sink.new
+            × TrimPasses L.rules (record self.old { limiter = limiter }) handed self.new }
         ensures callable { F.IsAlwaysCallable sink.old → F.IsAlwaysCallable sink.new }
         ensures map { IsMap K.eq self.new }
     {

@@ -3,7 +3,7 @@ use Rattle.std.proofs.lemmas.List.{append_assoc, length-append}
 use Rattle.std.proofs.lemmas.Fn.{FoldsTo-push}
 use Rattle.std.specs.Fn.{Called}
 use denote.Param.Always.{mut_next}
-use Rattle.lru_model.specs.HandedOver.{Takes}
+use Rattle.lru_model.specs.Callbacks.{CalledWith}
 use Rattle.lru_tenants.proofs.Pops.{popped-last, popped-reverse, popped-none}
 use Rattle.lru_tenants.proofs.tenant.empty.Goals as goal
 
@@ -40,7 +40,7 @@ pops-preserved g c =
 pub returns-clause-handed : goal.returns-clause-handed
 returns-clause-handed g c =
     let (handed, takes, all) = c.pops.invariant.handed in
-    subst (λ l. Takes g.F.FnMut c.args.sink.now l c.pops.sink) (sym (append-nil handed)
+    subst (λ l. CalledWith g.F.FnMut c.args.sink.now l c.pops.sink) (sym (append-nil handed)
     ∙ ap (λ l. handed ++ reverse l)
     (sym (popped-none g.L.Limiter.rules g.met.L.Budgeted.laws.leaves c.pops.map c.pop_oldest.new.self
     c.in_default.ensures.step)) ∙ all) takes

@@ -1,13 +1,13 @@
 -- The pairs that left were passed to the callback, oldest first.
 use Rattle.std.proofs.Common.{◌≡◌, ◌++◌, List, length, reverse}
 use denote.Param.Always.{always_mut}
-use Rattle.lru_model.specs.HandedOver.{Takes}
+use Rattle.lru_model.specs.Callbacks.{CalledWith}
 use Rattle.lru_tenants.proofs.tenant.empty.Given as goal
 
 abbrev pub invariant-pops : goal.invariant-pops
 invariant-pops g l = record {
   callable : always_mut g.F.FnMut l.sink;
-  handed : (handed : List (g.row.K.Denot × g.row.V.Denot)) × Takes g.F.FnMut l.fn.sink handed l.sink
+  handed : (handed : List (g.row.K.Denot × g.row.V.Denot)) × CalledWith g.F.FnMut l.fn.sink handed l.sink
       × (handed ++ reverse l.map.pairs ≡ reverse l.fn.map.pairs);
 }
 

@@ -2,7 +2,7 @@ use Rattle.std.proofs.Common.{◌≡◌, List, ℕ, rules, refl, ap, ◌∙◌, 
 use Rattle.std.proofs.Common.{is_some, option_map}
 use Rattle.std.specs.Map.{lookup}
 use Rattle.std.specs.Str.{bytes_eq}
-use Rattle.lru_model.specs.Inserts.{LacksMemory}
+use Rattle.lru_model.specs.Inserts.{IsOutOfMemory}
 use Rattle.lru_model.proofs.CallerLemmas.{lookup-entry}
 use Rattle.lru_c.specs.Bytes.{Bytes, BytesMap, FindsMemory, same_bytes, hash_of_bytes, bytes_rules, bytes_offers}
 use Rattle.lru_c.specs.Bytes.Puts.{too_heavy, inserted}
@@ -13,7 +13,7 @@ returns-then-weight_of-limit c = too_heavy (search rules) refl c.remove.result c
 
 -- an insert of a key that is there, or with growth left, finds the memory that it asks for
 no_lack : {k v : Bytes} {ready new : BytesMap} (key : List ℕ) → k.items ≡ key → FindsMemory key ready
-    → LacksMemory bytes_rules bytes_offers same_bytes hash_of_bytes k v ready new → ⊥
+    → IsOutOfMemory bytes_rules bytes_offers same_bytes hash_of_bytes k v ready new → ⊥
 no_lack {k} {v} {ready} {new} key is finds (new_key, inl lacks) = lacks.0
 no_lack {k} {v} {ready} {new} key is finds (new_key, inr short) =
     let absent = ap is_some (lookup-entry (same_bytes k) ready.pairs ∙ ap (option_map (λ p. p.1)) new_key) in

@@ -1,6 +1,6 @@
 use Rattle.std.proofs.Common.{sym, ◌∙◌, subst}
 use Rattle.lru_model.specs.State.{contents, Leaves}
-use Rattle.lru_model.specs.HandedOver.{noting, noted}
+use Rattle.lru_model.specs.Callbacks.{noting, noted}
 use Rattle.lru_model.proofs.States.LeavingPairs.{leaves_self, trim-within}
 use Rattle.schnellru.proofs.map.LruMap.evict_over_limit.Goals as goal
 

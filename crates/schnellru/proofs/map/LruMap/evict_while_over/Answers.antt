@@ -1,6 +1,6 @@
 use Rattle.std.proofs.Common.{◌<◌, length, refl, ap, sym, ◌∙◌, subst, arith}
 use Rattle.lru_model.specs.State.{contents, Leaves}
-use Rattle.lru_model.specs.HandedOver.{noting, noted}
+use Rattle.lru_model.specs.Callbacks.{noting, noted}
 use Rattle.lru_model.proofs.PairLists.Emptiness.{empty-length, some-length}
 use Rattle.lru_model.proofs.States.CallablePairs.{oldest_callable, rest_callable}
 use Rattle.lru_model.proofs.States.LeavingPairs.{length-without_last, leaves_self, trim-within, trim-empty}

@@ -1,5 +1,5 @@
 use Rattle.std.proofs.Common.{rules, ◌+◌, length, arith, subst}
-use Rattle.lru_model.specs.HandedOver.{InsertHands}
+use Rattle.lru_model.specs.Callbacks.{InsertPasses}
 use Rattle.schnellru.proofs.Maps.KeptPairs.{all_kept}
 use Rattle.schnellru.proofs.map.LruMap.insert_and_keep.Goals as goal
 
@@ -16,6 +16,6 @@ returns-clause-handed g c =
       len = search rules;
     }) _ (length before.pairs + 1) handed _ (search rules) c.in_ok-left.ensures.items c.in_ok-left.ensures.len took in
     let items = all.items (omega (arith, few)) in
-    subst (λ out. InsertHands g.L.Limiter.rules g.L.Insertion.offers g.I.LookupKey.names
+    subst (λ out. InsertPasses g.L.Limiter.rules g.L.Insertion.offers g.I.LookupKey.names
     g.S.KeyHasher.hash_of c.args.key c.args.value before
     c.insert_with-done.result out c.insert_with-done.new.self) (search (rules, all.same, items)) step

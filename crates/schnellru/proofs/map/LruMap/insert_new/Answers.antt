@@ -2,7 +2,7 @@ use Rattle.std.proofs.Common.{Some, None, refl, ap, sym, ◌∙◌, subst}
 use Rattle.schnellru.specs.Inside.OrderedTable.{pairs_of}
 use Rattle.schnellru.specs.Inside.Holds.{state_of}
 use Rattle.lru_model.specs.Inserts.{no_memory_to_admit, not_admitted, admitted}
-use Rattle.lru_model.specs.HandedOver.{noted}
+use Rattle.lru_model.specs.Callbacks.{noted}
 use Rattle.schnellru.proofs.Maps.Fields.{beside_of}
 use Rattle.schnellru.proofs.OrderedTables.BucketPairs.{pairs-length}
 use Rattle.schnellru.proofs.OrderedTables.Searches.{lookup_alike}

@@ -1,7 +1,7 @@
 use Rattle.std.proofs.Common.{Ok, [], refl, ap, ◌∙◌, subst, sym}
 use Rattle.std.specs.Prelude.{Contains}
-use Rattle.lru_model.specs.HandedOver.{noting, noted}
-use Rattle.lru_model.specs.Inserts.{replaced, given_up, with_replaced}
+use Rattle.lru_model.specs.Callbacks.{noting, noted}
+use Rattle.lru_model.specs.Inserts.{replaced, not_replaced, with_replaced}
 use Rattle.lru_model.specs.State.{contents}
 use Rattle.lru_model.proofs.States.LeavingPairs.{leaves_trimmed}
 use Rattle.schnellru.proofs.Maps.Offers.{offered_unkept, offered_place, offered_front, offered_some}
@@ -14,7 +14,7 @@ returns-then-not-accepted-clause-handed g c = λ first before taken.
     let (after, more, offer) = c.offer_at-accepted.ensures.handed first before taken in (
       after,
       more,
-      given_up offer.pair offer.there (offer.taken ∙ c.if-not-accepted.true) refl
+      not_replaced offer.pair offer.there (offer.taken ∙ c.if-not-accepted.true) refl
           (offer.rejected c.if-not-accepted.true),
     )
 

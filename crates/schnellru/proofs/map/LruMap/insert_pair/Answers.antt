@@ -1,7 +1,7 @@
 use Rattle.std.proofs.Common.{[], Ok, inl, refl, ap, subst, arith, sym}
 use Rattle.lru_model.specs.State.{buckets, room}
 use Rattle.lru_model.specs.Place.{placed, in_bucket, FillsBucket}
-use Rattle.lru_model.specs.HandedOver.{noted}
+use Rattle.lru_model.specs.Callbacks.{noted}
 use Rattle.schnellru.proofs.Maps.NotedStates.{noted_placed, noted_fills}
 use Rattle.lru_model.proofs.States.NewKeys.{stays_new}
 use Rattle.lru_model.specs.MayTake.{MayTakeEach}

@@ -1,6 +1,6 @@
 use Rattle.std.proofs.Common.{[], Ok, refl, ap}
 use Rattle.lru_model.specs.Place.{placed, refused, no_memory}
-use Rattle.lru_model.specs.HandedOver.{noting, noted}
+use Rattle.lru_model.specs.Callbacks.{noting, noted}
 use Rattle.lru_model.proofs.Theorems.Ways.{placed_some}
 use Rattle.schnellru.proofs.map.LruMap.insert_without_bucket.Goals as goal
 

@@ -1,7 +1,7 @@
 use Rattle.std.proofs.Common.{Ok, inr, refl, ap, sym, ◌∙◌, subst}
 use Rattle.lru_model.specs.State.{buckets, room}
 use Rattle.lru_model.specs.Place.{placed, in_bucket, FillsBucket}
-use Rattle.lru_model.specs.HandedOver.{noted}
+use Rattle.lru_model.specs.Callbacks.{noted}
 use Rattle.schnellru.proofs.Maps.NotedStates.{noted_placed, noted_fills}
 use Rattle.lru_model.proofs.PairLists.Emptiness.{some-length}
 use Rattle.lru_model.specs.MayTake.{MayTakeEach}

@@ -5,7 +5,7 @@ use Rattle.lru_model.specs.Lists.{lookup_entry}
 use Rattle.lru_model.specs.State.{buckets, room}
 use Rattle.lru_model.specs.Place.{IsFullWithPairs}
 use Rattle.lru_model.specs.MayTake.{MayTakeEach}
-use Rattle.lru_model.specs.HandedOver.{noting, noted}
+use Rattle.lru_model.specs.Callbacks.{noting, noted}
 use Rattle.lru_model.proofs.TableSizes.Growth.{full_capacity-some}
 use Rattle.lru_model.proofs.States.CallablePairs.{oldest_callable_with, rest_callable_with}
 use Rattle.lru_model.proofs.States.LeavingPairs.{leaves_self, leaves_more}

@@ -1,7 +1,7 @@
 use Rattle.std.proofs.Common.{ap, sym, subst, ◌∙◌, ◌∷◌}
 use Rattle.lru_model.specs.State.{IsSized}
 use Rattle.schnellru.specs.Inside.Holds.{state_of}
-use Rattle.lru_model.specs.HandedOver.{noting, noted}
+use Rattle.lru_model.specs.Callbacks.{noting, noted}
 use Rattle.schnellru.proofs.Maps.NotedStates.{noted_sized, noted_outgrown}
 use Rattle.schnellru.proofs.Maps.Fields.{beside_of}
 use Rattle.lru_model.proofs.States.Placements.{grown_place, denied_place, untold_place}

@@ -1,8 +1,8 @@
 use Rattle.std.proofs.Common.{◌-◌, ◌∷◌, length, ap, sym, ◌∙◌, subst, arith, rules}
 use Rattle.group_table.specs.Sizes.{full_capacity}
 use Rattle.lru_model.specs.State.{room}
-use Rattle.lru_model.specs.Place.{IsPlaced, turned_away}
-use Rattle.lru_model.specs.HandedOver.{noting, noted}
+use Rattle.lru_model.specs.Place.{IsPlaced, unstored}
+use Rattle.lru_model.specs.Callbacks.{noting, noted}
 use Rattle.lru_model.specs.MayTake.{MayTakeEach}
 use Rattle.lru_model.proofs.States.CallablePairs.{first_callable}
 use Rattle.schnellru.proofs.Maps.NotedStates.{noted_placed}
@@ -32,7 +32,7 @@ returns-in-Err-clause-handed g c =
     let (after, had, away) = c.turn_away.ensures.handed first before taken in (
       after,
       had,
-      away ∙ ap (λ st. turned_away (noting g.L.Limiter.rules) c.args.pair (noted before st))
+      away ∙ ap (λ st. unstored (noting g.L.Limiter.rules) c.args.pair (noted before st))
           c.in-Err.ensures.unchanged,
     )
 

@@ -2,7 +2,7 @@ use Rattle.std.proofs.Common.{◌≡◌, ◌⊎◌, inl, inr, ◌<◌, ◌/◌, 
 use Rattle.group_table.specs.Sizes.{full_capacity, IsBucketCount}
 use Rattle.lru_model.specs.State.{buckets}
 use Rattle.lru_model.specs.Place.{HasNoBucket}
-use Rattle.lru_model.specs.HandedOver.{noting, noted}
+use Rattle.lru_model.specs.Callbacks.{noting, noted}
 use Rattle.schnellru.proofs.Maps.NotedStates.{noted_sized, noted_no_bucket}
 use Rattle.lru_model.proofs.TableSizes.Growth.{full_capacity-at_most, full_capacity-some}
 use Rattle.lru_model.proofs.TableSizes.SizedMarks.{own_count}

@@ -1,6 +1,6 @@
 use Rattle.std.proofs.Common.{[], refl, sym, ◌∙◌, subst}
 use Rattle.lru_model.specs.State.{contents, IsWithin, Leaves}
-use Rattle.lru_model.specs.HandedOver.{noting, noted}
+use Rattle.lru_model.specs.Callbacks.{noting, noted}
 use Rattle.lru_model.proofs.CallbackLemmas.{takes_always}
 use Rattle.lru_model.proofs.States.LeavingPairs.{leaves_self, trim-empty}
 use Rattle.lru_model.proofs.PairLists.Emptiness.{empty-length}

@@ -1,7 +1,8 @@
 use Rattle.std.proofs.Common.{refl, ap, ◌∙◌, arith}
 use Rattle.std.proofs.lemmas.Bool.{false≢true}
 use Rattle.group_table.specs.Sizes.{full_capacity}
-use Rattle.lru_model.specs.Reservations.{LacksRoomFor, unchanged, rehashed, too_many, enough_room, no_memory_to_rehash}
+use Rattle.lru_model.specs.Reservations.{NeedsGrowthFor, unchanged, rehashed, too_many, enough_room}
+use Rattle.lru_model.specs.Reservations.{no_memory_to_rehash}
 use Rattle.lru_model.proofs.TableSizes.NextTable.{stays}
 use Rattle.lru_model.proofs.States.Reservations.{some_there}
 use Rattle.lru_model.proofs.Theorems.Reservations.{makes_room_if_ok}
@@ -29,7 +30,7 @@ pub returns-in-Ok-clause-step : goal.returns-in-Ok-clause-step
 returns-in-Ok-clause-step g c =
     let st = c.args.self.now in let table = c.bucket_count-buckets.ensures in
     let takes = c.full_capacity.ensures ∙ ap full_capacity table.count in let len = c.len.ensures.len in
-    let lacks : LacksRoomFor c.args.n st =
+    let lacks : NeedsGrowthFor c.args.n st =
     (omega (arith, c.growth_left.ensures.room, c.if-n-growth_left.false), omega (arith, c.in-Some.ensures.0, len)) in
     let same = stays c.args.n st table.map.sized (omega (arith, c.if-n-growth_left.false))
     (omega (arith, c.if-full_capacity-pairs.false, takes, c.in-Some.ensures.1, len)) in
@@ -39,7 +40,7 @@ pub returns-in-Err-clause-step : goal.returns-in-Err-clause-step
 returns-in-Err-clause-step g c =
     let st = c.args.self.now in let table = c.bucket_count-buckets.ensures in
     let takes = c.full_capacity.ensures ∙ ap full_capacity table.count in let len = c.len.ensures.len in
-    let lacks : LacksRoomFor c.args.n st =
+    let lacks : NeedsGrowthFor c.args.n st =
     (omega (arith, c.growth_left.ensures.room, c.if-n-growth_left.false), omega (arith, c.in-Some.ensures.0, len)) in
     let same = stays c.args.n st table.map.sized (omega (arith, c.if-n-growth_left.false))
     (omega (arith, c.if-full_capacity-pairs.false, takes, c.in-Some.ensures.1, len)) in

@@ -1,5 +1,5 @@
 use Rattle.std.proofs.Common.{[], ap, refl, ◌∙◌, ◌∷◌, arith}
-use Rattle.lru_model.specs.HandedOver.{noting, noted}
+use Rattle.lru_model.specs.Callbacks.{noting, noted}
 use Rattle.lru_model.specs.Updates.{updated, rejected}
 use Rattle.lru_model.specs.declared.results.Updated.TheVariants.{Replaced, Rejected}
 use Rattle.lru_model.proofs.States.LeavingPairs.{leaves_trimmed}

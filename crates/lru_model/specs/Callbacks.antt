@@ -62,17 +62,17 @@ module _ {K V S : Type 0} where
   }
 
 -- f was called with these pairs, one after another, and is then g
-abbrev pub Takes : {K V F : Type 0} → Mut F (K × (V × Unit {0})) (Unit {0}) → F → List (K × V) → F → Type 0
-Takes closure f pairs g = FoldsTo (λ p pair q. Called closure p (pair.0, (pair.1, tt)) tt q) f pairs g
+abbrev pub CalledWith : {K V F : Type 0} → Mut F (K × (V × Unit {0})) (Unit {0}) → F → List (K × V) → F → Type 0
+CalledWith closure f pairs g = FoldsTo (λ p pair q. Called closure p (pair.0, (pair.1, tt)) tt q) f pairs g
 
 module _ {K V S H I : Type 0} (rules : Rules K V S) (offers : Offers K V S I) (names : I → K → Bool)
     (hash_of : H → K → ℕ) where
   -- An insert that passes the pairs `handed` to its callback: it is an insert under the limiter with a list, which is
   -- empty before the call, and `handed` after it.
-  abbrev pub InsertHands : I → V → State K V S H → Result Bool AllocError → List (K × V) → State K V S H → Type 0
-  InsertHands i v old result handed new = Insert (noting rules) (noting_offers offers) names hash_of i v (noted [] old)
+  abbrev pub InsertPasses : I → V → State K V S H → Result Bool AllocError → List (K × V) → State K V S H → Type 0
+  InsertPasses i v old result handed new = Insert (noting rules) (noting_offers offers) names hash_of i v (noted [] old)
       result (noted handed new)
 
 -- a trim that passes the pairs `handed` to its callback
-abbrev pub TrimHands : {K V S H : Type 0} → Rules K V S → State K V S H → List (K × V) → State K V S H → Type 0
-TrimHands rules old handed new = Trims (noting rules) (noted [] old) (noted handed new)
+abbrev pub TrimPasses : {K V S H : Type 0} → Rules K V S → State K V S H → List (K × V) → State K V S H → Type 0
+TrimPasses rules old handed new = Trims (noting rules) (noted [] old) (noted handed new)
