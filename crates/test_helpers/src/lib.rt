@@ -3,7 +3,7 @@
 //! - [`check`]: ends a test that does not hold.
 //! - [`Hog`]: takes all memory, so that the requests of others are refused.
 //! - [`LinkedBy`], [`Alternating`], [`Within`], [`Blanking`]: limiters of maps from numbers to numbers.
-//! - [`InsertKey`] and [`Counting`]: texts that become a `String` when they are stored, and a limiter that accepts them.
+//! - [`InsertKey`] and [`Counting`]: texts that become a `String` when they are stored, and a limiter for them.
 //! - [`Weighed`]: a value with a cost of its own.
 //! - [`Random`]: random numbers, the same in each run.
 //! - [`LastByte`] with [`OF_HASH_28`], [`Sum`], [`Counted`]: hashers.
@@ -23,8 +23,8 @@ pub use limiters::{Alternating, Blanking, LinkedBy, Within};
 pub use random::Random;
 pub use weighed::Weighed;
 
-/// Ends a test if the condition is false. The output names the line and nothing else, so the prover takes a third of the
-/// time of an `assert!`, and a seventh of the time of an `assert_eq!`.
+/// Ends a test if the condition is false. The output names only the line, so the prover takes a third of the time of an
+/// `assert!`, and a seventh of the time of an `assert_eq!`.
 #[macro_export]
 macro_rules! check {
     ($rt:expr; $holds:expr) => {

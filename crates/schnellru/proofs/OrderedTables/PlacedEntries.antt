@@ -69,24 +69,29 @@ module _ {N : Type 0} {number : N → ℕ} {link : ℕ → N} {none : N} {eq : N
         (along number (length linked.slots) linked.slots newest')
     shown_whole = IsWhole-shown laws linked_whole
 
-    pub placed_lands : room (marks_of new.slots) + room_at (marks_of old.slots) b ≡ room (marks_of old.slots)
-        → Lands before after hash pair b
-    placed_lands spends = record {
-      first = rw (marks_of-pair_slots old.slots) places.first;
-      may = rw (marks_of-pair_slots old.slots) may;
-      slots = pairs ∙ pairs_set;
-      order = whole_order laws linked_whole;
-      placings = placings ∙ places.placings;
-      room = rw (pairs, marks_of-pair_slots new.slots, marks_of-pair_slots old.slots) spends;
+    -- what is known of the table then
+    pub record Placed : Type 0 where
+      pub lands : room (marks_of new.slots) + room_at (marks_of old.slots) b ≡ room (marks_of old.slots)
+          → Lands before after hash pair b
+      pub fits : (hash_of : K → ℕ)
+          → ((hashes : ℕ → ℕ) → Fits old.slots hashes → Fits new.slots (with_hash hashes b hash))
+          → KeysFit hash_of (pair_slots old.slots) → hash_of pair.0 ≡ hash → KeysFit hash_of (pair_slots linked.slots)
+      pub is_linked : IsTable (marks_of new.slots) → IsLinked after
+
+    pub placed : Placed
+    placed = record {
+      lands = λ spends. record {
+        first = rw (marks_of-pair_slots old.slots) places.first;
+        may = rw (marks_of-pair_slots old.slots) may;
+        slots = pairs ∙ pairs_set;
+        order = whole_order laws linked_whole;
+        placings = placings ∙ places.placings;
+        room = rw (pairs, marks_of-pair_slots new.slots, marks_of-pair_slots old.slots) spends;
+      };
+      fits = λ hash_of fits was same.
+          let now = rw pairs_set at (Fits-pair_slots new.slots _ (fits _ (Fits-entries old.slots _ was))) in
+          rw (pairs, pairs_set)
+          (KeysFit-placed hash_of (pair_slots old.slots) b hash pair (rw (length-pair_slots old.slots) within) same
+          now);
+      is_linked = λ table. IsLinked-view laws shown_whole (rw (same_marks new.slots linked.slots pairs) table);
     }
-
-    pub placed_fits : (hash_of : K → ℕ)
-        → ((hashes : ℕ → ℕ) → Fits old.slots hashes → Fits new.slots (with_hash hashes b hash))
-        → KeysFit hash_of (pair_slots old.slots) → hash_of pair.0 ≡ hash → KeysFit hash_of (pair_slots linked.slots)
-    placed_fits hash_of fits was same =
-        let now = rw pairs_set at (Fits-pair_slots new.slots _ (fits _ (Fits-entries old.slots _ was))) in
-        rw (pairs, pairs_set)
-        (KeysFit-placed hash_of (pair_slots old.slots) b hash pair (rw (length-pair_slots old.slots) within) same now)
-
-    pub placed_linked : IsTable (marks_of new.slots) → IsLinked after
-    placed_linked table = IsLinked-view laws shown_whole (rw (same_marks new.slots linked.slots pairs) table)

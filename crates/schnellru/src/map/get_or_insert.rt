@@ -20,9 +20,8 @@ pub(crate) enum NotLent<E> {
     Failed(E),
 }
 
-// `kept_or_error` and `kept_or` do the same for two types of error. One function with the error as a type parameter
-// would do for both, but its callers' proofs would have to pass it a lifetime for that parameter, and `AllocError` has
-// none.
+// `kept_or_error` and `kept_or` do the same for two types of error. They are two functions because their callers are
+// proved by hand: a call whose type argument is `AllocError`, and no type parameter, would need a longer proof.
 fn kept_or_error<V, E>(
     lent: Result<&mut V, NotLent<GetOrInsertError<E>>>,
 ) -> Result<Option<&mut V>, GetOrInsertError<E>>

@@ -1,7 +1,5 @@
 use Rattle.std.proofs.Common.{inl}
-use Rattle.schnellru.proofs.OrderedTables.PlacedEntries.{others_chained, placed_newer, shown_whole, placed_lands}
-use Rattle.schnellru.proofs.OrderedTables.PlacedEntries.{placed_fits}
-use Rattle.schnellru.proofs.OrderedTables.PlacedEntries.{placed_linked, linked_room}
+use Rattle.schnellru.proofs.OrderedTables.PlacedEntries.{others_chained, placed_newer, shown_whole, placed, linked_room}
 use Rattle.schnellru.proofs.ordered.OrderedTable.place.Goals as goal
 
 pub place-b-requires : goal.place-b-requires
@@ -25,29 +23,14 @@ invariant_of-self g c =
     (inl (linked_room _ (rw (← c.self.view_is) at c.requires))) new.table new.newest new.oldest e.pairs e.placings
     e.chain
 
-pub returns-clause-placed : goal.returns-clause-placed
-returns-clause-placed g c =
+pub returns : goal.returns
+returns g c =
     let e = c.link_placed.ensures in let new = c.link_placed.new.self in
-    rw (← c.self.view_is) (
-      c.place-b.result,
-      placed_lands g.met.N.LinkType.laws c.self.invariant c.unlinked.ensures.pair c.place-b.ensures.placed
-          (inl (linked_room _ (rw (← c.self.view_is) at c.requires))) new.table new.newest new.oldest e.pairs
-          e.placings e.chain
-          c.place-b.ensures.room,
-    )
-
-pub returns-clause-fits : goal.returns-clause-fits
-returns-clause-fits g c hash_of fits same =
-    let e = c.link_placed.ensures in let new = c.link_placed.new.self in
-    placed_fits g.met.N.LinkType.laws c.self.invariant c.unlinked.ensures.pair c.place-b.ensures.placed
+    let p = placed g.met.N.LinkType.laws c.self.invariant c.unlinked.ensures.pair c.place-b.ensures.placed
     (inl (linked_room _ (rw (← c.self.view_is) at c.requires))) new.table new.newest new.oldest e.pairs e.placings
-    e.chain hash_of
-    c.place-b.ensures.fits (rw (← c.self.view_is) at fits) same
-
-pub returns-clause-linked : goal.returns-clause-linked
-returns-clause-linked g c =
-    let e = c.link_placed.ensures in let new = c.link_placed.new.self in
-    placed_linked g.met.N.LinkType.laws c.self.invariant c.unlinked.ensures.pair c.place-b.ensures.placed
-    (inl (linked_room _ (rw (← c.self.view_is) at c.requires))) new.table new.newest new.oldest e.pairs e.placings
-    e.chain
-    c.place-b.ensures.table
+    e.chain in
+    record {
+      placed = rw (← c.self.view_is) (c.place-b.result, p.lands c.place-b.ensures.room);
+      fits = λ hash_of fits same. p.fits hash_of c.place-b.ensures.fits (rw (← c.self.view_is) at fits) same;
+      linked = p.is_linked c.place-b.ensures.table;
+    }

@@ -1,7 +1,5 @@
 use Rattle.schnellru.proofs.Chains.WholeChains.{IsLinked-view}
-use Rattle.schnellru.proofs.OrderedTables.PlacedEntries.{others_chained, placed_newer, shown_whole, placed_lands}
-use Rattle.schnellru.proofs.OrderedTables.PlacedEntries.{placed_fits}
-use Rattle.schnellru.proofs.OrderedTables.PlacedEntries.{placed_linked}
+use Rattle.schnellru.proofs.OrderedTables.PlacedEntries.{others_chained, placed_newer, shown_whole, placed}
 use Rattle.schnellru.proofs.OrderedTables.PairSlots.{marks_of-pair_slots}
 use Rattle.schnellru.proofs.ordered.OrderedTable.try_place.Goals as goal
 
@@ -21,27 +19,19 @@ invariant_of-self g c =
     shown_whole g.met.N.LinkType.laws c.self.invariant c.unlinked.ensures.pair c.in-Ok.ensures.placed
     c.in-Ok.ensures.may_fill new.table new.newest new.oldest e.pairs e.placings e.chain
 
-pub returns-in-Ok-clause-placed : goal.returns-in-Ok-clause-placed
-returns-in-Ok-clause-placed g c =
+pub returns-in-Ok : goal.returns-in-Ok
+returns-in-Ok g c =
     let e = c.link_placed.ensures in let new = c.link_placed.new.self in
-    rw (← c.self.view_is) (
-      c.in-Ok.b,
-      placed_lands g.met.N.LinkType.laws c.self.invariant c.unlinked.ensures.pair c.in-Ok.ensures.placed
-          c.in-Ok.ensures.may_fill new.table new.newest new.oldest e.pairs e.placings e.chain c.in-Ok.ensures.room,
-    )
-
-pub returns-in-Ok-clause-fits : goal.returns-in-Ok-clause-fits
-returns-in-Ok-clause-fits g c hash_of fits same =
-    let e = c.link_placed.ensures in let new = c.link_placed.new.self in
-    placed_fits g.met.N.LinkType.laws c.self.invariant c.unlinked.ensures.pair c.in-Ok.ensures.placed
-    c.in-Ok.ensures.may_fill new.table new.newest new.oldest e.pairs e.placings e.chain hash_of
-    c.in-Ok.ensures.fits (rw (← c.self.view_is) at fits) same
-
-pub returns-in-Ok-clause-linked : goal.returns-in-Ok-clause-linked
-returns-in-Ok-clause-linked g c =
-    let e = c.link_placed.ensures in let new = c.link_placed.new.self in
-    placed_linked g.met.N.LinkType.laws c.self.invariant c.unlinked.ensures.pair c.in-Ok.ensures.placed
-    c.in-Ok.ensures.may_fill new.table new.newest new.oldest e.pairs e.placings e.chain c.try_place.ensures.table
+    let p = placed g.met.N.LinkType.laws c.self.invariant c.unlinked.ensures.pair c.in-Ok.ensures.placed
+    c.in-Ok.ensures.may_fill new.table new.newest new.oldest e.pairs e.placings e.chain in
+    record {
+      placed = rw (← c.self.view_is) (c.in-Ok.b, p.lands c.in-Ok.ensures.room);
+      fits = λ hash_of fits same. p.fits hash_of c.in-Ok.ensures.fits (rw (← c.self.view_is) at fits) same;
+      linked = p.is_linked c.try_place.ensures.table;
+      returned = tt;
+      unchanged = tt;
+      no_place = tt;
+    }
 
 pub returns-in-Err-clause-linked : goal.returns-in-Err-clause-linked
 returns-in-Err-clause-linked g c =
