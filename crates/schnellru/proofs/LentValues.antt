@@ -18,7 +18,7 @@ use denote.RattleType.{RattleType}
 use denote.Ref.{MutBor, NamedLft, MutRef}
 use denote.Struct.Field.{mut_ref_field}
 use denote.Struct.Laws.{mut_ref_laws}
-use Rattle.std.specs.Prelude.{Bool, Ok, Err, Result}
+use Rattle.std.specs.Prelude.{Bool, Ok, Err, Result, OnErr}
 use Rattle.std.specs.HashMap.Lent.{HashMembers}
 use Rattle.std.specs.declared.hash.Hasher as hasher
 use Rattle.std.specs.declared.cmp.PartialEq as equality
@@ -44,6 +44,11 @@ pub lone : (τ : Ty) (vs : List Val) → Typed (τ ∷ []) vs → (v : Val) × (
 lone τ [] t = absurd t
 lone τ (v ∷ []) t = (v, refl, t.0)
 lone τ (v ∷ w ∷ vs) t = absurd t.1
+
+-- what holds at an error, if another fact does
+pub on_err_then : {T E P Q : Type 0} (r : Result T E) → (P → Q) → OnErr r P → OnErr r Q
+on_err_then (Ok x) f h = tt
+on_err_then (Err e) f h = f h
 
 -- what `lend_or_insert` lends is what `get_or_insert` lends
 module _ {M : Type 1} {𝓤 : Ura M} (𝓛 : Logic 𝓤) (K V L S N H : RattleType) (key : HashMembers K.Denot) (limits :

@@ -125,6 +125,7 @@ module _ {M : Type 1} {𝓤 : Ura M} (𝓛 : Logic 𝓤) (𝓜 : Model 𝓤 𝓛
     abbrev next : Walk → Option (K.Denot × V.Denot)
     next s = if nat_lt (walk_start s) (walk_end s) then lent s else None
 
+    -- the contract of the function that is called, and the contract of both
     abbrev Lends : Clauses 𝓤 (Of Two)
     Lends κs a = record {
       ghost = Unit {0};

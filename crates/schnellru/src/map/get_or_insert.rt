@@ -1,5 +1,5 @@
 //! Getting a value, which is inserted if its key is not there.
-ghost use Rattle.std.specs.Prelude.{◌≡◌, None, Ok, OnErr, IsErrOf};
+ghost use Rattle.std.specs.Prelude.{◌≡◌, ◌<◌, true, length, None, Ok, OnErr, IsErrOf};
 ghost use Rattle.lru_model.specs.Lists.{lookup};
 ghost use Rattle.lru_model.specs.State.{IsMap};
 ghost use Rattle.lru_model.specs.GetOrInserts.{MakesNewest, GetsOrInserts, SaysNewest, IsOutOfMemoryFor};
@@ -107,6 +107,23 @@ impl<K: Eq + Hash + Drop, V: Drop, L: Limiter<K, V>, S: KeyHasher<K>> LruMap<K, 
         }
     }
 
+    // Lends the newest value, if `kept` says that the key is there.
+    #[inline]
+    fn lend_if_kept<E>(&mut self, kept: Result<bool, E>) -> Result<&mut V, NotLent<E>>
+        requires { kept ≡ Ok true → 0 < length self.old.pairs }
+        ensures* writes_back { sem 𝓛 (lends_or K.row V.row L.row S.row L.LinkType.row S.Hasher.row K.Hash L.Limiter
+            L.LinkType.LinkType.own L.LinkType.PartialEq L.LinkType.Debug S.KeyHasher S.Hasher.Hasher self.entry
+            (λ answer map. (answer ≡ kept) × (map ≡ self.old)) result) }
+    {
+        // Nothing at run time: it opens the map, whose invariant the clause speaks of.
+        let _ = &self.entries;
+        match kept {
+            Ok(true) => Ok(self.newest_value_mut()),
+            Ok(false) => Err(NotLent::NotKept),
+            Err(error) => Err(NotLent::Failed(error)),
+        }
+    }
+
     // What `get_or_insert` lends, in a form whose contract reaches a caller's proof.
     pub(crate) fn lend_or_insert<I: LookupKey<K> + Drop, F: FnOnce() -> V>(
         &mut self,
@@ -120,11 +137,8 @@ impl<K: Eq + Hash + Drop, V: Drop, L: Limiter<K, V>, S: KeyHasher<K>> LruMap<K, 
             L.LinkType.LinkType.own L.LinkType.PartialEq L.LinkType.Debug S.KeyHasher S.Hasher.Hasher self.entry
             (GetsOrInserts L.rules L.offers I.names S.hash_of (F.post make) key self.old) result) }
     {
-        match self.ensure_newest(key, make) {
-            Ok(true) => Ok(self.newest_value_mut()),
-            Ok(false) => Err(NotLent::NotKept),
-            Err(error) => Err(NotLent::Failed(error)),
-        }
+        let kept = self.ensure_newest(key, make);
+        self.lend_if_kept(kept)
     }
 
     /// Lends the value of a key for writing. If the key is not there, inserts it with the value that the closure
@@ -240,11 +254,8 @@ impl<K: Eq + Hash + Drop, V: Drop, L: Limiter<K, V>, S: KeyHasher<K>> LruMap<K, 
             L.LinkType.LinkType.own L.LinkType.PartialEq L.LinkType.Debug S.KeyHasher S.Hasher.Hasher self.entry
             (GetsOrInsertsIfMade L.rules L.offers I.names S.hash_of (F.post make) key self.old) result) }
     {
-        match self.ensure_newest_fallible(key, make) {
-            Ok(true) => Ok(self.newest_value_mut()),
-            Ok(false) => Err(NotLent::NotKept),
-            Err(error) => Err(NotLent::Failed(error)),
-        }
+        let kept = self.ensure_newest_fallible(key, make);
+        self.lend_if_kept(kept)
     }
 
     /// The same as `get_or_insert` with a closure that may fail. If it fails, nothing has changed. Cost: as
