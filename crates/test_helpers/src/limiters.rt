@@ -154,8 +154,8 @@ impl Limiter<u64, u64> for Within {
     }
 }
 
-/// Limits nothing, writes 0 into each value that is removed, and into its key if a flag says so, and keeps the last pair
-/// as it was.
+/// Limits nothing, writes 0 into each value that is removed, and into its key if a flag says so, and keeps the last
+/// pair as it was.
 #[derive(Clone, Copy, Debug, Default)]
 pub struct Blanking {
     /// Whether it writes into keys too.

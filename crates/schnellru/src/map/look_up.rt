@@ -30,7 +30,6 @@ impl<K: Eq + Hash, V, L: Limiter<K, V>, S: KeyHasher<K>> LruMap<K, V, L, S> {
     /// Cost: `O(1)` expected.
     ///
     /// After schnellru's `LruMap::get`.
-    // Always in line: the compiler finds it too long with its search, and would call it.
     #[inline(always)]
     pub fn get<Q: LookupKey<K>>(&mut self, key: &Q) -> Option<&mut V>
         ensures* writes_back { sem 𝓛 (lends_value K.row V.row L.row S.row L.LinkType.row S.Hasher.row K.Hash L.Limiter
@@ -40,6 +39,7 @@ impl<K: Eq + Hash, V, L: Limiter<K, V>, S: KeyHasher<K>> LruMap<K, V, L, S> {
         ensures map { (new : State K V L S) → Get (Q.names key.now) self.old (option_copied_mut result) new
             → IsMap K.eq new }
     {
+        // Always in line, because the compiler finds it too long with its search, and would call it.
         let b = self.find(key)?;
         self.promote_at(b);
         Some(&mut self.entries.pair_mut(b).value)
