@@ -1,8 +1,8 @@
 //! Each key and each value is dropped once: none twice, and none is forgotten. No clause says when a value is dropped.
 use super::live::{Live, Lives};
 use schnellru::{
-    Both, ByCost, ByLength, ByMemoryUsage, ByWeight, GetOrInsertError, Insertion, Limiter, LruMap,
-    Storing, Unlimited, UnlimitedCompact,
+    Both, ByCost, ByLength, ByMemoryUsage, ByWeight, GetOrInsertError, Insertion, KeyHasher,
+    Limiter, LruMap, Storing, Unlimited, UnlimitedCompact,
 };
 use std::alloc::Global;
 use std::test::Fail;
@@ -197,4 +197,21 @@ fn closures_that_are_not_called_are_dropped(rt: HostRuntime) {
     check!(rt; none.peek_by_hash(7, move |key, _| *key == asked).is_none());
     none.retain(move |key, _| *key == kept);
     check!(rt; live(&lives) == (0, 0));
+}
+
+/// A closure is dropped after a search that calls it or not, and after a walk.
+#[test]
+fn closures_are_dropped(rt: HostRuntime) -> Result<(), Fail> {
+    let lives = Lives::new();
+    let mut map: Map<ByLength> = LruMap::new(rt.alloc(), ByLength::new(1), [1, 2, 3, 4], 16);
+    map.insert(lives.key(1), lives.value(0))?;
+    let hash = map.hasher().hash_named(&lives.key(1));
+    let (found, other, written) = (lives.value(1), lives.value(2), lives.value(3));
+    check!(rt; map.peek_by_hash(hash, move |key, _| *key == found).is_some());
+    check!(rt; map.peek_by_hash(hash, move |key, _| *key == other).is_none());
+    map.for_each_mut(move |_, value| if *value == written {
+        value.number = 4;
+    });
+    check!(rt; live(&lives) == (1, 1));
+    Ok(())
 }

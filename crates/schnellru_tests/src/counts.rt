@@ -67,8 +67,10 @@ fn a_call_hashes_its_key_once(rt: HostRuntime) -> Result<(), Fail> {
         map.demote(&6),
         map.update(6, 0) == Updated::Replaced(60),
         map.get_key_value(&6).is_some(),
+        map.get_index_of(&6).is_some(),
+        map.try_insert(8, 0) == Ok(()),
     ];
-    check!(rt; (is_found, builds.get()) == ([true; 13], 13));
+    check!(rt; (is_found, builds.get()) == ([true; 15], 15));
     Ok(())
 }
 
@@ -126,7 +128,7 @@ fn is_stored(map: &mut Asking, key: u64, value: &Rc<u64>) -> bool {
 }
 
 /// An insert of a new key queries the limiter once after it stored the pair, and once before if there are pairs. An
-/// insert of a key that is there queries once.
+/// insert of a key that is there queries once, and so does an update.
 #[test]
 fn the_limiter_is_asked_once(rt: HostRuntime) -> Result<(), Fail> {
     let (asked, lives, value) = (Cell::new(0), Cell::new(0), Rc::new(rt.alloc(), 0u64)?);
@@ -135,6 +137,8 @@ fn the_limiter_is_asked_once(rt: HostRuntime) -> Result<(), Fail> {
         let found = (is_stored(&mut map, key, &value), asked.get());
         assert!(rt; found == (true, wanted), "{key}");
     }
+    drop(map.update(2, value.clone()?));
+    check!(rt; asked.get() == 9);
     Ok(())
 }
 

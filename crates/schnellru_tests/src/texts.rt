@@ -8,8 +8,10 @@ use test_helpers::check;
 fn debug(rt: HostRuntime) -> Result<(), Fail> {
     let mut map = map_of(rt.alloc(), UnlimitedCompact);
     insert_all(&mut map, 1..=3)?;
-    let text = format!(in rt.alloc(); "{map:?} {:?}", RandomState::default())?;
-    check!(rt; text.as_str() == "LruMap { len: 3, .. } RandomState { .. }");
+    let mut walk = map.iter();
+    walk.next();
+    let text = format!(in rt.alloc(); "{map:?} {walk:?} {:?}", RandomState::default())?;
+    check!(rt; text.as_str() == "LruMap { len: 3, .. } [(2, 20), (1, 10)] RandomState { .. }");
     Ok(())
 }
 
