@@ -1,16 +1,9 @@
 //! Generic callers, which know a trait by its bound alone.
 ghost use Rattle.std.specs.Prelude.{◌≡◌, ◌+◌, ◌-◌, ◌^◌, IfOk, min};
 
-use lru_limits::{Costed, Limiter, LinkType, LookupKey, RandomState, Summing};
+use lru_limits::{Costed, LookupKey, RandomState, Summing};
 use std::alloc::{AllocError, Global};
 use std::hash::{BuildHasher, Hash};
-
-/// Returns the number of the link that stands for no bucket.
-pub(super) fn number_of_no_link<L: Limiter<u64, u64>>() -> usize
-    ensures { result ≡ L.LinkType.number L.LinkType.MAX }
-{
-    L::LinkType::MAX.into_usize()
-}
 
 pub(super) fn cost_of_both<V: Costed>(a: &V, b: &V) -> u64
     ensures { result ≡ min (V.cost a.now + V.cost b.now) (2 ^ 64 - 1) }

@@ -1,5 +1,5 @@
-//! The limiters of the crate: the keys that they drop, the widths of their links, and their texts.
-use super::bounds::{names, number_of_no_link};
+//! The limiters of the crate: the keys that they drop, and their texts.
+use super::bounds::names;
 use lru_limits::{
     ByCost, ByLength, ByMemoryUsage, Insertion, LookupKey, RandomState, Storing, Unlimited,
     UnlimitedCompact,
@@ -52,20 +52,6 @@ fn texts_that_become_keys(rt: HostRuntime) -> Result<(), Fail> {
     }
     check!(rt; (limiter.inserts, limiter.replacements) == (2, 2));
     Ok(())
-}
-
-#[test]
-fn widths_of_links(rt: HostRuntime) {
-    let numbers = [
-        number_of_no_link::<ByLength>(),
-        number_of_no_link::<ByMemoryUsage>(),
-        number_of_no_link::<UnlimitedCompact>(),
-        number_of_no_link::<Storing<ByLength>>(),
-        number_of_no_link::<Unlimited>(),
-        number_of_no_link::<ByCost>(),
-    ];
-    let (narrow, wide) = (4_294_967_295, usize::MAX);
-    check!(rt; numbers == [narrow, narrow, narrow, narrow, wide, wide]);
 }
 
 #[test]
