@@ -1,7 +1,7 @@
 //! A page cache over each device on a file, beside a plain list of blocks.
 use crate::CALLS;
-use lru_caches::{BlockDevice, FileDevice, FileError, HashedFileDevice, PageCache, Unclosed};
-use std::alloc::{AllocError, Global};
+use lru_caches::{BlockDevice, FileDevice, HashedFileDevice, PageCache, Unclosed};
+use std::alloc::Global;
 use std::io::Cursor;
 use test_helpers::Random;
 
@@ -19,6 +19,23 @@ fn random_number(random: &mut Random) -> u64 {
     random.below(below)
 }
 
+// Reads or writes a block of the cache and its place in the list, and returns whether they agree.
+fn agree<D: BlockDevice<Block>>(
+    cache: &mut PageCache<Block, D>,
+    n: u64,
+    place: &mut u64,
+    random: &mut Random,
+) -> bool
+where
+    D::Error: Drop,
+{
+    if random.below(2) == 0 {
+        return cache.read(n).ok() == Some(place.to_le_bytes());
+    }
+    *place = random.next();
+    cache.write(n, place.to_le_bytes()).is_ok()
+}
+
 // Makes random reads and writes, and returns how many agree. If the file does not have all blocks in the end, none do.
 fn count<D: BlockDevice<Block> + Drop>(mut cache: PageCache<Block, D>, model: &mut Vec<u64>) -> u64
 where
@@ -27,27 +44,17 @@ where
     let (mut random, mut count) = (Random::new(5), 0u64);
     for _ in 0..CALLS {
         let n = random_number(&mut random);
-        let Some(place) = model.get_mut(n as usize) else {
-            continue;
-        };
-        let right = if random.below(2) == 0 {
-            cache
-                .read(n)
-                .is_ok_and(|block| u64::from_le_bytes(block) == *place)
-        } else {
-            *place = random.next();
-            cache.write(n, place.to_le_bytes()).is_ok()
-        };
-        count = count.saturating_add(right as u64);
+        if let Some(place) = model.get_mut(n as usize) {
+            let right = agree(&mut cache, n, place, &mut random);
+            count = count.saturating_add(right as u64);
+        }
     }
     match cache.close() {
-        Ok(mut device) => {
-            if has_blocks(&mut device, model) {
-                count
-            } else {
-                0
-            }
-        }
+        Ok(mut device) => if has_blocks(&mut device, model) {
+            count
+        } else {
+            0
+        },
         Err(Unclosed { cache, error: _ }) => {
             drop(cache.discard());
             0
@@ -62,40 +69,53 @@ where
 {
     let mut right = true;
     for (n, number) in model.iter().enumerate() {
-        right = right
-            && device
-                .read(n as u64)
-                .is_ok_and(|block| u64::from_le_bytes(block) == *number);
+        right = right && device.read(n as u64).ok() == Some(number.to_le_bytes());
     }
     right
 }
 
-// The bytes of a file whose blocks are the numbers of a list.
-fn file_of(alloc: Global, model: &Vec<u64>) -> Result<Cursor<Vec<u8>>, AllocError> {
+// A file whose blocks are the numbers of a list. Out of memory, it lacks blocks.
+fn file_of(alloc: Global, model: &Vec<u64>) -> Cursor<Vec<u8>> {
     let mut bytes = Vec::new(alloc);
     for number in model {
-        for byte in number.to_le_bytes() {
-            bytes.push(byte)?;
-        }
+        let _ = bytes.extend_from_slice(&number.to_le_bytes());
     }
-    Ok(Cursor::new(bytes))
+    Cursor::new(bytes)
 }
 
-/// Returns how many random calls agree on a device that keeps copies, and on one that keeps hashes.
-pub fn calls_that_agree(alloc: Global) -> Result<[u64; 2], FileError> {
+// Random numbers. Out of memory, there are fewer.
+fn random_blocks(alloc: Global) -> Vec<u64> {
     let (mut model, mut random) = (Vec::new(alloc), Random::new(6));
     for _ in 0..BLOCKS {
-        if model.push(random.next()).is_err() {
-            return Err(FileError::Memory);
-        }
+        let _ = model.push(random.next());
     }
-    let file = file_of(alloc, &model).map_err(|_| FileError::Memory)?;
-    let copies: FileDevice<_, 8> = FileDevice::new(alloc, file, BLOCKS)?;
-    let with_copies = count(PageCache::new(alloc, copies, CAPACITY), &mut model);
-    let file = file_of(alloc, &model).map_err(|_| FileError::Memory)?;
-    let hashes: HashedFileDevice<_, 8> = HashedFileDevice::new(alloc, file, BLOCKS)?;
-    Ok([
-        with_copies,
-        count(PageCache::new(alloc, hashes, CAPACITY), &mut model),
-    ])
+    model
+}
+
+/// Returns how many random calls agree on a device that keeps copies.
+pub fn calls_that_agree_on_copies(alloc: Global) -> u64 {
+    let mut model = random_blocks(alloc);
+    let device: Result<FileDevice<_, 8>, _> = FileDevice::new(
+        alloc,
+        file_of(alloc, &model),
+        BLOCKS,
+    );
+    match device {
+        Ok(device) => count(PageCache::new(alloc, device, CAPACITY), &mut model),
+        Err(_) => 0,
+    }
+}
+
+/// Returns how many random calls agree on a device that keeps hashes.
+pub fn calls_that_agree_on_hashes(alloc: Global) -> u64 {
+    let mut model = random_blocks(alloc);
+    let device: Result<HashedFileDevice<_, 8>, _> = HashedFileDevice::new(
+        alloc,
+        file_of(alloc, &model),
+        BLOCKS,
+    );
+    match device {
+        Ok(device) => count(PageCache::new(alloc, device, CAPACITY), &mut model),
+        Err(_) => 0,
+    }
 }

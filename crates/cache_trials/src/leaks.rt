@@ -1,6 +1,7 @@
 //! What a page cache gives back when it ends, and what an ordered map drops.
-use crate::disk::{BLOCKS, Disk};
-use lru_caches::{OrderedMap, PageCache, Unclosed};
+use crate::disk::BLOCKS;
+use crate::page_calls::{Cache, cache_of, write};
+use lru_caches::{OrderedMap, Unclosed};
 use std::alloc::{AllocError, Global};
 use std::cell::Cell;
 use std::rc::Rc;
@@ -10,7 +11,7 @@ use test_helpers::Hog;
 pub const CACHES: u64 = 1000;
 
 // Ends a cache, and returns whether it ends as it should on a disk that works.
-fn end(cache: PageCache<u64, Disk>, closes: bool) -> bool {
+fn end(cache: Cache, closes: bool) -> bool {
     if !closes {
         return cache.discard().failures == 0;
     }
@@ -23,38 +24,65 @@ fn end(cache: PageCache<u64, Disk>, closes: bool) -> bool {
     }
 }
 
-/// Makes caches of three pages one after another, if there is memory for one. Each is closed, or its pages are
-/// discarded. Returns how many found memory for their pages.
+// Makes a cache of three pages, if there is memory for one, and ends it. Returns whether it found memory.
+fn finds_memory(alloc: Global, closes: bool) -> bool {
+    let calls_left = Cell::new(u64::MAX);
+    let mut cache = cache_of(alloc, [7; BLOCKS], &calls_left, 3);
+    let is_written = write(&mut cache, 0, 0) && write(&mut cache, 1, 1) && write(&mut cache, 2, 2);
+    end(cache, closes) && is_written
+}
+
+/// Makes caches one after another, with memory for one. Each is closed, or its pages are discarded. Returns how many
+/// found memory for their pages.
 pub fn caches_that_find_memory(alloc: Global, closes: bool) -> Result<u64, AllocError> {
     let mut hog = Hog::new(alloc, &[128, 20, 16])?;
     for _ in 0..3u64 {
         hog.release();
     }
-    let (calls_left, mut count) = (Cell::new(u64::MAX), 0u64);
+    let mut count = 0u64;
     for _ in 0..CACHES {
-        let mut cache = PageCache::new(alloc, Disk::new([7; BLOCKS], &calls_left), 3);
-        let mut is_written = true;
-        for n in 0..3u64 {
-            is_written = is_written && cache.write(n, n) == Ok(());
-        }
-        let right = end(cache, closes) && is_written;
-        count = count.saturating_add(right as u64);
+        count = count.saturating_add(finds_memory(alloc, closes) as u64);
     }
     Ok(count)
+}
+
+type Held = OrderedMap<Rc<u64>, Rc<u64>>;
+
+// Inserts a key and a value, of which the map gets references of its own. Returns whether there was memory.
+fn insert(map: &mut Held, key: &Rc<u64>, value: &Rc<u64>) -> bool {
+    let key: Result<_, _> = key.clone();
+    let value: Result<_, _> = value.clone();
+    match (key, value) {
+        (Ok(key), Ok(value)) => map.insert(key, value).is_ok(),
+        _ => false,
+    }
+}
+
+// Inserts a key without memory, and returns whether it is refused, unless the memory did not come to its end.
+fn is_refused(alloc: Global, map: &mut Held, key: &Rc<u64>) -> bool {
+    match Hog::new(alloc, &[]) {
+        Ok(hog) => !insert(map, key, key) || !hog.took_all(),
+        Err(_) => false,
+    }
+}
+
+// A map of the keys below 3. Out of memory, one is missing.
+fn map_of_three(alloc: Global) -> Held {
+    let mut map = OrderedMap::new(alloc);
+    for n in 0..3u64 {
+        if let Ok(key) = Rc::new(alloc, n) {
+            insert(&mut map, &key, &key);
+        }
+    }
+    map
 }
 
 /// Inserts a key into an ordered map of three entries that finds no memory for a fourth. Returns how often the key is
 /// then held.
 pub fn references_after_a_refused_insert(alloc: Global) -> Result<usize, AllocError> {
-    let mut map: OrderedMap<Rc<u64>, u64> = OrderedMap::new(alloc);
-    for n in 0..3u64 {
-        map.insert(Rc::new(alloc, n)?, n)?;
-    }
     let refused = Rc::new(alloc, 3u64)?;
-    let hog = Hog::new(alloc, &[])?;
-    let inserted = map.insert(refused.clone()?, 3);
-    let is_expected = inserted.is_err() || !hog.took_all();
-    drop(hog);
+    let mut map = map_of_three(alloc);
+    let is_expected = is_refused(alloc, &mut map, &refused);
     // If memory never ends, the key was inserted, and its removal drops it.
     map.remove(&refused);
     Ok(if is_expected {
@@ -65,18 +93,20 @@ pub fn references_after_a_refused_insert(alloc: Global) -> Result<usize, AllocEr
 }
 
 /// Inserts a key twice, and another one, and removes them. Returns how often the key is held after the second insert,
-/// after the other key is rejected by a retain, after both are removed and inserted again, and after a clear.
+/// after the other key is rejected by a retain, after both are removed and inserted again, and after a clear. Out of
+/// memory, these numbers differ.
 pub fn references_after_removals(alloc: Global) -> Result<[usize; 4], AllocError> {
     let key = Rc::new(alloc, 1u64)?;
-    let mut map: OrderedMap<Rc<u64>, Rc<u64>> = OrderedMap::new(alloc);
-    map.insert(key.clone()?, key.clone()?)?;
-    map.insert(key.clone()?, key.clone()?)?;
+    let other = Rc::new(alloc, 2u64)?;
+    let mut map = OrderedMap::new(alloc);
+    insert(&mut map, &key, &key);
+    insert(&mut map, &key, &key);
     let twice = Rc::strong_count(&key);
-    map.insert(Rc::new(alloc, 2u64)?, key.clone()?)?;
+    insert(&mut map, &other, &key);
     map.retain(|kept, _| **kept == 1);
     let retained = Rc::strong_count(&key);
     map.remove(&key);
-    map.insert(key.clone()?, key.clone()?)?;
+    insert(&mut map, &key, &key);
     let again = Rc::strong_count(&key);
     map.clear();
     Ok([twice, retained, again, Rc::strong_count(&key)])

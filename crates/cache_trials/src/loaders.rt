@@ -60,9 +60,12 @@ fn count<F: Fn(u64) -> Result<u64, u64>>(
 
 // Whether the value of a key is stored.
 fn has_key(keys: &Keys, length: u32, key: u64) -> bool {
-    keys.iter()
-        .take(length as usize)
-        .any(|stored| *stored == key)
+    for stored in keys.iter().take(length as usize) {
+        if *stored == key {
+            return true;
+        }
+    }
+    false
 }
 
 /// Returns how many random calls agree.

@@ -46,12 +46,8 @@ fn count<F: Fn(u64) -> u64>(
         let key = random.below(KEYS);
         calls.set(0);
         let result = memo.answer(key);
-        let expected_calls = if use_key(&mut keys, length, key) {
-            0
-        } else {
-            1
-        };
-        let right = result == key.wrapping_mul(key) && calls.get() == expected_calls;
+        let is_stored = use_key(&mut keys, length, key);
+        let right = result == key.wrapping_mul(key) && calls.get() == !is_stored as u64;
         count = count.saturating_add(right as u64);
     }
     count

@@ -6,74 +6,97 @@ use test_helpers::Random;
 
 type Map = OrderedMap<u64, u64>;
 
-// The place of a key in the list.
-fn place_of(list: &Vec<(u64, u64)>, key: u64) -> Option<usize> {
-    list.iter().position(|entry| entry.0 == key)
-}
+/// Entries, oldest first. Out of memory, one is missing, and the map differs.
+type List = Vec<(u64, u64)>;
 
-// Removes the entry at a place, if there is one.
-fn taken(list: &mut Vec<(u64, u64)>, place: Option<usize>) -> Option<(u64, u64)> {
-    match place {
-        Some(place) if place < list.len() => Some(list.remove(place)),
-        _ => None,
+// Removes the entry at a place of the list, if there is one.
+fn take(list: &mut List, place: usize) -> Option<(u64, u64)> {
+    if place < list.len() {
+        Some(list.remove(place))
+    } else {
+        None
     }
 }
 
-// Inserts into both, and returns whether they agree.
-fn inserts_agree(
-    map: &mut Map,
-    list: &mut Vec<(u64, u64)>,
-    key: u64,
-    value: u64,
-) -> Result<bool, AllocError> {
-    let was = map.insert(key, value)?;
-    match place_of(list, key).and_then(|place| list.get_mut(place)) {
-        Some(entry) => {
+// Removes the newest entry of the list.
+fn take_newest(list: &mut List) -> Option<(u64, u64)> {
+    let len = list.len();
+    take(list, len.wrapping_sub(1))
+}
+
+// The place of a key in the list, or the length of the list if the key is not there.
+fn place_of(list: &List, key: u64) -> usize {
+    for (place, entry) in list.iter().enumerate() {
+        if entry.0 == key {
+            return place;
+        }
+    }
+    list.len()
+}
+
+// Removes the entry of a key from the list.
+fn remove(list: &mut List, key: u64) -> Option<(u64, u64)> {
+    let place = place_of(list, key);
+    take(list, place)
+}
+
+// Replaces the value of a key of the list, and returns the old one.
+fn replace(list: &mut List, key: u64, value: u64) -> Option<u64> {
+    for entry in list.iter_mut() {
+        if entry.0 == key {
             let old = entry.1;
             entry.1 = value;
-            Ok(was == Some(old))
-        }
-        None => {
-            list.push((key, value))?;
-            Ok(was.is_none())
+            return Some(old);
         }
     }
+    None
+}
+
+// Inserts into the list, and returns the old value.
+fn insert(list: &mut List, key: u64, value: u64) -> Option<u64> {
+    let old = replace(list, key, value);
+    if old.is_none() {
+        let _ = list.push((key, value));
+    }
+    old
+}
+
+// Removes a key from both, and returns whether the values agree.
+fn removals_agree(map: &mut Map, list: &mut List, key: u64) -> bool {
+    match remove(list, key) {
+        Some(entry) => map.remove(&key) == Some(entry.1),
+        None => map.remove(&key).is_none(),
+    }
+}
+
+// Writes a value through a reference, and returns whether both have the key.
+fn writes_agree(map: &mut Map, list: &mut List, key: u64) -> bool {
+    if let Some(value) = map.get_mut(&key) {
+        *value = 7;
+    }
+    map.contains_key(&key) == replace(list, key, 7).is_some()
 }
 
 // Makes a random call, and returns whether both agree.
-fn calls_agree(
-    map: &mut Map,
-    list: &mut Vec<(u64, u64)>,
-    random: &mut Random,
-) -> Result<bool, AllocError> {
+fn calls_agree(map: &mut Map, list: &mut List, random: &mut Random) -> bool {
     let (key, value) = (random.below(24), random.below(1000));
-    let place = place_of(list, key);
-    Ok(match random.below(64) {
-        0..=31 => inserts_agree(map, list, key, value)?,
-        32..=39 => map.remove_entry(&key) == taken(list, place),
-        40..=47 => map.remove(&key) == taken(list, place).map(|entry| entry.1),
-        48..=51 => map.pop_first() == taken(list, Some(0)),
-        52..=55 => map.pop_last() == taken(list, list.len().checked_sub(1)),
-        56..=62 => {
-            if let (Some(value), Some(entry)) = (
-                map.get_mut(&key),
-                place.and_then(|place| list.get_mut(place)),
-            ) {
-                *value = 7;
-                entry.1 = 7;
-            }
-            map.contains_key(&key) == place.is_some()
-        }
+    match random.below(64) {
+        ..=31 => map.insert(key, value).ok() == Some(insert(list, key, value)),
+        ..=39 => map.remove_entry(&key) == remove(list, key),
+        ..=47 => removals_agree(map, list, key),
+        ..=51 => map.pop_first() == take(list, 0),
+        ..=55 => map.pop_last() == take_newest(list),
+        ..=62 => writes_agree(map, list, key),
         _ => {
             map.retain(|_, value| value % 2 == 1);
             list.retain(|entry| entry.1 % 2 == 1);
             true
         }
-    })
+    }
 }
 
 // Whether the map and the list have the same entries, in the same order.
-fn are_same(map: &Map, list: &Vec<(u64, u64)>) -> bool {
+fn are_same(map: &Map, list: &List) -> bool {
     let mut entries = map.iter();
     for (key, value) in list {
         if entries.next() != Some((key, value)) {
@@ -88,7 +111,7 @@ pub fn calls_that_agree(alloc: Global) -> Result<u64, AllocError> {
     let mut map = OrderedMap::new(alloc);
     let (mut list, mut random, mut count) = (Vec::new(alloc), Random::new(2), 0u64);
     for _ in 0..CALLS {
-        let right = calls_agree(&mut map, &mut list, &mut random)? && are_same(&map, &list);
+        let right = calls_agree(&mut map, &mut list, &mut random) && are_same(&map, &list);
         count = count.saturating_add(right as u64);
     }
     // An ordered map finds memory for many keys.

@@ -30,9 +30,18 @@ fn fibonacci(table: &mut MemoTable<u64, u64, FibonacciNumbers, ByLength>, n: u64
     value
 }
 
-/// Returns the Fibonacci number of 90 by a table of at most `length` answers, or of 3 if that is more: with 2 the
-/// recursion evicts what it needs next.
-pub fn fibonacci_of_90(alloc: Global, length: u32) -> u64 {
-    let mut table = MemoTable::new(alloc, ByLength::new(length.max(3)), FibonacciNumbers);
+// Returns the Fibonacci number of 90 by a table of at most `length` answers.
+fn fibonacci_by(alloc: Global, length: u32) -> u64 {
+    let mut table = MemoTable::new(alloc, ByLength::new(length), FibonacciNumbers);
     fibonacci(&mut table, 90)
+}
+
+/// Returns the Fibonacci number of 90 by tables of at most these numbers of answers. Each is 3 or more: with 2 the
+/// recursion evicts what it needs next.
+pub fn fibonacci_of_90(alloc: Global, lengths: [u32; 4]) -> [u64; 4] {
+    let mut numbers = [0; 4];
+    for (number, length) in numbers.iter_mut().zip(lengths) {
+        *number = fibonacci_by(alloc, length);
+    }
+    numbers
 }

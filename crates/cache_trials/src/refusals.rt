@@ -1,6 +1,6 @@
 //! Caches that run out of memory at each request of a growth in turn.
-use crate::disk::Disk;
-use lru_caches::{Loader, Memo, OrderedMap, PageCache, PageError};
+use crate::page_calls::{Cache, cache_of, ends_with, flush, read, write};
+use lru_caches::{Loader, Memo, OrderedMap, PageError};
 use schnellru::ByLength;
 use std::alloc::{AllocError, Global};
 use std::cell::Cell;
@@ -26,42 +26,46 @@ fn is_expected(hog: &Result<Hog, AllocError>, met: usize, grew: bool) -> bool {
     }
 }
 
+// Writes a fourth page. Returns whether it is written, and nothing if it fails by anything but memory.
+fn writes_fourth(cache: &mut Cache) -> Option<bool> {
+    match cache.write(3, 3) {
+        Ok(()) => Some(true),
+        Err(PageError::Memory) => Some(false),
+        Err(PageError::Device(_)) => None,
+    }
+}
+
 // A page cache of three pages: if the fourth runs out of memory, each block is shown as before.
 fn page_cache(alloc: Global, met: usize) -> bool {
     let calls_left = Cell::new(u64::MAX);
-    let disk = Disk::new([10, 11, 12, 13, 14, 15, 16, 17], &calls_left);
-    let mut cache = PageCache::new(alloc, disk, 8);
-    let mut right = true;
-    for n in 0..3u64 {
-        right = right && cache.write(n, n) == Ok(());
-    }
+    let mut cache = cache_of(alloc, [10, 11, 12, 13, 14, 15, 16, 17], &calls_left, 8);
+    let mut right = write(&mut cache, 0, 0) && write(&mut cache, 1, 1) && write(&mut cache, 2, 2);
     let hog = hog(alloc, &[256, 24, 16], met);
-    let written = cache.write(3, 3);
-    right = right && is_expected(&hog, met, written == Ok(()));
-    let read = cache.read(4);
-    right = right && is_expected(&hog, met, read == Ok(14));
+    let written = writes_fourth(&mut cache);
+    let shown = read(&mut cache, 4);
+    right = right && is_expected(&hog, met, written == Some(true));
+    right = right && is_expected(&hog, met, shown == Some(14)) && written.is_some();
     drop(hog);
-    let third = if written == Ok(()) { 3 } else { 13 };
-    right = right && (written == Ok(()) || written == Err(PageError::Memory));
-    right = right && cache.read(3) == Ok(third) && cache.flush() == Ok(());
-    let disk = cache.discard();
-    right && disk.blocks == [0, 1, 2, third, 14, 15, 16, 17]
+    let third = if written == Some(true) { 3 } else { 13 };
+    right = right && read(&mut cache, 3) == Some(third) && flush(&mut cache);
+    ends_with(cache, &[0, 1, 2, third, 14, 15, 16, 17]) && right
 }
 
 // An ordered map of three entries: if the fourth runs out of memory, the map is as before, and can still be written.
-fn ordered_map(alloc: Global, met: usize) -> Result<bool, AllocError> {
+fn ordered_map(alloc: Global, met: usize) -> bool {
     let mut map = OrderedMap::new(alloc);
+    let mut right = true;
     for n in 0..3u64 {
-        map.insert(n, n)?;
+        right = right && map.insert(n, n).is_ok();
     }
     let hog = hog(alloc, &[256, 24, 32], met);
-    let inserted = map.insert(3, 3);
+    let is_inserted = map.insert(3, 3).is_ok();
     let written = map.insert(1, 11);
-    let expected = is_expected(&hog, met, inserted.is_ok());
+    right = right && is_expected(&hog, met, is_inserted) && written == Ok(Some(1));
     drop(hog);
-    let newest = if inserted.is_ok() { 3 } else { 2 };
-    let right = written == Ok(Some(1)) && map.first() == Some((&0, &0)) && map.get(&1) == Some(&11);
-    Ok(expected && right && map.last() == Some((&newest, &newest)))
+    let newest = if is_inserted { 3 } else { 2 };
+    right = right && map.first() == Some((&0, &0)) && map.get(&1) == Some(&11);
+    right && map.last() == Some((&newest, &newest))
 }
 
 // A memo and a loader without memory return what they cannot store, and store it later.
@@ -81,13 +85,11 @@ fn memos(alloc: Global) -> bool {
 
 /// Returns at how many refusals a page cache and an ordered map lost nothing: of the first, the second and the third
 /// request of a growth, and of none. And whether a memo and a loader return what they cannot store.
-pub fn refusals_that_lose_nothing(alloc: Global) -> Result<([u64; 2], bool), AllocError> {
-    let mut right = [0u64; 2];
+pub fn refusals_that_lose_nothing(alloc: Global) -> ([u64; 2], bool) {
+    let (mut pages, mut entries) = (0u64, 0u64);
     for met in 0..=REQUESTS {
-        let now = [page_cache(alloc, met), ordered_map(alloc, met)?];
-        for (sum, is_right) in right.iter_mut().zip(now) {
-            *sum = sum.saturating_add(is_right as u64);
-        }
+        pages = pages.saturating_add(page_cache(alloc, met) as u64);
+        entries = entries.saturating_add(ordered_map(alloc, met) as u64);
     }
-    Ok((right, memos(alloc)))
+    ([pages, entries], memos(alloc))
 }
