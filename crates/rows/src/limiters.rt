@@ -11,7 +11,10 @@ pub trait Spelled: Sized {
 
 /// The number that stands after the word.
 fn number_after(words: &str, word: &str) -> Option<u64> {
-    words.strip_prefix(word)?.parse().ok()
+    match words.strip_prefix(word) {
+        Some(number) => number.parse().ok(),
+        None => None,
+    }
 }
 
 impl Spelled for ByLength {
@@ -35,32 +38,20 @@ impl Spelled for ByCost {
 
 impl Spelled for Unlimited {
     fn spelled(words: &str) -> Option<Unlimited> {
-        if words == "unlimited" {
-            Some(Unlimited)
-        } else {
-            None
-        }
+        (words == "unlimited").then_some(Unlimited)
     }
 }
 
 impl Spelled for UnlimitedCompact {
     fn spelled(words: &str) -> Option<UnlimitedCompact> {
-        if words == "compact" {
-            Some(UnlimitedCompact)
-        } else {
-            None
-        }
+        (words == "compact").then_some(UnlimitedCompact)
     }
 }
 
 impl<N: LinkType> Spelled for Storing<LinkedBy<N>> {
     fn spelled(words: &str) -> Option<Storing<LinkedBy<N>>> {
-        let max = number_after(words, "links below ")?;
-        if max == N::MAX.into_usize() as u64 {
-            Some(Storing(LinkedBy(PhantomData)))
-        } else {
-            None
-        }
+        let max = N::MAX.into_usize() as u64;
+        (number_after(words, "links below ") == Some(max)).then_some(Storing(LinkedBy(PhantomData)))
     }
 }
 

@@ -1,6 +1,7 @@
 //! Runs the rows of data files. `docs/ROWS.md` has their form.
 #![tactic(auto)]
 
+mod answers;
 mod calls;
 mod escapes;
 mod expected;
@@ -13,10 +14,10 @@ mod report;
 mod row;
 mod streams;
 mod table;
+mod text;
 mod trials;
 
 use row::Row;
-use std::rt::{Env, Files};
 use std::{env, fs, io};
 
 /// How many rows hold, and how many fail.
@@ -37,26 +38,21 @@ impl Count {
 }
 
 /// Checks the row, if there is one.
-fn check(
-    rt: &(impl Print + AllocGlobal),
-    file: &str,
-    row: &mut Option<Row>,
-    count: &mut Count,
-) -> io::Result<()> {
+fn check(rt: &HostRuntime, file: &str, row: &mut Option<Row>, count: &mut Count) -> io::Result<()> {
     if let Some(row) = row.take() {
         let holds = if row.input.starts_with(b"map ") {
-            maps::holds(rt, file, &row)?
+            maps::holds(rt, file, &row)
         } else {
-            lines::holds(rt, file, &row)?
+            lines::holds(rt, file, &row)
         };
-        count.add(holds);
+        count.add(holds?);
     }
     Ok(())
 }
 
 /// Takes the next line of a file. A blank line ends a row, and a line that begins with `#` is a comment.
 fn take_line(
-    rt: &(impl Print + AllocGlobal),
+    rt: &HostRuntime,
     file: &str,
     line: &str,
     row: &mut Option<Row>,
@@ -70,21 +66,20 @@ fn take_line(
         *row = Some(Row::new(rt.alloc(), name)?);
         return Ok(());
     }
-    if line.starts_with('#') {
-        return Ok(());
-    }
-    match row {
+    let is_good = match row {
+        _ if line.starts_with('#') => true,
         Some(row) => row.add(rt.alloc(), line),
-        None => Err(row::malformed()),
+        None => false,
+    };
+    if is_good {
+        Ok(())
+    } else {
+        Err(row::malformed())
     }
 }
 
 /// Checks the rows of a file.
-fn check_file(
-    rt: &(impl Files + Print + AllocGlobal),
-    file: &str,
-    count: &mut Count,
-) -> io::Result<()> {
+fn check_file(rt: &HostRuntime, file: &str, count: &mut Count) -> io::Result<()> {
     let text = fs::read_to_string(rt, file)?;
     let mut row = None;
     for line in text.lines() {

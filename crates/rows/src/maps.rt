@@ -1,130 +1,119 @@
 //! Rows of calls on a map under any limiter and hasher, which the lines of the program cannot spell.
-use crate::calls::{call_of, write_answers};
+use crate::answers::{answer_calls, answer_summing_calls};
+use crate::calls::call_of;
 use crate::limiters::Spelled;
 use crate::report::agrees;
-use crate::row::{Row, malformed};
-use lru_replay::{Call, run_calls, run_summing};
+use crate::row::Row;
+use crate::text::Text;
+use lru_replay::Call;
 use schnellru::{
     ByCost, ByLength, ByMemoryUsage, Insertion, LruMap, RandomState, Storing, Unlimited,
     UnlimitedCompact,
 };
 use std::alloc::Global;
-use std::fmt::{Debug, Write};
+use std::fmt::Debug;
 use std::hash::BuildHasher;
 use std::io;
 use test_helpers::{Alternating, Blanking, LastByte, LinkedBy, Sum};
 
+/// The answer to a line that spells no call and no map, which no row expects.
+const MALFORMED: &str = "malformed\n";
+
 /// Checks the row, prints the first difference, and returns whether there is none.
-pub fn holds(rt: &(impl Print + AllocGlobal), file: &str, row: &Row) -> io::Result<bool> {
-    let input = str::from_utf8(row.input.as_slice()).map_err(|_| malformed())?;
-    let (first, calls) = input.split_once('\n').ok_or(malformed())?;
-    let text = answers_under(rt.alloc(), first, calls)?.ok_or(malformed())?;
-    agrees(rt, file, row, text.as_bytes())
+pub fn holds(rt: &HostRuntime, file: &str, row: &Row) -> io::Result<bool> {
+    let mut text = Text::new(rt.alloc());
+    write_row(&mut text, rt.alloc(), row.input.as_slice());
+    agrees(rt, file, row, text.as_str().as_bytes())
 }
 
-/// The answers to the calls, on an empty map that the first line names.
-fn answers_under(alloc: Global, first: &str, calls: &str) -> io::Result<Option<String>> {
-    let words = first.strip_prefix("map ").ok_or(malformed())?;
+/// Adds the answers to the calls of a row.
+fn write_row(out: &mut Text, alloc: Global, input: &[u8]) {
+    let input = str::from_utf8(input).unwrap_or("");
+    let (first, calls) = input.split_once('\n').unwrap_or(("", ""));
+    let words = first.strip_prefix("map ").unwrap_or("");
     let (words, hash) = words.split_once(" hash ").unwrap_or((words, "random"));
-    if let Some(words) = words.strip_prefix("summing ") {
-        let limiter = ByCost::spelled(words).ok_or(malformed())?;
-        return Ok(Some(answers_by_sum(alloc, limiter, calls)?));
-    }
-    let (first, _) = words.split_once(' ').unwrap_or((words, ""));
+    write_under(out, alloc, words, hash, calls);
+}
+
+/// The same on an empty map under the limiter that the words name.
+fn write_under(out: &mut Text, alloc: Global, words: &str, hash: &str, calls: &str) {
+    let (first, rest) = words.split_once(' ').unwrap_or((words, ""));
     match first {
-        "length" => answers_of::<ByLength>(alloc, words, hash, calls),
-        "memory" => answers_of::<ByMemoryUsage>(alloc, words, hash, calls),
-        "cost" => answers_of::<ByCost>(alloc, words, hash, calls),
-        "unlimited" => answers_of::<Unlimited>(alloc, words, hash, calls),
-        "compact" => answers_of::<UnlimitedCompact>(alloc, words, hash, calls),
-        "blank" => answers_of::<Storing<Blanking>>(alloc, words, hash, calls),
-        "links" => match answers_of::<Storing<LinkedBy<u8>>>(alloc, words, hash, calls)? {
-            Some(answers) => Ok(Some(answers)),
-            None => answers_of::<Storing<LinkedBy<u16>>>(alloc, words, hash, calls),
-        },
-        _ => answers_of::<Storing<Alternating>>(alloc, words, hash, calls),
+        "summing" => write_summing(out, alloc, rest, calls),
+        "length" => write_of::<ByLength>(out, alloc, words, hash, calls),
+        "memory" => write_of::<ByMemoryUsage>(out, alloc, words, hash, calls),
+        "cost" => write_of::<ByCost>(out, alloc, words, hash, calls),
+        "unlimited" => write_of::<Unlimited>(out, alloc, words, hash, calls),
+        "compact" => write_of::<UnlimitedCompact>(out, alloc, words, hash, calls),
+        "blank" => write_of::<Storing<Blanking>>(out, alloc, words, hash, calls),
+        "links" if words == "links below 255" => {
+            write_of::<Storing<LinkedBy<u8>>>(out, alloc, words, hash, calls);
+        }
+        "links" => write_of::<Storing<LinkedBy<u16>>>(out, alloc, words, hash, calls),
+        _ => write_of::<Storing<Alternating>>(out, alloc, words, hash, calls),
     }
 }
 
-/// The same, if the words name a limiter of this type, and the word after them a hasher.
-fn answers_of<L: Insertion<u64, u64, u64> + Spelled + Debug + Drop>(
+/// The same on a map under a limiter of this type, with the hasher that the word names.
+fn write_of<L: Insertion<u64, u64, u64> + Spelled + Debug + Drop>(
+    out: &mut Text,
     alloc: Global,
     words: &str,
     hash: &str,
     calls: &str,
-) -> io::Result<Option<String>> {
+) {
     let Some(limiter) = L::spelled(words) else {
-        return Ok(None);
+        return out.word(MALFORMED);
     };
-    let answers = match hash {
-        "random" => answers_on(
-            alloc,
-            LruMap::with_hasher(alloc, limiter, RandomState::default(), 16),
-            calls,
-        ),
-        "zero" => answers_on(
-            alloc,
-            LruMap::with_hasher(alloc, limiter, LastByte(0), 16),
-            calls,
-        ),
-        "sum" => answers_on(
-            alloc,
-            LruMap::with_hasher(alloc, limiter, Sum(0), 16),
-            calls,
-        ),
-        _ => return Err(malformed()),
-    };
-    Ok(Some(answers?))
+    match hash {
+        "random" => write_on(out, alloc, limiter, RandomState::default(), calls),
+        "zero" => write_on(out, alloc, limiter, LastByte(0), calls),
+        "sum" => write_on(out, alloc, limiter, Sum(0), calls),
+        _ => out.word(MALFORMED),
+    }
 }
 
-/// The answers on this map.
-fn answers_on<L: Insertion<u64, u64, u64> + Spelled + Debug + Drop, S: BuildHasher + Drop>(
+/// The same on a map with this limiter and this hasher.
+fn write_on<L: Insertion<u64, u64, u64> + Spelled + Debug + Drop, S: BuildHasher + Drop>(
+    out: &mut Text,
     alloc: Global,
-    map: LruMap<u64, u64, L, S>,
+    limiter: L,
+    hasher: S,
     calls: &str,
-) -> io::Result<String> {
-    let mut map = map;
-    let mut text = String::new(alloc);
-    for line in calls.lines() {
-        answer_line(alloc, &mut map, line, &mut text)?;
-    }
-    Ok(text)
-}
-
-/// Adds the answer to the call that the line spells. The line `limiter` is answered by the limiter's text.
-fn answer_line<L: Insertion<u64, u64, u64> + Spelled + Debug + Drop, S: BuildHasher>(
-    alloc: Global,
-    map: &mut LruMap<u64, u64, L, S>,
-    line: &str,
-    text: &mut String,
-) -> io::Result<()> {
-    if line == "limiter" {
-        write!(text, "{:?}\n", map.limiter())?;
-        return Ok(());
-    }
-    let answers = run_calls(alloc, map, one_call(alloc, line)?)?;
-    write_answers(text, answers.as_slice())?;
-    Ok(())
-}
-
-/// The same on a map whose sum no call may change.
-fn answers_by_sum(alloc: Global, limiter: ByCost, calls: &str) -> io::Result<String> {
-    let mut map = LruMap::with_hasher(alloc, limiter, RandomState::default(), 16);
-    let mut text = String::new(alloc);
+) {
+    let mut map = LruMap::with_hasher(alloc, limiter, hasher, 16);
     for line in calls.lines() {
         if line == "limiter" {
-            write!(text, "{:?}\n", map.limiter())?;
+            out.shown(map.limiter());
+        } else if let Some(call) = one_call(alloc, line) {
+            answer_calls(out, alloc, &mut map, call);
         } else {
-            let answers = run_summing(alloc, &mut map, one_call(alloc, line)?)?;
-            write_answers(&mut text, answers.as_slice())?;
+            out.word(MALFORMED);
         }
     }
-    Ok(text)
 }
 
-/// A list of the call that the line spells.
-fn one_call<L: Spelled + Drop>(alloc: Global, line: &str) -> io::Result<Vec<Call<u64, u64, L>>> {
+/// The same on a map under a limit by cost, whose sum no call may change.
+fn write_summing(out: &mut Text, alloc: Global, words: &str, calls: &str) {
+    let Some(limiter) = ByCost::spelled(words) else {
+        return out.word(MALFORMED);
+    };
+    let mut map = LruMap::with_hasher(alloc, limiter, RandomState::default(), 16);
+    for line in calls.lines() {
+        if line == "limiter" {
+            out.shown(map.limiter());
+        } else if let Some(call) = one_call(alloc, line) {
+            answer_summing_calls(out, alloc, &mut map, call);
+        } else {
+            out.word(MALFORMED);
+        }
+    }
+}
+
+/// A list of the call that the line spells, if it spells one. Out of memory, the list is empty.
+fn one_call<L: Spelled + Drop>(alloc: Global, line: &str) -> Option<Vec<Call<u64, u64, L>>> {
+    let call = call_of(line)?;
     let mut calls = Vec::new(alloc);
-    calls.push(call_of(line).ok_or(malformed())?)?;
-    Ok(calls)
+    let _ = calls.push(call);
+    Some(calls)
 }

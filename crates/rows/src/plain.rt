@@ -1,7 +1,7 @@
 //! A plain list of pairs under a limit, which carries out calls as the documents of the map describe them.
 use crate::table::Table;
 use schnellru::Updated;
-use std::alloc::{AllocError, Global};
+use std::alloc::Global;
 
 /// What limits the list.
 #[derive(Clone, Copy)]
@@ -16,13 +16,15 @@ pub enum Limit {
     Unlimited,
 }
 
-/// Pairs, oldest first.
+/// Pairs, oldest first. If memory runs out they are not what the calls make of them, and no trial agrees.
 #[derive(Drop)]
 pub struct Plain {
     /// What limits them.
     pub limit: Limit,
     /// The pairs.
     pub pairs: Vec<(u64, u64)>,
+    /// The pairs that left since this was emptied.
+    pub left: Vec<(u64, u64)>,
     /// The sum of the values.
     pub cost: u64,
     /// What a map of these pairs returns about its table, under a limit by memory.
@@ -35,6 +37,7 @@ impl Plain {
         Plain {
             limit,
             pairs: Vec::new(alloc),
+            left: Vec::new(alloc),
             cost: 0,
             table: Table::default(),
         }
@@ -45,41 +48,45 @@ impl Plain {
         self.pairs.len() as u64
     }
 
-    fn position(&self, key: u64) -> Option<usize> {
-        self.pairs.iter().position(|pair| pair.0 == key)
+    /// The place of the key, or the number of pairs if it is not there.
+    fn place_of(&self, key: u64) -> usize {
+        for (place, pair) in self.pairs.iter().enumerate() {
+            if pair.0 == key {
+                return place;
+            }
+        }
+        self.pairs.len()
     }
 
     /// The value of the key.
     pub fn value(&self, key: u64) -> Option<u64> {
-        let at = self.position(key)?;
-        self.pairs.get(at).map(|pair| pair.1)
+        for pair in &self.pairs {
+            if pair.0 == key {
+                return Some(pair.1);
+            }
+        }
+        None
     }
 
-    /// Takes the pair at a place out.
-    pub fn take(&mut self, at: usize) -> Option<(u64, u64)> {
-        if at >= self.pairs.len() {
+    /// Takes the pair at a place out, if there is one.
+    pub fn take(&mut self, place: usize) -> Option<(u64, u64)> {
+        if place >= self.pairs.len() {
             return None;
         }
-        let pair = self.pairs.remove(at);
+        let pair = self.pairs.remove(place);
         self.cost = self.cost.saturating_sub(pair.1);
         Some(pair)
     }
 
     /// Takes the pair of the key out.
-    pub fn remove_entry(&mut self, key: u64) -> Option<(u64, u64)> {
-        let at = self.position(key)?;
-        self.take(at)
-    }
-
-    /// The same, and returns the value alone.
-    pub fn remove(&mut self, key: u64) -> Option<u64> {
-        self.remove_entry(key).map(|pair| pair.1)
+    pub fn remove(&mut self, key: u64) -> Option<(u64, u64)> {
+        self.take(self.place_of(key))
     }
 
     /// Takes the newest pair out.
     pub fn pop_newest(&mut self) -> Option<(u64, u64)> {
         let len = self.pairs.len();
-        self.take(len.checked_sub(1)?)
+        self.take(len.wrapping_sub(1))
     }
 
     /// Takes all pairs out.
@@ -89,67 +96,64 @@ impl Plain {
     }
 
     /// Makes the pair of the key the newest, and returns its value.
-    pub fn get(&mut self, key: u64) -> Result<Option<u64>, AllocError> {
-        let value = self.remove(key);
-        if let Some(value) = value {
-            self.push((key, value))?;
-        }
-        Ok(value)
+    pub fn get(&mut self, key: u64) -> Option<u64> {
+        let pair = self.remove(key)?;
+        self.push(pair);
+        Some(pair.1)
     }
 
     /// Makes the pair of the key the oldest, and returns whether the key is there.
-    pub fn demote(&mut self, key: u64) -> Result<bool, AllocError> {
-        let pair = self.remove_entry(key);
-        if let Some(pair) = pair {
-            self.put(0, pair)?;
+    pub fn demote(&mut self, key: u64) -> bool {
+        match self.remove(key) {
+            Some(pair) => {
+                self.put(0, pair);
+                true
+            }
+            None => false,
         }
-        Ok(pair.is_some())
     }
 
     /// Gives a key that is there another value in its place, and evicts what is over the limit then.
-    pub fn update(
-        &mut self,
-        key: u64,
-        value: u64,
-        left: &mut Vec<(u64, u64)>,
-    ) -> Result<Updated<u64>, AllocError> {
-        let Some(at) = self.position(key) else {
-            return Ok(Updated::Absent(value));
+    pub fn update(&mut self, key: u64, value: u64) -> Updated<u64> {
+        let place = self.place_of(key);
+        let Some(old) = self.take(place) else {
+            return Updated::Absent(value);
         };
-        let Some(old) = self.take(at) else {
-            return Ok(Updated::Absent(value));
-        };
-        if !self.is_replaced(old, value, left)? {
-            return Ok(Updated::Rejected(value));
+        if !self.is_replaced(old, value) {
+            return Updated::Rejected(value);
         }
-        self.put(at, (key, value))?;
-        self.trim(left)?;
-        Ok(Updated::Replaced(old.1))
-    }
-
-    fn put(&mut self, at: usize, pair: (u64, u64)) -> Result<(), AllocError> {
-        self.cost = self.cost.saturating_add(pair.1);
-        self.pairs.insert(at.min(self.pairs.len()), pair)?;
-        Ok(())
+        self.put(place, (key, value));
+        self.trim();
+        Updated::Replaced(old.1)
     }
 
     /// Writes the value of a key that is there, and returns whether it is.
     pub fn write(&mut self, key: u64, value: u64) -> bool {
-        let mut found = false;
-        for pair in self.pairs.iter_mut() {
-            if pair.0 == key {
-                self.cost = self.cost.saturating_sub(pair.1).saturating_add(value);
-                pair.1 = value;
-                found = true;
+        let place = self.place_of(key);
+        match self.take(place) {
+            Some(_) => {
+                self.put(place, (key, value));
+                true
             }
+            None => false,
         }
-        found
     }
 
-    fn push(&mut self, pair: (u64, u64)) -> Result<(), AllocError> {
+    /// Puts a pair at a place.
+    fn put(&mut self, place: usize, pair: (u64, u64)) {
         self.cost = self.cost.saturating_add(pair.1);
-        self.pairs.push(pair)?;
-        Ok(())
+        let _ = self.pairs.insert(place.min(self.pairs.len()), pair);
+    }
+
+    /// Makes a pair the newest.
+    fn push(&mut self, pair: (u64, u64)) {
+        let len = self.pairs.len();
+        self.put(len, pair);
+    }
+
+    /// Adds a pair to those that left.
+    fn leave(&mut self, pair: (u64, u64)) {
+        let _ = self.left.push(pair);
     }
 
     fn is_over(&self, len: u64, cost: u64) -> bool {
@@ -169,83 +173,63 @@ impl Plain {
         }
     }
 
-    /// Evicts the oldest pair, which is added to those that left.
-    fn evict(&mut self, left: &mut Vec<(u64, u64)>) -> Result<(), AllocError> {
+    /// Evicts the oldest pair.
+    pub fn evict(&mut self) {
         if let Some(pair) = self.take(0) {
-            left.push(pair)?;
+            self.leave(pair);
         }
-        Ok(())
     }
 
-    /// Inserts, adds the pairs that leave, and returns whether the key is there then.
-    pub fn insert(
-        &mut self,
-        key: u64,
-        value: u64,
-        left: &mut Vec<(u64, u64)>,
-    ) -> Result<bool, AllocError> {
+    /// Inserts, and returns whether the key is there then.
+    pub fn insert(&mut self, key: u64, value: u64) -> bool {
         let is_stored = match self.remove(key) {
-            Some(old) => self.is_replaced((key, old), value, left)?,
-            None => self.is_placed((key, value), left)?,
+            Some(old) => self.is_replaced(old, value),
+            None => self.is_placed((key, value)),
         };
-        if !is_stored {
-            return Ok(false);
+        if is_stored {
+            self.push((key, value));
+            self.trim();
         }
-        self.push((key, value))?;
-        self.trim(left)?;
-        Ok(!self.pairs.is_empty())
+        is_stored && !self.pairs.is_empty()
     }
 
-    fn trim(&mut self, left: &mut Vec<(u64, u64)>) -> Result<(), AllocError> {
+    fn trim(&mut self) {
         for _ in 0..self.pairs.len() {
             if self.is_over(self.len(), self.cost) {
-                self.evict(left)?;
+                self.evict();
             }
         }
-        Ok(())
     }
 
     /// Whether the value takes the place of the old one. If not, the old pair leaves.
-    fn is_replaced(
-        &mut self,
-        old: (u64, u64),
-        value: u64,
-        left: &mut Vec<(u64, u64)>,
-    ) -> Result<bool, AllocError> {
+    fn is_replaced(&mut self, old: (u64, u64), value: u64) -> bool {
         if matches!(self.limit, Limit::Length(_)) || self.accepts(value) {
-            return Ok(true);
+            return true;
         }
-        left.push(old)?;
-        Ok(false)
+        self.leave(old);
+        false
     }
 
     /// Whether there is a bucket for the new pair, after the oldest made room for it.
-    fn is_placed(
-        &mut self,
-        new: (u64, u64),
-        left: &mut Vec<(u64, u64)>,
-    ) -> Result<bool, AllocError> {
+    fn is_placed(&mut self, new: (u64, u64)) -> bool {
         if !self.accepts(new.1) {
-            return Ok(false);
+            return false;
         }
-        if self.is_over(
-            self.len().saturating_add(1),
-            self.cost.saturating_add(new.1),
-        ) {
-            self.evict(left)?;
+        let (len, cost) = (self.len(), self.cost);
+        if self.is_over(len.saturating_add(1), cost.saturating_add(new.1)) {
+            self.evict();
         }
         let Limit::Memory(most, entry_bytes) = self.limit else {
-            return Ok(true);
+            return true;
         };
-        let len = self.len();
         if len >= self.table.capacity() && !self.table.grow(len, most, entry_bytes) {
-            self.evict(left)?;
+            self.evict();
         }
         if self.len() >= self.table.capacity() {
-            left.push(new)?;
-            return Ok(false);
+            self.leave(new);
+            return false;
         }
         self.table.placed = self.table.placed.saturating_add(1);
-        Ok(true)
+        true
     }
 }

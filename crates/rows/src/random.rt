@@ -21,32 +21,34 @@ pub struct Bounds {
 pub fn random_call<L>(random: &mut Random, bounds: Bounds) -> Call<u64, u64, L> {
     let (key, value) = (random.below(bounds.keys), random.below(bounds.values));
     match random.below(4096) {
-        0..=1 => Call::Clear,
-        2..=3 => Call::Drain {
-            front: random.below(bounds.keys) as usize,
-            back: if bounds.only_lines {
-                0
-            } else {
-                random.below(bounds.keys) as usize
-            },
-        },
-        4..=15 => Call::List,
-        16..=31 => Call::Stats,
-        32..=63 => Call::Shrink,
-        64..=191 => Call::Reserve(random.below(100) as usize),
-        192..=319 => Call::PopOldest,
-        320..=447 => Call::PopNewest,
-        448..=703 => Call::Remove(key),
-        704..=1119 => Call::Peek(key),
-        1120..=1151 => Call::Contains(key),
-        1152..=1183 => Call::Promote(key),
-        1184..=1215 => Call::Demote(key),
-        1216..=1247 => Call::RemoveEntry(key),
-        1248..=1279 => Call::Update(key, value),
-        1280..=1727 => Call::Get(key),
-        1728..=2047 if !bounds.only_lines => other_call(random, key, value),
-        2048..=3071 => Call::InsertWith(key, value),
+        ..=1 => Call::Clear,
+        ..=3 => random_drain(random, bounds),
+        ..=15 => Call::List,
+        ..=31 => Call::Stats,
+        ..=63 => Call::Shrink,
+        ..=191 => Call::Reserve(random.below(100) as usize),
+        ..=319 => Call::PopOldest,
+        ..=447 => Call::PopNewest,
+        ..=703 => Call::Remove(key),
+        ..=1119 => Call::Peek(key),
+        ..=1151 => Call::Contains(key),
+        ..=1183 => Call::Promote(key),
+        ..=1215 => Call::Demote(key),
+        ..=1247 => Call::RemoveEntry(key),
+        ..=1279 => Call::Update(key, value),
+        ..=1727 => Call::Get(key),
+        ..=2047 if !bounds.only_lines => other_call(random, key, value),
+        ..=3071 => Call::InsertWith(key, value),
         _ => Call::Insert(key, value),
+    }
+}
+
+/// A random drain. The line of a drain takes no pairs from the oldest end.
+fn random_drain<L>(random: &mut Random, bounds: Bounds) -> Call<u64, u64, L> {
+    let (front, back) = (random.below(bounds.keys), random.below(bounds.keys));
+    Call::Drain {
+        front: front as usize,
+        back: if bounds.only_lines { 0 } else { back as usize },
     }
 }
 

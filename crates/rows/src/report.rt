@@ -3,37 +3,40 @@ use crate::row::Row;
 use std::io;
 
 /// Prints the first answer that is not the expected one, and returns whether there is none.
-pub fn agrees(rt: &impl Print, file: &str, row: &Row, got: &[u8]) -> io::Result<bool> {
+pub fn agrees(rt: &HostRuntime, file: &str, row: &Row, got: &[u8]) -> io::Result<bool> {
     let expected = row.text.as_slice();
     if got == expected {
         return Ok(true);
     }
-    let number = first_difference(got, expected);
+    let line = same_lines(got, expected);
     println!(rt;
         "{file}: row {}: answer {} is \"{}\" in place of \"{}\"",
         row.name.as_str(),
-        number.saturating_add(1),
-        line_at(got, number),
-        line_at(expected, number)
+        line.saturating_add(1),
+        line_at(got, line),
+        line_at(expected, line)
     )?;
     Ok(false)
 }
 
 /// The number of lines at the front that are the same.
-pub fn first_difference(one: &[u8], other: &[u8]) -> usize {
-    let lines = one.split(|b| *b == b'\n').zip(other.split(|b| *b == b'\n'));
-    let mut number = 0usize;
-    for (a, b) in lines {
+fn same_lines(one: &[u8], other: &[u8]) -> usize {
+    let mut lines = 0usize;
+    for (a, b) in one.iter().zip(other) {
         if a != b {
-            return number;
+            return lines;
         }
-        number = number.saturating_add(1);
+        if *a == b'\n' {
+            lines = lines.saturating_add(1);
+        }
     }
-    number
+    lines
 }
 
-/// The line of this number, counted from 0, if it is there and a text.
-pub fn line_at(text: &[u8], number: usize) -> &str {
-    let line = text.split(|b| *b == b'\n').nth(number);
-    str::from_utf8(line.unwrap_or(b"")).unwrap_or("bytes that are no text")
+/// The line of this number, counted from 0, if it is there and all is a text.
+fn line_at(text: &[u8], number: usize) -> &str {
+    match str::from_utf8(text) {
+        Ok(text) => text.lines().nth(number).unwrap_or(""),
+        Err(_) => "bytes that are no text",
+    }
 }

@@ -1,7 +1,7 @@
 //! Rows of a data file. `docs/ROWS.md` has their form.
 use crate::escapes::unescape;
-use std::alloc::Global;
-use std::io::{self, Error, ErrorKind};
+use std::alloc::{AllocError, Global};
+use std::io::{Error, ErrorKind};
 
 /// An input, and the answers and the exit status that it must give.
 #[derive(Drop)]
@@ -18,7 +18,7 @@ pub struct Row {
 
 impl Row {
     /// An empty row of this name.
-    pub fn new(alloc: Global, name: &str) -> io::Result<Row> {
+    pub fn new(alloc: Global, name: &str) -> Result<Row, AllocError> {
         Ok(Row {
             name: String::from_str(alloc, name)?,
             input: Vec::new(alloc),
@@ -27,55 +27,73 @@ impl Row {
         })
     }
 
-    /// Adds what a line of the file says.
-    pub fn add(&mut self, alloc: Global, line: &str) -> io::Result<()> {
-        if let Some(status) = line.strip_prefix("status ") {
-            self.status = status.parse().map_err(|_| malformed())?;
-            return Ok(());
+    /// Adds what a line of the file says. Returns `false` if the line is malformed or memory runs out.
+    pub fn add(&mut self, alloc: Global, line: &str) -> bool {
+        if let Some(rest) = line.strip_prefix("each ") {
+            return self.add_each(alloc, rest);
         }
-        match line.strip_prefix("each ") {
-            Some(rest) => self.add_each(alloc, rest),
-            None => self.add_line(line),
+        let Some(status) = line.strip_prefix("status ") else {
+            return self.add_line(line);
+        };
+        match status.parse() {
+            Ok(status) => {
+                self.status = status;
+                true
+            }
+            Err(_) => false,
         }
     }
 
     /// Adds the line once for each number from the first to the last, up or down, with the number in place of `#`.
-    fn add_each(&mut self, alloc: Global, rest: &str) -> io::Result<()> {
-        let (first, rest) = rest.split_once(' ').ok_or(malformed())?;
-        let (last, line) = rest.split_once(' ').ok_or(malformed())?;
-        let first = first.parse::<u64>().map_err(|_| malformed())?;
-        let last = last.parse::<u64>().map_err(|_| malformed())?;
+    fn add_each(&mut self, alloc: Global, rest: &str) -> bool {
+        let (first, rest) = rest.split_once(' ').unwrap_or(("", ""));
+        let (last, line) = rest.split_once(' ').unwrap_or(("", ""));
+        let (Ok(first), Ok(last)) = (first.parse::<u64>(), last.parse::<u64>()) else {
+            return false;
+        };
+        let mut is_added = true;
         for step in 0..=first.abs_diff(last) {
             let number = if first <= last {
                 first.wrapping_add(step)
             } else {
                 first.wrapping_sub(step)
             };
-            let number = format!(in alloc; "{number}")?;
-            let numbered = line.replace(alloc, "#", number.as_str())?;
-            self.add_line(numbered.as_str())?;
+            is_added = is_added && self.add_numbered(alloc, line, number);
         }
-        Ok(())
+        is_added
+    }
+
+    /// Adds the line with the number in place of each `#`.
+    fn add_numbered(&mut self, alloc: Global, line: &str, number: u64) -> bool {
+        match format!(in alloc; "{number}") {
+            Ok(number) => match line.replace(alloc, "#", number.as_str()) {
+                Ok(line) => self.add_line(line.as_str()),
+                Err(_) => false,
+            },
+            Err(_) => false,
+        }
     }
 
     /// Adds an input line and, after ` -> `, its answer.
-    fn add_line(&mut self, line: &str) -> io::Result<()> {
-        let (input, answer) = match line.split_once("-> ") {
-            Some((input, answer)) => (input.trim_end_matches(' '), Some(answer)),
-            None => (line, None),
+    fn add_line(&mut self, line: &str) -> bool {
+        let Some((input, answer)) = line.split_once("-> ") else {
+            return self.add_input(line);
         };
-        if unescape(&mut self.input, input)? {
-            self.input.push(b'\n')?;
+        self.add_input(input.trim_end_matches(' '))
+            && unescape(&mut self.text, answer)
+            && self.text.push(b'\n').is_ok()
+    }
+
+    /// Adds an input line. With `\c` at its end it has no line feed.
+    fn add_input(&mut self, line: &str) -> bool {
+        match line.strip_suffix("\\c") {
+            Some(line) => unescape(&mut self.input, line),
+            None => unescape(&mut self.input, line) && self.input.push(b'\n').is_ok(),
         }
-        if let Some(answer) = answer {
-            unescape(&mut self.text, answer)?;
-            self.text.push(b'\n')?;
-        }
-        Ok(())
     }
 }
 
-/// The error of a data file that does not have the form of rows.
+/// The error of a data file that does not have the form of rows, or for which memory does not suffice.
 pub fn malformed() -> Error {
     Error::from(ErrorKind::InvalidData)
 }

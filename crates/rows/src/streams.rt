@@ -90,6 +90,11 @@ impl Narrow {
         }
     }
 
+    /// Whether this was written, and it was flushed this often.
+    pub fn has(&self, text: &[u8], flushes: usize) -> bool {
+        self.bytes.as_slice() == text && self.flushes == flushes
+    }
+
     /// The same writer, which fails `times` times, from a write on.
     pub fn failing(self, fails_at: usize, times: usize, failure: Failure) -> Narrow {
         Narrow {

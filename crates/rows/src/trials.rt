@@ -1,12 +1,12 @@
 //! Random calls, as lines of the program and as lists of calls, compared with a plain list of pairs.
-use crate::calls::write_answers;
+use crate::answers::{answer_calls, answer_summing_calls};
 use crate::expected::agrees;
 use crate::plain::{Limit, Plain};
 use crate::random::{Bounds, random_call};
-use lru_replay::{Answer, Call, ReplayEnd, replay, run_calls, run_summing};
+use crate::text::Text;
+use lru_replay::{Call, ReplayEnd, replay};
 use schnellru::{ByCost, ByLength, ByMemoryUsage, Insertion, LruMap, UnlimitedCompact};
-use std::alloc::{AllocError, Global};
-use std::fmt::Write;
+use std::alloc::Global;
 use std::io;
 use test_helpers::{Random, Sum};
 
@@ -49,7 +49,7 @@ const UNLIMITED: Trial = Trial {
 };
 
 /// Tries random lines and random calls under each limit, and prints whether they agree with a plain list.
-pub fn run(rt: &(impl Print + AllocGlobal)) -> io::Result<()> {
+pub fn run(rt: &HostRuntime) -> io::Result<()> {
     try_lines(rt, "length 150", BY_LENGTH)?;
     try_lines(rt, "memory 288 16", BY_MEMORY)?;
     try_lines(rt, "cost 4000", BY_COST)?;
@@ -60,70 +60,66 @@ pub fn run(rt: &(impl Print + AllocGlobal)) -> io::Result<()> {
     try_summing_calls(rt)
 }
 
-/// The word and the numbers of the line of a call.
-fn line_of<L>(call: &Call<u64, u64, L>) -> (&'static str, Option<u64>, Option<u64>) {
+/// Adds the line of a call that has one.
+fn write_line<L>(out: &mut Text, call: &Call<u64, u64, L>) {
     match call {
-        Call::Insert(key, value) => ("insert", Some(*key), Some(*value)),
-        Call::InsertWith(key, value) => ("put", Some(*key), Some(*value)),
-        Call::Update(key, value) => ("update", Some(*key), Some(*value)),
-        Call::Get(key) => ("get", Some(*key), None),
-        Call::Peek(key) => ("peek", Some(*key), None),
-        Call::Remove(key) => ("remove", Some(*key), None),
-        Call::RemoveEntry(key) => ("remove-entry", Some(*key), None),
-        Call::Contains(key) => ("contains", Some(*key), None),
-        Call::Promote(key) => ("promote", Some(*key), None),
-        Call::Demote(key) => ("demote", Some(*key), None),
-        Call::Reserve(n) => ("reserve", Some(*n as u64), None),
-        Call::Drain { front, .. } => ("drain", Some(*front as u64), None),
-        Call::PopOldest => ("pop-oldest", None, None),
-        Call::PopNewest => ("pop-newest", None, None),
-        Call::Shrink => ("shrink", None, None),
-        Call::Clear => ("clear", None, None),
-        Call::List => ("list", None, None),
-        _ => ("stats", None, None),
+        Call::Insert(key, value) => write_two(out, "insert ", *key, *value),
+        Call::InsertWith(key, value) => write_two(out, "put ", *key, *value),
+        Call::Update(key, value) => write_two(out, "update ", *key, *value),
+        Call::Get(key) => out.figure("get ", *key),
+        Call::Peek(key) => out.figure("peek ", *key),
+        Call::Remove(key) => out.figure("remove ", *key),
+        Call::RemoveEntry(key) => out.figure("remove-entry ", *key),
+        Call::Contains(key) => out.figure("contains ", *key),
+        Call::Promote(key) => out.figure("promote ", *key),
+        Call::Demote(key) => out.figure("demote ", *key),
+        Call::Reserve(n) => out.figure("reserve ", *n as u64),
+        Call::Drain { front, .. } => out.figure("drain ", *front as u64),
+        Call::PopOldest => out.word("pop-oldest"),
+        Call::PopNewest => out.word("pop-newest"),
+        Call::Shrink => out.word("shrink"),
+        Call::Clear => out.word("clear"),
+        Call::List => out.word("list"),
+        _ => out.word("stats"),
     }
+    out.word("\n");
 }
 
-/// Adds the line of a call that has one.
-fn write_line<L>(out: &mut String, call: &Call<u64, u64, L>) -> Result<(), AllocError> {
-    let (word, first, second) = line_of(call);
-    out.push_str(word)?;
-    for number in first.into_iter().chain(second) {
-        write!(out, " {number}")?;
-    }
-    out.push('\n')
+/// Adds the line of a call of two numbers.
+fn write_two(out: &mut Text, word: &str, first: u64, second: u64) {
+    out.figure(word, first);
+    out.figure(" ", second);
 }
 
 /// Replays random lines under the limit that the first line names.
-fn try_lines(rt: &(impl Print + AllocGlobal), first: &str, trial: Trial) -> io::Result<()> {
+fn try_lines(rt: &HostRuntime, first: &str, trial: Trial) -> io::Result<()> {
     let alloc = rt.alloc();
-    let (input, expected) = random_lines(alloc, first, trial)?;
-    let mut reader = input.as_bytes();
+    let (mut input, mut expected) = (Text::new(alloc), Text::new(alloc));
+    write_lines(&mut input, &mut expected, alloc, first, trial);
+    let mut reader = input.as_str().as_bytes();
     let mut writer = Vec::new(alloc);
-    let end = replay(alloc, &mut reader, &mut writer);
-    let text = str::from_utf8(writer.as_slice()).unwrap_or("");
-    if end != Ok(ReplayEnd::Done) || text.lines().count() != LINES {
-        return println!(rt; "{first}: the lines are not all answered");
+    if replay(alloc, &mut reader, &mut writer) != Ok(ReplayEnd::Done) {
+        expected.word("the replay is done\n");
     }
+    let text = str::from_utf8(writer.as_slice()).unwrap_or("");
     compare(rt, first, expected.as_str(), text)
 }
 
-/// The lines, and their expected answers.
-fn random_lines(alloc: Global, first: &str, trial: Trial) -> Result<(String, String), AllocError> {
+/// Adds random lines to the input, and their expected answers.
+fn write_lines(input: &mut Text, expected: &mut Text, alloc: Global, first: &str, trial: Trial) {
     let mut random = Random::new(1);
     let mut plain = Plain::new(alloc, trial.limit);
-    let mut input = format!(in alloc; "{first}\n")?;
-    let mut expected = String::new(alloc);
+    input.word(first);
+    input.word("\n");
     for _ in 0..LINES {
         let call: Call<u64, u64, ()> = random_call(&mut random, trial.bounds(true));
-        write_line(&mut input, &call)?;
-        plain.answer(alloc, &call, &mut expected)?;
+        write_line(input, &call);
+        plain.answer(&call, expected);
         if let (Call::Stats, Limit::Cost(_)) = (&call, trial.limit) {
-            write!(expected, " cost {}", plain.cost)?;
+            expected.figure(" cost ", plain.cost);
         }
-        expected.push('\n')?;
+        expected.word("\n");
     }
-    Ok((input, expected))
 }
 
 impl Trial {
@@ -138,58 +134,53 @@ impl Trial {
 
 /// Carries out random calls on a map with this limiter, as one list.
 fn try_calls<L: Insertion<u64, u64, u64> + Drop>(
-    rt: &(impl Print + AllocGlobal),
+    rt: &HostRuntime,
     name: &str,
     limiter: L,
     trial: Trial,
 ) -> io::Result<()> {
     let alloc = rt.alloc();
-    let (calls, expected) = random_calls(alloc, trial)?;
+    let (mut expected, mut text) = (Text::new(alloc), Text::new(alloc));
+    let calls = random_calls(&mut expected, alloc, trial);
     let mut map = LruMap::with_hasher(alloc, limiter, Sum(0), 16);
-    let answers = run_calls(alloc, &mut map, calls)?;
-    compare_answers(rt, name, expected.as_str(), answers.as_slice())
+    answer_calls(&mut text, alloc, &mut map, calls);
+    compare(rt, name, expected.as_str(), text.as_str())
 }
 
 /// The same under a limit by cost, whose sum no call may change.
-fn try_summing_calls(rt: &(impl Print + AllocGlobal)) -> io::Result<()> {
+fn try_summing_calls(rt: &HostRuntime) -> io::Result<()> {
     let alloc = rt.alloc();
-    let (calls, expected) = random_calls(alloc, BY_COST)?;
+    let (mut expected, mut text) = (Text::new(alloc), Text::new(alloc));
+    let calls = random_calls(&mut expected, alloc, BY_COST);
     let mut map = LruMap::with_hasher(alloc, ByCost::new(4000), Sum(0), 16);
-    let answers = run_summing(alloc, &mut map, calls)?;
-    compare_answers(rt, "ByCost", expected.as_str(), answers.as_slice())
+    answer_summing_calls(&mut text, alloc, &mut map, calls);
+    compare(rt, "ByCost", expected.as_str(), text.as_str())
 }
 
-/// Random calls, and their expected answers.
+/// Random calls. Adds their expected answers.
 fn random_calls<L: Drop>(
+    expected: &mut Text,
     alloc: Global,
     trial: Trial,
-) -> Result<(Vec<Call<u64, u64, L>>, String), AllocError> {
+) -> Vec<Call<u64, u64, L>> {
     let mut random = Random::new(2);
     let mut plain = Plain::new(alloc, trial.limit);
     let mut calls = Vec::new(alloc);
-    let mut expected = String::new(alloc);
     for _ in 0..CALLS {
         let call = random_call(&mut random, trial.bounds(false));
-        plain.answer(alloc, &call, &mut expected)?;
-        expected.push('\n')?;
-        calls.push(call)?;
+        plain.answer(&call, expected);
+        expected.word("\n");
+        // Out of memory, an answer is missing.
+        let _ = calls.push(call);
     }
-    Ok((calls, expected))
-}
-
-fn compare_answers(
-    rt: &(impl Print + AllocGlobal),
-    name: &str,
-    expected: &str,
-    answers: &[Answer<u64, u64>],
-) -> io::Result<()> {
-    let mut text = String::new(rt.alloc());
-    write_answers(&mut text, answers)?;
-    compare(rt, name, expected, text.as_str())
+    calls
 }
 
 /// Prints the first answer that is not the expected one, or how many agree.
-fn compare(rt: &impl Print, name: &str, expected: &str, text: &str) -> io::Result<()> {
+fn compare(rt: &HostRuntime, name: &str, expected: &str, text: &str) -> io::Result<()> {
+    if expected.lines().count() != text.lines().count() {
+        return println!(rt; "{name}: the calls are not all answered");
+    }
     let mut number = 0u64;
     for (expected, answer) in expected.lines().zip(text.lines()) {
         number = number.saturating_add(1);
