@@ -42,51 +42,48 @@ fn number_of(value: Option<u64>) -> u64 {
 
 /// Makes the call on the cache. Returns what it says, as a number.
 fn of_cache(cache: &mut Cache, call: Call) -> Result<u64, TenantError> {
-    let Call {
-        kind,
-        name,
-        key,
-        number,
-    } = call;
-    match kind {
-        0..=1 => cache.open(name, number).map(|_| 0),
-        2 => cache.close(&name).map(|entries| entries as u64),
-        3 => cache.cost(&name),
-        4 => cache.remove(&name, &key).map(number_of),
-        5 => {
-            let mut evicted = 0u64;
-            cache.set_budget_with(
-                &name,
-                number,
-                &mut |_, _| evicted = evicted.saturating_add(1),
-            )?;
-            Ok(evicted)
+    let (name, key, number) = (call.name, call.key, call.number);
+    match call.kind {
+        ..=1 => {
+            cache.open(name, number)?;
+            Ok(0)
         }
-        6 => if number == 0 {
-            cache.clear(&name).map(|_| 0)
-        } else {
-            cache.entries(&name).map(|entries| entries as u64)
-        },
+        2 => Ok(cache.close(&name)? as u64),
+        3 => cache.cost(&name),
+        4 => Ok(number_of(cache.remove(&name, &key)?)),
+        5 => set_budget(cache, name, number),
+        6 if number == 0 => {
+            cache.clear(&name)?;
+            Ok(0)
+        }
+        6 => Ok(cache.entries(&name)? as u64),
         7..=9 => Ok(number_of(cache.get(&name, &key)?.copied())),
-        _ => cache.put(&name, key, number).map(|there| there as u64),
+        _ => Ok(cache.put(&name, key, number)? as u64),
     }
 }
 
+/// Sets the budget of a tenant. Returns how many entries were evicted.
+fn set_budget(cache: &mut Cache, name: u64, budget: u64) -> Result<u64, TenantError> {
+    let mut evicted = 0u64;
+    cache.set_budget_with(
+        &name,
+        budget,
+        &mut |_, _| evicted = evicted.saturating_add(1),
+    )?;
+    Ok(evicted)
+}
+
 /// Makes the call on a plain list of its own, if the tenant is open.
-fn of_plain(
-    alloc: Global,
-    place: &mut Option<Plain>,
-    call: Call,
-) -> io::Result<Result<u64, TenantError>> {
+fn of_plain(alloc: Global, place: &mut Option<Plain>, call: Call) -> Result<u64, TenantError> {
     let Some(plain) = place else {
         if call.kind > 1 {
-            return Ok(Err(TenantError::NotOpen));
+            return Err(TenantError::NotOpen);
         }
         *place = Some(Plain::new(alloc, call.number));
-        return Ok(Ok(0));
+        return Ok(0);
     };
-    Ok(match call.kind {
-        0..=1 => Err(TenantError::AlreadyOpen),
+    match call.kind {
+        ..=1 => Err(TenantError::AlreadyOpen),
         2 => {
             let entries = plain.len();
             *place = None;
@@ -95,15 +92,14 @@ fn of_plain(
         3 => Ok(plain.cost()),
         4 => Ok(number_of(plain.take(call.key))),
         5 => Ok(plain.set_budget(call.number)),
-        6 => if call.number == 0 {
+        6 if call.number == 0 => {
             plain.clear();
             Ok(0)
-        } else {
-            Ok(plain.len())
-        },
-        7..=9 => Ok(number_of(plain.get(call.key)?)),
-        _ => Ok(plain.put(call.key, call.number)? as u64),
-    })
+        }
+        6 => Ok(plain.len()),
+        7..=9 => Ok(number_of(plain.get(call.key))),
+        _ => Ok(plain.put(call.key, call.number) as u64),
+    }
 }
 
 /// Makes random calls on the cache and on the lists. Returns how many answers differ.
@@ -117,7 +113,7 @@ fn differing(alloc: Global, cache: &mut Cache, calls: u64) -> io::Result<u64> {
     for _ in 0..calls {
         let call = random_call(&mut random);
         if let Some(place) = places.get_mut(call.name as usize) {
-            let same = of_cache(cache, call) == of_plain(alloc, place, call)?;
+            let same = of_cache(cache, call) == of_plain(alloc, place, call);
             differ = differ.saturating_add(!same as u64);
         }
     }
@@ -138,23 +134,24 @@ fn opened(cache: &mut Cache, tenants: u64) -> Result<u64, TenantError> {
     Ok(right)
 }
 
-fn main(rt: HostRuntime) -> io::Result<()> {
-    let alloc = rt.alloc();
-    let mut cache: Cache = TenantCache::with_hasher(
-        alloc,
-        RandomState::with_seeds([1, 2, 3, 4]),
-        48,
-    );
-    let differ = differing(alloc, &mut cache, 100_000)?;
+/// Makes a cache without tenants.
+fn empty_cache(alloc: Global) -> Cache {
+    TenantCache::with_hasher(alloc, RandomState::with_seeds([1, 2, 3, 4]), 48)
+}
+
+/// Prints how many random calls have another answer than on plain lists.
+fn try_calls(rt: &HostRuntime) -> io::Result<()> {
+    let mut cache = empty_cache(rt.alloc());
+    let differ = differing(rt.alloc(), &mut cache, 100_000)?;
     println!(rt;
         "{} tenants open, {differ} of 100000 answers differ",
         cache.len()
-    )?;
-    let mut cache: Cache = TenantCache::with_hasher(
-        alloc,
-        RandomState::with_seeds([1, 2, 3, 4]),
-        48,
-    );
+    )
+}
+
+fn main(rt: HostRuntime) -> io::Result<()> {
+    try_calls(&rt)?;
+    let mut cache = empty_cache(rt.alloc());
     match opened(&mut cache, 100_000) {
         Ok(right) => println!(rt; "{right} of 100000 tenants have their entry"),
         Err(error) => println!(rt; "{error}"),

@@ -1,10 +1,10 @@
 //! A tenant as a plain list.
-use std::alloc::{AllocError, Global};
+use std::alloc::Global;
 
 /// What an entry costs beside its key and its value.
 pub const OVERHEAD: u64 = 2;
 
-/// The entries of a tenant, oldest first, and its budget.
+/// The entries of a tenant, oldest first, and its budget. Out of memory, an entry is missing, and answers differ.
 #[derive(Drop)]
 pub struct Plain {
     budget: u64,
@@ -47,33 +47,43 @@ impl Plain {
         evicted
     }
 
+    /// The place of a key, or the number of entries if it is not there.
+    fn place_of(&self, key: u64) -> usize {
+        for (place, entry) in self.entries.iter().enumerate() {
+            if entry.0 == key {
+                return place;
+            }
+        }
+        self.entries.len()
+    }
+
     /// Removes a key. Returns its value.
     pub fn take(&mut self, key: u64) -> Option<u64> {
-        let at = self.entries.iter().position(|entry| entry.0 == key)?;
-        if at >= self.entries.len() {
+        let place = self.place_of(key);
+        if place >= self.entries.len() {
             return None;
         }
-        Some(self.entries.remove(at).1)
+        Some(self.entries.remove(place).1)
     }
 
     /// Returns the value of a key, which becomes the newest.
-    pub fn get(&mut self, key: u64) -> Result<Option<u64>, AllocError> {
+    pub fn get(&mut self, key: u64) -> Option<u64> {
         let found = self.take(key);
         if let Some(value) = found {
-            self.entries.push((key, value))?;
+            let _ = self.entries.push((key, value));
         }
-        Ok(found)
+        found
     }
 
     /// Inserts a key as the newest. Returns whether it is there then.
-    pub fn put(&mut self, key: u64, value: u64) -> Result<bool, AllocError> {
-        let _old = self.take(key);
+    pub fn put(&mut self, key: u64, value: u64) -> bool {
+        self.take(key);
         if cost_of(key, value) > self.budget {
-            return Ok(false);
+            return false;
         }
-        self.entries.push((key, value))?;
+        let _ = self.entries.push((key, value));
         self.trim();
-        Ok(true)
+        true
     }
 
     /// Sets the budget. Returns how many entries were evicted.
