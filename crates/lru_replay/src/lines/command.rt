@@ -7,7 +7,7 @@ ghost use Rattle.lru_replay.specs.Grammar.{StartsAsNumber};
 use crate::lines::bytes::index_of;
 
 /// A call on the map that a line spells.
-#[derive(Clone, Copy, Debug, PartialEq, Eq)]
+#[derive(Clone, Copy)]
 pub enum Command {
     /// `insert K V`: makes the pair of this key and value the newest.
     Insert(u64, u64),
@@ -48,7 +48,7 @@ pub enum Command {
 }
 
 /// What limits the map.
-#[derive(Clone, Copy, Debug, PartialEq, Eq)]
+#[derive(Clone, Copy)]
 pub enum Limit {
     /// `length N`: at most N pairs.
     Length(u32),

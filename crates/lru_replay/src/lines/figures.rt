@@ -48,7 +48,7 @@ impl ReportsCost for ByCost {
 }
 
 /// The figures of a map.
-#[derive(Clone, Copy, Debug, PartialEq, Eq)]
+#[derive(Clone, Copy)]
 pub struct Figures {
     /// The number of pairs.
     pub len: usize,

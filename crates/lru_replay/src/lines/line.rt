@@ -88,7 +88,7 @@ impl Line {
 }
 
 /// What one look at the reader's buffer gave of a line.
-#[derive(Clone, Copy, Debug, PartialEq, Eq)]
+#[derive(Clone, Copy)]
 pub enum Piece {
     /// A part of the line, and more may follow.
     Part,
@@ -132,7 +132,7 @@ fn take_piece<R: BufRead>(reader: &mut R, line: &mut Line) -> Result<Piece, Repl
 }
 
 /// How a line ended.
-#[derive(Clone, Copy, Debug, PartialEq, Eq)]
+#[derive(Clone, Copy)]
 pub enum Ending {
     /// By its line feed.
     Feed,
