@@ -4,7 +4,6 @@ use map_helpers::{insert_all, map_of};
 use schnellru::{ByCost, Insertion, LruMap, UnlimitedCompact};
 use std::alloc::{AllocError, Global};
 use std::mem::size_of;
-use std::process::Abort;
 use std::test::Fail;
 use test_helpers::{Hog, check};
 
@@ -82,7 +81,7 @@ fn lists_of_calls(rt: HostRuntime) -> Result<(), Fail> {
         let answers = run_calls(alloc, &mut map, calls).ok();
         let all = hog.took_all();
         drop(hog);
-        assert!(rt; !all || facts_of(answers) == expected(met), "{met} met");
+        check!(rt; !all || facts_of(answers) == expected(met));
     }
     Ok(())
 }
@@ -103,34 +102,33 @@ fn lists_of_calls_under_a_sum(rt: HostRuntime) -> Result<(), Fail> {
             4..=5 => 360,
             _ => 0,
         };
-        let found = (facts_of(answers), map.limiter().cost());
-        assert!(rt; !all || found == (expected(met), cost), "{met} met");
+        let is_as_expected = facts_of(answers) == expected(met) && map.limiter().cost() == cost;
+        check!(rt; !all || is_as_expected);
     }
     Ok(())
 }
 
-/// Replays the lines, of which the first requests for memory are met, and compares the text.
-fn expect_lines(
-    rt: &(impl Abort + AllocGlobal),
+/// Replays the lines, of which the first requests for memory are met. Returns whether all is done, with this text.
+fn writes(
+    alloc: Global,
     input: &[u8],
     requests: &[usize],
     met: usize,
     text: &[u8],
-) -> Result<(), Fail> {
-    let alloc = rt.alloc();
+) -> Result<bool, AllocError> {
     let mut reader = input;
     let mut writer: Vec<u8> = Vec::with_capacity(alloc, 1000)?;
     let hog = hog_that_meets(alloc, requests, met)?;
     let end = replay(alloc, &mut reader, &mut writer);
     let all = hog.took_all();
     drop(hog);
-    check!(rt; end == Ok(ReplayEnd::Done));
-    assert!(rt; !all || writer.as_slice() == text, "{met} met");
-    Ok(())
+    Ok(end == Ok(ReplayEnd::Done) && (!all || writer.as_slice() == text))
 }
 
 const INPUT: &[u8] =
     b"compact\ninsert 1 10\ninsert 2 20\ninsert 3 30\ninsert 4 40\nlist\nreserve 1\nstats\n";
+
+const PUTS: &[u8] = b"compact\nput 1 10\nput 2 20\nlist\n";
 
 /// The requests of a table of 4 buckets, and of one of 8.
 const TABLES: [usize; 5] = [96, 20, 192, 24, 16];
@@ -160,11 +158,10 @@ fn text_of_puts(met: usize) -> &'static [u8] {
 #[test]
 fn lines(rt: HostRuntime) -> Result<(), Fail> {
     for met in 0..=5usize {
-        expect_lines(&rt, INPUT, &TABLES, met, text_of(met))?;
+        check!(rt; writes(rt.alloc(), INPUT, &TABLES, met, text_of(met))?);
     }
     for met in 0..=3usize {
-        let puts = b"compact\nput 1 10\nput 2 20\nlist\n";
-        expect_lines(&rt, puts.as_slice(), &[16, 96, 20], met, text_of_puts(met))?;
+        check!(rt; writes(rt.alloc(), PUTS, &[16, 96, 20], met, text_of_puts(met))?);
     }
     Ok(())
 }
