@@ -3,7 +3,9 @@
 
 Run it at the top of the repository: `python3 docs/check_examples.py`. It prints what is missing, and exits with 1 if a
 line of an example is in no test. Layout, `rt.alloc()` for `alloc`, and a trailing comma make no difference. Tests write
-`check!(rt; a == b)` for `assert_eq!(rt; a, b)`, and `check!(rt; a)` for `assert!(rt; a)`, which is proved faster.
+forms that are proved faster: `check!(rt; a == b)` for `assert_eq!(rt; a, b)`, `check!(rt; a)` for `assert!(rt; a)`,
+`all!(a, b)` for the assertions of `a` and of `b`, `is_pair(a, k, v)` for `a == Some((&k, &v))`, and `is_value(a, v)`
+for `a == Some(&v)`.
 """
 import pathlib
 import re
@@ -15,6 +17,7 @@ ITEM = re.compile(r"^\s*pub (?:const )?(?:fn|struct|enum|trait|type) (\w+)")
 
 
 STRING = re.compile(r'"(?:\\.|[^"\\])*"')
+FOUND = r"(\w+(?:\.\w+\([^()]*\))+)==Some"
 GENERICS = re.compile(r"(?:::|->\w*)<[^<>;(){}]*(?:<[^<>]*>[^<>;(){}]*)*>")
 
 
@@ -45,10 +48,22 @@ def expected(text):
     return text
 
 
+def separate(text):
+    """The text with a `check!` for each condition of an `all!`."""
+    at = 0
+    while (macro := re.compile(r"\ball!\(").search(text, at)):
+        given, end = arguments(text, macro.end())
+        checks = "".join(f"check!(rt;{it});" for it in given)
+        text, at = f"{text[:macro.start()]}{checks}{text[end:]}", macro.start() + 1
+    return text
+
+
 def plain(text):
-    """The text without white space, with one name for the allocator, and without trailing commas."""
+    """The text without white space and trailing commas, and with one spelling of each name and of each assertion."""
     text = re.sub(r"\s+", "", text).replace("rt.alloc()", "alloc")
-    return expected(re.sub(r",([)\]}])", r"\1", text))
+    text = separate(expected(re.sub(r",([)\]}])", r"\1", text)))
+    text = re.sub(FOUND + r"\(\(&(\w+),&(\w+)\)\)", r"is_pair(\1,\2,\3)", text)
+    return re.sub(FOUND + r"\(&(\w+)\)", r"is_value(\1,\2)", text)
 
 
 def statements(example):

@@ -1,5 +1,5 @@
 //! Maps from numbers to numbers, and what a test looks at in them.
-use schnellru::{ByCost, Insertion, Limiter, LruMap, RandomState, ReserveError};
+use schnellru::{ByCost, ByLength, Insertion, Limiter, LruMap, RandomState, ReserveError};
 use std::alloc::{AllocError, Global};
 use std::hash::{BuildHasher, Hash};
 use std::ops::RangeInclusive;
@@ -16,6 +16,23 @@ pub fn three_costs(alloc: Global) -> Result<LruMap<u64, u64, ByCost, RandomState
         map.insert(n, n)?;
     }
     Ok(map)
+}
+
+/// Leaves the pairs (1, 10), (2, 20) and (3, 30), and a limit of three pairs. Returns whether there was memory.
+pub fn fill(map: &mut LruMap<u64, u64>) -> bool {
+    map.clear();
+    *map.limiter_mut() = ByLength::new(3);
+    insert_all(map, 1..=3) == Ok(3)
+}
+
+/// Whether `entry == Some((&key, &value))`.
+pub fn is_pair(entry: Option<(&u64, &u64)>, key: u64, value: u64) -> bool {
+    entry == Some((&key, &value))
+}
+
+/// Whether `found == Some(&value)`.
+pub fn is_value(found: Option<&u64>, value: u64) -> bool {
+    found == Some(&value)
 }
 
 /// Inserts the pair of a number and ten times the number.
