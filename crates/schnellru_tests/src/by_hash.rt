@@ -2,7 +2,6 @@
 use map_helpers::{insert_all, is_list};
 use schnellru::{LruMap, UnlimitedCompact};
 use std::cell::Cell;
-use std::test::Fail;
 use test_helpers::{LastByte, check};
 
 /// Counts a question, and returns whether it is the one with this number.
@@ -14,9 +13,9 @@ fn is_question(asked: &Cell<u64>, number: u64) -> bool {
 /// Three pairs of one hash. A closure that accepts none is asked about each once, and one that accepts at the second
 /// question is asked twice.
 #[test]
-fn a_search_ends_with_its_answer(rt: HostRuntime) -> Result<(), Fail> {
+fn a_search_ends_with_its_answer(rt: HostRuntime) {
     let mut map = LruMap::with_hasher(rt.alloc(), UnlimitedCompact, LastByte(0), 16);
-    insert_all(&mut map, 1..=3)?;
+    check!(rt; insert_all(&mut map, 1..=3) == Ok(3));
     let asked = Cell::new(0u64);
     for (number, value, questions) in [(1, Some(10), 1), (2, Some(20), 2), (4, None, 3)] {
         asked.set(0);
@@ -29,5 +28,4 @@ fn a_search_ends_with_its_answer(rt: HostRuntime) -> Result<(), Fail> {
     check!(rt; map.get_by_hash(0, |_, _| is_question(&asked, 2)).is_some());
     check!(rt; asked.get() == 2);
     check!(rt; is_list(&map, &[(2, 20), (3, 30), (1, 10)]));
-    Ok(())
 }

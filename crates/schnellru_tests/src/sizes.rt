@@ -3,21 +3,19 @@
 use map_helpers::{figures, insert_all, map_of, peek, remove_all, report, reserve, shrink};
 use schnellru::{ByCost, Insertion, LruMap, UnlimitedCompact};
 use std::alloc::Global;
-use std::test::Fail;
 use test_helpers::check;
 
 #[test]
-fn keys_of_no_bytes(rt: HostRuntime) -> Result<(), Fail> {
+fn keys_of_no_bytes(rt: HostRuntime) {
     let mut map: LruMap<(), u64, UnlimitedCompact> = LruMap::default(rt.alloc());
     for n in 1..=5u64 {
-        check!(rt; map.insert((), n)?);
+        check!(rt; map.insert((), n) == Ok(true));
     }
     check!(rt; (map.len(), map.remove(&()), map.pop_oldest()) == (1, Some(5), None));
-    Ok(())
 }
 
 #[test]
-fn values_of_no_bytes(rt: HostRuntime) -> Result<(), Fail> {
+fn values_of_no_bytes(rt: HostRuntime) {
     let mut map: LruMap<u64, (), UnlimitedCompact> = LruMap::new(
         rt.alloc(),
         UnlimitedCompact,
@@ -25,20 +23,18 @@ fn values_of_no_bytes(rt: HostRuntime) -> Result<(), Fail> {
         0,
     );
     for n in 1..=7u64 {
-        check!(rt; map.insert(n, ())?);
+        check!(rt; map.insert(n, ()) == Ok(true));
     }
     check!(rt; (figures(&map), report(&map)) == ((7, 7, 24), (3, 7)));
     check!(rt; (map.promote(&1), map.pop_oldest(), map.pop_newest())
             == (true, Some((2, ())), Some((1, ()))));
-    Ok(())
 }
 
 #[test]
-fn pairs_of_no_bytes(rt: HostRuntime) -> Result<(), Fail> {
+fn pairs_of_no_bytes(rt: HostRuntime) {
     let mut map: LruMap<(), (), UnlimitedCompact> = LruMap::default(rt.alloc());
-    check!(rt; map.insert((), ())? && map.insert((), ())?);
+    check!(rt; (map.insert((), ()), map.insert((), ())) == (Ok(true), Ok(true)));
     check!(rt; (map.iter().len(), map.drain().next()) == (1, Some(((), ()))));
-    Ok(())
 }
 
 type Page = [u8; 4096];
@@ -54,7 +50,7 @@ fn has_page(map: &LruMap<Page, Page, UnlimitedCompact>, n: u8) -> bool {
 }
 
 #[test]
-fn keys_and_values_of_4_kib(rt: HostRuntime) -> Result<(), Fail> {
+fn keys_and_values_of_4_kib(rt: HostRuntime) {
     let mut map: LruMap<Page, Page, UnlimitedCompact> = LruMap::new(
         rt.alloc(),
         UnlimitedCompact,
@@ -62,13 +58,12 @@ fn keys_and_values_of_4_kib(rt: HostRuntime) -> Result<(), Fail> {
         8208,
     );
     for n in 1..=15u8 {
-        check!(rt; map.insert(page(n), page(n.wrapping_add(100)))?);
+        check!(rt; map.insert(page(n), page(n.wrapping_add(100))) == Ok(true));
     }
     check!(rt; (map.len(), report(&map)) == (15, (24, 15)));
     check!(rt; (1..=15u8).all(|n| has_page(&map, n)) && !has_page(&map, 16));
     check!(rt; map.remove(&page(7)) == Some(page(107)));
     check!(rt; map.pop_oldest() == Some((page(1), page(101))));
-    Ok(())
 }
 
 /// Fills a table of `n` pairs, replaces half of them by twice as many, copies the table, shrinks it, reserves space and
