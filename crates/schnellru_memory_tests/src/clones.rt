@@ -3,7 +3,7 @@
 ghost use Rattle.std.specs.Prelude.{◌≡◌};
 ghost use Rattle.lru_limits.specs.Limiters.{no_rules};
 
-use super::live::{Live, Lives};
+use super::live::{Live, Lives, fill_with};
 use schnellru::{DefaultHasher, Limiter, LruMap, RandomState, Storing, UnlimitedCompact};
 use std::alloc::{AllocError, Global};
 use std::cell::Cell;
@@ -15,7 +15,7 @@ use test_helpers::check;
 /// A copy of seven pairs takes 14 clones. If one of them is refused, no other is asked for, and what was made is
 /// dropped.
 #[test]
-fn each_key_and_value_is_cloned_once(rt: HostRuntime) -> Result<(), Fail> {
+fn each_key_and_value_is_cloned_once(rt: HostRuntime) {
     let lives = Lives::new();
     let mut map: LruMap<Live, Live, UnlimitedCompact> = LruMap::new(
         rt.alloc(),
@@ -23,9 +23,7 @@ fn each_key_and_value_is_cloned_once(rt: HostRuntime) -> Result<(), Fail> {
         [1, 2, 3, 4],
         16,
     );
-    for n in 0..7u64 {
-        map.insert(lives.key(n), lives.value(n))?;
-    }
+    check!(rt; fill_with(&mut map, &lives, 7));
     for allowed in 0..=15u64 {
         lives.clones.set(allowed);
         let is_made = map.clone().is_ok();
@@ -36,7 +34,6 @@ fn each_key_and_value_is_cloned_once(rt: HostRuntime) -> Result<(), Fail> {
             "{allowed}"
         );
     }
-    Ok(())
 }
 
 /// Limits nothing, holds something, and may be cloned a few times. As a hasher it does the same.
@@ -101,17 +98,15 @@ fn clonable<'a>(held: &Rc<u64>, clones: &'a Cell<u64>) -> Result<Holding<'a>, Al
     })
 }
 
-/// A map of one pair.
+/// A map of no pairs.
 fn map_held<'a>(
     alloc: Global,
-    limiter: Holding<'a>,
-    hasher: Holding<'a>,
-    lives: &'a Lives,
+    (limiter, hasher): (&Rc<u64>, &Rc<u64>),
+    clones: &'a (Cell<u64>, Cell<u64>),
 ) -> Result<Held<'a>, AllocError> {
-    let mut map: Held = LruMap::with_hasher(alloc, Storing(limiter), hasher, 16);
-    map.insert(lives.key(1), lives.value(1))?;
-    map.insert(lives.key(2), lives.value(2))?;
-    Ok(map)
+    let limiter = clonable(limiter, &clones.0)?;
+    let hasher = clonable(hasher, &clones.1)?;
+    Ok(LruMap::with_hasher(alloc, Storing(limiter), hasher, 16))
 }
 
 /// How many live of the limiters and of the hashers, with those outside of maps, and of the keys and of the values.
@@ -138,30 +133,38 @@ fn tried(
     (copy.is_ok(), live(limiter, hasher, lives))
 }
 
-/// The limiter and the hasher are cloned once each, after the pairs. If one refuses, the copies made so far are
-/// dropped. Both are dropped with the walk that takes their map apart.
-#[test]
-fn a_limiter_or_a_hasher_that_refuses(rt: HostRuntime) -> Result<(), Fail> {
-    let alloc = rt.alloc();
-    let (limiter, hasher, lives) = (Cell::new(0u64), Cell::new(0u64), Lives::new());
-    let held = (Rc::new(alloc, 0u64)?, Rc::new(alloc, 0u64)?);
-    let first = clonable(&held.0, &limiter)?;
-    let map = map_held(alloc, first, clonable(&held.1, &hasher)?, &lives)?;
-    lives.clones.set(100);
+/// Whether the limiter and the hasher are cloned once each, after the pairs. If one refuses, the copies made so far are
+/// dropped.
+fn are_cloned_once(map: &Held, held: (&Rc<u64>, &Rc<u64>), lives: &Lives) -> bool {
     let one = [2, 2, 2, 2];
+    let mut right = true;
     for (allowed, expected) in [
         ((0, 2), (false, one)),
         ((2, 0), (false, one)),
         ((0, 0), (false, one)),
         ((2, 2), (true, [3, 3, 4, 4])),
     ] {
-        let found = tried(&map, allowed, (&held.0, &held.1), &lives);
-        check!(rt; found == expected && live(&held.0, &held.1, &lives) == one);
+        let found = tried(map, allowed, held, lives);
+        right = right && found == expected && live(held.0, held.1, lives) == one;
     }
+    right
+}
+
+/// Both are dropped with the walk that takes their map apart.
+#[test]
+fn a_limiter_or_a_hasher_that_refuses(rt: HostRuntime) -> Result<(), Fail> {
+    let alloc = rt.alloc();
+    let (clones, lives) = ((Cell::new(0u64), Cell::new(0u64)), Lives::new());
+    let (limiter, hasher) = (Rc::new(alloc, 0u64)?, Rc::new(alloc, 0u64)?);
+    let mut map = map_held(alloc, (&limiter, &hasher), &clones)?;
+    check!(rt; map.insert(lives.key(1), lives.value(1)) == Ok(true));
+    check!(rt; map.insert(lives.key(2), lives.value(2)) == Ok(true));
+    lives.clones.set(100);
+    check!(rt; are_cloned_once(&map, (&limiter, &hasher), &lives));
     let mut walk = map.into_iter();
     check!(rt; walk.next().is_some() && walk.len() == 1);
     drop(walk);
-    check!(rt; (limiter.get(), hasher.get()) == (1, 1));
-    check!(rt; live(&held.0, &held.1, &lives) == [1, 1, 0, 0]);
+    check!(rt; (clones.0.get(), clones.1.get()) == (1, 1));
+    check!(rt; live(&limiter, &hasher, &lives) == [1, 1, 0, 0]);
     Ok(())
 }

@@ -1,5 +1,5 @@
 //! Each key and each value is dropped once: none twice, and none is forgotten. No clause says when a value is dropped.
-use super::live::{Live, Lives};
+use super::live::{Live, Lives, fill_with};
 use schnellru::{
     Both, ByCost, ByLength, ByMemoryUsage, ByWeight, GetOrInsertError, Insertion, KeyHasher,
     Limiter, LruMap, Storing, Unlimited, UnlimitedCompact,
@@ -10,17 +10,43 @@ use test_helpers::{Hog, Random, check};
 
 type Map<'a, L> = LruMap<Live<'a>, Live<'a>, L>;
 
-/// Drops the value, and fails.
-fn fails(_value: Live<'_>) -> Result<Live<'_>, u8> {
-    Err(0)
-}
-
 /// A random value. The greatest one and any other that is not 0 have no sum of 64 bits.
 fn random_value<'a>(random: &mut Random, lives: &'a Lives) -> Live<'a> {
     match random.below(12) {
         11 => lives.value(u64::MAX),
         number => lives.value(number),
     }
+}
+
+/// Inserts what a closure makes, and returns whether there was memory.
+fn insert_made<'a, L: Insertion<Live<'a>, Live<'a>, Live<'a>>>(
+    map: &mut Map<'a, L>,
+    key: Live<'a>,
+    value: Live<'a>,
+    lends: bool,
+) -> bool {
+    let make = move || value;
+    if lends {
+        map.get_or_insert(key, make).is_ok()
+    } else {
+        map.ensure_newest(key, make).is_ok()
+    }
+}
+
+/// Inserts what a closure makes, unless it drops the value and fails, and returns whether there was memory.
+fn insert_if_made<'a, L: Insertion<Live<'a>, Live<'a>, Live<'a>>>(
+    map: &mut Map<'a, L>,
+    key: Live<'a>,
+    (value, fails): (Live<'a>, bool),
+    lends: bool,
+) -> bool {
+    let make = move || if fails { Err(0u8) } else { Ok(value) };
+    let error = if lends {
+        map.get_or_insert_fallible(key, make).err()
+    } else {
+        map.ensure_newest_fallible(key, make).err()
+    };
+    error != Some(GetOrInsertError::Memory)
 }
 
 /// Makes a random call that inserts, and returns whether there was memory. Each closure owns its value, also if it is
@@ -31,31 +57,21 @@ fn random_insert<'a, L: Insertion<Live<'a>, Live<'a>, Live<'a>>>(
     lives: &'a Lives,
 ) -> bool {
     let (key, value) = (lives.key(random.below(40)), random_value(random, lives));
+    let mut sink = |key: Live, value: Live| drop((key, value));
     match random.below(10) {
         0 => map.insert(key, value).is_ok(),
-        7 => map
-            .insert_full(key, value, &mut |key, value| drop((key, value)))
-            .is_ok(),
-        1 => map
-            .insert_with(key, value, &mut |key, value| drop((key, value)))
-            .is_ok(),
-        2 => map.get_or_insert(key, move || value).is_ok(),
-        3 => map
-            .get_or_insert_fallible(key, move || Ok::<Live, u8>(value))
-            .is_ok(),
-        4 => map.ensure_newest(key, move || value).is_ok(),
-        5 => map
-            .ensure_newest_fallible(key, move || Ok::<Live, u8>(value))
-            .is_ok(),
+        7 => map.insert_full(key, value, &mut sink).is_ok(),
+        1 => map.insert_with(key, value, &mut sink).is_ok(),
+        2 => insert_made(map, key, value, true),
+        3 => insert_if_made(map, key, (value, false), true),
+        4 => insert_made(map, key, value, false),
+        5 => insert_if_made(map, key, (value, false), false),
         8 => {
             drop(map.update(key, value));
             true
         }
         9 => map.try_extend([(key, value)]).is_ok(),
-        _ => {
-            let made = map.ensure_newest_fallible(key, move || fails(value));
-            made != Err(GetOrInsertError::Memory)
-        }
+        _ => insert_if_made(map, key, (value, true), false),
     }
 }
 
@@ -65,7 +81,7 @@ fn random_call<'a, L: Limiter<Live<'a>, Live<'a>> + Clone + Drop>(
     random: &mut Random,
     lives: &'a Lives,
 ) {
-    let key = lives.key(random.below(40));
+    let number = random.below(40);
     match random.below(40) {
         0 => map.clear(),
         1 => drop(map.drain().next()),
@@ -78,11 +94,11 @@ fn random_call<'a, L: Limiter<Live<'a>, Live<'a>> + Clone + Drop>(
                 .set(random.below(40).wrapping_mul(random.below(3000)));
             drop(map.clone());
         }
-        14..=20 => drop(map.remove(&key)),
+        14..=20 => drop(map.remove(&lives.key(number))),
         21..=24 => drop(map.pop_oldest()),
         25..=27 => drop(map.pop_newest()),
-        28 => drop(map.demote(&key)),
-        _ => if let Some(value) = map.get(&key) {
+        28 => drop(map.demote(&lives.key(number))),
+        _ => if let Some(value) = map.get(&lives.key(number)) {
             *value = random_value(random, lives);
         },
     }
@@ -98,10 +114,7 @@ fn balances<'a, L: Insertion<Live<'a>, Live<'a>, Live<'a>> + Clone + Drop>(
 ) -> bool {
     let mut random = Random::new(pairs.wrapping_add(1));
     let mut map = LruMap::new(alloc, limiter, [1, 2, 3, 4], 16);
-    let mut right = true;
-    for n in 0..pairs {
-        right = right && map.insert(lives.key(n), lives.value(0)).is_ok();
-    }
+    let mut right = fill_with(&mut map, lives, pairs);
     for _ in 0..20_000u32 {
         if random.below(3) == 0 {
             random_call(&mut map, &mut random, lives);
@@ -149,12 +162,10 @@ fn live(lives: &Lives) -> (u64, u64) {
 
 /// What an update, a trim and another limiter evict is dropped, and so is what a walk by value has left.
 #[test]
-fn what_trims_evict_is_dropped(rt: HostRuntime) -> Result<(), Fail> {
+fn what_trims_evict_is_dropped(rt: HostRuntime) {
     let lives = Lives::new();
     let mut map = LruMap::new(rt.alloc(), ByLength::new(20_000), [1, 2, 3, 4], 16);
-    for n in 0..20_000u64 {
-        map.insert(lives.key(n), lives.value(n))?;
-    }
+    check!(rt; fill_with(&mut map, &lives, 20_000));
     *map.limiter_mut() = ByLength::new(16_000);
     drop(map.update(lives.key(19_999), lives.value(0)));
     check!(rt; live(&lives) == (16_000, 16_000));
@@ -166,7 +177,6 @@ fn what_trims_evict_is_dropped(rt: HostRuntime) -> Result<(), Fail> {
     check!(rt; live(&lives) == (4999, 4999));
     drop(map.into_iter().next());
     check!(rt; live(&lives) == (0, 0));
-    Ok(())
 }
 
 /// What an extend could not insert is dropped, with what its iterator has left.
@@ -174,9 +184,7 @@ fn what_trims_evict_is_dropped(rt: HostRuntime) -> Result<(), Fail> {
 fn what_an_extend_leaves_is_dropped(rt: HostRuntime) -> Result<(), Fail> {
     let lives = Lives::new();
     let mut map: Map<Unlimited> = LruMap::new(rt.alloc(), Unlimited, [1, 2, 3, 4], 16);
-    for n in 0..3u64 {
-        map.insert(lives.key(n), lives.value(n))?;
-    }
+    check!(rt; fill_with(&mut map, &lives, 3));
     let hog = Hog::new(rt.alloc(), &[])?;
     let entries = [7, 8, 9].map(|n: u64| (lives.key(n), lives.value(n)));
     let is_refused = map.try_extend(entries).is_err();
@@ -201,17 +209,16 @@ fn closures_that_are_not_called_are_dropped(rt: HostRuntime) {
 
 /// A closure is dropped after a search that calls it or not, and after a walk.
 #[test]
-fn closures_are_dropped(rt: HostRuntime) -> Result<(), Fail> {
+fn closures_are_dropped(rt: HostRuntime) {
     let lives = Lives::new();
     let mut map: Map<ByLength> = LruMap::new(rt.alloc(), ByLength::new(1), [1, 2, 3, 4], 16);
-    map.insert(lives.key(1), lives.value(0))?;
-    let hash = map.hasher().hash_named(&lives.key(1));
-    let (found, other, written) = (lives.value(1), lives.value(2), lives.value(3));
+    check!(rt; fill_with(&mut map, &lives, 1));
+    let hash = map.hasher().hash_named(&lives.key(0));
+    let (found, other, written) = (lives.value(0), lives.value(2), lives.value(3));
     check!(rt; map.peek_by_hash(hash, move |key, _| *key == found).is_some());
     check!(rt; map.peek_by_hash(hash, move |key, _| *key == other).is_none());
     map.for_each_mut(move |_, value| if *value == written {
         value.number = 4;
     });
     check!(rt; live(&lives) == (1, 1));
-    Ok(())
 }

@@ -1,7 +1,7 @@
 //! Numbers that are counted while they live, to show what is dropped and what is not.
 ghost use Rattle.std.specs.Prelude.{◌≡◌};
 
-use schnellru::Costed;
+use schnellru::{Costed, Insertion, LruMap};
 use std::alloc::AllocError;
 use std::cell::Cell;
 
@@ -73,6 +73,19 @@ impl Clone for Live<'_> {
             .set(self.clones.get().checked_sub(1).ok_or(AllocError)?);
         Ok(Live::new(self.number, self.lives, self.clones))
     }
+}
+
+/// Inserts `n` pairs, and returns whether there was memory.
+pub fn fill_with<'a, L: Insertion<Live<'a>, Live<'a>, Live<'a>>>(
+    map: &mut LruMap<Live<'a>, Live<'a>, L>,
+    lives: &'a Lives,
+    n: u64,
+) -> bool {
+    let mut is_filled = true;
+    for number in 0..n {
+        is_filled = map.insert(lives.key(number), lives.value(0)).is_ok() && is_filled;
+    }
+    is_filled
 }
 
 impl Costed for Live<'_> {

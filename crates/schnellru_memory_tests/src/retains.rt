@@ -1,20 +1,13 @@
 //! `retain` and `set_limiter_with`: the examples of the docs, the order of the calls of a closure, and drops.
-use super::live::Lives;
-use map_helpers::{insert_all, is_list, map_of};
+use super::live::{Lives, fill_with};
+use map_helpers::{fill, insert_all, is_list, map_of};
 use schnellru::{ByLength, LruMap, Unlimited};
-use std::alloc::{AllocError, Global};
-use std::test::Fail;
 use test_helpers::check;
 
-fn three(alloc: Global) -> Result<LruMap<u64, u64>, AllocError> {
-    let mut map = map_of(alloc, ByLength::new(3));
-    insert_all(&mut map, 1..=3)?;
-    Ok(map)
-}
-
 #[test]
-fn of_retains(rt: HostRuntime) -> Result<(), Fail> {
-    let mut map = three(rt.alloc())?;
+fn of_retains(rt: HostRuntime) {
+    let mut map = map_of(rt.alloc(), ByLength::new(3));
+    check!(rt; fill(&mut map));
     map.retain(|_, value| *value > 10);
     check!(rt; map.len() == 2 && !map.contains(&1));
     let mut removed = 0u64;
@@ -24,21 +17,20 @@ fn of_retains(rt: HostRuntime) -> Result<(), Fail> {
     );
     check!(rt; removed == 2);
     check!(rt; is_list(&map, &[(3, 30)]));
-    let mut map = three(rt.alloc())?;
+    check!(rt; fill(&mut map));
     let mut evicted = 0u64;
     map.set_limiter_with(
         ByLength::new(1),
         &mut |key, _| evicted = evicted.wrapping_add(key),
     );
     check!(rt; evicted == 3);
-    Ok(())
 }
 
 /// Each of 100,000 entries is asked about once, oldest first. Every third stays, in the order as before.
 #[test]
-fn entries_are_asked_in_order(rt: HostRuntime) -> Result<(), Fail> {
+fn entries_are_asked_in_order(rt: HostRuntime) {
     let mut map = map_of(rt.alloc(), Unlimited);
-    check!(rt; insert_all(&mut map, 1..=100_000)? == 100_000);
+    check!(rt; insert_all(&mut map, 1..=100_000) == Ok(100_000));
     let (mut asked, mut in_order) = (0u64, true);
     map.retain(|key, _| {
         asked = asked.wrapping_add(1);
@@ -52,17 +44,14 @@ fn entries_are_asked_in_order(rt: HostRuntime) -> Result<(), Fail> {
         expected = expected.wrapping_sub(3);
     }
     check!(rt; in_order);
-    Ok(())
 }
 
 /// What a retain removes is dropped once, or belongs to the callback.
 #[test]
-fn what_a_retain_removes_is_dropped(rt: HostRuntime) -> Result<(), Fail> {
+fn what_a_retain_removes_is_dropped(rt: HostRuntime) {
     let lives = Lives::new();
     let mut map = LruMap::new(rt.alloc(), ByLength::new(20_000), [1, 2, 3, 4], 16);
-    for n in 0..20_000u64 {
-        map.insert(lives.key(n), lives.value(n))?;
-    }
+    check!(rt; fill_with(&mut map, &lives, 20_000));
     let mut turn = false;
     map.retain(|_, _| {
         turn = !turn;
@@ -71,5 +60,4 @@ fn what_a_retain_removes_is_dropped(rt: HostRuntime) -> Result<(), Fail> {
     check!(rt; (map.len(), lives.keys.get(), lives.values.get()) == (10_000, 10_000, 10_000));
     map.retain_with(|_, _| false, &mut |key, value| drop((key, value)));
     check!(rt; (map.len(), lives.keys.get(), lives.values.get()) == (0, 0, 0));
-    Ok(())
 }
