@@ -22,7 +22,7 @@
 --     given-promoted       one through which nothing is written brings that pair to the front, and no more
 --     none-found           if it returns none, no pair of that key has the hash
 --     sum-set              a write that keeps the cost of its pair keeps the sum of the costs
---     empty_is_sized       a map without pairs and buckets has a sound table
+--     empty_is_sound       a map without pairs and buckets has a sound table
 --     has_tables           there are tables for the pairs of a map, if links and bytes reach one for many more
 --     Shape, shape         a map, except which of its buckets are full; `same_shape` and `look_alike` say so
 --     left_shape, cleared_shape, reserve_is      what calls make of it in tables of up to 16 buckets
@@ -36,7 +36,7 @@
 --     without_none         if no pair is named, the others are all
 --     length-front_pairs   a pair that is brought to the front leaves the number of pairs
 pub use Rattle.lru_model.proofs.Theorems.KeySearches.{given-found, given-tag, none-found}
-pub use Rattle.lru_model.proofs.States.EmptyMaps.{empty_is_sized}
+pub use Rattle.lru_model.proofs.States.EmptyMaps.{empty_is_sound}
 pub use Rattle.lru_model.proofs.States.LeavingPairs.{leaves_trans, length-without_first, length-without_last}
 pub use Rattle.lru_model.proofs.States.Promotions.{promoted_sized, demoted_sized, promoted_is_map, length-front_pairs}
 pub use Rattle.lru_model.proofs.States.SomeInsert.{some_insert}
@@ -292,11 +292,17 @@ module _ {K V S H : Type 0} (names : K → Bool) (st : State K V S H) where
 
   pub promoted-absent : lookup names st.pairs ≡ None → promoted names st ≡ st
   promoted-absent none = λ i.
-      record st { pairs = front-none names st.pairs none i; places = front_places-none names st.pairs st.places none i }
+      record st {
+        pairs = front-none names st.pairs none i;
+        table = record st.table { places = front_places-none names st.pairs st.table.places none i };
+      }
 
   pub demoted-absent : lookup names st.pairs ≡ None → demoted names st ≡ st
   demoted-absent none = λ i.
-      record st { pairs = back-none names st.pairs none i; places = back_places-none names st.pairs st.places none i }
+      record st {
+        pairs = back-none names st.pairs none i;
+        table = record st.table { places = back_places-none names st.pairs st.table.places none i };
+      }
 
   pub written-absent : (value : V) → lookup names st.pairs ≡ None → written names value st ≡ st
   written-absent value none = ap (λ pairs. record st { pairs = pairs }) (set-none names st.pairs value none)

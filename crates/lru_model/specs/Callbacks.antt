@@ -51,12 +51,8 @@ module _ {K V S : Type 0} where
     pairs = st.pairs;
     limiter = (st.limiter, list);
     hasher = st.hasher;
-    marks = st.marks;
-    places = st.places;
-    placings = st.placings;
-    moved = st.moved;
-    placed = st.placed;
-    shrunk = st.shrunk;
+    table = st.table;
+    counts = st.counts;
     entry_bytes = st.entry_bytes;
     max = st.max;
   }

@@ -12,11 +12,17 @@ use Rattle.lru_model.specs.State.{State, buckets, Contents, contents, Leaves, af
 module _ {K V S H : Type 0} where
   -- the map with the pair of the named key, if there is one, as the newest
   abbrev pub promoted : (K → Bool) → State K V S H → State K V S H
-  promoted names st = record st { pairs = front names st.pairs; places = front_places names st.pairs st.places }
+  promoted names st = record st {
+    pairs = front names st.pairs;
+    table = record st.table { places = front_places names st.pairs st.table.places };
+  }
 
   -- the map with the pair of the named key, if there is one, as the oldest
   abbrev pub demoted : (K → Bool) → State K V S H → State K V S H
-  demoted names st = record st { pairs = back names st.pairs; places = back_places names st.pairs st.places }
+  demoted names st = record st {
+    pairs = back names st.pairs;
+    table = record st.table { places = back_places names st.pairs st.table.places };
+  }
 
   -- the map with this value for the named key, if the key is there
   abbrev pub written : (K → Bool) → V → State K V S H → State K V S H
@@ -76,6 +82,5 @@ module _ {K V S H : Type 0} (rules : Rules K V S) where
   cleared st = record st {
     pairs = [];
     limiter = rules.on_cleared st.limiter;
-    marks = replicate (buckets st) empty;
-    places = [];
+    table = record { marks = replicate (buckets st) empty; places = [] };
   }

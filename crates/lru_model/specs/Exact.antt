@@ -144,7 +144,7 @@ NeverLacks {V = V} {S = S} {I = I} offers = (s : S) (n : ℕ) (i : I) (v : V) �
 pub record LookAlike {K V S H : Type 0} (st other : State K V S H) : Type 0 where
   pub table : buckets other ≡ buckets st
   pub room : room other ≡ room st
-  pub state : other ≡ record st { marks = other.marks; places = other.places }
+  pub state : other ≡ record st { table = other.table }
 
 -- the limiter permits every growth, and stays as it is
 abbrev pub AlwaysGrants : {K V S : Type 0} → Rules K V S → Type 0

@@ -1,14 +1,15 @@
 -- Inserting a new pair into the table: what its growth left allows, what the limiter permits, and how many entries
 -- move.
-use Rattle.std.specs.Prelude.{◌≡◌, ℕ, zero, suc, ◌+◌, ◌-◌, ◌/◌, ◌≤◌, ◌<◌, ◌⊎◌, Bool, true, false, [], ◌∷◌, length}
+use Rattle.std.specs.Prelude.{◌≡◌, ℕ, zero, suc, ◌+◌, ◌-◌, ◌/◌, ◌≤◌, ◌<◌, ◌⊎◌, Bool, true, false, List, [], ◌∷◌}
+use Rattle.std.specs.Prelude.{length}
 use Rattle.std.specs.Prelude.{Result, Ok, Err, slice_set}
 use Rattle.group_table.specs.Sizes.{full_capacity}
-use Rattle.group_table.specs.Bucket.{empty, deleted, full, bucket_at}
+use Rattle.group_table.specs.Bucket.{Mark, empty, deleted, full, bucket_at, room as room_of}
 use Rattle.group_table.specs.Probe.{IsFirstFree}
-use Rattle.group_table.specs.Change.{count_up, HasNoPlace}
+use Rattle.group_table.specs.Change.{HasNoPlace}
 use Rattle.lru_limits.specs.Rules.{Rules}
 use Rattle.lru_model.specs.Sizes.{target, Target, no_table, new_table}
-use Rattle.lru_model.specs.State.{State, buckets, room, FirstFreeIs, contents, Leaves, pop}
+use Rattle.lru_model.specs.State.{State, TableState, buckets, room, FirstFreeIs, count_insert, contents, Leaves, pop}
 
 -- What comes of it: the pair is stored (`placed`), the table cannot grow and there is no pair to evict (`refused`), or
 -- the map ran out of memory.
@@ -21,6 +22,31 @@ outcome_of (Ok true) = placed
 outcome_of (Ok false) = refused
 outcome_of (Err e) = no_memory
 
+-- The first free bucket that a search for the hash finds is full now, with the newest pair, and no other bucket has
+-- changed. If the bucket was empty, the growth left falls by one. If it was deleted, which happens only above 16
+-- buckets, the growth left stays.
+pub record FillsBucket (hash : ℕ) (old new : TableState) : Type 0 where
+  pub bucket : ℕ
+  pub first : IsFirstFree old.marks hash bucket
+  pub marks : new.marks ≡ slice_set old.marks bucket (full tt)
+  pub places : new.places ≡ bucket ∷ old.places
+  pub spends : ((bucket_at old.marks bucket ≡ empty) × (room_of new.marks + 1 ≡ room_of old.marks))
+      ⊎ ((bucket_at old.marks bucket ≡ deleted) × (16 < length old.marks) × (room_of new.marks ≡ room_of old.marks))
+
+-- A table of n pairs in which no bucket takes a pair of this hash: no growth is left, and the first free bucket that a
+-- search finds is empty. A table without pairs is not searched: without growth left it is rehashed, even if a deleted
+-- bucket could take the pair.
+pub record IsFullFor (hash n : ℕ) (marks : List Mark) : Type 0 where
+  pub no_room : room_of marks ≡ 0
+  pub first_empty : 0 < n → FirstFreeIs empty hash marks
+
+-- No bucket takes a pair of this hash, and a rehash is no remedy: with one pair more the table would be over half full.
+-- Either there is no table yet, or it contains pairs.
+pub record IsTooSmallFor (hash n : ℕ) (marks : List Mark) : Type 0 where
+  pub no_bucket : IsFullFor hash n marks
+  pub above_half : full_capacity (length marks) / 2 < n + 1
+  pub begun : (length marks ≡ 0) ⊎ (0 < n)
+
 module _ {K V S H : Type 0} where
   -- the pair is the newest now, in a table of `count` buckets with `spare` growth left, and `moves` entries moved for
   -- it
@@ -29,41 +55,21 @@ module _ {K V S H : Type 0} where
     pub room_left : room new ≡ spare
     pub state : new ≡ record old {
       pairs = pair ∷ old.pairs;
-      marks = new.marks;
-      places = new.places;
-      placings = count_up old.placings (moves + 1);
-      moved = count_up old.moved moves;
-      placed = count_up old.placed 1;
+      table = new.table;
+      counts = count_insert moves old.counts;
     }
 
   -- the pair is in a bucket of the same table, and no entry moved for it
   abbrev pub IsPlacedInTable : K × V → State K V S H → State K V S H → Type 0
   IsPlacedInTable pair old new = IsPlaced pair (buckets old) (room new) 0 old new
 
-  -- The first free bucket that a search for the hash finds is full now, with the newest pair, and no other bucket has
-  -- changed. If the bucket was empty, the growth left falls by one. If it was deleted, which happens only above 16
-  -- buckets, the growth left stays.
-  pub record FillsBucket (hash : ℕ) (old new : State K V S H) : Type 0 where
-    pub bucket : ℕ
-    pub first : IsFirstFree old.marks hash bucket
-    pub marks : new.marks ≡ slice_set old.marks bucket (full tt)
-    pub places : new.places ≡ bucket ∷ old.places
-    pub spends : ((bucket_at old.marks bucket ≡ empty) × (room new + 1 ≡ room old))
-        ⊎ ((bucket_at old.marks bucket ≡ deleted) × (16 < buckets old) × (room new ≡ room old))
+  -- no bucket takes a pair of this hash
+  abbrev pub HasNoBucket : ℕ → State K V S H → Type 0
+  HasNoBucket hash st = IsFullFor hash (length st.pairs) st.table.marks
 
-  -- No bucket takes a pair of this hash: no growth is left, and the first free bucket that a search finds is empty. A
-  -- map without pairs is not searched: without growth left it is rehashed, even if a deleted bucket could take the
-  -- pair.
-  pub record HasNoBucket (hash : ℕ) (st : State K V S H) : Type 0 where
-    pub no_room : room st ≡ 0
-    pub first_empty : 0 < length st.pairs → FirstFreeIs empty hash st
-
-  -- No bucket takes a pair of this hash, and a rehash is no remedy: with one pair more the table would be over half
-  -- full. Either there is no table yet, or the map contains pairs.
-  pub record IsOutgrown (hash : ℕ) (st : State K V S H) : Type 0 where
-    pub no_bucket : HasNoBucket hash st
-    pub above_half : full_capacity (buckets st) / 2 < length st.pairs + 1
-    pub begun : (buckets st ≡ 0) ⊎ (0 < length st.pairs)
+  -- no bucket takes a pair of this hash, and a rehash is no remedy
+  abbrev pub IsOutgrown : ℕ → State K V S H → Type 0
+  IsOutgrown hash st = IsTooSmallFor hash (length st.pairs) st.table.marks
 
   -- into which table a map grows for n more pairs
   abbrev pub table_for : ℕ → State K V S H → Target
@@ -94,7 +100,7 @@ module _ {K V S H : Type 0} (rules : Rules K V S) where
   abbrev pub OldestEvicted : ℕ → ℕ → State K V S H → State K V S H → Type 0
   OldestEvicted hash zero old new = new ≡ old
   OldestEvicted hash (suc n) old new = (before : State K V S H) × OldestEvicted hash n old before
-      × HasNoPlace before.marks hash × Leaves before (pop rules (contents before)) new
+      × HasNoPlace before.table.marks hash × Leaves before (pop rules (contents before)) new
 
   -- the pair is stored as `IsPlaced` says, or the map ran out of memory, and the limiter was notified of the pair
   abbrev pub IsPlacedIfMemory : K × V → ℕ → ℕ → ℕ → State K V S H → Outcome → State K V S H → Type 0
@@ -124,7 +130,7 @@ module _ {K V S H : Type 0} (rules : Rules K V S) where
         Evicts hash pair old mid outcome new
     finds_bucket : (n : ℕ) → 0 < n → (buckets old ≤ 16 → n ≡ 1) →
         full_capacity (buckets old) / 2 + n ≤ length old.pairs →
-        (left : State K V S H) → OldestEvicted hash n mid left → FillsBucket hash left new →
+        (left : State K V S H) → OldestEvicted hash n mid left → FillsBucket hash left.table new.table →
         outcome ≡ placed → IsPlaced pair (buckets old) (room new) 0 left new →
         Evicts hash pair old mid outcome new
     rehashes : 0 < length old.pairs → (n : ℕ) → 0 < n → (buckets old ≤ 16 → n ≡ 1) →
@@ -138,7 +144,7 @@ module _ {K V S H : Type 0} (rules : Rules K V S) (hash_of : H → K → ℕ) wh
   pub data Place (pair : K × V) (old : State K V S H) (outcome : Outcome) (new : State K V S H) : Type 0 where
     -- A free bucket takes the pair. The limiter is not queried, and no memory is needed.
     in_bucket : length old.pairs < full_capacity (buckets old) → (0 < room old) ⊎ (0 < length old.pairs) →
-        FillsBucket (hash_of old.hasher pair.0) old new →
+        FillsBucket (hash_of old.hasher pair.0) old.table new.table →
         outcome ≡ placed → IsPlacedInTable pair old new →
         Place pair old outcome new
     -- Or no bucket takes it, and with it the table is at most half full: the table is rehashed. Without pairs this

@@ -16,7 +16,7 @@ module _ {K V S H : Type 0} where
 
   -- the map with all its pairs counted as rehashed by a shrink
   abbrev pub shrink_counted : State K V S H → State K V S H
-  shrink_counted st = record st { shrunk = count_up st.shrunk (length st.pairs) }
+  shrink_counted st = record st { counts = record st.counts { shrunk = count_up st.counts.shrunk (length st.pairs) } }
 
   -- The pairs move into the least number of buckets that holds them. The moves are counted, and nothing else changes.
   pub data Shrink (old : State K V S H) (result : Result Bool AllocError) (new : State K V S H) : Type 0 where

@@ -9,12 +9,33 @@ use Rattle.group_table.specs.Probe.{IsFirstFree}
 use Rattle.group_table.specs.Table.{IsTable}
 use Rattle.lru_limits.specs.Rules.{Rules}
 use Rattle.lru_model.specs.Sizes.{usage}
-use Rattle.lru_model.specs.Lists.{last, without_last, keys_of}
+use Rattle.lru_model.specs.Lists.{last, without_last, keys_of, place_of}
 
 -- the pairs, newest first, and the limiter's state
 pub record Contents (K V S : Type 0) : Type 0 where
   pub pairs : List (K × V)
   pub limiter : S
+
+-- the bucket table, without the pairs
+pub record TableState : Type 0 where
+  -- whether each bucket is empty, deleted or full
+  pub marks : List Mark
+  -- the bucket of each pair, newest first
+  pub places : List ℕ
+
+-- a table without buckets
+abbrev pub empty_table : TableState
+empty_table = record { marks = []; places = [] }
+
+-- what a map counts
+pub record Counts : Type 0 where
+  -- how many insertions the table has made
+  pub placings : ℕ
+  -- how many entries inserts moved, and how many new ones they stored
+  pub moved : ℕ
+  pub placed : ℕ
+  -- how many entries shrinks rehashed
+  pub shrunk : ℕ
 
 -- what a contract sees of a map
 pub record State (K V S H : Type 0) : Type 0 where
@@ -23,21 +44,70 @@ pub record State (K V S H : Type 0) : Type 0 where
   pub limiter : S
   -- what builds the hashers of keys
   pub hasher : H
-  -- whether each bucket of the table is empty, deleted or full
-  pub marks : List Mark
-  -- the bucket of each pair, newest first
-  pub places : List ℕ
-  -- how many insertions the table has made
-  pub placings : ℕ
-  -- how many entries inserts moved, and how many new ones they stored
-  pub moved : ℕ
-  pub placed : ℕ
-  -- how many entries shrinks rehashed
-  pub shrunk : ℕ
+  pub table : TableState
+  pub counts : Counts
   -- how many bytes of the table an entry takes, as passed to the constructor
   pub entry_bytes : ℕ
   -- the number of the link `MAX`, above that of each bucket
   pub max : ℕ
+
+-- what holds of the bucket states and the counts of every map with n pairs
+pub record IsSound (n entry_bytes max : ℕ) (marks : List Mark) (counts : Counts) : Type 0 where
+  pub table : IsTable marks
+  -- each pair has a bucket, and each full bucket a pair
+  pub taken : entry_count marks ≡ n
+  -- links reach every bucket
+  pub reachable : (length marks ≡ 0) ⊎ (length marks < max)
+  -- the table takes at most 2 ^ 63 - 16 bytes
+  pub usable : (bytes : ℕ) × (usage entry_bytes (length marks) ≡ Some bytes)
+  -- the counts fit 64 bits
+  pub moved : counts.moved < 2 ^ 64
+  pub placed : counts.placed < 2 ^ 64
+  pub shrunk : counts.shrunk < 2 ^ 64
+
+-- n more moves are paid for, unless the count of shrinks has stopped at its maximum
+abbrev pub IsAhead : ℕ → Counts → Type 0
+IsAhead n counts = counts.shrunk < 2 ^ 64 - 1 → counts.moved + n ≤ 2 * counts.placed + counts.shrunk
+
+-- Moves are paid for: inserts moved at most two entries for each entry that they stored, plus one for each entry that
+-- shrinks rehashed. As many more as the potential are paid for, too.
+pub record IsPaid (potential : ℕ) (counts : Counts) : Type 0 where
+  pub moved : counts.moved ≤ 2 * counts.placed + counts.shrunk
+  pub ahead : IsAhead potential counts
+
+-- Pairs were removed, or none: `was` pairs were there, and n are left. Each that is removed may give back one of the
+-- growth left. In a table of up to 16 buckets it does.
+pub record GivesBack (was n : ℕ) (old new : List Mark) : Type 0 where
+  pub table : length new ≡ length old
+  pub keeps : room_of old ≤ room_of new
+  pub at_most : n + room_of new ≤ was + room_of old
+  pub exact : length old ≤ 16 → n + room_of new ≡ was + room_of old
+  -- if no pair was removed, no bucket has changed its state
+  pub untouched : n ≡ was → new ≡ old
+
+-- the first bucket that a search for the hash finds empty or deleted is in this state
+abbrev pub FirstFreeIs : Mark → ℕ → List Mark → Type 0
+FirstFreeIs mark hash marks = (b : ℕ) × IsFirstFree marks hash b × (bucket_at marks b ≡ mark)
+
+-- The bucket of a removed pair, `place`, is free now: it is empty if every 16 neighbouring buckets around it contain an
+-- empty one, and deleted otherwise. Each other bucket stays as it was.
+pub record Frees (place : Option ℕ) (old new : TableState) : Type 0 where
+  pub bucket : ℕ
+  pub there : place ≡ Some bucket
+  pub freed : Removes old.marks new.marks bucket
+  pub others : new.places ≡ filter (λ b. not (nat_eq b bucket)) old.places
+
+-- the counts of a map that was just made
+abbrev pub no_counts : Counts
+no_counts = record { placings = 0; moved = 0; placed = 0; shrunk = 0 }
+
+-- the counts after an insertion of an entry for which n others moved
+abbrev pub count_insert : ℕ → Counts → Counts
+count_insert moves c = record c {
+  placings = count_up c.placings (moves + 1);
+  moved = count_up c.moved moves;
+  placed = count_up c.placed 1;
+}
 
 module _ {K V S H : Type 0} where
   -- a map without pairs and without buckets
@@ -46,12 +116,8 @@ module _ {K V S H : Type 0} where
     pairs = [];
     limiter = limiter;
     hasher = hasher;
-    marks = [];
-    places = [];
-    placings = 0;
-    moved = 0;
-    placed = 0;
-    shrunk = 0;
+    table = empty_table;
+    counts = no_counts;
     entry_bytes = entry_bytes;
     max = max;
   }
@@ -62,80 +128,49 @@ module _ {K V S H : Type 0} where
 
   -- how many buckets its table has
   abbrev pub buckets : State K V S H → ℕ
-  buckets st = length st.marks
+  buckets st = length st.table.marks
 
   -- the growth left: how many more pairs the table holds for sure
   abbrev pub room : State K V S H → ℕ
-  room st = room_of st.marks
+  room st = room_of st.table.marks
 
-  -- the first bucket that a search for the hash finds empty or deleted is in this state
-  abbrev pub FirstFreeIs : Mark → ℕ → State K V S H → Type 0
-  FirstFreeIs mark hash st = (b : ℕ) × IsFirstFree st.marks hash b × (bucket_at st.marks b ≡ mark)
+  -- the bucket of the pair of the named key
+  abbrev pub place_in : (K → Bool) → State K V S H → Option ℕ
+  place_in names st = place_of names st.pairs st.table.places
 
-  -- A sound table: what holds of the table and the counts of every map, whatever its keys.
-  pub record IsSized (st : State K V S H) : Type 0 where
-    pub table : IsTable st.marks
-    -- each pair has a bucket, and each full bucket a pair
-    pub taken : entry_count st.marks ≡ length st.pairs
-    -- links reach every bucket
-    pub reachable : (buckets st ≡ 0) ⊎ (buckets st < st.max)
-    -- the table takes at most 2 ^ 63 - 16 bytes
-    pub usable : (bytes : ℕ) × (usage st.entry_bytes (buckets st) ≡ Some bytes)
-    -- the counts fit 64 bits
-    pub moved : st.moved < 2 ^ 64
-    pub placed : st.placed < 2 ^ 64
-    pub shrunk : st.shrunk < 2 ^ 64
+  -- The table is sound: what holds of the table and the counts of every map, whatever its keys.
+  abbrev pub IsSized : State K V S H → Type 0
+  IsSized st = IsSound (length st.pairs) st.entry_bytes st.max st.table.marks st.counts
 
   -- twice the number of full and deleted buckets above half of the full capacity, or 0
   abbrev pub potential : State K V S H → ℕ
   potential st = full_capacity (buckets st) - 2 * room st
-
-  -- Moves are paid for: inserts moved at most two entries for each entry that they stored, plus one for each entry that
-  -- shrinks rehashed.
-  pub record IsPaid (st : State K V S H) : Type 0 where
-    pub moved : st.moved ≤ 2 * st.placed + st.shrunk
-    -- the same with the potential added, unless the count of shrinks has stopped at its maximum
-    pub ahead : st.shrunk < 2 ^ 64 - 1 → st.moved + potential st ≤ 2 * st.placed + st.shrunk
 
   -- what holds of every map
   pub record IsMap (eq : K → K → Bool) (st : State K V S H) : Type 0 where
     -- no two keys are equal
     pub distinct : IsDistinct eq (keys_of st.pairs)
     pub sized : IsSized st
-    pub paid : IsPaid st
+    pub paid : IsPaid (potential st) st.counts
 
-  -- Each pair that is removed may give back one of the growth left. In a table of up to 16 buckets it does.
-  pub record FreesRoom (old new : State K V S H) : Type 0 where
-    pub table : buckets new ≡ buckets old
-    pub keeps : room old ≤ room new
-    pub at_most : length new.pairs + room new ≤ length old.pairs + room old
-    pub exact : buckets old ≤ 16 → length new.pairs + room new ≡ length old.pairs + room old
-    -- if no pair was removed, no bucket has changed its state
-    pub untouched : length new.pairs ≡ length old.pairs → new.marks ≡ old.marks
+  -- the pairs that were removed, if any, gave back growth
+  abbrev pub FreesRoom : State K V S H → State K V S H → Type 0
+  FreesRoom old new = GivesBack (length old.pairs) (length new.pairs) old.table.marks new.table.marks
 
   -- all pairs moved into a table of `count` buckets, none of which is deleted
   pub record MovesTo (count : ℕ) (old new : State K V S H) : Type 0 where
     pub table : buckets new ≡ count
     pub exact : length old.pairs + room new ≡ full_capacity count
     pub state : new ≡ record old {
-      marks = new.marks;
-      places = new.places;
-      placings = count_up old.placings (length old.pairs);
+      table = new.table;
+      counts = record old.counts { placings = count_up old.counts.placings (length old.pairs) };
     }
 
   -- `new` is `old` with the contents `left`, after some pairs were evicted or removed. Bucket states and places may
   -- differ; nothing else does.
   pub record Leaves (old : State K V S H) (left : Contents K V S) (new : State K V S H) : Type 0 where
-    pub is : new ≡ record old { pairs = left.pairs; limiter = left.limiter; marks = new.marks; places = new.places }
+    pub is : new ≡ record old { pairs = left.pairs; limiter = left.limiter; table = new.table }
     pub room : FreesRoom old new
-
-  -- The bucket of a removed pair, `place`, is free now: it is empty if every 16 neighbouring buckets around it contain
-  -- an empty one, and deleted otherwise. Each other bucket stays as it was.
-  pub record Frees (place : Option ℕ) (old new : State K V S H) : Type 0 where
-    pub bucket : ℕ
-    pub there : place ≡ Some bucket
-    pub freed : Removes old.marks new.marks bucket
-    pub others : new.places ≡ filter (λ b. not (nat_eq b bucket)) old.places
 
 module _ {K V S : Type 0} (rules : Rules K V S) where
   -- the limiter after it was notified of a removed pair, if there is one

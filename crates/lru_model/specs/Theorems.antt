@@ -9,24 +9,25 @@ use Rattle.group_table.specs.Change.{count_up}
 use Rattle.lru_limits.specs.Rules.{Rules, Offers}
 use Rattle.lru_model.specs.Sizes.{usage}
 use Rattle.lru_model.specs.Lists.{IsFront, lookup_entry, without}
-use Rattle.lru_model.specs.State.{State, buckets, contents, potential}
+use Rattle.lru_model.specs.State.{State, Counts, buckets, contents, potential}
 use Rattle.lru_model.specs.Place.{IsFullWithPairs, CannotGrow}
 use Rattle.lru_model.specs.Inserts.{replacement, with_new_value, MayGive}
+
+-- the count of insertions into the table rises by the entries moved and the entries stored, unless a count has stopped
+-- at its maximum
+abbrev pub CountsPlacings : Counts → Counts → Type 0
+CountsPlacings old new = new.placings < 2 ^ 64 - 1 → new.moved < 2 ^ 64 - 1 → new.placed < 2 ^ 64 - 1 →
+    new.placings + old.moved + old.placed ≡ old.placings + new.moved + new.placed
 
 module _ {K V S H : Type 0} where
   -- `moved` and the potential together rise by at most 2 for each entry stored, and by 1 for each of `anew` entries
   -- that shrinks rehashed, unless the count of stored entries has stopped at its maximum
   pub record PaysForMoves (anew : ℕ) (old new : State K V S H) : Type 0 where
-    pub placed : old.placed ≤ new.placed
-    pub shrunk : new.shrunk ≡ count_up old.shrunk anew
-    pub moved : new.placed < 2 ^ 64 - 1 →
-        new.moved + potential new + 2 * old.placed ≤ old.moved + potential old + 2 * new.placed + anew
-
-  -- the count of insertions into the table rises by the entries moved and the entries stored, unless a count has
-  -- stopped at its maximum
-  abbrev pub CountsPlacings : State K V S H → State K V S H → Type 0
-  CountsPlacings old new = new.placings < 2 ^ 64 - 1 → new.moved < 2 ^ 64 - 1 → new.placed < 2 ^ 64 - 1 →
-      new.placings + old.moved + old.placed ≡ old.placings + new.moved + new.placed
+    pub placed : old.counts.placed ≤ new.counts.placed
+    pub shrunk : new.counts.shrunk ≡ count_up old.counts.shrunk anew
+    pub moved : new.counts.placed < 2 ^ 64 - 1 →
+        new.counts.moved + potential new + 2 * old.counts.placed
+        ≤ old.counts.moved + potential old + 2 * new.counts.placed + anew
 
   -- the table uses at most n bytes
   abbrev pub UsesAtMost : ℕ → State K V S H → Type 0

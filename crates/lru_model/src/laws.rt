@@ -10,7 +10,8 @@ ghost use Rattle.group_table.specs.Bucket.{deleted};
 ghost use Rattle.group_table.specs.Sizes.{full_capacity};
 ghost use Rattle.lru_model.specs.Lists.{first, without_last, keys_of, lookup, lookup_entry, IsFront};
 ghost use Rattle.lru_model.specs.Sizes.{usage, IsGreatestUsage};
-ghost use Rattle.lru_model.specs.State.{State, Contents, contents, buckets, room, FirstFreeIs, IsSized, IsPaid, IsMap};
+ghost use Rattle.lru_model.specs.State.{State, Contents, contents, buckets, room, potential, FirstFreeIs, IsSized};
+ghost use Rattle.lru_model.specs.State.{IsPaid, IsMap};
 ghost use Rattle.lru_model.specs.Place.{Place, Outcome, placed, no_memory, IsPlaced, IsFullWithPairs, FillsBucket};
 ghost use Rattle.lru_model.specs.Calls.{Get, promoted, Remove, PopOldest, PopNewest, cleared};
 ghost use Rattle.lru_model.specs.Reservations.{Reserve};
@@ -213,15 +214,15 @@ pub fn inserts_grow_little<
 pub fn deleted_buckets_serve<K: Eq + Hash, V, L: Limiter<K, V>, S: KeyHasher<K>>()
     ensures served { (pair : K × V) (old : State K V L S) (outcome : Outcome) (new : State K V L S) →
         IsFullWithPairs old →
-        FirstFreeIs deleted (S.hash_of old.hasher pair.0) old →
+        FirstFreeIs deleted (S.hash_of old.hasher pair.0) old.table.marks →
         Place L.rules S.hash_of pair old outcome new →
         (outcome ≡ placed) × IsPlaced pair (buckets old) 0 0 old new ×
-        FillsBucket (S.hash_of old.hasher pair.0) old new }
+        FillsBucket (S.hash_of old.hasher pair.0) old.table new.table }
     ensures only { (pair : K × V) (old new : State K V L S) →
         IsFullWithPairs old → IsSized old →
         Place L.rules S.hash_of pair old placed new →
         IsPlaced pair (buckets old) 0 0 old new →
-        FirstFreeIs deleted (S.hash_of old.hasher pair.0) old }
+        FirstFreeIs deleted (S.hash_of old.hasher pair.0) old.table.marks }
 {}
 
 /// An insert pays for the entries that it moves: the count of moved entries and the potential together rise by at most
@@ -239,13 +240,13 @@ pub fn inserts_pay_for_moves<
         Insert L.rules L.offers I.names S.hash_of key value old result new →
         PaysForMoves 0 old new }
     ensures paid { (key : I) (value : V) (old : State K V L S) (result : Result Bool AllocError) (new : State K V L S) →
-        IsSized old → IsPaid old →
+        IsSized old → IsPaid (potential old) old.counts →
         Insert L.rules L.offers I.names S.hash_of key value old result new →
-        IsPaid new }
+        IsPaid (potential new) new.counts }
     ensures counted { (key : I) (value : V) (old : State K V L S) (result : Result Bool AllocError)
         (new : State K V L S) →
         Insert L.rules L.offers I.names S.hash_of key value old result new →
-        CountsPlacings old new }
+        CountsPlacings old.counts new.counts }
 {}
 
 /// If the limiter refuses growth, the map keeps at least half of what the table may hold, the new entry included. In a
@@ -301,8 +302,8 @@ pub fn removed_keys_are_absent<
 pub fn reservations_keep_the_list<K: Eq + Hash, V, L: Limiter<K, V>, S: KeyHasher<K>>()
     ensures { (n : ℕ) (old : State K V L S) (result : Result (Unit {0}) ReserveError) (new : State K V L S) →
         Reserve L.rules n old result new →
-        (new.pairs ≡ old.pairs) × (new.moved ≡ old.moved) × (new.placed ≡ old.placed)
-        × (new.shrunk ≡ old.shrunk) }
+        (new.pairs ≡ old.pairs) × (new.counts.moved ≡ old.counts.moved) × (new.counts.placed ≡ old.counts.placed)
+        × (new.counts.shrunk ≡ old.counts.shrunk) }
 {}
 
 /// After a successful reservation of n, the table holds n more entries without growth.

@@ -78,9 +78,9 @@ figures_alike old other a b alike f g =
     let memory : Some a.memory ≡ Some b.memory =
     sym f.memory ∙ ap (λ sh. usage sh.bare.entry_bytes sh.count) (sym same) ∙ g.memory in
     let memory_is : a.memory ≡ b.memory = cc in
-    let moved = f.moved ∙ ap (λ sh. sh.bare.moved) (sym same) ∙ sym g.moved in
-    let placed = f.placed ∙ ap (λ sh. sh.bare.placed) (sym same) ∙ sym g.placed in
-    let shrunk = f.shrunk ∙ ap (λ sh. sh.bare.shrunk) (sym same) ∙ sym g.shrunk in
+    let moved = f.moved ∙ ap (λ sh. sh.bare.counts.moved) (sym same) ∙ sym g.moved in
+    let placed = f.placed ∙ ap (λ sh. sh.bare.counts.placed) (sym same) ∙ sym g.placed in
+    let shrunk = f.shrunk ∙ ap (λ sh. sh.bare.counts.shrunk) (sym same) ∙ sym g.shrunk in
     (λ j. record {
       len = len j;
       capacity = capacity j;

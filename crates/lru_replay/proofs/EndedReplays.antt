@@ -29,7 +29,8 @@ use Rattle.lru_replay.specs.LineRuns.{IsTextOf, Answers}
 use Rattle.lru_replay.proofs.LineLists.{lines_of-fed, lines_of-last, lines_at_end, lines_left, takes_line_before}
 use Rattle.lru_replay.proofs.LineRuns.{some_line_run, line_run_sized, line_run-append}
 use Rattle.lru_replay.proofs.ByteLists.{Consumes_end}
-use Rattle.lru_replay.proofs.EmptyMaps.{empty_is_sized, length_always, cost_always, all_always}
+use Rattle.lru_model.proofs.CallerLemmas.{empty_is_sound}
+use Rattle.lru_replay.proofs.AlwaysOffers.{length_always, cost_always, all_always}
 use Rattle.lru_replay.proofs.SpelledLines.{limit_or}
 
 -- what is said of the lines after the first, said of all lines
@@ -81,16 +82,16 @@ module _ {S : Type 0} (rules : Rules ℕ ℕ S) (offers : Offers ℕ ℕ S ℕ) 
 under_goes_on : (limit : Limit) (lines more : List (List ℕ)) (text : List ℕ) → IsTextUnder limit lines text
     → (u : List ℕ) × IsTextUnder limit (lines ++ more) (text ++ u)
 under_goes_on (limits.Length most) = text_goes_on length_rules length_offers no_cost length_always
-    (empty most default_entry_bytes max_of_32_bits) (empty_is_sized most default_entry_bytes max_of_32_bits)
+    (empty most default_entry_bytes max_of_32_bits) (empty_is_sound default_entry_bytes max_of_32_bits)
 under_goes_on (limits.Memory budget entry_bytes) = text_goes_on memory_rules all_offers no_cost all_always
-    (empty budget entry_bytes max_of_32_bits) (empty_is_sized budget entry_bytes max_of_32_bits)
+    (empty budget entry_bytes max_of_32_bits) (empty_is_sound entry_bytes max_of_32_bits)
 under_goes_on (limits.Cost most) =
     let budget : Budget = record { limit = most; cost = 0 } in
     text_goes_on cost_rules cost_offers cost_reported cost_always (empty budget default_entry_bytes max_of_64_bits)
-    (empty_is_sized budget default_entry_bytes max_of_64_bits)
+    (empty_is_sound default_entry_bytes max_of_64_bits)
 under_goes_on limits.Compact = text_goes_on no_rules all_offers no_cost all_always
     (empty (record {}) default_entry_bytes max_of_32_bits)
-    (empty_is_sized (record {}) default_entry_bytes max_of_32_bits)
+    (empty_is_sound default_entry_bytes max_of_32_bits)
 
 no_lines_under : (limit : Limit) → IsTextUnder limit [] []
 no_lines_under (limits.Length most) = (empty most default_entry_bytes max_of_32_bits, ([], refl, refl))

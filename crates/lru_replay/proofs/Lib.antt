@@ -5,7 +5,7 @@ pub mod WrittenTexts
 pub mod LineLists
 pub mod SpelledLines
 pub mod HeldBytes
-pub mod EmptyMaps
+pub mod AlwaysOffers
 pub mod Pops
 pub mod DrainedPairs
 pub mod SomeSteps

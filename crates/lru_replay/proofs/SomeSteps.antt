@@ -92,9 +92,9 @@ module _ {S : Type 0} (rules : Rules ℕ ℕ S) (offers : Offers ℕ ℕ S ℕ) 
         len = length old.pairs;
         capacity = length old.pairs + room old;
         memory = ok.usable.0;
-        moved = old.moved;
-        placed = old.placed;
-        shrunk = old.shrunk;
+        moved = old.counts.moved;
+        placed = old.counts.placed;
+        shrunk = old.counts.shrunk;
       } in (
         stats figures,
         old,

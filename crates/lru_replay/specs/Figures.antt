@@ -9,6 +9,6 @@ pub record IsFigures {K V S H : Type 0} (st : State K V S H) (figures : Figures)
   pub len : figures.len ≡ length st.pairs
   pub capacity : figures.capacity ≡ length st.pairs + room st
   pub memory : usage st.entry_bytes (buckets st) ≡ Some figures.memory
-  pub moved : figures.moved ≡ st.moved
-  pub placed : figures.placed ≡ st.placed
-  pub shrunk : figures.shrunk ≡ st.shrunk
+  pub moved : figures.moved ≡ st.counts.moved
+  pub placed : figures.placed ≡ st.counts.placed
+  pub shrunk : figures.shrunk ≡ st.counts.shrunk

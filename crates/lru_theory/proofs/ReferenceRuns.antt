@@ -36,7 +36,7 @@ module _ {K V H : Type 0} {eq : K → K → Bool} {hash_of : H → K → ℕ} (e
     pub limiter : st.limiter ≡ n
     pub keeps : KeepsToLength st
     pub keys : keys_of st.pairs ≡ cached eq n past
-    pub count : 0 < n → st.placed ≡ count_up first (faults eq n past)
+    pub count : 0 < n → st.counts.placed ≡ count_up first (faults eq n past)
 
   after_one : (n first : ℕ) (past : List K) (key : K) (old new : State K V ℕ H) → After n first past old
       → Refers eq key old new → After n first (key ∷ past) new
@@ -46,7 +46,7 @@ module _ {K V H : Type 0} {eq : K → K → Bool} {hash_of : H → K → ℕ} (e
     keys = one.keys ∙ (λ i. take (h.limiter i) (key ∷ remove_key (eq key) (h.keys i)));
     count = λ some.
         one.count (subst (λ m. 0 < m) (sym h.limiter) some)
-        ∙ ap (λ ks. count_up old.placed (cond (is_in eq key ks) 0 1)) h.keys
+        ∙ ap (λ ks. count_up old.counts.placed (cond (is_in eq key ks) 0 1)) h.keys
         ∙ ap (λ m. count_up m (cond (is_in eq key (cached eq n past)) 0 1)) (h.count some)
         ∙ counts_on first (faults eq n past) (cond (is_in eq key (cached eq n past)) 0 1);
   }
@@ -70,13 +70,13 @@ module _ {K V H : Type 0} {eq : K → K → Bool} {hash_of : H → K → ℕ} (e
 
   -- from an empty map
   pub after_references : (keys : List K) (old new : State K V ℕ H) → References eq hash_of keys old new
-      → After old.limiter old.placed (reverse keys) new
+      → After old.limiter old.counts.placed (reverse keys) new
   after_references keys old new r =
-      let begun : After old.limiter old.placed [] old = record {
+      let begun : After old.limiter old.counts.placed [] old = record {
         limiter = refl;
         keeps = r.length;
         keys = ap keys_of r.empty;
         count = λ some. omega (arith, r.length.sized.placed);
       } in
-      subst (λ ks. After old.limiter old.placed ks new) (append-nil (reverse keys))
-      (after_run old.limiter old.placed [] old r.calls r.replies new keys r.run r.named r.memory begun)
+      subst (λ ks. After old.limiter old.counts.placed ks new) (append-nil (reverse keys))
+      (after_run old.limiter old.counts.placed [] old r.calls r.replies new keys r.run r.named r.memory begun)

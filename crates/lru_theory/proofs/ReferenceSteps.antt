@@ -99,35 +99,36 @@ module _ {K V : Type 0} where
 
 module _ {K V H : Type 0} (hash_of : H → K → ℕ) where
   -- each pair that leaves leaves the count of stored entries as it is
-  oldest_placed : (hash n : ℕ) (old new : State K V ℕ H) → OldestEvicted length_rules hash n old new → new.placed ≡
-      old.placed
-  oldest_placed hash zero old new e = ap (λ st. st.placed) e
+  oldest_placed : (hash n : ℕ) (old new : State K V ℕ H) → OldestEvicted length_rules hash n old new
+      → new.counts.placed ≡ old.counts.placed
+  oldest_placed hash zero old new e = ap (λ st. st.counts.placed) e
   oldest_placed hash (suc n) old new (before, more, none, leaves) =
-      ap (λ st. st.placed) leaves.is ∙ oldest_placed hash n old before more
+      ap (λ st. st.counts.placed) leaves.is ∙ oldest_placed hash n old before more
 
   if_memory : (pair : K × V) (count spare moves : ℕ) (old : State K V ℕ H) (outcome : Outcome) (new : State K V ℕ H)
       → outcome ≡ placed → IsPlacedIfMemory length_rules pair count spare moves old outcome new
-      → new.placed ≡ count_up old.placed 1
-  if_memory pair count spare moves old placed new e h = ap (λ st. st.placed) h.state
+      → new.counts.placed ≡ count_up old.counts.placed 1
+  if_memory pair count spare moves old placed new e h = ap (λ st. st.counts.placed) h.state
   if_memory pair count spare moves old refused new e h = absurd h
   if_memory pair count spare moves old no_memory new e h = absurd cc
 
   evicts_placed : (hash : ℕ) (pair : K × V) (old mid : State K V ℕ H) (outcome : Outcome) (new : State K V ℕ H)
-      → outcome ≡ placed → Evicts length_rules hash pair old mid outcome new → new.placed ≡ count_up mid.placed 1
+      → outcome ≡ placed → Evicts length_rules hash pair old mid outcome new
+      → new.counts.placed ≡ count_up mid.counts.placed 1
   evicts_placed hash pair old mid outcome new e (nothing_to_evict none is same) = absurd cc
   evicts_placed hash pair old mid outcome new e (finds_bucket n some small few left oldest fills is h) =
-      ap (λ st. st.placed) h.state ∙ ap (λ m. count_up m 1) (oldest_placed hash n mid left oldest)
+      ap (λ st. st.counts.placed) h.state ∙ ap (λ m. count_up m 1) (oldest_placed hash n mid left oldest)
   evicts_placed hash pair old mid outcome new e (rehashes some n more small few left oldest h) =
       if_memory pair _ _ _ left outcome new e h ∙ ap (λ m. count_up m 1) (oldest_placed hash n mid left oldest)
 
-  cannot_placed : (old mid : State K V ℕ H) → CannotGrow length_rules old mid → mid.placed ≡ old.placed
-  cannot_placed old mid (no_target none same) = ap (λ st. st.placed) same
-  cannot_placed old mid (denied count bytes target denies same) = ap (λ st. st.placed) same
+  cannot_placed : (old mid : State K V ℕ H) → CannotGrow length_rules old mid → mid.counts.placed ≡ old.counts.placed
+  cannot_placed old mid (no_target none same) = ap (λ st. st.counts.placed) same
+  cannot_placed old mid (denied count bytes target denies same) = ap (λ st. st.counts.placed) same
 
   -- a pair that is stored is counted
   placed_counts : (pair : K × V) (old : State K V ℕ H) (outcome : Outcome) (new : State K V ℕ H) → outcome ≡ placed
-      → Place length_rules hash_of pair old outcome new → new.placed ≡ count_up old.placed 1
-  placed_counts pair old outcome new e (in_bucket few some fills is h) = ap (λ st. st.placed) h.state
+      → Place length_rules hash_of pair old outcome new → new.counts.placed ≡ count_up old.counts.placed 1
+  placed_counts pair old outcome new e (in_bucket few some fills is h) = ap (λ st. st.counts.placed) h.state
   placed_counts pair old outcome new e (rehashed none few why h) = if_memory pair _ _ _ old outcome new e h
   placed_counts pair old outcome new e (grown outgrown count bytes target grants h) = if_memory pair _ _ _ _ outcome
       new e h
@@ -135,22 +136,22 @@ module _ {K V H : Type 0} (hash_of : H → K → ℕ) where
       evicts_placed _ pair old mid outcome new e evicts ∙ ap (λ m. count_up m 1) (cannot_placed old mid cannot)
 
   module _ (eq : K → K → Bool) (key : K) (v : V) (old new : State K V ℕ H) where
-    same_count : old.placed < 2 ^ 64 → old.placed ≡ count_up old.placed 0
+    same_count : old.counts.placed < 2 ^ 64 → old.counts.placed ≡ count_up old.counts.placed 0
     same_count fits = omega (arith, fits)
 
     -- an insert that returned true counts its key if the key was not there
-    pub insert_counts : old.placed < 2 ^ 64 → (result : Result Bool AllocError) → result ≡ Ok true
+    pub insert_counts : old.counts.placed < 2 ^ 64 → (result : Result Bool AllocError) → result ≡ Ok true
         → Insert length_rules length_offers eq hash_of key v old result new
-        → new.placed ≡ count_up old.placed (cond (is_in eq key (keys_of old.pairs)) 0 1)
+        → new.counts.placed ≡ count_up old.counts.placed (cond (is_in eq key (keys_of old.pairs)) 0 1)
     insert_counts fits result ok (replaced pair found taken is leaves) =
-        rw (there (eq key) old.pairs pair found) (ap (λ st. st.placed) leaves.is ∙ same_count fits)
+        rw (there (eq key) old.pairs pair found) (ap (λ st. st.counts.placed) leaves.is ∙ same_count fits)
     insert_counts fits result ok (not_replaced pair found taken is leaves) = absurd cc
     insert_counts fits result ok (no_memory_to_admit none never is same) = absurd never
     insert_counts fits result ok (not_admitted none s gives is same) = absurd cc
     insert_counts fits result ok (admitted none s pair gives (ready, way, (placed, landed, place, settles))) =
         rw (absent (eq key) old.pairs none)
-        (ap (λ st. st.placed) settles.1.is ∙ placed_counts pair ready placed landed refl place
-        ∙ ap (λ st. count_up st.placed 1) way.is)
+        (ap (λ st. st.counts.placed) settles.1.is ∙ placed_counts pair ready placed landed refl place
+        ∙ ap (λ st. count_up st.counts.placed 1) way.is)
     insert_counts fits result ok (admitted none s pair gives (ready, way, (refused, landed, place, settles))) = absurd
         cc
     insert_counts fits result ok (admitted none s pair gives (ready, way, (no_memory, landed, place, settles))) =
@@ -169,7 +170,8 @@ lacking e = cc
 pub record Refers {K V H : Type 0} (eq : K → K → Bool) (key : K) (old new : State K V ℕ H) : Type 0 where
   pub keys : keys_of new.pairs ≡ take old.limiter (key ∷ remove_key (eq key) (keys_of old.pairs))
   pub limiter : new.limiter ≡ old.limiter
-  pub count : 0 < old.limiter → new.placed ≡ count_up old.placed (cond (is_in eq key (keys_of old.pairs)) 0 1)
+  pub count : 0 < old.limiter
+      → new.counts.placed ≡ count_up old.counts.placed (cond (is_in eq key (keys_of old.pairs)) 0 1)
   pub keeps : KeepsToLength new
 
 -- What is proved of each call of the map.
@@ -201,7 +203,7 @@ module _ {K V H : Type 0} {eq : K → K → Bool} {hash_of : H → K → ℕ} (e
   -- a key that is there
   got_refers : (key : K) (old new : State K V ℕ H) (w : V) → KeepsToLength old → IsSized new
       → Step length_rules length_offers eq hash_of old new → lookup (eq key) old.pairs ≡ Some w
-      → new.pairs ≡ front (eq key) old.pairs → new.placed ≡ old.placed → Refers eq key old new
+      → new.pairs ≡ front (eq key) old.pairs → new.counts.placed ≡ old.counts.placed → Refers eq key old new
   got_refers key old new w keeps sized step found pairs count =
       let pair = value_there (eq key) old.pairs w found in
       let is = there (eq key) old.pairs pair.0 pair.1 in
@@ -232,7 +234,7 @@ module _ {K V H : Type 0} {eq : K → K → Bool} {hash_of : H → K → ℕ} (e
   call_refers (calls.GetOrInsert at v) key old reply new (inl (result, got w there r same, is)) e found keeps sized =
       subst (λ k. Refers eq k old new) (some_same at key e)
       (got_refers at old new w keeps sized (makes_newest v at result (got w there r same)) there
-      (ap (λ st. st.pairs) same) (ap (λ st. st.placed) same))
+      (ap (λ st. st.pairs) same) (ap (λ st. st.counts.placed) same))
   call_refers (calls.GetOrInsert at v) key old reply new (inl (Ok flag, inserted none w makes h, is)) e found keeps
       sized =
       subst (λ k. Refers eq k old new) (some_same at key e)

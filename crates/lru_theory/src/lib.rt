@@ -31,7 +31,7 @@ pub fn references_keep_the_newest<K: Eq + Hash + Drop, V: Drop, S: KeyHasher<K>>
         keys_of new.pairs ≡ take old.limiter (recency K.eq (reverse keys)) }
     ensures misses { (keys : List K) (old new : State K V ByLength S) →
         IsExact K.eq → References K.eq S.hash_of keys old new → 0 < old.limiter →
-        new.placed ≡ count_up old.placed (misses K.eq old.limiter (reverse keys)) }
+        new.counts.placed ≡ count_up old.counts.placed (misses K.eq old.limiter (reverse keys)) }
 {
     laws::inserts_leave_the_newest::<K, V, S>();
     laws::maps_keep_to_their_length::<K, V, S>();
@@ -49,8 +49,8 @@ pub fn more_capacity_never_misses_more<K: Eq + Hash + Drop, V: Drop, S: KeyHashe
         keys_of small.pairs ≡ take old.limiter (keys_of large.pairs) }
     ensures misses { (keys : List K) (old small other large : State K V ByLength S) →
         IsExact K.eq → References K.eq S.hash_of keys old small → References K.eq S.hash_of keys other large →
-        old.limiter ≤ other.limiter → 0 < old.limiter → other.placed ≡ old.placed →
-        large.placed ≤ small.placed }
+        old.limiter ≤ other.limiter → 0 < old.limiter → other.counts.placed ≡ old.counts.placed →
+        large.counts.placed ≤ small.counts.placed }
 {
     references_keep_the_newest::<K, V, S>();
     recency::more_places_never_miss_more::<K>();
@@ -97,9 +97,9 @@ pub fn a_smaller_budget_is_included<K: Eq + Hash + Drop, V: Costed + Drop, S: Ke
 /// k / (k + 1 - h) * m + k entries.
 pub fn maps_are_competitive<K: Eq + Hash + Drop, V: Drop, S: KeyHasher<K>>()
     ensures { (keys : List K) (old new : State K V ByLength S) (h missed : ℕ) (first left : List K) →
-        IsExact K.eq → References K.eq S.hash_of keys old new → 0 < old.limiter → old.placed ≡ 0 →
+        IsExact K.eq → References K.eq S.hash_of keys old new → 0 < old.limiter → old.counts.placed ≡ 0 →
         h ≤ old.limiter → Served K.eq h first (reverse keys) missed left →
-        (old.limiter + 1 - h) * new.placed ≤ old.limiter * missed + (old.limiter + 1 - h) * old.limiter }
+        (old.limiter + 1 - h) * new.counts.placed ≤ old.limiter * missed + (old.limiter + 1 - h) * old.limiter }
 {
     references_keep_the_newest::<K, V, S>();
     recency::lru_is_competitive::<K>();

@@ -33,7 +33,7 @@ use Rattle.lru_limits.specs.Hashing.{HasherMembers}
 use Rattle.lru_model.specs.State.{State}
 use Rattle.schnellru.specs.Lending.Values.{map_row}
 use Rattle.schnellru.specs.Lending.Answers.{lent_or_none, IsLent, NoneLent, name_lent}
-use Rattle.schnellru.specs.Lending.Made.{Made, Lacks, lends_or, lends_made}
+use Rattle.schnellru.specs.Lending.Made.{Made, LendsNone, lends_or, lends_made}
 use Rattle.schnellru.specs.declared.map.get_or_insert.NotLent.{NotLent}
 use Rattle.schnellru.specs.declared.map.get_or_insert.NotLent.TheVariants.{NotKept, Failed}
 use Rattle.schnellru.specs.contracts.map.get_or_insert.NotLent as NL
@@ -72,7 +72,7 @@ module _ {M : Type 1} {𝓤 : Ura M} (𝓛 : Logic 𝓤) (K V L S N H : RattleTy
   abbrev Both : Result (MutBor V.Denot) (NotLent E) → Type 0
   Both r = (s : (V.Denot → Map) × Map) × ((w : V.Denot) → IsLent (lent_or_none r) →
       With r (s.0 w) w) × (NoneLent (lent_or_none r) →
-      Lacks K V L S N H key limits links link_eq link_shown hashed hash m Step (lent_or_none r) s.1)
+      LendsNone K V L S N H key limits links link_eq link_shown hashed hash m Step (lent_or_none r) s.1)
 
   pub ends : (r : Result (MutBor V.Denot) (NotLent E)) →
       ent 𝓤 (sem 𝓛 (Or r)) (sem 𝓛 (lends_made K V L S N H key limits links link_eq link_shown hashed hash m Step

@@ -1,4 +1,3 @@
-pub mod Fields
 pub mod NotedStates
 pub mod KeptPairs
 pub mod Offers

@@ -7,3 +7,4 @@ pub mod Rest
 pub mod Searches
 pub mod Copies
 pub mod Handing
+pub mod Fields

@@ -55,7 +55,7 @@ module _ {K V L S N H : Type 0} {equal : equality.Ghosts K} {input : hashing.Gho
   walk_after_first w = record walk {
     map = walk_written walk.start w;
     start = walk.start + 1;
-    front = slice_get walk.map.now.places (walk.start + 1);
+    front = slice_get walk.map.now.table.places (walk.start + 1);
     first = refl;
   }
 
@@ -63,8 +63,8 @@ module _ {K V L S N H : Type 0} {equal : equality.Ghosts K} {input : hashing.Gho
   walk_after_last w = record walk {
     map = walk_written (walk.end - 1) w;
     end = walk.end - 1;
-    back = last_of (walk.end - 1) walk.map.now.places;
-    within = one_less walk.end (length walk.map.now.places) walk.within;
+    back = last_of (walk.end - 1) walk.map.now.table.places;
+    within = one_less walk.end (length walk.map.now.table.places) walk.within;
     last = refl;
   }
 

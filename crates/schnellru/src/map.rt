@@ -86,30 +86,14 @@ pub struct LruMap<K: Eq + Hash, V, L: Limiter<K, V> = ByLength, S: KeyHasher<K> 
 
 impl<K: Eq + Hash, V, L: Limiter<K, V>, S: KeyHasher<K>> Model for LruMap<K, V, L, S> {
     ghost use Rattle.lru_model.specs.State.{State};
+    ghost use Rattle.schnellru.specs.Inside.Fields.{fields_of};
+    ghost use Rattle.schnellru.specs.Inside.Holds.{state_of, Holds};
 
     ghost Value = { State K V L S };
 
-    ghost use Rattle.schnellru.specs.Inside.Holds.{state_of, Holds};
+    ghost view = { λ m. state_of m.entries (fields_of m (L.LinkType.number L.LinkType.MAX)) };
 
-    ghost view = { λ m. state_of m.entries (record {
-      limiter = m.limiter;
-      hasher = m.hasher;
-      moved = m.moved;
-      placed = m.placed;
-      shrunk = m.shrunk;
-      entry_bytes = m.entry_bytes;
-      max = L.LinkType.number L.LinkType.MAX;
-    }) };
-
-    ghost invariant = { λ m. Holds K.eq S.hash_of m.entries (record {
-      limiter = m.limiter;
-      hasher = m.hasher;
-      moved = m.moved;
-      placed = m.placed;
-      shrunk = m.shrunk;
-      entry_bytes = m.entry_bytes;
-      max = L.LinkType.number L.LinkType.MAX;
-    }) };
+    ghost invariant = { λ m. Holds K.eq S.hash_of m.entries (fields_of m (L.LinkType.number L.LinkType.MAX)) };
 }
 
 impl<K: Eq + Hash, V, L: Limiter<K, V>, S: KeyHasher<K>> LruMap<K, V, L, S> {

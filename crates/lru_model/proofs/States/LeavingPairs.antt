@@ -88,7 +88,7 @@ module _ {K V S H : Type 0} where
       → Leaves mid all new → Leaves old all new
   leaves_trans old mid new some all l m = record {
     is = m.is ∙ ap {A = State K V S H} {B = State K V S H}
-        (λ st. record st { pairs = all.pairs; limiter = all.limiter; marks = new.marks; places = new.places }) l.is;
+        (λ st. record st { pairs = all.pairs; limiter = all.limiter; table = new.table }) l.is;
     room = frees_trans old mid new l.room m.room;
   }
 

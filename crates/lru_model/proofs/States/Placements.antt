@@ -10,7 +10,7 @@ use Rattle.group_table.specs.Bucket.{Mark, room as room_of}
 use Rattle.group_table.specs.Change.{HasNoPlace}
 use Rattle.lru_limits.specs.Rules.{Rules}
 use Rattle.lru_model.specs.Sizes.{no_table, new_table}
-use Rattle.lru_model.specs.State.{State, buckets, room, contents, IsSized, Leaves, pop, pops}
+use Rattle.lru_model.specs.State.{State, TableState, buckets, room, contents, IsSized, Leaves, pop, pops}
 use Rattle.lru_model.specs.Place.{Place, rehashed, grown, not_grown, HasNoBucket, IsOutgrown, CannotGrow}
 use Rattle.lru_model.specs.Place.{no_target, denied, Evicts, nothing_to_evict, finds_bucket, rehashes, OldestEvicted}
 use Rattle.lru_model.specs.Place.{Outcome, outcome_of, placed, no_memory, IsPlaced, IsPlacedIfMemory}
@@ -29,7 +29,7 @@ module _ {K V S H : Type 0} (st : State K V S H) (ok : IsSized st) where
   -- without buckets there are no pairs
   pub none_without_buckets : buckets st ≡ 0 → st.pairs ≡ []
   none_without_buckets none = nil_from_length st.pairs
-      (omega (arith, fits st ok, full_capacity-at_most (buckets st), none))
+      (omega (arith, fits ok, full_capacity-at_most (buckets st), none))
 
   -- and with pairs there are buckets, in a number that a table can have
   pub power_with_pairs : 0 < length st.pairs → IsPowerFromFour (buckets st)
@@ -116,16 +116,16 @@ module _ {K V S H : Type 0} (rules : Rules K V S) (hash_of : H → K → ℕ) (p
 
 module _ {K V S H : Type 0} (st : State K V S H) (ok : IsSized st) (hash : ℕ) where
   -- a table that fills a bucket holds fewer pairs than it may
-  pub fills_within : (new : State K V S H) → FillsBucket hash st new → length st.pairs < full_capacity (buckets st)
+  pub fills_within : (new : TableState) → FillsBucket hash st.table new → length st.pairs < full_capacity (buckets st)
   fills_within new fills = elim fills.spends [
-    | inl e ↦ omega (arith, e.1, fits st ok)
-    | inr d ↦ omega (arith, (deleted_first_large st ok hash (fills.bucket, fills.first, d.0)).1)
+    | inl e ↦ omega (arith, e.1, fits ok)
+    | inr d ↦ omega (arith, (deleted_first_large ok hash (fills.bucket, fills.first, d.0)).1)
   ]
 
   -- no bucket takes a pair for which a map has no place
-  pub no_place_bucket : HasNoPlace st.marks hash → HasNoBucket hash st
+  pub no_place_bucket : HasNoPlace st.table.marks hash → HasNoBucket hash st
   no_place_bucket (inl none) = record {
-    no_room = no_room st.marks none;
+    no_room = no_room st.table.marks none;
     first_empty = λ some. absurd (omega (arith, ap length (none_without_buckets st ok none), some));
   }
   no_place_bucket (inr (none, b, first, is)) = record { no_room = none; first_empty = λ some. (b, first, is) }
@@ -140,7 +140,7 @@ pub record IsStuck (hash least : ℕ) (marks : List Mark) (pairs : ℕ) : Type 0
 -- The n oldest pairs were evicted, after none of which the new pair had a place, and then one more.
 module _ {K V S H : Type 0} (rules : Rules K V S) (hash : ℕ) (pair : K × V) (old before left : State K V S H)
     (ok : IsSized old) (lacks : IsFullWithPairs old) (n : ℕ) (gone : OldestEvicted rules hash n old before)
-    (stuck : IsStuck hash (full_capacity (buckets old) / 2) before.marks (length before.pairs))
+    (stuck : IsStuck hash (full_capacity (buckets old) / 2) before.table.marks (length before.pairs))
     (step : Leaves before (pop rules (contents before)) left) where
   pub one_more : OldestEvicted rules hash (suc n) old left
   one_more = (before, gone, stuck.no_place, step)
@@ -172,7 +172,7 @@ module _ {K V S H : Type 0} (rules : Rules K V S) (hash : ℕ) (pair : K × V) (
 
   module _ (new : State K V S H) where
     pub finds : full_capacity (buckets old) / 2 ≤ length left.pairs
-        → IsPlaced pair (buckets left) (room new) 0 left new → FillsBucket hash left new
+        → IsPlaced pair (buckets left) (room new) 0 left new → FillsBucket hash left.table new.table
         → Evicts rules hash pair old old placed new
     finds enough p fills = finds_bucket (suc n) (omega arith) only_one
         (omega (arith, enough, one_fewer, in_all)) left one_more fills refl
@@ -200,7 +200,7 @@ module _ {K V S H : Type 0} (rules : Rules K V S) (hash : ℕ) (pair : K × V) (
         spare (no small) = absurd
             (omega (
               arith,
-              exact old ok (omega (arith, small)),
+              exact ok (omega (arith, small)),
               lacks.1,
               only_one (omega (arith, small)),
               in_all,

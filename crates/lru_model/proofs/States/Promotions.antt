@@ -5,7 +5,7 @@ use Rattle.std.specs.List.{IsDistinct}
 use Rattle.std.proofs.lemmas.Map.{length-set_value, keys-set_value}
 use Rattle.lru_limits.specs.Laws.{IsLookup}
 use Rattle.lru_model.specs.Lists.{front, back}
-use Rattle.lru_model.specs.State.{State, IsSized, IsMap}
+use Rattle.lru_model.specs.State.{State, IsSound, IsSized, IsMap}
 use Rattle.lru_model.specs.Calls.{Get, found, absent, promoted, demoted, written}
 use Rattle.lru_model.proofs.PairLists.DistinctKeys.{distinct_first}
 use Rattle.lru_model.proofs.Theorems.Sums.{total, total-front, total-back}
@@ -23,33 +23,26 @@ module _ {K V : Type 0} (names : K → Bool) where
 
 module _ {K V S H : Type 0} (st : State K V S H) where
   -- a table is as sound with as many pairs
-  sized_with : (pairs : List (K × V)) (places : List ℕ) → length pairs ≡ length st.pairs → IsSized st
-      → IsSized (record st { pairs = pairs; places = places })
-  sized_with pairs places same ok = record {
-    table = ok.table;
-    taken = ok.taken ∙ sym same;
-    reachable = ok.reachable;
-    usable = ok.usable;
-    moved = ok.moved;
-    placed = ok.placed;
-    shrunk = ok.shrunk;
-  }
+  sized_with : (pairs : List (K × V)) → length pairs ≡ length st.pairs → IsSized st
+      → IsSized (record st { pairs = pairs })
+  sized_with pairs same ok =
+      subst (λ n. IsSound n st.entry_bytes st.max st.table.marks st.counts) (sym same) ok
 
   pub promoted_sized : (names : K → Bool) → IsSized st → IsSized (promoted names st)
-  promoted_sized names ok = sized_with _ _ (length-front_pairs names st.pairs) ok
+  promoted_sized names ok = sized_with _ (length-front_pairs names st.pairs) ok
 
   pub demoted_sized : (names : K → Bool) → IsSized st → IsSized (demoted names st)
-  demoted_sized names ok = sized_with _ _ (length-back_pairs names st.pairs) ok
+  demoted_sized names ok = sized_with _ (length-back_pairs names st.pairs) ok
 
   pub written_sized : (names : K → Bool) (value : V) → IsSized st → IsSized (written names value st)
-  written_sized names value ok = sized_with _ _ (length-set_value names st.pairs value) ok
+  written_sized names value ok = sized_with _ (length-set_value names st.pairs value) ok
 
   pub written_is_map : (names : K → Bool) (value : V) {eq : K → K → Bool} → IsMap eq st
       → IsMap eq (written names value st)
   written_is_map names value {eq} ok = record {
     distinct = subst (IsDistinct eq) (sym (keys-set_value names st.pairs value)) ok.distinct;
     sized = written_sized names value ok.sized;
-    paid = record { moved = ok.paid.moved; ahead = ok.paid.ahead };
+    paid = ok.paid;
   }
 
 module _ {K V S H Q : Type 0} {names : Q → K → Bool} {eq : K → K → Bool} {query_input : Q → List (List ℕ)}
@@ -59,7 +52,7 @@ module _ {K V S H Q : Type 0} {names : Q → K → Bool} {eq : K → K → Bool}
   promoted_is_map ok = record {
     distinct = distinct_first eq (names q) (looks_up.one q) old.pairs ok.distinct;
     sized = promoted_sized old (names q) ok.sized;
-    paid = record { moved = ok.paid.moved; ahead = ok.paid.ahead };
+    paid = ok.paid;
   }
 
   pub get_is_map : (result : Option V) (new : State K V S H) → Get (names q) old result new → IsMap eq old

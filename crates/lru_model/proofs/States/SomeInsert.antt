@@ -10,7 +10,6 @@ use Rattle.lru_model.specs.Inserts.{Insert, replaced, not_replaced, not_admitted
 use Rattle.lru_model.specs.Inserts.{with_replaced, with_removed}
 use Rattle.lru_model.proofs.Theorems.Fronts.{length-front, front_trim, front_make_room}
 use Rattle.lru_model.proofs.Theorems.Limits.{length-without_found}
-use Rattle.lru_model.proofs.Theorems.Potential.{sized_with_limiter}
 use Rattle.lru_model.proofs.States.SomePlace.{some_leave, some_place}
 
 module _ {K V S H I : Type 0} (rules : Rules K V S) (offers : Offers K V S I) (names : I → K → Bool)
@@ -43,7 +42,7 @@ module _ {K V S H I : Type 0} (rules : Rules K V S) (offers : Offers K V S I) (n
   given_pair absent s pair may_give =
       let notified : State K V S H = record old { limiter = s } in
       let c : Contents K V S = record { pairs = old.pairs; limiter = s } in
-      let (way, left, goes_on, freed) = some_leave notified (make_room rules c) (sized_with_limiter old s ok)
+      let (way, left, goes_on, freed) = some_leave notified (make_room rules c) ok
       (length-front _ old.pairs (front_make_room rules c)) in
       let (outcome, landed, place, after) = some_place rules hash_of pair way goes_on in
       settle way left outcome landed place after
@@ -79,7 +78,7 @@ module _ {K V S H I : Type 0} (rules : Rules K V S) (offers : Offers K V S I) (n
         Ok false,
         record old { limiter = s },
         not_admitted e s may_give refl refl,
-        sized_with_limiter old s ok,
+        ok,
       )
       absent e s (Some pair) may_give = given_pair e s pair may_give
 

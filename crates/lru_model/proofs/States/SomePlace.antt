@@ -14,7 +14,8 @@ use Rattle.group_table.proofs.BucketLemmas.{room_is, used_count-split, count_by-
 use Rattle.group_table.proofs.CountedMarks.{IsTable-counted}
 use Rattle.lru_limits.specs.Rules.{Rules}
 use Rattle.lru_model.specs.Sizes.{Target, no_table, same_table, new_table, usage}
-use Rattle.lru_model.specs.State.{State, Contents, buckets, room, contents, IsSized, Leaves, FirstFreeIs, pops}
+use Rattle.lru_model.specs.State.{State, Contents, buckets, room, contents, IsSound, IsSized, Leaves, FirstFreeIs}
+use Rattle.lru_model.specs.State.{pops, count_insert}
 use Rattle.lru_model.specs.Place.{Place, in_bucket, rehashed, grown, not_grown, nothing_to_evict, finds_bucket}
 use Rattle.lru_model.specs.Place.{rehashes}
 use Rattle.lru_model.specs.Place.{Outcome, placed, refused, no_memory, IsPlaced, HasNoBucket, IsOutgrown, FillsBucket}
@@ -23,7 +24,6 @@ use Rattle.lru_model.proofs.TableSizes.Growth.{full_capacity-at_most, full_capac
 use Rattle.lru_model.proofs.States.LeavingPairs.{length-pops}
 use Rattle.lru_model.proofs.States.Outcomes.{placed-not_no_memory}
 use Rattle.lru_model.proofs.TableSizes.FilledBuckets.{deleted_large, fills_free}
-use Rattle.lru_model.proofs.Theorems.Potential.{sized_with_limiter}
 use Rattle.lru_model.proofs.TableSizes.SomeMarks.{marked, length-marked, room-marked, sized-marked}
 
 -- a count stays within 64 bits
@@ -48,27 +48,23 @@ module _ {K V S H : Type 0} where
           untouched = λ _. refl;
         };
       },
-      record {
-        table = ok.table;
-        taken = ok.taken ∙ sym same;
-        reachable = ok.reachable;
-        usable = ok.usable;
-        moved = ok.moved;
-        placed = ok.placed;
-        shrunk = ok.shrunk;
-      },
+      subst (λ n. IsSound n old.entry_bytes old.max old.table.marks old.counts) (sym same) ok,
       omega (arith, same),
     )
     | yes q ↦
-        let deletions = count_by is_deleted old.marks in
-        let split = used_count-split old.marks in
+        let deletions = count_by is_deleted old.table.marks in
+        let split = used_count-split old.table.marks in
         let within : length c.pairs + deletions ≤ full_capacity (buckets old) = omega
         (arith, split, ok.taken, ok.table.used_within, q) in
         let new : State K V S H =
-        record old { pairs = c.pairs; limiter = c.limiter; marks = marked old ok c.pairs deletions within } in
+        record old {
+          pairs = c.pairs;
+          limiter = c.limiter;
+          table = record old.table { marks = marked old ok c.pairs deletions within };
+        } in
         let left = room-marked old ok c.pairs deletions within in
         let freed : length c.pairs + room new ≡ length old.pairs
-        + room old = omega (arith, left, room_is old.marks, split, ok.taken, ok.table.used_within, q) in (
+        + room old = omega (arith, left, room_is old.table.marks, split, ok.taken, ok.table.used_within, q) in (
           new,
           record {
             is = refl;
@@ -80,8 +76,7 @@ module _ {K V S H : Type 0} where
               untouched = λ same. absurd (omega (arith, same, q));
             };
           },
-          sized-marked old ok c.pairs deletions within ok.table.none_deleted c.limiter old.placings old.moved
-              old.placed ok.moved ok.placed,
+          sized-marked old ok c.pairs deletions within ok.table.none_deleted old.counts ok.moved ok.placed refl,
           freed,
         )
   ]
@@ -96,15 +91,10 @@ module _ {K V S H : Type 0} where
     some_bucket deletions within none_deleted =
         let pairs = pair ∷ old.pairs in
         let fit : length pairs + deletions ≤ full_capacity (buckets old) = omega (arith, within) in
-        let placings = count_up old.placings 1 in
-        let moved = count_up old.moved 0 in
-        let placed = count_up old.placed 1 in
         let new : State K V S H = record old {
           pairs = pairs;
-          marks = marked old ok pairs deletions fit;
-          placings = placings;
-          moved = moved;
-          placed = placed;
+          table = record old.table { marks = marked old ok pairs deletions fit };
+          counts = count_insert 0 old.counts;
         } in (
           new,
           record {
@@ -112,36 +102,33 @@ module _ {K V S H : Type 0} where
             room_left = omega (arith, room-marked old ok pairs deletions fit);
             state = refl;
           },
-          sized-marked old ok pairs deletions fit none_deleted old.limiter placings moved placed (counted old.moved 0)
-              (counted old.placed 1),
+          sized-marked old ok pairs deletions fit none_deleted new.counts (counted old.counts.moved 0)
+              (counted old.counts.placed 1) refl,
         )
 
     -- it can fill the first free one, with growth left or if that one is deleted
-    fill_first : (hash b : ℕ) → b < buckets old → IsFirstFree old.marks hash b → MayFill old.marks b
-        → (new : State K V S H) × IsPlaced pair (buckets old) (room new) 0 old new × FillsBucket hash old new
-        × IsSized new
+    fill_first : (hash b : ℕ) → b < buckets old → IsFirstFree old.table.marks hash b → MayFill old.table.marks b
+        → (new : State K V S H) × IsPlaced pair (buckets old) (room new) 0 old new
+        × FillsBucket hash old.table new.table × IsSized new
     fill_first hash b within first may =
-        (new, placed, fills_free old new ok hash b within first spends refl refl, sized)
+        (new, placed, fills_free old.table new.table ok hash b within first spends refl refl, sized)
       where
         marks : List Mark
-        marks = slice_set old.marks b (full tt)
+        marks = slice_set old.table.marks b (full tt)
 
         new : State K V S H
         new = record old {
           pairs = pair ∷ old.pairs;
-          marks = marks;
-          places = b ∷ old.places;
-          placings = count_up old.placings 1;
-          moved = count_up old.moved 0;
-          placed = count_up old.placed 1;
+          table = record { marks = marks; places = b ∷ old.table.places };
+          counts = count_insert 0 old.counts;
         }
 
-        counts : (p : Mark → Bool) → count_by p marks + cond (p (bucket_at old.marks b)) 1 0
-            ≡ count_by p old.marks + cond (p (full tt)) 1 0
-        counts p = count_by-set p old.marks b (full tt) within
+        counts : (p : Mark → Bool) → count_by p marks + cond (p (bucket_at old.table.marks b)) 1 0
+            ≡ count_by p old.table.marks + cond (p (full tt)) 1 0
+        counts p = count_by-set p old.table.marks b (full tt) within
 
         same : length marks ≡ buckets old
-        same = length-set old.marks b (full tt)
+        same = length-set old.table.marks b (full tt)
 
         one : (m : Mark) → ◌≡◌ {A = ℕ} (cond (is_used m) 1 0 + (if is_used m then 0 else 1)) 1
         one empty = refl
@@ -150,19 +137,19 @@ module _ {K V S H : Type 0} where
 
         used : count_by is_used marks ≤ full_capacity (buckets old)
         used = elim may [
-          | inl some ↦ omega (arith, counts is_used, room_is old.marks, some)
+          | inl some ↦ omega (arith, counts is_used, room_is old.table.marks, some)
           | inr there ↦ omega
               (arith, counts is_used, ap (λ m. cond {A = ℕ} (is_used m) 1 0) there, ok.table.used_within)
         ]
 
-        spends : room_of marks + room_at old.marks b ≡ room_of old.marks
+        spends : room_of marks + room_at old.table.marks b ≡ room_of old.table.marks
         spends = omega (
           arith,
           room_is marks,
-          room_is old.marks,
+          room_is old.table.marks,
           ap full_capacity same,
           counts is_used,
-          one (bucket_at old.marks b),
+          one (bucket_at old.table.marks b),
           used,
         )
 
@@ -177,18 +164,18 @@ module _ {K V S H : Type 0} where
           taken = omega (arith, counts is_full, ap (λ t. cond {A = ℕ} t 1 0) first.free_there, ok.taken);
           reachable = subst (λ n. (n ≡ 0) ⊎ (n < old.max)) (sym same) ok.reachable;
           usable = subst (λ n. (bytes : ℕ) × (usage old.entry_bytes n ≡ Some bytes)) (sym same) ok.usable;
-          moved = counted old.moved 0;
-          placed = counted old.placed 1;
+          moved = counted old.counts.moved 0;
+          placed = counted old.counts.placed 1;
           shrunk = ok.shrunk;
         }
 
     -- with growth left it does
     some_filled : (hash : ℕ) → 0 < room old
-        → (new : State K V S H) × IsPlaced pair (buckets old) (room new) 0 old new × FillsBucket hash old new
-        × IsSized new
+        → (new : State K V S H) × IsPlaced pair (buckets old) (room new) 0 old new
+        × FillsBucket hash old.table new.table × IsSized new
     some_filled hash r =
         let (b, within, first) =
-        ok.table.some_free (omega (arith, room_is old.marks, r, full_capacity-at_most (buckets old))) hash in
+        ok.table.some_free (omega (arith, room_is old.table.marks, r, full_capacity-at_most (buckets old))) hash in
         fill_first hash b within first (inl r)
 
 module _ {K V S H : Type 0} (rules : Rules K V S) (hash_of : H → K → ℕ) (pair : K × V) (old : State K V S H)
@@ -201,17 +188,17 @@ module _ {K V S H : Type 0} (rules : Rules K V S) (hash_of : H → K → ℕ) (p
   half = full_capacity (buckets old) / 2
 
   abbrev pub deletions : ℕ
-  deletions = count_by is_deleted old.marks
+  deletions = count_by is_deleted old.table.marks
 
   abbrev hash : ℕ
   hash = hash_of old.hasher pair.0
 
   -- the pairs and the deleted buckets are what is used
   spent : room old ≡ full_capacity (buckets old) - (length old.pairs + deletions)
-  spent = omega (arith, room_is old.marks, used_count-split old.marks, ok.taken)
+  spent = omega (arith, room_is old.table.marks, used_count-split old.table.marks, ok.taken)
 
   spent_within : length old.pairs + deletions ≤ full_capacity (buckets old)
-  spent_within = omega (arith, used_count-split old.marks, ok.taken, ok.table.used_within)
+  spent_within = omega (arith, used_count-split old.table.marks, ok.taken, ok.table.used_within)
 
   -- with growth left a bucket is filled
   roomy_ends : 0 < room old → Ends
@@ -220,10 +207,10 @@ module _ {K V S H : Type 0} (rules : Rules K V S) (hash_of : H → K → ℕ) (p
       (placed, new, in_bucket (omega (arith, r, spent)) (inl r) fills refl is, sized)
 
   -- without growth left a deleted one is filled
-  deleted_ends : 0 < length old.pairs → room old ≡ 0 → (free : FirstFreeIs deleted hash old) → free.0 < buckets old
-      → Ends
+  deleted_ends : 0 < length old.pairs → room old ≡ 0 → (free : FirstFreeIs deleted hash old.table.marks)
+      → free.0 < buckets old → Ends
   deleted_ends l none free below =
-      let (large, spare) = deleted_large old ok free.0 below free.2 in
+      let (large, spare) = deleted_large ok free.0 below free.2 in
       let (new, is, fills, sized) = fill_first pair old ok hash free.0 below free.1 (inr free.2) in
       (placed, new, in_bucket (omega (arith, spare)) (inr l) fills refl is, sized)
 
@@ -236,7 +223,7 @@ module _ {K V S H : Type 0} (rules : Rules K V S) (hash_of : H → K → ℕ) (p
       unstored rules pair mid,
       not_grown outgrown mid cannot
           (nothing_to_evict (nil_from_length old.pairs (omega (arith, none))) refl refl),
-      sized_with_limiter old _ ok,
+      ok,
     )
   ]
     where
@@ -248,7 +235,7 @@ module _ {K V S H : Type 0} (rules : Rules K V S) (hash_of : H → K → ℕ) (p
           let none = outgrown.no_bucket.no_room in let free = outgrown.no_bucket.first_empty some in
           let left = pops rules 1 (contents mid) in
           let fewer = length-pops rules 1 (contents mid) in
-          let (end, leaves, sized, freed) = some_leave mid left (sized_with_limiter old s ok) (omega (arith, fewer)) in
+          let (end, leaves, sized, freed) = some_leave mid left ok (omega (arith, fewer)) in
           let gone : OldestEvicted rules hash 1 mid end = (mid, refl, inr (none, free.0, free.1, free.2), leaves) in
           elim (dec_lt half (length old.pairs)) [
             | yes l ↦
@@ -265,7 +252,7 @@ module _ {K V S H : Type 0} (rules : Rules K V S) (hash_of : H → K → ℕ) (p
               unstored rules pair end,
               not_grown outgrown mid cannot
                   (rehashes some 1 (omega arith) (λ _. refl) (omega (arith, l, outgrown.above_half)) end gone refl),
-              sized_with_limiter end _ sized,
+              sized,
             )
           ]
 
@@ -278,7 +265,7 @@ module _ {K V S H : Type 0} (rules : Rules K V S) (hash_of : H → K → ℕ) (p
         no_memory,
         unstored rules pair (asked rules bytes old),
         grown outgrown count bytes t g refl,
-        sized_with_limiter old _ ok,
+        ok,
       )
       asks count bytes t false g = evicted_ends outgrown (rules.on_grow old.limiter bytes).limiter
           (denied count bytes t g refl)
@@ -316,18 +303,18 @@ module _ {K V S H : Type 0} (rules : Rules K V S) (hash_of : H → K → ℕ) (p
       no_memory,
       unstored rules pair old,
       rehashed none (omega (arith, few)) (λ _. some) refl,
-      sized_with_limiter old _ ok,
+      ok,
     )
   ]
 
   full_ends : 0 < length old.pairs → room old ≡ 0 → Ends
-  full_ends some none = go (bucket_at old.marks free.0) refl
+  full_ends some none = go (bucket_at old.table.marks free.0) refl
     where
-      free : (b : ℕ) × (b < buckets old) × IsFirstFree old.marks hash b
+      free : (b : ℕ) × (b < buckets old) × IsFirstFree old.table.marks hash b
       free = ok.table.some_free (omega (arith, none, spent, spent_within, some, full_capacity-at_most (buckets old)))
           hash
 
-      go : (m : Mark) → bucket_at old.marks free.0 ≡ m → Ends
+      go : (m : Mark) → bucket_at old.table.marks free.0 ≡ m → Ends
       go empty e = pairs_end some (record { no_room = none; first_empty = λ _. (free.0, free.2, e) })
       go deleted e = deleted_ends some none (free.0, free.2, e) free.1
       go (full held) e = absurd (false≢true (sym free.2.free_there ∙ ap is_full e))

@@ -9,7 +9,7 @@ use Rattle.group_table.specs.Sizes.{full_capacity}
 use Rattle.group_table.proofs.BucketLemmas.{used_count-split}
 use Rattle.lru_limits.specs.Rules.{Rules}
 use Rattle.lru_model.specs.Calls.{cleared}
-use Rattle.lru_model.specs.State.{State, buckets, room, IsSized}
+use Rattle.lru_model.specs.State.{State, buckets, room, IsSound, IsSized}
 use Rattle.lru_model.specs.Place.{table_for, asked}
 use Rattle.lru_model.specs.Reservations.{NeedsGrowthFor, Reserve, unchanged, rehashed, asked_only, enough_room}
 use Rattle.lru_model.specs.Reservations.{too_many}
@@ -24,19 +24,9 @@ pub cleared_sized : {K V S H : Type 0} (rules : Rules K V S) (old : State K V S 
     → IsSized (cleared rules old)
 cleared_sized {K = K} {V = V} rules old ok =
     let none : List (K × V) = [] in
-    let marked_empty = sized-marked old ok none 0 (omega arith)
-    (λ _. refl) old.limiter old.placings old.moved old.placed ok.moved ok.placed in
+    let marked_empty = sized-marked old ok none 0 (omega arith) (λ _. refl) old.counts ok.moved ok.placed refl in
     let as_many : buckets old - 0 - 0 ≡ buckets old = omega arith in
-    let sized = subst (λ n. IsSized (record old { pairs = none; marks = replicate n empty })) as_many marked_empty in
-    record {
-      table = sized.table;
-      taken = sized.taken;
-      reachable = sized.reachable;
-      usable = sized.usable;
-      moved = ok.moved;
-      placed = ok.placed;
-      shrunk = ok.shrunk;
-    }
+    subst (λ n. IsSound 0 old.entry_bytes old.max (replicate n empty) old.counts) as_many marked_empty
 
 module _ {K V S H : Type 0} (rules : Rules K V S) (n : ℕ) (old : State K V S H) (ok : IsSized old) where
   -- the reservation can end
@@ -44,25 +34,15 @@ module _ {K V S H : Type 0} (rules : Rules K V S) (n : ℕ) (old : State K V S H
   CanReserve = (result : Result (Unit {0}) ReserveError) × (new : State K V S H) × Reserve rules n old result new
       × IsSized new
 
-  -- the limiter is another
-  sized_with : (s : S) → IsSized (record old { limiter = s })
-  sized_with s = record {
-    table = ok.table;
-    taken = ok.taken;
-    reachable = ok.reachable;
-    usable = ok.usable;
-    moved = ok.moved;
-    placed = ok.placed;
-    shrunk = ok.shrunk;
-  }
-
   -- the table is rehashed at its size
   some_remade : NeedsGrowthFor n old → table_for n old ≡ same_table → CanReserve
   some_remade lacks is =
-      let placings = count_up old.placings (length old.pairs) in
       let within : length old.pairs + 0 ≤ full_capacity (buckets old) = omega
-      (arith, used_count-split old.marks, ok.taken, ok.table.used_within) in
-      let new : State K V S H = record old { marks = marked old ok old.pairs 0 within; placings = placings } in (
+      (arith, used_count-split old.table.marks, ok.taken, ok.table.used_within) in
+      let new : State K V S H = record old {
+        table = record old.table { marks = marked old ok old.pairs 0 within };
+        counts = record old.counts { placings = count_up old.counts.placings (length old.pairs) };
+      } in (
         Ok tt,
         new,
         rehashed lacks is refl
@@ -71,16 +51,16 @@ module _ {K V S H : Type 0} (rules : Rules K V S) (n : ℕ) (old : State K V S H
               exact = omega (arith, room-marked old ok old.pairs 0 within, within);
               state = refl;
             }),
-        sized-marked old ok old.pairs 0 within (λ _. refl) old.limiter placings old.moved old.placed ok.moved ok.placed,
+        sized-marked old ok old.pairs 0 within (λ _. refl) new.counts ok.moved ok.placed refl,
       )
 
   -- the limiter is asked for a larger one
   some_asked : NeedsGrowthFor n old → (count bytes : ℕ) → table_for n old ≡ new_table count bytes → (allowed : Bool)
       → (rules.on_grow old.limiter bytes).allowed ≡ allowed → CanReserve
   some_asked lacks count bytes is true grants =
-      (Err Memory, asked rules bytes old, asked_only lacks count bytes is (inl (grants, refl)) refl, sized_with _)
+      (Err Memory, asked rules bytes old, asked_only lacks count bytes is (inl (grants, refl)) refl, ok)
   some_asked lacks count bytes is false denies =
-      (Err Refused, asked rules bytes old, asked_only lacks count bytes is (inr (denies, refl)) refl, sized_with _)
+      (Err Refused, asked rules bytes old, asked_only lacks count bytes is (inr (denies, refl)) refl, ok)
 
   some_table : NeedsGrowthFor n old → (t : Target) → table_for n old ≡ t → CanReserve
   some_table lacks no_table is = (Err TooLarge, old, unchanged (no_such_table lacks is refl) refl, ok)

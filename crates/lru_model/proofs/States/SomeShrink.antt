@@ -9,8 +9,8 @@ use Rattle.group_table.specs.Bucket.{room as room_of}
 use Rattle.group_table.specs.Change.{count_up}
 use Rattle.group_table.specs.Sizes.{full_capacity, buckets_for}
 use Rattle.lru_model.specs.Shrinks.{Shrink, IsLooseFor, shrink_counted, kept, shrunk, no_memory_to_shrink}
-use Rattle.lru_model.specs.State.{State, buckets, IsSized}
-use Rattle.lru_model.proofs.States.EmptyMaps.{empty_is_sized}
+use Rattle.lru_model.specs.State.{State, empty_table, buckets, IsSized}
+use Rattle.lru_model.proofs.States.EmptyMaps.{empty_is_sound}
 
 -- no pairs need no buckets
 pub none_needed : (max count : ℕ) → buckets_for max 0 ≡ Some count → count ≡ 0
@@ -32,12 +32,11 @@ module _ {K V S H : Type 0} (old : State K V S H) (ok : IsSized old) where
       let few : length old.pairs ≡ 0 = ap length none in
       let needs : buckets_for old.max 0 ≡ Some count = ap (buckets_for old.max) (sym few) ∙ loose.0 in
       let gone : count ≡ 0 = none_needed old.max count needs in
-      let new : State K V S H = record (shrink_counted old) {
-        marks = [];
-        places = [];
-        placings = count_up old.placings (length old.pairs);
+      let new : State K V S H = record old {
+        table = empty_table;
+        counts = record (shrink_counted old).counts { placings = count_up old.counts.placings (length old.pairs) };
       } in
-      let bare = empty_is_sized {K = K} {V = V} old.limiter old.hasher old.entry_bytes old.max in (
+      let bare = empty_is_sound old.entry_bytes old.max in (
         Ok true,
         new,
         shrunk count loose refl

@@ -33,10 +33,10 @@ module _ {K V S H : Type 0} (n : ℕ) (st : State K V S H) (ok : IsSized st) (so
     larger_half = go ok.table.count
       where
         go : IsBucketCount (buckets st) → 2 * length st.pairs ≤ full_capacity count
-        go (inl none) = omega (arith, none, fits st ok, full_capacity-at_most (buckets st))
+        go (inl none) = omega (arith, none, fits ok, full_capacity-at_most (buckets st))
         go (inr power) = omega (
           arith,
-          fits st ok,
+          fits ok,
           full_capacity-double power.0 (buckets st) count power.1
               (target_doubles power.0 st.max st.entry_bytes (buckets st) (length st.pairs + n) count bytes power.1 is),
         )

@@ -1,17 +1,19 @@
 -- What the bucket states of a sound table say of the pairs of the map.
-use Rattle.std.proofs.Common.{◌≡◌, ◌+◌, ◌<◌, ◌≤◌, inl, inr, length, arith}
+use Rattle.std.proofs.Common.{◌≡◌, ℕ, ◌+◌, ◌<◌, ◌≤◌, inl, inr, List, length, arith}
 use Rattle.group_table.specs.Sizes.{IsPowerFromFour, full_capacity}
-use Rattle.lru_model.specs.State.{State, buckets, room, IsSized}
+use Rattle.group_table.specs.Bucket.{Mark, room}
+use Rattle.lru_model.specs.State.{Counts, IsSound}
 
-module _ {K V S H : Type 0} (st : State K V S H) (ok : IsSized st) where
-  -- the pairs and the room are what the table takes, or less
-  pub fits : length st.pairs + room st ≤ full_capacity (buckets st)
-  fits = omega (arith, ok.table.within, ok.taken)
+module _ {n entry_bytes max : ℕ} {marks : List Mark} {counts : Counts} (ok : IsSound n entry_bytes max marks counts)
+  where
+    -- the pairs and the growth left are what the table takes, or less
+    pub fits : n + room marks ≤ full_capacity (length marks)
+    fits = omega (arith, ok.table.within, ok.taken)
 
-  -- up to 16 buckets they are all of it
-  pub exact : buckets st ≤ 16 → length st.pairs + room st ≡ full_capacity (buckets st)
-  exact small = omega (arith, ok.table.exact small, ok.taken)
+    -- up to 16 buckets they are all of it
+    pub exact : length marks ≤ 16 → n + room marks ≡ full_capacity (length marks)
+    exact small = omega (arith, ok.table.exact small, ok.taken)
 
-  -- if there are buckets, their number is one that a table can have
-  pub own_count : 0 < buckets st → IsPowerFromFour (buckets st)
-  own_count some = elim ok.table.count [ inl none ↦ absurd (omega (arith, none, some)) | inr power ↦ power ]
+    -- if there are buckets, their number is one that a table can have
+    pub own_count : 0 < length marks → IsPowerFromFour (length marks)
+    own_count some = elim ok.table.count [ inl none ↦ absurd (omega (arith, none, some)) | inr power ↦ power ]

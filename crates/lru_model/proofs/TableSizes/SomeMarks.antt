@@ -11,7 +11,7 @@ use Rattle.group_table.specs.Table.{IsTable}
 use Rattle.group_table.proofs.BucketLemmas.{room_is}
 use Rattle.group_table.proofs.CountedMarks.{IsTable-counted}
 use Rattle.lru_model.specs.Sizes.{usage}
-use Rattle.lru_model.specs.State.{State, buckets, IsSized}
+use Rattle.lru_model.specs.State.{State, Counts, buckets, IsSound, IsSized}
 use Rattle.lru_model.proofs.TableSizes.Growth.{full_capacity-at_most}
 
 -- this number of full buckets, then of deleted ones, and then of empty ones
@@ -81,21 +81,14 @@ module _ {K V S H : Type 0} (old : State K V S H) (ok : IsSized old) (pairs : Li
         ))
 
     -- With these pairs they are a map's, as large as old.
-    pub sized-marked : (limiter : S) (placings moved placed : ℕ) → moved < 2 ^ 64 → placed < 2 ^ 64
-        → IsSized (record old {
-          pairs = pairs;
-          limiter = limiter;
-          marks = marked;
-          placings = placings;
-          moved = moved;
-          placed = placed;
-        })
-    sized-marked limiter placings moved placed m p = record {
+    pub sized-marked : (counts : Counts) → counts.moved < 2 ^ 64 → counts.placed < 2 ^ 64
+        → counts.shrunk ≡ old.counts.shrunk → IsSound (length pairs) old.entry_bytes old.max marked counts
+    sized-marked counts m p s = record {
       table = table-marked;
       taken = omega (arith, count-row is_full (length pairs) d (buckets old - length pairs - d));
       reachable = subst (λ n. (n ≡ 0) ⊎ (n < old.max)) (sym length-marked) ok.reachable;
       usable = subst (λ n. (bytes : ℕ) × (usage old.entry_bytes n ≡ Some bytes)) (sym length-marked) ok.usable;
       moved = m;
       placed = p;
-      shrunk = ok.shrunk;
+      shrunk = rw s ok.shrunk;
     }

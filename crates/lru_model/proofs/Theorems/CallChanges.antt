@@ -56,15 +56,12 @@ room_within marks = omega arith
 module _ {K V S H : Type 0} (rules : Rules K V S) (old : State K V S H) where
   -- other pairs, no more than before
   pairs_calm : (pairs : List (K × V)) (places : List ℕ) → length pairs ≡ length old.pairs
-      → Calm old (record old { pairs = pairs; places = places })
+      → Calm old (record old { pairs = pairs; table = record old.table { places = places } })
   pairs_calm pairs places same = record {
     hasher = refl;
     max = refl;
     entry_bytes = refl;
-    placings = refl;
-    moved = refl;
-    placed = refl;
-    shrunk = refl;
+    counts = refl;
     table = refl;
     keeps = omega arith;
     few = omega (arith, same);
@@ -76,12 +73,9 @@ module _ {K V S H : Type 0} (rules : Rules K V S) (old : State K V S H) where
     hasher = refl;
     max = refl;
     entry_bytes = refl;
-    placings = refl;
-    moved = refl;
-    placed = refl;
-    shrunk = refl;
+    counts = refl;
     table = length-replicate {A = Mark} (buckets old) empty;
-    keeps = omega (arith, room_cleared (buckets old), room_within old.marks);
+    keeps = omega (arith, room_cleared (buckets old), room_within old.table.marks);
     few = omega arith;
     fits = λ f. omega (arith, room_cleared (buckets old));
   }
@@ -161,9 +155,9 @@ module _ {K V S H : Type 0} {rules : Rules K V S} {R : Contents K V S → Conten
       max = ap (λ x. x.max) m.state;
       entry_bytes = ap (λ x. x.entry_bytes) m.state;
       count = rw m.table next;
-      moved = λ bound. omega (arith, ap (λ x. x.moved) m.state, bound);
-      pays = λ ok. pays_calm old new ok.shrunk (ap (λ x. x.placed) m.state) (ap (λ x. x.moved) m.state)
-          (ap (λ x. x.shrunk) m.state)
+      moved = λ bound. omega (arith, ap (λ x. x.counts.moved) m.state, bound);
+      pays = λ ok. pays_calm old new ok.shrunk
+          (ap (λ x. record x.counts { placings = old.counts.placings }) m.state)
           (omega (arith, ap full_capacity m.table, m.exact, large ok, ok.fits));
       little = λ ok h. omega arith;
     };

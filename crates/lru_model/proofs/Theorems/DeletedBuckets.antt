@@ -14,24 +14,28 @@ use Rattle.lru_model.proofs.Theorems.Potential.{IsBounded, no_buckets}
 
 module _ {K V S H : Type 0} (rules : Rules K V S) (hash_of : H → K → ℕ) (pair : K × V) (old : State K V S H)
     (some : 0 < length old.pairs) (no_room : room old ≡ 0) where
-  not_both : FirstFreeIs deleted (hash_of old.hasher pair.0) old → FirstFreeIs empty (hash_of old.hasher pair.0) old → ⊥
-  not_both p q = no (sym p.2 ∙ ap (bucket_at old.marks) (IsFirstFree-unique old.marks _ p.0 q.0 p.1 q.1) ∙ q.2)
+  abbrev hash : ℕ
+  hash = hash_of old.hasher pair.0
+
+  not_both : FirstFreeIs deleted hash old.table.marks → FirstFreeIs empty hash old.table.marks → ⊥
+  not_both p q = let marks = old.table.marks in
+      no (sym p.2 ∙ ap (bucket_at marks) (IsFirstFree-unique marks _ p.0 q.0 p.1 q.1) ∙ q.2)
     where
       no : ◌≡◌ {A = Mark} deleted empty → ⊥
       no h = grind arith
 
   -- so no empty bucket is filled
-  of_deleted : FirstFreeIs deleted (hash_of old.hasher pair.0) old → (new : State K V S H)
-      → FillsBucket (hash_of old.hasher pair.0) old new → room new ≡ 0
+  of_deleted : FirstFreeIs deleted hash old.table.marks → (new : State K V S H)
+      → FillsBucket hash old.table new.table → room new ≡ 0
   of_deleted p new f = elim f.spends [
     | inl e ↦ absurd (not_both p (f.bucket, f.first, e.0))
     | inr d ↦ omega (arith, d.2, no_room)
   ]
 
   -- with no room, if the first free bucket is a deleted one, it is filled
-  pub deleted_serves : FirstFreeIs deleted (hash_of old.hasher pair.0) old → (outcome : Outcome) (new : State K V S H)
+  pub deleted_serves : FirstFreeIs deleted hash old.table.marks → (outcome : Outcome) (new : State K V S H)
       → Place rules hash_of pair old outcome new
-      → (outcome ≡ placed) × IsPlaced pair (buckets old) 0 0 old new × FillsBucket (hash_of old.hasher pair.0) old new
+      → (outcome ≡ placed) × IsPlaced pair (buckets old) 0 0 old new × FillsBucket hash old.table new.table
   deleted_serves p outcome new (in_bucket l f s o n) =
       (o, subst (λ spare. IsPlaced pair (buckets old) spare 0 old new) (of_deleted p new s) n, s)
   deleted_serves p outcome new (rehashed b l any m) = absurd (not_both p (b.first_empty some))
@@ -41,7 +45,7 @@ module _ {K V S H : Type 0} (rules : Rules K V S) (hash_of : H → K → ℕ) (p
   -- and no other placing ends as one into a deleted bucket does
   pub only_deleted : IsBounded old → (outcome : Outcome) (new : State K V S H) → outcome ≡ placed
       → Place rules hash_of pair old outcome new → IsPlaced pair (buckets old) 0 0 old new
-      → FirstFreeIs deleted (hash_of old.hasher pair.0) old
+      → FirstFreeIs deleted hash old.table.marks
   only_deleted ok outcome new q (in_bucket l f s o n) p = elim s.spends [
     | inl e ↦ absurd (omega (arith, e.1, no_room))
     | inr d ↦ (s.bucket, s.first, d.0)

@@ -47,8 +47,8 @@ module _ {K V S H : Type 0} (rules : Rules K V S) (hash_of : H → K → ℕ) (p
   abbrev pub here : Landing K V S
   here = landing rules pair (buckets old) (room old) old.entry_bytes old.max (contents old)
 
-  roomy_lands : (new : State K V S H) → FillsBucket (hash_of old.hasher pair.0) old new → here ≡ lands rules pair
-      (contents old)
+  roomy_lands : (new : State K V S H) → FillsBucket (hash_of old.hasher pair.0) old.table new.table
+      → here ≡ lands rules pair (contents old)
   roomy_lands new fills = elim fills.spends [
     | inl e ↦ rw (lt-ltb 0 (room old) (omega (arith, e.1))) refl
     | inr d ↦ absurd (omega (arith, small, d.1))

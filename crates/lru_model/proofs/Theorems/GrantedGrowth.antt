@@ -39,7 +39,7 @@ module _ {K V S H : Type 0} (rules : Rules K V S) (pair : K × V) (old : State K
   is_placed count spare moves outcome new o p = rw o (ap contents p.state)
 
   -- filling a bucket uses at most one of the growth left
-  spare : (hash : ℕ) (new : State K V S H) → FillsBucket hash old new → room old ≤ room new + 1
+  spare : (hash : ℕ) (new : State K V S H) → FillsBucket hash old.table new.table → room old ≤ room new + 1
   spare hash new fills = elim fills.spends [ inl e ↦ omega (arith, e.1) | inr d ↦ omega (arith, d.2) ]
 
   -- with growth left the pair is stored in the same table
@@ -91,7 +91,7 @@ module _ {K V S H : Type 0} (rules : Rules K V S) (old : State K V S H) where
   way_tables tables s ready l =
       let c = make_room rules (record { pairs = old.pairs; limiter = s }) in
       let left : length ready.pairs ≡ length c.pairs = ap (λ st. length st.pairs) l.is in
-      let goes : (n : ℕ) → n ≡ length ready.pairs + 1 → target old.max old.entry_bytes (length old.marks) n ≢ no_table
+      let goes : (n : ℕ) → n ≡ length ready.pairs + 1 → target old.max old.entry_bytes (buckets old) n ≢ no_table
       → table_for 1 ready ≢ no_table =
       (λ n e some h. some ((λ j. target (ap (λ st. st.max) (sym l.is) j) (ap (λ st. st.entry_bytes) (sym l.is) j)
       (sym l.room.table j) (e j)) ∙ h)) in

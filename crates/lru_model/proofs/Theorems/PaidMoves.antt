@@ -3,40 +3,39 @@ use Rattle.std.proofs.Common.{ℕ, ◌+◌, ◌-◌, ◌*◌, ◌^◌, ◌<◌, 
 use native.Mathlib.Decide.{dec_lt}
 use Rattle.group_table.specs.Sizes.{full_capacity}
 use Rattle.lru_limits.specs.Rules.{Rules}
-use Rattle.lru_model.specs.State.{State, buckets, potential, Contents, IsSized, IsPaid, IsMap, Leaves}
+use Rattle.lru_model.specs.State.{State, Counts, buckets, potential, Contents, IsSized, IsAhead, IsPaid, IsMap, Leaves}
 use Rattle.lru_model.specs.Theorems.{PaysForMoves}
 use Rattle.lru_model.proofs.TableSizes.Growth.{full_capacity-at_most, usage_addressable}
 use Rattle.lru_model.proofs.Theorems.Potential.{bounded_of}
 use Rattle.lru_model.proofs.Theorems.TableGrowth.{Tables, IsNextCount, Changes}
 use Rattle.lru_model.proofs.PairLists.DistinctKeys.{AreDistinct}
 
-module _ {K V S H : Type 0} where
-  -- if the count of shrinks has stopped, no count of moves is above it
-  pub paid_ahead : (st : State K V S H) → st.moved < 2 ^ 64
-      → (st.shrunk < 2 ^ 64 - 1 → st.moved + potential st ≤ 2 * st.placed + st.shrunk) → IsPaid st
-  paid_ahead st moved ahead = record { moved = go (dec_lt st.shrunk (2 ^ 64 - 1)); ahead = ahead }
-    where
-      go : Dec (st.shrunk < 2 ^ 64 - 1) → st.moved ≤ 2 * st.placed + st.shrunk
-      go (yes lt) = omega (arith, ahead lt)
-      go (no ge) = omega (arith, moved, ge)
+-- if the count of shrinks has stopped, no count of moves is above it
+pub paid_ahead : {n : ℕ} {counts : Counts} → counts.moved < 2 ^ 64 → IsAhead n counts → IsPaid n counts
+paid_ahead {n} {counts} moved ahead = record { moved = go (dec_lt counts.shrunk (2 ^ 64 - 1)); ahead = ahead }
+  where
+    go : Dec (counts.shrunk < 2 ^ 64 - 1) → counts.moved ≤ 2 * counts.placed + counts.shrunk
+    go (yes lt) = omega (arith, ahead lt)
+    go (no ge) = omega (arith, moved, ge)
 
+module _ {K V S H : Type 0} where
   -- a change that pays for its moves keeps the bound, if counts that cannot rise are as large as they can be
-  pub paid_after : {anew : ℕ} (old new : State K V S H) → PaysForMoves anew old new → new.moved < 2 ^ 64
-      → buckets new < 2 ^ 63 → IsPaid old → IsPaid new
-  paid_after {anew} old new p moved addressable paid = paid_ahead new moved
-      (λ below. go below (dec_lt new.placed (2 ^ 64 - 1)))
+  pub paid_after : {anew : ℕ} (old new : State K V S H) → PaysForMoves anew old new → new.counts.moved < 2 ^ 64
+      → buckets new < 2 ^ 63 → IsPaid (potential old) old.counts → IsPaid (potential new) new.counts
+  paid_after {anew} old new p moved addressable paid = paid_ahead moved
+      (λ below. go below (dec_lt new.counts.placed (2 ^ 64 - 1)))
     where
-      go : new.shrunk < 2 ^ 64 - 1 → Dec (new.placed < 2 ^ 64 - 1)
-          → new.moved + potential new ≤ 2 * new.placed + new.shrunk
+      go : new.counts.shrunk < 2 ^ 64 - 1 → Dec (new.counts.placed < 2 ^ 64 - 1)
+          → new.counts.moved + potential new ≤ 2 * new.counts.placed + new.counts.shrunk
       go below (yes lt) = omega (arith, p.moved lt, p.shrunk, below, paid.ahead (omega (arith, p.shrunk, below)))
       go below (no ge) = omega (arith, moved, addressable, full_capacity-at_most (buckets new))
 
   -- what leaves costs nothing
   pub leaves_paid : (old : State K V S H) (left : Contents K V S) (new : State K V S H) → Leaves old left new
-      → IsPaid old → IsPaid new
+      → IsPaid (potential old) old.counts → IsPaid (potential new) new.counts
   leaves_paid old left new l paid =
-      let moved = ap (λ st. st.moved) l.is in let placed = ap (λ st. st.placed) l.is in
-      let shrunk = ap (λ st. st.shrunk) l.is in
+      let moved = ap (λ st. st.counts.moved) l.is in let placed = ap (λ st. st.counts.placed) l.is in
+      let shrunk = ap (λ st. st.counts.shrunk) l.is in
       record {
         moved = omega (arith, paid.moved, moved, placed, shrunk);
         ahead = λ below. omega (
@@ -53,7 +52,7 @@ module _ {K V S H : Type 0} where
   module _ (rules : Rules K V S) (P : S → Type 0) (more anew : ℕ) (old new : State K V S H)
       (t : Tables rules P more anew old new) where
     -- a call pays for what it moves
-    pub stays_paid : IsSized old → IsPaid old → IsPaid new
+    pub stays_paid : IsSized old → IsPaid (potential old) old.counts → IsPaid (potential new) new.counts
     stays_paid ok paid = paid_after old new (t.pays (bounded_of old ok)) (t.moved ok.moved) (addressable t.count) paid
       where
         addressable : IsNextCount rules P old (buckets new) → buckets new < 2 ^ 63

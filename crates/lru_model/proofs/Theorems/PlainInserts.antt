@@ -6,13 +6,12 @@ use Rattle.std.specs.Prelude.{if◌then◌else◌}
 use Rattle.std.specs.declared.alloc.AllocError.{AllocError}
 use Rattle.lru_limits.specs.Rules.{Rules, Offers}
 use Rattle.lru_model.specs.Lists.{last}
-use Rattle.lru_model.specs.State.{State, Contents, contents, FreesRoom, Leaves, Trims, notified_of, pop, trim}
+use Rattle.lru_model.specs.State.{State, Contents, contents, Leaves, Trims, notified_of, pop, trim}
 use Rattle.lru_model.specs.State.{trim_from}
 use Rattle.lru_model.specs.Place.{Place, in_bucket, rehashed, grown, not_grown}
 use Rattle.lru_model.specs.Place.{Evicts, nothing_to_evict, finds_bucket, rehashes, CannotGrow, no_target, denied}
 use Rattle.lru_model.specs.Place.{OldestEvicted}
-use Rattle.lru_model.specs.Place.{Outcome, placed, refused, no_memory, IsPlaced, IsPlacedIfMemory, FillsBucket}
-use Rattle.lru_model.specs.Place.{HasNoBucket, IsOutgrown}
+use Rattle.lru_model.specs.Place.{Outcome, placed, refused, no_memory, IsPlaced, IsPlacedIfMemory}
 use Rattle.lru_model.specs.Inserts.{Insert, replaced, not_replaced, no_memory_to_admit, not_admitted, admitted}
 use Rattle.lru_model.specs.Inserts.{make_room}
 use Rattle.lru_model.specs.Inserts.{Settles, PlacesNew}
@@ -30,12 +29,8 @@ module _ {K V S : Type 0} where
     pairs = st.pairs;
     limiter = st.limiter.0;
     hasher = st.hasher;
-    marks = st.marks;
-    places = st.places;
-    placings = st.placings;
-    moved = st.moved;
-    placed = st.placed;
-    shrunk = st.shrunk;
+    table = st.table;
+    counts = st.counts;
     entry_bytes = st.entry_bytes;
     max = st.max;
   }
@@ -78,28 +73,10 @@ module _ {K V S : Type 0} (rules : Rules K V S) where
   plain_trim c = plain_trim_from (length c.pairs) c
 
 module _ {K V S H : Type 0} where
-  plain_room : (old new : State K V (S × List (K × V)) H) → FreesRoom old new → FreesRoom (plain old) (plain new)
-  plain_room old new frees = record {
-    table = frees.table;
-    keeps = frees.keeps;
-    at_most = frees.at_most;
-    exact = frees.exact;
-    untouched = frees.untouched;
-  }
-
   plain_leaves : (old new : State K V (S × List (K × V)) H) (left : Contents K V (S × List (K × V)))
       (c : Contents K V S) → plain_contents left ≡ c → Leaves old left new → Leaves (plain old) c (plain new)
   plain_leaves old new left c e leaves = subst (λ c. Leaves (plain old) c (plain new)) e
-      (record { is = ap plain leaves.is; room = plain_room old new leaves.room })
-
-  plain_no_bucket : {hash : ℕ} (old : State K V (S × List (K × V)) H) → HasNoBucket hash old
-      → HasNoBucket hash (plain old)
-  plain_no_bucket old b = record { no_room = b.no_room; first_empty = b.first_empty }
-
-  plain_outgrown : {hash : ℕ} (old : State K V (S × List (K × V)) H) → IsOutgrown hash old
-      → IsOutgrown hash (plain old)
-  plain_outgrown old g =
-      record { no_bucket = plain_no_bucket old g.no_bucket; above_half = g.above_half; begun = g.begun }
+      (record { is = ap plain leaves.is; room = leaves.room })
 
   plain_placed : (pair : K × V) (count spare moves : ℕ) (old new : State K V (S × List (K × V)) H)
       → IsPlaced pair count spare moves old new → IsPlaced pair count spare moves (plain old) (plain new)
@@ -133,22 +110,12 @@ module _ {K V S H : Type 0} (rules : Rules K V S) where
   plain_cannot old mid (no_target t e) = no_target t (ap plain e)
   plain_cannot old mid (denied count bytes t d e) = denied count bytes t d (ap plain e)
 
-  plain_fills : (hash : ℕ) (old new : State K V (S × List (K × V)) H) → FillsBucket hash old new
-      → FillsBucket hash (plain old) (plain new)
-  plain_fills hash old new fills = record {
-    bucket = fills.bucket;
-    first = fills.first;
-    marks = fills.marks;
-    places = fills.places;
-    spends = fills.spends;
-  }
-
   plain_evicts : (hash : ℕ) (pair : K × V) (old mid : State K V (S × List (K × V)) H) (outcome : Outcome)
       (new : State K V (S × List (K × V)) H) → Evicts (noting rules) hash pair old mid outcome new
       → Evicts rules hash pair (plain old) (plain mid) outcome (plain new)
   plain_evicts hash pair old mid outcome new (nothing_to_evict e o n) = nothing_to_evict e o (ap plain n)
   plain_evicts hash pair old mid outcome new (finds_bucket n pos one half left gone fills o p) =
-      finds_bucket n pos one half (plain left) (plain_gone hash n mid left gone) (plain_fills hash left new fills) o
+      finds_bucket n pos one half (plain left) (plain_gone hash n mid left gone) fills o
       (plain_placed pair _ _ _ left new p)
   plain_evicts hash pair old mid outcome new (rehashes some n pos one half left gone m) =
       rehashes some n pos one half (plain left) (plain_gone hash n mid left gone)
@@ -158,13 +125,13 @@ module _ {K V S H : Type 0} (rules : Rules K V S) where
     plain_place : (pair : K × V) (old : State K V (S × List (K × V)) H) (outcome : Outcome)
         (new : State K V (S × List (K × V)) H) → Place (noting rules) hash_of pair old outcome new
         → Place rules hash_of pair (plain old) outcome (plain new)
-    plain_place pair old outcome new (in_bucket l f s o p) = in_bucket l f (plain_fills _ old new s) o
+    plain_place pair old outcome new (in_bucket l f s o p) = in_bucket l f s o
         (plain_placed pair _ _ _ old new p)
     plain_place pair old outcome new (rehashed b l some m) =
-        rehashed (plain_no_bucket old b) l some (plain_if_memory pair _ _ _ old outcome new m)
+        rehashed b l some (plain_if_memory pair _ _ _ old outcome new m)
     plain_place pair old outcome new (grown g count bytes t y m) =
-        grown (plain_outgrown old g) count bytes t y (plain_if_memory pair count _ _ _ outcome new m)
-    plain_place pair old outcome new (not_grown g mid cannot e) = not_grown (plain_outgrown old g) (plain mid)
+        grown g count bytes t y (plain_if_memory pair count _ _ _ outcome new m)
+    plain_place pair old outcome new (not_grown g mid cannot e) = not_grown g (plain mid)
         (plain_cannot old mid cannot) (plain_evicts _ pair old mid outcome new e)
 
     plain_settles : (outcome : Outcome) (landed : State K V (S × List (K × V)) H) (result : Result Bool AllocError)

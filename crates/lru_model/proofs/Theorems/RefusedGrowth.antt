@@ -87,7 +87,7 @@ module _ {K V S H : Type 0} (rules : Rules K V S) (hash_of : H → K → ℕ) (p
   place_keeps outcome new q (in_bucket l f s o n) = inl
       (record { pairs = ap (λ st. st.pairs) n.state; large = large s })
     where
-      large : FillsBucket (hash_of old.hasher pair.0) old new → IsRefusedGrowth rules old → 16 < buckets old
+      large : FillsBucket (hash_of old.hasher pair.0) old.table new.table → IsRefusedGrowth rules old → 16 < buckets old
       large fills refusal =
           elim fills.spends [ inl e ↦ absurd (omega (arith, e.1, refusal.is_full.1)) | inr d ↦ d.1 ]
   place_keeps outcome new q (rehashed b l some m) =

@@ -66,19 +66,20 @@ target_takes max e b c n bytes larger = from (buckets_for max c) refl
 module _ {K V S H : Type 0} (rules : Rules K V S) (n : ℕ) (old : State K V S H) where
   -- the pairs stay, and the counts
   pub reserved_list : (result : Result (Unit {0}) ReserveError) (new : State K V S H) → Reserve rules n old result new
-      → (new.pairs ≡ old.pairs) × (new.moved ≡ old.moved) × (new.placed ≡ old.placed) × (new.shrunk ≡ old.shrunk)
+      → (new.pairs ≡ old.pairs) × (new.counts.moved ≡ old.counts.moved) × (new.counts.placed ≡ old.counts.placed)
+      × (new.counts.shrunk ≡ old.counts.shrunk)
   reserved_list result new (unchanged why e) = rw e (refl, refl, refl, refl)
   reserved_list result new (rehashed l t r m) = (
     ap (λ st. st.pairs) m.state,
-    ap (λ st. st.moved) m.state,
-    ap (λ st. st.placed) m.state,
-    ap (λ st. st.shrunk) m.state,
+    ap (λ st. st.counts.moved) m.state,
+    ap (λ st. st.counts.placed) m.state,
+    ap (λ st. st.counts.shrunk) m.state,
   )
   reserved_list result new (reserved l count bytes t g r m) = (
     ap (λ st. st.pairs) m.state,
-    ap (λ st. st.moved) m.state,
-    ap (λ st. st.placed) m.state,
-    ap (λ st. st.shrunk) m.state,
+    ap (λ st. st.counts.moved) m.state,
+    ap (λ st. st.counts.placed) m.state,
+    ap (λ st. st.counts.shrunk) m.state,
   )
   reserved_list result new (asked_only l count bytes t f e) = rw e (refl, refl, refl, refl)
 

@@ -17,13 +17,14 @@ use Rattle.lru_model.proofs.Theorems.TableGrowth.{Changes, self_calm, calm_chang
 module _ {K V S H : Type 0} (old : State K V S H) where
   -- the pairs stay, and the limiter, and what inserts counted
   pub shrunk_list : (result : Result Bool AllocError) (new : State K V S H) → Shrink old result new
-      → (new.pairs ≡ old.pairs) × (new.limiter ≡ old.limiter) × (new.moved ≡ old.moved) × (new.placed ≡ old.placed)
+      → (new.pairs ≡ old.pairs) × (new.limiter ≡ old.limiter) × (new.counts.moved ≡ old.counts.moved)
+      × (new.counts.placed ≡ old.counts.placed)
   shrunk_list result new (kept t r e) = rw e (refl, refl, refl, refl)
   shrunk_list result new (shrunk count l r m) = (
     ap (λ st. st.pairs) m.state,
     ap (λ st. st.limiter) m.state,
-    ap (λ st. st.moved) m.state,
-    ap (λ st. st.placed) m.state,
+    ap (λ st. st.counts.moved) m.state,
+    ap (λ st. st.counts.placed) m.state,
   )
   shrunk_list result new (no_memory_to_shrink count l some r e) = rw e (refl, refl, refl, refl)
 
@@ -37,14 +38,14 @@ module _ {K V S H : Type 0} (old : State K V S H) where
   pub moved_pays : (count : ℕ) (new : State K V S H) → MovesTo count (shrink_counted old) new
       → PaysForMoves (length old.pairs) old new
   moved_pays count new m = record {
-    placed = omega (arith, ap (λ st. st.placed) m.state);
-    shrunk = ap (λ st. st.shrunk) m.state;
+    placed = omega (arith, ap (λ st. st.counts.placed) m.state);
+    shrunk = ap (λ st. st.counts.shrunk) m.state;
     moved = λ below. omega (
       arith,
       m.exact,
       ap full_capacity m.table,
-      ap (λ st. st.moved) m.state,
-      ap (λ st. st.placed) m.state,
+      ap (λ st. st.counts.moved) m.state,
+      ap (λ st. st.counts.placed) m.state,
     );
   }
 
@@ -118,7 +119,7 @@ module _ {K V S H : Type 0} (rules : Rules K V S) (R : Contents K V S → Conten
         max = ap (λ st. st.max) m.state;
         entry_bytes = ap (λ st. st.entry_bytes) m.state;
         count = inl (omega (arith, m.table, l.1));
-        moved = λ bound. omega (arith, ap (λ st. st.moved) m.state, bound);
+        moved = λ bound. omega (arith, ap (λ st. st.counts.moved) m.state, bound);
         pays = λ ok. moved_pays old count new m;
         little = λ ok h. absurd (omega (arith, m.table, l.1, h));
       };

@@ -17,7 +17,7 @@ use Rattle.lru_model.specs.Reservations.{too_many, no_such_table, no_memory_to_r
 use Rattle.lru_model.specs.Exact.{LookAlike}
 use Rattle.lru_model.specs.Shrinks.{Shrink, shrink_counted, kept, shrunk, no_memory_to_shrink}
 use Rattle.lru_model.specs.Sizes.{Target, target, no_table, same_table, new_table}
-use Rattle.lru_model.specs.State.{State, buckets, room, MovesTo}
+use Rattle.lru_model.specs.State.{State, empty_table, buckets, room, MovesTo}
 use Rattle.lru_model.specs.declared.results.ReserveError.{ReserveError}
 use Rattle.lru_model.specs.declared.results.ReserveError.TheVariants.{TooLarge, Refused, Memory}
 use Rattle.lru_model.proofs.Theorems.CallChanges.{room_cleared}
@@ -43,14 +43,16 @@ abbrev moved_to : {K V S H : Type 0} → ℕ → Shape K V S H → Shape K V S H
 moved_to count sh = record {
   count = count;
   spare = full_capacity count - length sh.bare.pairs;
-  bare = record sh.bare { placings = count_up sh.bare.placings (length sh.bare.pairs) };
+  bare = record sh.bare {
+    counts = record sh.bare.counts { placings = count_up sh.bare.counts.placings (length sh.bare.pairs) };
+  };
 }
 
 moved_shape : {K V S H : Type 0} (count : ℕ) (old new : State K V S H) → MovesTo count old new
     → shape new ≡ moved_to count (shape old)
 moved_shape count old new m =
     let spare : room new ≡ full_capacity count - length old.pairs = omega (arith, m.exact) in
-    (λ j. record { count = m.table j; spare = spare j; bare = record (m.state j) { marks = []; places = [] } })
+    (λ j. record { count = m.table j; spare = spare j; bare = record (m.state j) { table = empty_table } })
 
 -- whether no memory was found
 abbrev pub is_memory : Result (Unit {0}) ReserveError → Bool

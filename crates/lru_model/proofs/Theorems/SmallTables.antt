@@ -1,10 +1,9 @@
 -- In tables of up to 16 buckets no call depends on which of them are full.
-use Rattle.std.proofs.Common.{◌≡◌, ℕ, ◌+◌, ◌-◌, ◌/◌, ◌<◌, ◌≤◌, inl, inr, Bool, true, false, cond, [], ◌∷◌, length}
+use Rattle.std.proofs.Common.{◌≡◌, ℕ, ◌+◌, ◌-◌, ◌/◌, ◌<◌, ◌≤◌, inl, inr, Bool, true, false, cond, ◌∷◌, length}
 use Rattle.std.proofs.Common.{Option, Some, None, Result, Ok, Err, refl, sym, ap, ◌∙◌, subst, arith, le_of_eq}
 use Rattle.std.specs.Prelude.{nat_lt, nat_le, not, is_err, if◌then◌else◌}
 use Rattle.std.specs.declared.alloc.AllocError.{AllocError}
 use Rattle.std.proofs.lemmas.Bool.{lt-ltb, le-ltb, le-leb, lt-leb}
-use Rattle.group_table.specs.Change.{count_up}
 use Rattle.group_table.specs.Sizes.{full_capacity}
 use Rattle.lru_limits.specs.Rules.{Rules, Offers}
 use Rattle.lru_model.specs.Exact.{LookAlike, IsDetermined, NeverLacks}
@@ -17,7 +16,8 @@ use Rattle.lru_model.specs.Place.{nothing_to_evict, finds_bucket, rehashes, Fill
 use Rattle.lru_model.specs.Place.{CannotGrow, no_target, denied, table_for, Outcome, placed, refused, no_memory, asked}
 use Rattle.lru_model.specs.Place.{IsPlaced, IsPlacedIfMemory}
 use Rattle.lru_model.specs.Sizes.{Target, target, no_table, same_table, new_table}
-use Rattle.lru_model.specs.State.{State, Contents, buckets, room, contents, Leaves, pops, trim}
+use Rattle.lru_model.specs.State.{State, empty_table, count_insert, Contents, buckets, room, contents, Leaves, pops}
+use Rattle.lru_model.specs.State.{trim}
 use Rattle.lru_model.proofs.States.LeavingPairs.{oldest_leaves, known_is}
 use Rattle.lru_model.proofs.PairLists.Emptiness.{is_empty-some}
 
@@ -29,18 +29,18 @@ pub record Shape (K V S H : Type 0) : Type 0 where
 
 module _ {K V S H : Type 0} where
   abbrev pub shape : State K V S H → Shape K V S H
-  shape st = record { count = buckets st; spare = room st; bare = record st { marks = []; places = [] } }
+  shape st = record { count = buckets st; spare = room st; bare = record st { table = empty_table } }
 
   -- maps look alike exactly if they have the same shape
   pub same_shape : {st other : State K V S H} → LookAlike st other → shape other ≡ shape st
   same_shape a =
-      (λ j. record { count = a.table j; spare = a.room j; bare = record (a.state j) { marks = []; places = [] } })
+      (λ j. record { count = a.table j; spare = a.room j; bare = record (a.state j) { table = empty_table } })
 
   pub look_alike : (st other : State K V S H) → shape other ≡ shape st → LookAlike st other
   look_alike st other e = record {
     table = ap (λ sh. sh.count) e;
     room = ap (λ sh. sh.spare) e;
-    state = ap (λ sh. record sh.bare { marks = other.marks; places = other.places }) e;
+    state = ap (λ sh. record sh.bare { table = other.table }) e;
   }
 
   -- with another limiter
@@ -60,28 +60,23 @@ module _ {K V S H : Type 0} where
   left_shape old c new small l =
       let spare : room new ≡ room old + length old.pairs - length c.pairs = omega
       (arith, l.room.exact small, ap (λ st. length st.pairs) l.is) in
-      (λ j. record { count = l.room.table j; spare = spare j; bare = record (l.is j) { marks = []; places = [] } })
+      (λ j. record { count = l.room.table j; spare = spare j; bare = record (l.is j) { table = empty_table } })
 
   -- with a pair stored in a table with these numbers of buckets, of growth left, and of moves
   abbrev landed : K × V → Shape K V S H → ℕ → ℕ → ℕ → Shape K V S H
   landed pair sh count spare moves = record {
     count = count;
     spare = spare;
-    bare = record sh.bare {
-      pairs = pair ∷ sh.bare.pairs;
-      placings = count_up sh.bare.placings (moves + 1);
-      moved = count_up sh.bare.moved moves;
-      placed = count_up sh.bare.placed 1;
-    };
+    bare = record sh.bare { pairs = pair ∷ sh.bare.pairs; counts = count_insert moves sh.bare.counts };
   }
 
   landed_shape : (pair : K × V) (count spare moves : ℕ) (st new : State K V S H)
       → IsPlaced pair count spare moves st new → shape new ≡ landed pair (shape st) count spare moves
   landed_shape pair count spare moves st new p =
-      (λ j. record { count = p.table j; spare = p.room_left j; bare = record (p.state j) { marks = []; places = [] } })
+      (λ j. record { count = p.table j; spare = p.room_left j; bare = record (p.state j) { table = empty_table } })
 
   -- up to 16 buckets an empty one is filled
-  fills_one : (hash : ℕ) (old new : State K V S H) → buckets old ≤ 16 → FillsBucket hash old new
+  fills_one : (hash : ℕ) (old new : State K V S H) → buckets old ≤ 16 → FillsBucket hash old.table new.table
       → room new + 1 ≡ room old
   fills_one hash old new small fills =
       elim fills.spends [ inl e ↦ e.1 | inr d ↦ absurd (omega (arith, small, d.1)) ]
@@ -160,7 +155,8 @@ module _ {K V S H : Type 0} (rules : Rules K V S) (hash_of : H → K → ℕ) (p
 
     found_is : (n : ℕ) (left new : State K V S H) (outcome : Outcome) → n ≡ 1
         → full_capacity (buckets old) / 2 + n ≤ length old.pairs
-        → OldestEvicted rules (hash_of old.hasher pair.0) n mid left → FillsBucket (hash_of old.hasher pair.0) left new
+        → OldestEvicted rules (hash_of old.hasher pair.0) n mid left
+        → FillsBucket (hash_of old.hasher pair.0) left.table new.table
         → outcome ≡ placed → IsPlaced pair (buckets old) (room new) 0 left new
         → evict rules pair (lacks_memory outcome) (shape mid) ≡ (outcome, shape new)
     found_is n left new outcome one half gone fills o p =

@@ -5,7 +5,7 @@ use Rattle.std.proofs.Common.{refl, ap, ◌∙◌, subst, arith}
 use Rattle.group_table.specs.Sizes.{full_capacity}
 use Rattle.lru_limits.specs.Rules.{Rules}
 use Rattle.lru_model.specs.Sizes.{usage}
-use Rattle.lru_model.specs.State.{State, buckets, room, Contents, contents, Leaves}
+use Rattle.lru_model.specs.State.{State, Counts, buckets, room, Contents, contents, Leaves}
 use Rattle.lru_model.specs.Place.{Outcome, placed, refused, no_memory}
 use Rattle.lru_model.specs.Inserts.{Settles}
 use Rattle.lru_model.specs.Theorems.{PaysForMoves}
@@ -18,10 +18,7 @@ module _ {K V S H : Type 0} where
     pub hasher : new.hasher ≡ old.hasher
     pub max : new.max ≡ old.max
     pub entry_bytes : new.entry_bytes ≡ old.entry_bytes
-    pub placings : new.placings ≡ old.placings
-    pub moved : new.moved ≡ old.moved
-    pub placed : new.placed ≡ old.placed
-    pub shrunk : new.shrunk ≡ old.shrunk
+    pub counts : new.counts ≡ old.counts
     pub table : buckets new ≡ buckets old
     pub keeps : room old ≤ room new
     pub few : length new.pairs ≤ length old.pairs
@@ -34,10 +31,7 @@ module _ {K V S H : Type 0} where
     hasher = refl;
     max = refl;
     entry_bytes = refl;
-    placings = refl;
-    moved = refl;
-    placed = refl;
-    shrunk = refl;
+    counts = refl;
     table = refl;
     keeps = omega arith;
     few = omega arith;
@@ -52,10 +46,7 @@ module _ {K V S H : Type 0} where
     hasher = g.hasher ∙ f.hasher;
     max = g.max ∙ f.max;
     entry_bytes = g.entry_bytes ∙ f.entry_bytes;
-    placings = g.placings ∙ f.placings;
-    moved = g.moved ∙ f.moved;
-    placed = g.placed ∙ f.placed;
-    shrunk = g.shrunk ∙ f.shrunk;
+    counts = g.counts ∙ f.counts;
     table = g.table ∙ f.table;
     keeps = omega (arith, f.keeps, g.keeps);
     few = omega (arith, f.few, g.few);
@@ -68,10 +59,7 @@ module _ {K V S H : Type 0} where
     hasher = ap (λ st. st.hasher) l.is;
     max = ap (λ st. st.max) l.is;
     entry_bytes = ap (λ st. st.entry_bytes) l.is;
-    placings = ap (λ st. st.placings) l.is;
-    moved = ap (λ st. st.moved) l.is;
-    placed = ap (λ st. st.placed) l.is;
-    shrunk = ap (λ st. st.shrunk) l.is;
+    counts = ap (λ st. st.counts) l.is;
     table = l.room.table;
     keeps = l.room.keeps;
     few = omega (arith, l.room.keeps, l.room.at_most);
@@ -86,8 +74,9 @@ module _ {K V S H : Type 0} where
   settles_calm rules refused landed result new h = rw h.1 (self_calm landed)
   settles_calm rules no_memory landed result new h = rw h.1 (self_calm landed)
 
-  pub calm_pays : (old new : State K V S H) → old.shrunk < 2 ^ 64 → Calm old new → PaysForMoves 0 old new
-  calm_pays old new bound f = pays_calm old new bound f.placed f.moved f.shrunk
+  pub calm_pays : (old new : State K V S H) → old.counts.shrunk < 2 ^ 64 → Calm old new → PaysForMoves 0 old new
+  calm_pays old new bound f = pays_calm old new bound
+      (ap {A = Counts} (λ c. record c { placings = old.counts.placings }) f.counts)
       (omega (arith, f.keeps, ap full_capacity f.table))
 
   pub calm_bounded : (old new : State K V S H) → Calm old new → IsBounded old → IsBounded new
@@ -95,9 +84,9 @@ module _ {K V S H : Type 0} where
     count = rw f.table ok.count;
     addressable = omega (arith, f.table, ok.addressable);
     fits = omega (arith, f.fits ok.fits, ap full_capacity f.table);
-    moved = rw f.moved ok.moved;
-    placed = rw f.placed ok.placed;
-    shrunk = rw f.shrunk ok.shrunk;
+    moved = rw f.counts ok.moved;
+    placed = rw f.counts ok.placed;
+    shrunk = rw f.counts ok.shrunk;
   }
 
 module _ {K V S : Type 0} (rules : Rules K V S) (P : S → Type 0) where
@@ -120,7 +109,7 @@ module _ {K V S H : Type 0} (rules : Rules K V S) (P : S → Type 0) where
     pub max : new.max ≡ old.max
     pub entry_bytes : new.entry_bytes ≡ old.entry_bytes
     pub count : IsNextCount old (buckets new)
-    pub moved : old.moved < 2 ^ 64 → new.moved < 2 ^ 64
+    pub moved : old.counts.moved < 2 ^ 64 → new.counts.moved < 2 ^ 64
     pub pays : IsBounded old → PaysForMoves anew old new
     pub little : IsBounded old → buckets old < buckets new → full_capacity (buckets new) < 4 * (length old.pairs + more)
 
@@ -130,7 +119,7 @@ module _ {K V S H : Type 0} (rules : Rules K V S) (P : S → Type 0) where
     max = f.max;
     entry_bytes = f.entry_bytes;
     count = inl (omega (arith, f.table));
-    moved = λ bound. omega (arith, f.moved, bound);
+    moved = λ bound. rw f.counts bound;
     pays = λ ok. calm_pays old new ok.shrunk f;
     little = λ ok h. absurd (omega (arith, f.table, h));
   }
@@ -146,7 +135,7 @@ module _ {K V S H : Type 0} (rules : Rules K V S) (P : S → Type 0) where
       | inr p ↦ inr
           (subst (λ bytes. IsPermitted rules P bytes (buckets new)) f.entry_bytes p)
     ];
-    moved = λ bound. t.moved (omega (arith, f.moved, bound));
+    moved = λ bound. t.moved (rw f.counts bound);
     pays = λ ok. pays_trans (calm_pays old mid ok.shrunk f) (t.pays (calm_bounded old mid f ok));
     little = λ ok h. omega (arith, f.few, t.little (calm_bounded old mid f ok) (omega (arith, f.table, h)));
   }
@@ -158,7 +147,7 @@ module _ {K V S H : Type 0} (rules : Rules K V S) (P : S → Type 0) where
     max = f.max ∙ t.max;
     entry_bytes = f.entry_bytes ∙ t.entry_bytes;
     count = rw f.table t.count;
-    moved = λ bound. omega (arith, f.moved, t.moved bound);
+    moved = λ bound. rw f.counts (t.moved bound);
     pays = λ ok. pays_trans (t.pays ok) (calm_pays mid new (omega (arith, (t.pays ok).shrunk)) f);
     little = λ ok h. omega (arith, ap full_capacity f.table, t.little ok (omega (arith, f.table, h)));
   }

@@ -3,11 +3,10 @@ use Rattle.std.proofs.Common.{◌≡◌, ℕ, ◌+◌, ◌-◌, ◌*◌, ◌<◌
 use Rattle.std.proofs.Common.{ap, ◌∙◌, subst, arith}
 use Rattle.std.specs.declared.alloc.AllocError.{AllocError}
 use Rattle.group_table.specs.Sizes.{full_capacity, IsBucketCount}
-use Rattle.group_table.specs.Change.{count_up}
 use Rattle.lru_limits.specs.Rules.{Rules, Offers}
 use Rattle.lru_limits.specs.Laws.{kept_value}
 use Rattle.lru_model.specs.Lists.{without, set_entry}
-use Rattle.lru_model.specs.State.{State, buckets, room, potential, Contents, contents}
+use Rattle.lru_model.specs.State.{State, count_insert, buckets, room, potential, Contents, contents}
 use Rattle.lru_model.specs.Sizes.{target, new_table}
 use Rattle.lru_model.specs.Place.{Place, in_bucket, rehashed, grown, not_grown, FillsBucket}
 use Rattle.lru_model.specs.Place.{nothing_to_evict, finds_bucket, rehashes, Outcome, placed, refused, no_memory}
@@ -63,10 +62,9 @@ module _ {K V S H : Type 0} (rules : Rules K V S) (P : S → Type 0) (pair : K �
     max = ap (λ x. x.max) l.is.state ∙ f.max;
     entry_bytes = ap (λ x. x.entry_bytes) l.is.state ∙ f.entry_bytes;
     count = rw l.is.table l.next;
-    moved = λ bound. omega (arith, ap (λ x. x.moved) l.is.state);
-    pays = λ ok. pays_placing old new l.moves ok.placed ok.shrunk (ap (λ x. x.moved) l.is.state
-        ∙ ap (λ x. count_up x l.moves) f.moved)
-        (ap (λ x. x.placed) l.is.state ∙ ap (λ x. count_up x 1) f.placed) (ap (λ x. x.shrunk) l.is.state ∙ f.shrunk)
+    moved = λ bound. omega (arith, ap (λ x. x.counts.moved) l.is.state);
+    pays = λ ok. pays_placing old new l.moves ok.placed ok.shrunk
+        (ap (λ x. x.counts) l.is.state ∙ ap (count_insert l.moves) f.counts)
         (rw (l.is.table, l.is.room_left) (l.paid ok));
     little = λ ok h. rw l.is.table (l.little ok (omega (arith, l.is.table, h)));
   }
@@ -126,7 +124,7 @@ module _ {K V S H : Type 0} (rules : Rules K V S) (R : Contents K V S → Conten
       → Ends outcome new
   place_lands outcome new (in_bucket l f s o n) = fills outcome new _ o n (λ ok. spends s)
     where
-      spends : FillsBucket (hash_of old.hasher pair.0) old new
+      spends : FillsBucket (hash_of old.hasher pair.0) old.table new.table
           → full_capacity (buckets old) - 2 * room new ≤ potential old + 2
       spends f = elim f.spends [ inl e ↦ omega (arith, e.1) | inr d ↦ omega (arith, d.2) ]
   place_lands outcome new (rehashed b l some m) =

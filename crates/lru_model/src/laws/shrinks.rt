@@ -13,7 +13,7 @@ use std::hash::Hash;
 pub fn shrinks_keep_the_list<K: Eq + Hash, V, L: Limiter<K, V>, S: KeyHasher<K>>()
     ensures { (old : State K V L S) (result : Result Bool AllocError) (new : State K V L S) →
         Shrink old result new → (new.pairs ≡ old.pairs) × (new.limiter ≡ old.limiter)
-        × (new.moved ≡ old.moved) × (new.placed ≡ old.placed) }
+        × (new.counts.moved ≡ old.counts.moved) × (new.counts.placed ≡ old.counts.placed) }
 {}
 
 /// A shrink rehashes each entry, counts it, and lets the potential rise by at most one for each. If it does not shrink

@@ -7,8 +7,8 @@ pub returns : goal.returns
 returns g c = λ keys old new h missed first left exact r some none few served.
     let n = misses g.K.PartialEq.eq old.limiter (reverse keys) in
     let count = c.references_keep_the_newest.ensures.misses keys old new exact r some in
-    let at_most : new.placed ≤ n = omega (arith, count, none) in
-    let scaled : (old.limiter + 1 - h) * new.placed ≤ (old.limiter + 1 - h) * n = mul-le-mul_left
+    let at_most : new.counts.placed ≤ n = omega (arith, count, none) in
+    let scaled : (old.limiter + 1 - h) * new.counts.placed ≤ (old.limiter + 1 - h) * n = mul-le-mul_left
     (old.limiter + 1 - h) at_most in
     let bound = c.lru_is_competitive.ensures old.limiter h (reverse keys) first left missed exact few served in
     omega (arith, scaled, bound)

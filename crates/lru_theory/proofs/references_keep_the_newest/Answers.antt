@@ -15,5 +15,5 @@ returns g c =
       keys = λ keys old new exact r. (after_references exact known keys old new r).keys
           ∙ c.a_cache_is_the_newest.ensures old.limiter (reverse keys);
       misses = λ keys old new exact r some. (after_references exact known keys old new r).count some
-          ∙ ap (count_up old.placed) (c.faults_are_misses.ensures old.limiter (reverse keys) exact);
+          ∙ ap (count_up old.counts.placed) (c.faults_are_misses.ensures old.limiter (reverse keys) exact);
     }

@@ -263,10 +263,10 @@ module _ {N : Type 0} {number : N → ℕ} {link : ℕ → N} {none : N} {eq : N
       }
 
     -- both links of a bucket outside of the chain are written
-    pub IsChain-beside : {s0 s1 : List (Slot (Entry K V N))} {newest oldest newer older : N} (b : ℕ) {order : List ℕ}
+    pub IsChain-fields : {s0 s1 : List (Slot (Entry K V N))} {newest oldest newer older : N} (b : ℕ) {order : List ℕ}
         → IsChain number link none s0 newest oldest order → (Contains order b → ⊥) → SetsLinks s0 s1 b newer older
         → IsChain number link none s1 newest oldest order
-    IsChain-beside {s0} {s1} b {order} chain absent sets = record {
+    IsChain-fields {s0} {s1} b {order} chain absent sets = record {
       reached = omega (arith, same_length s0 s1 sets.pairs, chain.reached);
       distinct = chain.distinct;
       only = λ x w. same_full s0 s1 sets.pairs x ∙ chain.only x w;

@@ -8,7 +8,8 @@ use Rattle.lru_limits.specs.Rules.{Rules}
 use Rattle.schnellru.specs.Inside.OrderedTable.{OrderedTable, IsLinked, KeysFit, pairs_of, entries_in}
 use Rattle.lru_model.specs.State.{buckets}
 use Rattle.lru_model.specs.Calls.{cleared}
-use Rattle.schnellru.specs.Inside.Holds.{Beside, state_of, Holds}
+use Rattle.schnellru.specs.Inside.Fields.{Fields}
+use Rattle.schnellru.specs.Inside.Holds.{counts_of, state_of, Holds}
 use Rattle.schnellru.proofs.OrderedTables.Clears.{marks_of-cleared}
 use Rattle.lru_model.proofs.PairLists.DistinctKeys.{none_distinct, AreDistinct}
 use Rattle.schnellru.proofs.Maps.HeldMaps.{sized_same}
@@ -16,43 +17,42 @@ use Rattle.lru_model.proofs.Theorems.CallChanges.{room_cleared}
 
 module _ {K V S H : Type 0} (rules : Rules K V S) (t u : OrderedTable K V)
     (slots : u.slots ≡ replicate (length t.slots) empty) (order : u.order ≡ [])
-    (counted : u.placings ≡ t.placings) (beside : Beside S H) (notified : S)
-    (is_notified : notified ≡ rules.on_cleared beside.limiter) where
-  marks : marks_of u.slots ≡ replicate (buckets (state_of t beside)) empty
+    (counted : u.placings ≡ t.placings) (fields : Fields S H) (notified : S)
+    (is_notified : notified ≡ rules.on_cleared fields.limiter) where
+  marks : marks_of u.slots ≡ replicate (buckets (state_of t fields)) empty
   marks = ap marks_of slots ∙ marks_of-cleared _ (length t.slots)
       ∙ ap (λ n. replicate n empty) (sym (length-marks_of t.slots))
 
   none_left : pairs_of u ≡ []
   none_left = ap (entries_in u.slots) order
 
-  pub cleared_is : state_of u (record beside { limiter = notified }) ≡ cleared rules (state_of t beside)
-  cleared_is = λ i. record (state_of u (record beside { limiter = is_notified i })) {
+  pub cleared_is : state_of u (record fields { limiter = notified }) ≡ cleared rules (state_of t fields)
+  cleared_is = λ i. record (state_of u (record fields { limiter = is_notified i })) {
     pairs = none_left i;
-    marks = marks i;
-    places = order i;
-    placings = counted i;
+    table = record { marks = marks i; places = order i };
+    counts = counts_of (counted i) fields;
   }
 
-  pub cleared_holds : (eq : K → K → Bool) (hash_of : H → K → ℕ) → Holds eq hash_of t beside → IsLinked u
-      → KeysFit (hash_of beside.hasher) u.slots
-      → Holds eq hash_of u (record beside { limiter = notified })
+  pub cleared_holds : (eq : K → K → Bool) (hash_of : H → K → ℕ) → Holds eq hash_of t fields → IsLinked u
+      → KeysFit (hash_of fields.hasher) u.slots
+      → Holds eq hash_of u (record fields { limiter = notified })
   cleared_holds eq hash_of holds next fits = record {
     linked = next;
     fits = fits;
     map = record {
       distinct = subst (AreDistinct eq) (sym none_left) (none_distinct eq);
-      sized = sized_same beside t u notified holds.map.sized next
+      sized = sized_same fields t u notified holds.map.sized next
           (ap length slots ∙ length-replicate (length t.slots) empty);
       paid =
-          let as_many : length (marks_of u.slots) ≡ buckets (state_of t beside) = ap length marks
-          ∙ length-replicate {A = Mark} (buckets (state_of t beside)) empty in
+          let as_many : length (marks_of u.slots) ≡ buckets (state_of t fields) = ap length marks
+          ∙ length-replicate {A = Mark} (buckets (state_of t fields)) empty in
           record {
             moved = holds.map.paid.moved;
             ahead = λ below. omega (
               arith,
               holds.map.paid.ahead below,
               ap room marks,
-              room_cleared (buckets (state_of t beside)),
+              room_cleared (buckets (state_of t fields)),
               as_many,
               ap full_capacity as_many,
             );

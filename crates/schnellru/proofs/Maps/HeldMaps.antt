@@ -7,20 +7,21 @@ use Rattle.group_table.proofs.BucketLemmas.{length-marks_of, entry_count-marks_o
 use Rattle.lru_model.specs.Sizes.{usage}
 use Rattle.lru_model.specs.State.{Contents, IsSized, FreesRoom, Leaves}
 use Rattle.schnellru.specs.Inside.OrderedTable.{OrderedTable, IsLinked, KeysFit, pairs_of}
-use Rattle.schnellru.specs.Inside.Holds.{Beside, state_of, Holds}
+use Rattle.schnellru.specs.Inside.Fields.{Fields}
+use Rattle.schnellru.specs.Inside.Holds.{state_of, Holds}
 use Rattle.lru_model.proofs.PairLists.DistinctKeys.{AreDistinct}
 use Rattle.lru_model.proofs.Theorems.PaidMoves.{leaves_paid}
 use Rattle.schnellru.proofs.OrderedTables.BucketPairs.{pairs-length}
 
-module _ {K V S H : Type 0} (beside : Beside S H) where
-  pub sized_by : (t : OrderedTable K V) → IsLinked t → (length t.slots ≡ 0) ⊎ (length t.slots < beside.max)
-      → ((bytes : ℕ) × (usage beside.entry_bytes (length t.slots) ≡ Some bytes)) → beside.moved < 2 ^ 64
-      → beside.placed < 2 ^ 64 → beside.shrunk < 2 ^ 64 → IsSized (state_of t beside)
+module _ {K V S H : Type 0} (fields : Fields S H) where
+  pub sized_by : (t : OrderedTable K V) → IsLinked t → (length t.slots ≡ 0) ⊎ (length t.slots < fields.max)
+      → ((bytes : ℕ) × (usage fields.entry_bytes (length t.slots) ≡ Some bytes)) → fields.moved < 2 ^ 64
+      → fields.placed < 2 ^ 64 → fields.shrunk < 2 ^ 64 → IsSized (state_of t fields)
   sized_by t linked reached usable m p s = record {
     table = linked.table;
     taken = entry_count-marks_of t.slots ∙ linked.count ∙ sym (pairs-length t linked);
-    reachable = subst (λ n. (n ≡ 0) ⊎ (n < beside.max)) (sym (length-marks_of t.slots)) reached;
-    usable = subst (λ n. (bytes : ℕ) × (usage beside.entry_bytes n ≡ Some bytes))
+    reachable = subst (λ n. (n ≡ 0) ⊎ (n < fields.max)) (sym (length-marks_of t.slots)) reached;
+    usable = subst (λ n. (bytes : ℕ) × (usage fields.entry_bytes n ≡ Some bytes))
         (sym (length-marks_of t.slots)) usable;
     moved = m;
     placed = p;
@@ -39,7 +40,7 @@ room_at-most marks b = go (is_used (bucket_at marks b))
 module _ {K V : Type 0} (old new : OrderedTable K V) (b : ℕ) (first : IsLinked old) (last : IsLinked new)
     (table : length new.slots ≡ length old.slots) (one : suc (length new.order) ≡ length old.order)
     (freed : room (marks_of new.slots) ≡ room (marks_of old.slots) + room_at (marks_of new.slots) b) where
-  pub frees_room : {S H : Type 0} (before after : Beside S H) → FreesRoom (state_of old before) (state_of new after)
+  pub frees_room : {S H : Type 0} (before after : Fields S H) → FreesRoom (state_of old before) (state_of new after)
   frees_room before after = record {
     table = same;
     keeps = omega (arith, freed);
@@ -69,40 +70,40 @@ module _ {K V : Type 0} (old new : OrderedTable K V) (b : ℕ) (first : IsLinked
       olds : length (pairs_of old) ≡ length old.order
       olds = pairs-length old first
 
-module _ {K V S H : Type 0} (beside : Beside S H) where
+module _ {K V S H : Type 0} (fields : Fields S H) where
   -- a table of as many buckets is as usable
-  pub sized_same : (t u : OrderedTable K V) (l : S) → IsSized (state_of t beside) → IsLinked u → length u.slots
+  pub sized_same : (t u : OrderedTable K V) (l : S) → IsSized (state_of t fields) → IsLinked u → length u.slots
       ≡ length t.slots
-      → IsSized (state_of u (record beside { limiter = l }))
+      → IsSized (state_of u (record fields { limiter = l }))
   sized_same t u l sized linked same =
       let e : length (marks_of t.slots) ≡ length u.slots = length-marks_of t.slots ∙ sym same in
-      sized_by (record beside { limiter = l }) u linked (subst (λ n. (n ≡ 0) ⊎ (n < beside.max)) e sized.reachable)
-      (subst (λ n. (bytes : ℕ) × (usage beside.entry_bytes n ≡ Some bytes)) e sized.usable) sized.moved sized.placed
+      sized_by (record fields { limiter = l }) u linked (subst (λ n. (n ≡ 0) ⊎ (n < fields.max)) e sized.reachable)
+      (subst (λ n. (bytes : ℕ) × (usage fields.entry_bytes n ≡ Some bytes)) e sized.usable) sized.moved sized.placed
       sized.shrunk
 
   -- what holds of a map holds after some pairs left
   pub leaves_holds : (eq : K → K → Bool) (hash_of : H → K → ℕ) (t u : OrderedTable K V) (left : Contents K V S) (l : S)
-      → Holds eq hash_of t beside → IsLinked u → KeysFit (hash_of beside.hasher) u.slots → length u.slots
+      → Holds eq hash_of t fields → IsLinked u → KeysFit (hash_of fields.hasher) u.slots → length u.slots
       ≡ length t.slots
-      → Leaves (state_of t beside) left (state_of u (record beside { limiter = l })) → AreDistinct eq (pairs_of u)
-      → Holds eq hash_of u (record beside { limiter = l })
+      → Leaves (state_of t fields) left (state_of u (record fields { limiter = l })) → AreDistinct eq (pairs_of u)
+      → Holds eq hash_of u (record fields { limiter = l })
   leaves_holds eq hash_of t u left l holds linked fits same leaves distinct = record {
     linked = linked;
     fits = fits;
     map = record {
       distinct = distinct;
       sized = sized_same t u l holds.map.sized linked same;
-      paid = leaves_paid (state_of t beside) left (state_of u (record beside { limiter = l })) leaves holds.map.paid;
+      paid = leaves_paid (state_of t fields) left (state_of u (record fields { limiter = l })) leaves holds.map.paid;
     };
   }
 
 -- what holds of a map holds with pairs of distinct keys that fit in the same buckets, under another limiter and hasher
-module _ {K V S H : Type 0} (eq : K → K → Bool) (hash_of : H → K → ℕ) (beside : Beside S H) (t u : OrderedTable K V)
+module _ {K V S H : Type 0} (eq : K → K → Bool) (hash_of : H → K → ℕ) (fields : Fields S H) (t u : OrderedTable K V)
   where
-    pub copied_holds : (limiter : S) (hasher : H) → Holds eq hash_of t beside → IsLinked u
+    pub copied_holds : (limiter : S) (hasher : H) → Holds eq hash_of t fields → IsLinked u
         → KeysFit (hash_of hasher) u.slots
         → marks_of u.slots ≡ marks_of t.slots → AreDistinct eq (pairs_of u)
-        → Holds eq hash_of u (record beside { limiter = limiter; hasher = hasher })
+        → Holds eq hash_of u (record fields { limiter = limiter; hasher = hasher })
     copied_holds limiter hasher holds linked fits marks distinct =
         let same : length (marks_of t.slots) ≡ length u.slots = sym (ap length marks) ∙ length-marks_of u.slots in
         let sized = holds.map.sized in
@@ -111,22 +112,22 @@ module _ {K V S H : Type 0} (eq : K → K → Bool) (hash_of : H → K → ℕ) 
           fits = fits;
           map = record {
             distinct = distinct;
-            sized = sized_by (record beside { limiter = limiter; hasher = hasher }) u linked
-                (subst (λ n. (n ≡ 0) ⊎ (n < beside.max)) same sized.reachable)
-                (subst (λ n. (bytes : ℕ) × (usage beside.entry_bytes n ≡ Some bytes)) same sized.usable) sized.moved
+            sized = sized_by (record fields { limiter = limiter; hasher = hasher }) u linked
+                (subst (λ n. (n ≡ 0) ⊎ (n < fields.max)) same sized.reachable)
+                (subst (λ n. (bytes : ℕ) × (usage fields.entry_bytes n ≡ Some bytes)) same sized.usable) sized.moved
                 sized.placed sized.shrunk;
             paid = record {
               moved = holds.map.paid.moved;
-              ahead = λ below. subst (λ m. beside.moved + (full_capacity (length m) - 2 * room m)
-                  ≤ 2 * beside.placed + beside.shrunk)
+              ahead = λ below. subst (λ m. fields.moved + (full_capacity (length m) - 2 * room m)
+                  ≤ 2 * fields.placed + fields.shrunk)
                   (sym marks) (holds.map.paid.ahead below);
             };
           };
         }
 
 -- what holds of a map holds after its pairs were written or reordered in their buckets, with distinct keys that fit
-pub alike_holds : {K V S H : Type 0} (beside : Beside S H) (eq : K → K → Bool) (hash_of : H → K → ℕ)
+pub alike_holds : {K V S H : Type 0} (fields : Fields S H) (eq : K → K → Bool) (hash_of : H → K → ℕ)
     (t u : OrderedTable K V)
-    → Holds eq hash_of t beside → IsLinked u → KeysFit (hash_of beside.hasher) u.slots
-    → marks_of u.slots ≡ marks_of t.slots → AreDistinct eq (pairs_of u) → Holds eq hash_of u beside
-alike_holds beside eq hash_of t u = copied_holds eq hash_of beside t u beside.limiter beside.hasher
+    → Holds eq hash_of t fields → IsLinked u → KeysFit (hash_of fields.hasher) u.slots
+    → marks_of u.slots ≡ marks_of t.slots → AreDistinct eq (pairs_of u) → Holds eq hash_of u fields
+alike_holds fields eq hash_of t u = copied_holds eq hash_of fields t u fields.limiter fields.hasher

@@ -7,7 +7,8 @@ use Rattle.group_table.proofs.BucketLemmas.{length-marks_of}
 use Rattle.lru_model.specs.Sizes.{usage}
 use Rattle.lru_model.specs.State.{MovesTo}
 use Rattle.schnellru.specs.Inside.OrderedTable.{OrderedTable, IsLinked, KeysFit, pairs_of}
-use Rattle.schnellru.specs.Inside.Holds.{Beside, state_of, Holds}
+use Rattle.schnellru.specs.Inside.Fields.{Fields}
+use Rattle.schnellru.specs.Inside.Holds.{counts_of, state_of, Holds}
 use Rattle.lru_model.proofs.PairLists.DistinctKeys.{AreDistinct}
 use Rattle.schnellru.proofs.OrderedTables.BucketPairs.{pairs-length}
 use Rattle.schnellru.proofs.Maps.HeldMaps.{sized_by}
@@ -15,29 +16,29 @@ use Rattle.schnellru.proofs.Maps.HeldMaps.{sized_by}
 module _ {K V S H : Type 0} (t u : OrderedTable K V) (count : ℕ) (linked : IsLinked t) (next : IsLinked u)
     (table : length u.slots ≡ count)
     (pairs : pairs_of u ≡ pairs_of t) (left : room (marks_of u.slots) + length t.order ≡ full_capacity count)
-    (counted : u.placings ≡ count_up t.placings (length t.order)) (beside : Beside S H) where
-  pub moves_to : MovesTo count (state_of t beside) (state_of u beside)
+    (counted : u.placings ≡ count_up t.placings (length t.order)) (fields : Fields S H) where
+  pub moves_to : MovesTo count (state_of t fields) (state_of u fields)
   moves_to = record {
     table = length-marks_of u.slots ∙ table;
     exact = omega (arith, left, pairs-length t linked);
-    state = λ i. record (state_of u beside) {
+    state = λ i. record (state_of u fields) {
       pairs = pairs i;
-      placings = (counted ∙ ap (count_up t.placings) (sym (pairs-length t linked))) i;
+      counts = counts_of ((counted ∙ ap (count_up t.placings) (sym (pairs-length t linked))) i) fields;
     };
   }
 
   -- if the table is at most half full then, what holds of every map holds
-  pub moves_holds : (eq : K → K → Bool) (hash_of : H → K → ℕ) → Holds eq hash_of t beside
-      → KeysFit (hash_of beside.hasher) u.slots → count < beside.max
-      → ((bytes : ℕ) × (usage beside.entry_bytes count ≡ Some bytes)) → 2 * length (pairs_of t) ≤ full_capacity count
-      → Holds eq hash_of u beside
+  pub moves_holds : (eq : K → K → Bool) (hash_of : H → K → ℕ) → Holds eq hash_of t fields
+      → KeysFit (hash_of fields.hasher) u.slots → count < fields.max
+      → ((bytes : ℕ) × (usage fields.entry_bytes count ≡ Some bytes)) → 2 * length (pairs_of t) ≤ full_capacity count
+      → Holds eq hash_of u fields
   moves_holds eq hash_of holds fits reached usable half = record {
     linked = next;
     fits = fits;
     map = record {
       distinct = subst (AreDistinct eq) (sym pairs) holds.map.distinct;
-      sized = sized_by beside u next (inr (subst (λ n. n < beside.max) (sym table) reached))
-          (subst (λ n. (bytes : ℕ) × (usage beside.entry_bytes n ≡ Some bytes)) (sym table) usable)
+      sized = sized_by fields u next (inr (subst (λ n. n < fields.max) (sym table) reached))
+          (subst (λ n. (bytes : ℕ) × (usage fields.entry_bytes n ≡ Some bytes)) (sym table) usable)
           holds.map.sized.moved holds.map.sized.placed holds.map.sized.shrunk;
       paid = record {
         moved = holds.map.paid.moved;

@@ -8,12 +8,12 @@ use Rattle.std.proofs.lemmas.Fn.{FoldsTo-push}
 use Rattle.std.specs.Fn.{Mut, Called}
 use Rattle.lru_limits.specs.Rules.{Rules, Offers, Replaced, Notified}
 use Rattle.lru_model.specs.Lists.{last, without, set_entry}
-use Rattle.lru_model.specs.State.{State, Contents, IsSized, FreesRoom, Leaves, contents, notified_of, pop}
+use Rattle.lru_model.specs.State.{State, Contents, Leaves, contents, notified_of, pop}
 use Rattle.lru_model.specs.Calls.{PopOldest, left_of}
-use Rattle.lru_model.specs.Place.{IsPlaced, FillsBucket, HasNoBucket, IsOutgrown, unstored}
+use Rattle.lru_model.specs.Place.{IsPlaced, unstored}
 use Rattle.lru_model.specs.Inserts.{make_room, replacement}
 use Rattle.lru_model.specs.Callbacks.{noting, noting_offers, noted, CalledWith}
-use Rattle.schnellru.specs.Inside.Handing.{Hands, HandsGivenUp}
+use Rattle.schnellru.specs.Inside.Handing.{Hands, PassesRemoved}
 use Rattle.schnellru.specs.Inside.Steps.{IsOffered}
 
 -- the sink was handed one pair more
@@ -24,29 +24,6 @@ takes_more closure first before f pair g taken called =
     FoldsTo-push (λ p x q. Called closure p (x.0, (x.1, tt)) tt q) first before f pair g taken called
 
 module _ {K V S H : Type 0} where
-  pub noted_sized : (list : List (K × V)) (st : State K V S H) → IsSized st → IsSized (noted list st)
-  noted_sized list st ok = record {
-    table = ok.table;
-    taken = ok.taken;
-    reachable = ok.reachable;
-    usable = ok.usable;
-    moved = ok.moved;
-    placed = ok.placed;
-    shrunk = ok.shrunk;
-  }
-
-  pub noted_no_bucket : {hash : ℕ} (list : List (K × V)) (st : State K V S H) → HasNoBucket hash st
-      → HasNoBucket hash (noted list st)
-  noted_no_bucket list st none = record { no_room = none.no_room; first_empty = none.first_empty }
-
-  pub noted_outgrown : {hash : ℕ} (list : List (K × V)) (st : State K V S H) → IsOutgrown hash st
-      → IsOutgrown hash (noted list st)
-  noted_outgrown list st outgrown = record {
-    no_bucket = noted_no_bucket list st outgrown.no_bucket;
-    above_half = outgrown.above_half;
-    begun = outgrown.begun;
-  }
-
   pub noted_placed : (list : List (K × V)) (pair : K × V) (count spare moves : ℕ) (old new : State K V S H)
       → IsPlaced pair count spare moves old new → IsPlaced pair count spare moves (noted list old) (noted list new)
   noted_placed list pair count spare moves old new is = record {
@@ -55,32 +32,12 @@ module _ {K V S H : Type 0} where
     state = ap (noted list) is.state;
   }
 
-  pub noted_fills : (before after : List (K × V)) (hash : ℕ) (old new : State K V S H) → FillsBucket hash old new
-      → FillsBucket hash (noted before old) (noted after new)
-  noted_fills before after hash old new fills = record {
-    bucket = fills.bucket;
-    first = fills.first;
-    marks = fills.marks;
-    places = fills.places;
-    spends = fills.spends;
-  }
-
-  noted_room : (before after : List (K × V)) (old new : State K V S H) → FreesRoom old new
-      → FreesRoom (noted before old) (noted after new)
-  noted_room before after old new frees = record {
-    table = frees.table;
-    keeps = frees.keeps;
-    at_most = frees.at_most;
-    exact = frees.exact;
-    untouched = frees.untouched;
-  }
-
   pub noted_leaves : (before after : List (K × V)) (old new : State K V S H) (left : Contents K V S) → Leaves old left
       new
       → Leaves (noted before old) (record { pairs = left.pairs; limiter = (left.limiter, after) }) (noted after new)
   noted_leaves before after old new left leaves = record {
     is = ap (noted after) leaves.is;
-    room = noted_room before after old new leaves.room;
+    room = leaves.room;
   }
 
 module _ {K V S : Type 0} (rules : Rules K V S) (before : List (K × V)) (s : S) (pair : K × V) where
@@ -100,18 +57,12 @@ module _ {K V S H : Type 0} (rules : Rules K V S) (before : List (K × V)) (old 
       Leaves (noted before old) (pop (noting rules) (contents (noted before old))) (noted (before ++ pair ∷ []) new)
   noted_pop step = record {
     is = ap (noted (before ++ pair ∷ [])) step.state.is
-        ∙ ap {A = S × List (K × V)} {B = State K V (S × List (K × V)) H} (λ s. record (noted before new) {
+        ∙ ap {A = S × List (K × V)} {B = State K V (S × List (K × V)) H} (λ s. record (noted before old) {
           pairs = (pop rules (contents old)).pairs;
           limiter = s;
-          hasher = old.hasher;
-          placings = old.placings;
-          moved = old.moved;
-          placed = old.placed;
-          shrunk = old.shrunk;
-          entry_bytes = old.entry_bytes;
-          max = old.max;
+          table = new.table;
         }) (noted_told rules before old.limiter pair (last old.pairs) step.pair);
-    room = noted_room before (before ++ pair ∷ []) old new step.state.room;
+    room = step.state.room;
   }
 
 -- if the limiter would be over, room is made
@@ -120,11 +71,11 @@ pub make_room-over : {K V S : Type 0} (rules : Rules K V S) (c : Contents K V S)
 make_room-over rules c over = rw over refl
 
 -- the pair that was not placed goes to the list
-pub noted_turned_away : {K V S H : Type 0} (rules : Rules K V S) (before : List (K × V)) (old new : State K V S H)
+pub noted_unstored : {K V S H : Type 0} (rules : Rules K V S) (before : List (K × V)) (old new : State K V S H)
     (pair left : K × V) (s : S) → new ≡ record old { limiter = s } → s ≡ notified_of rules (Some pair) old.limiter →
     Some left ≡ left_of rules old.limiter (Some pair) →
     noted (before ++ left ∷ []) new ≡ unstored (noting rules) pair (noted before old)
-noted_turned_away {K} {V} {S} {H} rules before old new pair left s is notified e =
+noted_unstored {K} {V} {S} {H} rules before old new pair left s is notified e =
     ap (noted (before ++ left ∷ [])) is
     ∙ ap {A = S} {B = State K V (S × List (K × V)) H}
     (λ t. noted (before ++ left ∷ []) (record old { limiter = t })) notified
@@ -137,7 +88,7 @@ module _ {K V S H I F : Type 0} (closure : Mut F (K × (V × Unit {0})) (Unit {0
     (f g : F)
     (offer : IsOffered rules offers names i v old result new) (accepted : result.0 ≡ true → g ≡ f)
     (rejected : result.0 ≡ false
-    → HandsGivenUp closure rules (replacement rules offers names offer.pair i v (contents old)) f g) where
+    → PassesRemoved closure rules (replacement rules offers names offer.pair i v (contents old)) f g) where
   -- if it rejected that, the pair goes to the list
   pub noted_offer : Hands closure f g (λ before after. IsOffered (noting rules) (noting_offers offers) names i v
       (noted before old) result (noted after new))

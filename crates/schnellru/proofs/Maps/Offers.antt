@@ -17,16 +17,9 @@ promoted_leaves : {K V S H : Type 0} (names : K → Bool) (old mid : State K V S
     → Leaves old (record { pairs = front names left.pairs; limiter = left.limiter }) (promoted names mid)
 promoted_leaves names old mid left leaves =
     let as_many = length-front_pairs names mid.pairs in let room = leaves.room in record {
-      is = λ i. record (promoted names mid) {
+      is = λ i. record (leaves.is i) {
         pairs = front names (leaves.is i).pairs;
-        limiter = (leaves.is i).limiter;
-        hasher = (leaves.is i).hasher;
-        placings = (leaves.is i).placings;
-        moved = (leaves.is i).moved;
-        placed = (leaves.is i).placed;
-        shrunk = (leaves.is i).shrunk;
-        entry_bytes = (leaves.is i).entry_bytes;
-        max = (leaves.is i).max;
+        table = (promoted names mid).table;
       };
       room = record {
         table = room.table;
@@ -70,10 +63,10 @@ module _ {K V S H I : Type 0} {rules : Rules K V S} {offers : Offers K V S I} {n
   module _ (accepted : result.0 ≡ true)
       (named : names i (replacement rules offers names offer.pair i v (contents old)).key ≡ true) where
     -- the pair is in the same bucket
-    pub offered_place : (b : ℕ) → place_of (names i) old.pairs old.places ≡ Some b
-        → place_of (names i) new.pairs new.places ≡ Some b
+    pub offered_place : (b : ℕ) → place_of (names i) old.pairs old.table.places ≡ Some b
+        → place_of (names i) new.pairs new.table.places ≡ Some b
     offered_place b at = (λ j. place_of (names i) ((offer.accepted accepted).is j).pairs (offer.place accepted j))
-        ∙ place-set_entry (names i) _ named old.pairs old.places ∙ at
+        ∙ place-set_entry (names i) _ named old.pairs old.table.places ∙ at
 
     -- and may come to the front
     module _ (next : State K V S H) (is : next ≡ promoted (names i) new) where

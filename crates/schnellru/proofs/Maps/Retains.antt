@@ -38,7 +38,8 @@ module _ {X : Type 0} where
 -- another order of the same pairs
 reordered : {K V S H : Type 0} (st : State K V S H) (pairs : List (K × V)) (places : List ℕ)
     → length pairs ≡ length st.pairs
-    → Leaves st (record { pairs = pairs; limiter = st.limiter }) (record st { pairs = pairs; places = places })
+    → Leaves st (record { pairs = pairs; limiter = st.limiter })
+    (record st { pairs = pairs; table = record st.table { places = places } })
 reordered st pairs places same = record {
   is = refl;
   room = record {
@@ -123,7 +124,10 @@ module _ {K V S H F G : Type 0} (rules : Rules K V S) (closure : Mut F (Bor K ×
 
     -- it stays, as the newest
     pub retains_more : (places : List ℕ) (h : F) → Asks closure f pair true h → IsRetainedTo (left - 1)
-        (record st { pairs = after (last st.pairs) (without_last st.pairs); places = places }) h g
+        (record st {
+          pairs = after (last st.pairs) (without_last st.pairs);
+          table = record st.table { places = places };
+        }) h g
     unfolding before
     retains_more places h answer = record {
       asked = (pair, true) ∷ i.asked;

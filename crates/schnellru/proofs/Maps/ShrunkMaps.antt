@@ -9,7 +9,8 @@ use Rattle.lru_model.specs.Sizes.{usage}
 use Rattle.lru_model.specs.State.{MovesTo, IsSized, buckets}
 use Rattle.lru_model.specs.Shrinks.{shrink_counted}
 use Rattle.schnellru.specs.Inside.OrderedTable.{OrderedTable, IsLinked, KeysFit, pairs_of}
-use Rattle.schnellru.specs.Inside.Holds.{Beside, state_of, Holds}
+use Rattle.schnellru.specs.Inside.Fields.{Fields}
+use Rattle.schnellru.specs.Inside.Holds.{state_of, Holds}
 use Rattle.lru_model.proofs.PairLists.DistinctKeys.{AreDistinct}
 use Rattle.lru_model.proofs.TableSizes.Budgets.{usage_fewer}
 use Rattle.schnellru.proofs.OrderedTables.BucketPairs.{pairs-length}
@@ -18,10 +19,10 @@ use Rattle.schnellru.proofs.Maps.MovedPairs.{moves_to}
 use Rattle.lru_model.proofs.Theorems.PaidMoves.{paid_after}
 use Rattle.lru_model.proofs.Theorems.Shrinks.{moved_pays}
 
-module _ {K V S H : Type 0} (beside : Beside S H) (t : OrderedTable K V) (linked : IsLinked t) where
+module _ {K V S H : Type 0} (fields : Fields S H) (t : OrderedTable K V) (linked : IsLinked t) where
   -- how many buckets the pairs of a map need, by the figures of its linked table
-  pub needs : {most pairs : ℕ} {need : Option ℕ} → most ≡ beside.max → pairs ≡ length t.order
-      → need ≡ buckets_for most pairs → buckets_for beside.max (length (pairs_of t)) ≡ need
+  pub needs : {most pairs : ℕ} {need : Option ℕ} → most ≡ fields.max → pairs ≡ length t.order
+      → need ≡ buckets_for most pairs → buckets_for fields.max (length (pairs_of t)) ≡ need
   needs {most} {pairs} is_max is_pairs is =
       let pairs_are : pairs ≡ length (pairs_of t) = is_pairs ∙ sym (pairs-length t linked) in
       (λ i. buckets_for (sym is_max i) (sym pairs_are i)) ∙ sym is
@@ -29,40 +30,40 @@ module _ {K V S H : Type 0} (beside : Beside S H) (t : OrderedTable K V) (linked
 module _ {K V S H : Type 0} (t u : OrderedTable K V) (count : ℕ) (linked : IsLinked t) (next : IsLinked u)
     (table : length u.slots ≡ count)
     (pairs : pairs_of u ≡ pairs_of t) (left : room (marks_of u.slots) + length t.order ≡ full_capacity count)
-    (placings : u.placings ≡ count_up t.placings (length t.order)) (beside : Beside S H) where
+    (placings : u.placings ≡ count_up t.placings (length t.order)) (fields : Fields S H) where
   -- with the pairs counted
-  abbrev pub counted : Beside S H
-  counted = record beside { shrunk = count_up beside.shrunk (length (pairs_of t)) }
+  abbrev pub counted : Fields S H
+  counted = record fields { shrunk = count_up fields.shrunk (length (pairs_of t)) }
 
-  pub shrinks_to : MovesTo count (shrink_counted (state_of t beside)) (state_of u counted)
+  pub shrinks_to : MovesTo count (shrink_counted (state_of t fields)) (state_of u counted)
   shrinks_to = moves_to t u count linked next table pairs left placings counted
 
-  pub shrinks_holds : (eq : K → K → Bool) (hash_of : H → K → ℕ) → Holds eq hash_of t beside
-      → KeysFit (hash_of beside.hasher) u.slots → count < length t.slots → Holds eq hash_of u counted
+  pub shrinks_holds : (eq : K → K → Bool) (hash_of : H → K → ℕ) → Holds eq hash_of t fields
+      → KeysFit (hash_of fields.hasher) u.slots → count < length t.slots → Holds eq hash_of u counted
   shrinks_holds eq hash_of holds fits fewer = record {
     linked = next;
     fits = fits;
     map = record {
       distinct = subst (AreDistinct eq) (sym pairs) holds.map.distinct;
       sized = sized_by counted u next (reached sized.reachable)
-          (usable.0, ap (usage beside.entry_bytes) table ∙ usable.1) sized.moved sized.placed (omega arith);
-      paid = paid_after (state_of t beside) (state_of u counted)
-          (moved_pays (state_of t beside) count (state_of u counted) shrinks_to) sized.moved
+          (usable.0, ap (usage fields.entry_bytes) table ∙ usable.1) sized.moved sized.placed (omega arith);
+      paid = paid_after (state_of t fields) (state_of u counted)
+          (moved_pays (state_of t fields) count (state_of u counted) shrinks_to) sized.moved
           (omega (arith, shrinks_to.table, few, sized.table.addressable)) holds.map.paid;
     };
   }
     where
-      sized : IsSized (state_of t beside)
+      sized : IsSized (state_of t fields)
       sized = holds.map.sized
 
-      few : count < buckets (state_of t beside)
+      few : count < buckets (state_of t fields)
       few = omega (arith, fewer, length-marks_of t.slots)
 
-      usable : (less : ℕ) × (usage beside.entry_bytes count ≡ Some less) × (less ≤ sized.usable.0)
-      usable = usage_fewer beside.entry_bytes count (buckets (state_of t beside)) sized.usable.0 (omega (arith, few))
+      usable : (less : ℕ) × (usage fields.entry_bytes count ≡ Some less) × (less ≤ sized.usable.0)
+      usable = usage_fewer fields.entry_bytes count (buckets (state_of t fields)) sized.usable.0 (omega (arith, few))
           sized.usable.1
 
-      reached : (buckets (state_of t beside) ≡ 0) ⊎ (buckets (state_of t beside) < beside.max)
-          → (length u.slots ≡ 0) ⊎ (length u.slots < beside.max)
+      reached : (buckets (state_of t fields) ≡ 0) ⊎ (buckets (state_of t fields) < fields.max)
+          → (length u.slots ≡ 0) ⊎ (length u.slots < fields.max)
       reached (inl none) = absurd (omega (arith, few, none))
       reached (inr below) = inr (omega (arith, table, few, below))

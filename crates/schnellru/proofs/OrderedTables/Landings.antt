@@ -11,13 +11,14 @@ use Rattle.group_table.specs.Change.{count_up}
 use Rattle.std.proofs.lemmas.Bool.{false≢true}
 use Rattle.group_table.proofs.FirstFree.{fills_within}
 use Rattle.group_table.proofs.BucketLemmas.{length-marks_of, is_full-marks_of, marks_of-set}
-use Rattle.lru_model.specs.State.{buckets, IsSized, IsPaid}
+use Rattle.lru_model.specs.State.{Counts, buckets, potential, count_insert, IsSound, IsSized, IsPaid}
 use Rattle.lru_model.specs.Place.{IsPlaced, FillsBucket}
 use Rattle.lru_model.specs.Lists.{lookup_entry}
 use Rattle.schnellru.specs.Inside.OrderedTable.{OrderedTable, IsLinked, KeysFit, Lands, pairs_of, entries_in}
 use Rattle.std.specs.List.{IsDistinct}
 use Rattle.lru_model.proofs.PairLists.DistinctKeys.{AreDistinct, absent_keys}
-use Rattle.schnellru.specs.Inside.Holds.{Beside, state_of, Holds}
+use Rattle.schnellru.specs.Inside.Fields.{Fields}
+use Rattle.schnellru.specs.Inside.Holds.{table_state, state_of, Holds}
 use Rattle.schnellru.proofs.OrderedTables.OrderCuts.{entries-apart}
 use Rattle.schnellru.proofs.Chains.Orders.{Lacks, lacks_unless}
 use Rattle.lru_model.proofs.TableSizes.FilledBuckets.{fills_free}
@@ -49,35 +50,36 @@ module _ {K V : Type 0} (t u : OrderedTable K V) (hash : ℕ) (pair : K × V) (b
       (get_or-set_same t.slots b (full (record { tag = hash_tag hash; entry = pair })) empty lands_within)
       ∙ ap (λ l. pair ∷ l) (entries-apart t.slots b _ t.order apart)
 
+  -- its bucket is full
+  pub lands_fills : {n entry_bytes max : ℕ} {counts : Counts} → IsSound n entry_bytes max (marks_of t.slots) counts
+      → FillsBucket hash (table_state t) (table_state u)
+  lands_fills sound = fills_free (table_state t) (table_state u) sound hash b
+      (subst (λ n. b < n) (sym (length-marks_of t.slots)) lands_within) lands.first lands.room
+      (ap marks_of lands.slots ∙ marks_of-set t.slots b (filled hash pair)) lands.order
+
   -- and n counts it
-  module _ {S H : Type 0} (beside : Beside S H) (sized : IsSized (state_of t beside)) (n : ℕ)
-      (counts : n ≡ count_up beside.placed 1) where
-    abbrev counted : Beside S H
-    counted = record beside { placed = n }
+  module _ {S H : Type 0} (fields : Fields S H) (sized : IsSized (state_of t fields)) (n : ℕ)
+      (counts : n ≡ count_up fields.placed 1) where
+    abbrev counted : Fields S H
+    counted = record fields { placed = n }
 
-    kept : beside.moved ≡ count_up beside.moved 0
-    kept = count_up-none beside.moved sized.moved
+    counts_insert : (state_of u counted).counts ≡ count_insert 0 (state_of t fields).counts
+    counts_insert = λ i. record (state_of u counted).counts {
+      moved = count_up-none fields.moved sized.moved i;
+      placings = lands.placings i;
+      placed = counts i;
+    }
 
-    pub lands_placed : IsPlaced pair (buckets (state_of t beside)) (room (marks_of u.slots)) 0 (state_of t beside)
+    pub lands_placed : IsPlaced pair (buckets (state_of t fields)) (room (marks_of u.slots)) 0 (state_of t fields)
         (state_of u counted)
     lands_placed = record {
       table = length-marks_of u.slots ∙ lands_length ∙ sym (length-marks_of t.slots);
       room_left = refl;
-      state = λ i. record (state_of u counted) {
-        pairs = lands_pairs i;
-        moved = kept i;
-        placings = lands.placings i;
-        placed = counts i;
-      };
+      state = λ i. record (state_of u counted) { pairs = lands_pairs i; counts = counts_insert i };
     }
 
-    pub lands_fills : FillsBucket hash (state_of t beside) (state_of u counted)
-    lands_fills = fills_free (state_of t beside) (state_of u counted) sized hash b
-        (subst (λ n. b < n) (sym (length-marks_of t.slots)) lands_within) lands.first lands.room
-        (ap marks_of lands.slots ∙ marks_of-set t.slots b (filled hash pair)) lands.order
-
     pub lands_sized : IsLinked u → IsSized (state_of u counted)
-    lands_sized next = let same = sized_same beside t u beside.limiter sized next lands_length in record {
+    lands_sized next = let same = sized_same fields t u fields.limiter sized next lands_length in record {
       table = same.table;
       taken = same.taken;
       reachable = same.reachable;
@@ -87,15 +89,16 @@ module _ {K V : Type 0} (t u : OrderedTable K V) (hash : ℕ) (pair : K × V) (b
       shrunk = sized.shrunk;
     }
 
-    pub lands_paid : IsPaid (state_of t beside) → IsPaid (state_of u counted)
-    lands_paid paid = paid_after (state_of t beside) (state_of u counted)
-        (pays_placing (state_of t beside) (state_of u counted) 0 sized.placed sized.shrunk kept counts refl
+    pub lands_paid : IsPaid (potential (state_of t fields)) (state_of t fields).counts
+        → IsPaid (potential (state_of u counted)) (state_of u counted).counts
+    lands_paid paid = paid_after (state_of t fields) (state_of u counted)
+        (pays_placing (state_of t fields) (state_of u counted) 0 sized.placed sized.shrunk counts_insert
         (omega (arith, lands.room, room_at-most (marks_of t.slots) b, ap full_capacity lands_placed.table)))
         sized.moved (omega (arith, sized.table.addressable, lands_placed.table)) paid
 
     -- so what holds of every map holds, if its key was not there
-    pub lands_holds : {eq : K → K → Bool} (hash_of : H → K → ℕ) → Holds eq hash_of t beside → IsLinked u
-        → KeysFit (hash_of beside.hasher) u.slots
+    pub lands_holds : {eq : K → K → Bool} (hash_of : H → K → ℕ) → Holds eq hash_of t fields → IsLinked u
+        → KeysFit (hash_of fields.hasher) u.slots
         → lookup_entry (eq pair.0) (pairs_of t) ≡ None → Holds eq hash_of u counted
     unfolding IsDistinct
     lands_holds {eq} hash_of holds next fits absent = record {

@@ -5,7 +5,8 @@ use Rattle.std.specs.Cmp.{IsEquivalence}
 use Rattle.group_table.specs.Bucket.{entry_at, marks_of}
 use Rattle.lru_model.specs.Lists.{without, back, back_places}
 use Rattle.schnellru.specs.Inside.OrderedTable.{OrderedTable, IsLinked, KeysFit, pairs_of, entries_in, without_bucket}
-use Rattle.schnellru.specs.Inside.Holds.{Beside, state_of, Holds}
+use Rattle.schnellru.specs.Inside.Fields.{Fields}
+use Rattle.schnellru.specs.Inside.Holds.{counts_of, state_of, Holds}
 use Rattle.lru_model.specs.Calls.{demoted}
 use Rattle.lru_model.proofs.PairLists.DistinctKeys.{AreDistinct, distinct_last}
 use Rattle.schnellru.proofs.OrderedTables.BucketPairs.{pair_found, others_are, place_found, other_places_are}
@@ -33,17 +34,16 @@ module _ {K V : Type 0} (t v : OrderedTable K V) (linked : IsLinked t) (b : ℕ)
   last_places = λ i. other_places_are t linked b p there names laws one distinct named i
       ++ option_to_list (place_found t linked b p there names laws one distinct named i)
 
-  module _ {S H : Type 0} (beside : Beside S H) where
-    pub demoted_state : state_of v beside ≡ demoted names (state_of t beside)
-    demoted_state = λ i. record (state_of v beside) {
+  module _ {S H : Type 0} (fields : Fields S H) where
+    pub demoted_state : state_of v fields ≡ demoted names (state_of t fields)
+    demoted_state = λ i. record (state_of v fields) {
       pairs = demoted_pairs i;
-      marks = marks_of (slots i);
-      places = (order ∙ sym last_places) i;
-      placings = counted i;
+      table = record { marks = marks_of (slots i); places = (order ∙ sym last_places) i };
+      counts = counts_of (counted i) fields;
     }
 
-    pub demoted_holds : (hash_of : H → K → ℕ) → Holds eq hash_of t beside → IsLinked v → Holds eq hash_of v beside
-    demoted_holds hash_of holds next = alike_holds beside eq hash_of t v holds next
-        (subst (KeysFit (hash_of beside.hasher)) (sym slots) holds.fits)
+    pub demoted_holds : (hash_of : H → K → ℕ) → Holds eq hash_of t fields → IsLinked v → Holds eq hash_of v fields
+    demoted_holds hash_of holds next = alike_holds fields eq hash_of t v holds next
+        (subst (KeysFit (hash_of fields.hasher)) (sym slots) holds.fits)
         (ap marks_of slots) (subst (AreDistinct eq) (sym demoted_pairs)
         (distinct_last eq names laws (pairs_of t) distinct))

@@ -9,7 +9,8 @@ use Rattle.lru_model.specs.Lists.{without, front, after, last, without_last, new
 use Rattle.schnellru.specs.Inside.OrderedTable.{OrderedTable, IsLinked, KeysFit, pairs_of, entries_in, without_bucket}
 use Rattle.schnellru.specs.Inside.OrderedTable.{with_pair}
 use Rattle.lru_model.specs.Lists.{first as first_bucket, last as last_bucket}
-use Rattle.schnellru.specs.Inside.Holds.{Beside, state_of, Holds}
+use Rattle.schnellru.specs.Inside.Fields.{Fields}
+use Rattle.schnellru.specs.Inside.Holds.{counts_of, state_of, Holds}
 use Rattle.lru_model.specs.Calls.{promoted}
 use Rattle.schnellru.proofs.Chains.Orders.{first_in, before_is, before_first}
 use Rattle.schnellru.proofs.Chains.Neighbours.{newest_again}
@@ -33,18 +34,20 @@ module _ {K V : Type 0} (t v : OrderedTable K V) (linked : IsLinked t) (b : ℕ)
       ∙ ap (λ o. after o (without names (pairs_of t)))
       (sym (pair_found t linked b p there names laws one distinct named))
 
-  module _ {S H : Type 0} (beside : Beside S H) where
-    pub promoted_state : state_of v beside ≡ promoted names (state_of t beside)
-    promoted_state = λ i. record (state_of v beside) {
+  module _ {S H : Type 0} (fields : Fields S H) where
+    pub promoted_state : state_of v fields ≡ promoted names (state_of t fields)
+    promoted_state = λ i. record (state_of v fields) {
       pairs = promoted_pairs i;
-      marks = marks_of (slots i);
-      places = (order ∙ sym (places_are t linked b p there names laws one distinct named)) i;
-      placings = counted i;
+      table = record {
+        marks = marks_of (slots i);
+        places = (order ∙ sym (places_are t linked b p there names laws one distinct named)) i;
+      };
+      counts = counts_of (counted i) fields;
     }
 
-    pub promoted_holds : (hash_of : H → K → ℕ) → Holds eq hash_of t beside → IsLinked v → Holds eq hash_of v beside
-    promoted_holds hash_of holds next = alike_holds beside eq hash_of t v holds next
-        (subst (KeysFit (hash_of beside.hasher)) (sym slots) holds.fits)
+    pub promoted_holds : (hash_of : H → K → ℕ) → Holds eq hash_of t fields → IsLinked v → Holds eq hash_of v fields
+    promoted_holds hash_of holds next = alike_holds fields eq hash_of t v holds next
+        (subst (KeysFit (hash_of fields.hasher)) (sym slots) holds.fits)
         (ap marks_of slots) (subst (AreDistinct eq) (sym promoted_pairs)
         (distinct_first eq names one (pairs_of t) distinct))
 
@@ -60,14 +63,14 @@ module _ {K V : Type 0} (t v : OrderedTable K V) (linked : IsLinked t) (b : ℕ)
         ∙ ap (λ l. p ∷ l) (sym (others_oldest t linked b oldest p there))
         ∙ ap (λ o. after o (without_last (pairs_of t))) (sym (oldest_is t linked b oldest p there))
 
-    pub oldest_promoted : {S H : Type 0} (beside : Beside S H) → state_of v beside ≡ record (state_of t beside) {
+    pub oldest_promoted : {S H : Type 0} (fields : Fields S H) → state_of v fields ≡ record (state_of t fields) {
       pairs = after (last (pairs_of t)) (without_last (pairs_of t));
-      places = v.order;
+      table = record (state_of t fields).table { places = v.order };
     }
-    oldest_promoted beside = λ i. record (state_of v beside) {
+    oldest_promoted fields = λ i. record (state_of v fields) {
       pairs = oldest_pairs i;
-      marks = marks_of (slots i);
-      placings = counted i;
+      table = record { marks = marks_of (slots i); places = v.order };
+      counts = counts_of (counted i) fields;
     }
 
 -- the newest pair of t is that in the bucket b
@@ -90,18 +93,18 @@ module _ {K V : Type 0} (t : OrderedTable K V) (linked : IsLinked t) (b : ℕ) (
         ∙ written_first t b (p.0, w) (full_by_entry (bucket_at t.slots b) p there) t.order
         ∙ ap (λ l. set_newest l w) (sym newest_pairs)
 
-    module _ {S H : Type 0} (beside : Beside S H) where
-      pub newest_state : state_of (with_pair t b (p.0, w)) beside
-          ≡ record (state_of t beside) { pairs = set_newest (pairs_of t) w }
-      newest_state = λ i. record (state_of t beside) {
+    module _ {S H : Type 0} (fields : Fields S H) where
+      pub newest_state : state_of (with_pair t b (p.0, w)) fields
+          ≡ record (state_of t fields) { pairs = set_newest (pairs_of t) w }
+      newest_state = λ i. record (state_of t fields) {
         pairs = newest_set i;
-        marks = marks_of-refilled t.slots b (p.0, w) i;
+        table = record { marks = marks_of-refilled t.slots b (p.0, w) i; places = t.order };
       }
 
-      pub newest_holds : {eq : K → K → Bool} → IsEquivalence eq → (hash_of : H → K → ℕ) → Holds eq hash_of t beside
-          → IsLinked (with_pair t b (p.0, w)) → KeysFit (hash_of beside.hasher) (with_pair t b (p.0, w)).slots
-          → Holds eq hash_of (with_pair t b (p.0, w)) beside
+      pub newest_holds : {eq : K → K → Bool} → IsEquivalence eq → (hash_of : H → K → ℕ) → Holds eq hash_of t fields
+          → IsLinked (with_pair t b (p.0, w)) → KeysFit (hash_of fields.hasher) (with_pair t b (p.0, w)).slots
+          → Holds eq hash_of (with_pair t b (p.0, w)) fields
       newest_holds {eq} laws hash_of holds next fits =
           kept_holds t linked b p there (eq p.0) laws (λ x y h. laws.congr p.0 x y h)
           (laws.refl p.0) holds.map.distinct
-          beside w hash_of holds next fits
+          fields w hash_of holds next fits

@@ -13,8 +13,9 @@ use Rattle.lru_model.specs.Lists.{without, set_entry}
 use Rattle.schnellru.specs.Inside.OrderedTable.{OrderedTable, IsLinked, KeysFit, with_pair, without_bucket, pairs_of}
 use Rattle.schnellru.specs.Inside.OrderedTable.{entries_in}
 use Rattle.lru_model.specs.State.{State, Leaves}
-use Rattle.schnellru.specs.Inside.Holds.{Beside, state_of, Holds}
-use Rattle.schnellru.specs.Inside.Steps.{IsReplaced, IsGivenUp, IsTakenOut}
+use Rattle.schnellru.specs.Inside.Fields.{Fields}
+use Rattle.schnellru.specs.Inside.Holds.{counts_of, state_of, Holds}
+use Rattle.schnellru.specs.Inside.Steps.{IsReplaced, IsRemoved, IsTakenOut}
 use Rattle.lru_model.proofs.PairLists.DistinctKeys.{AreDistinct, distinct_set, distinct_without}
 use Rattle.schnellru.proofs.OrderedTables.OrderCuts.{entries-apart, without_lacks}
 use Rattle.schnellru.proofs.OrderedTables.Writes.{set_pairs}
@@ -34,7 +35,7 @@ module _ {K V S : Type 0} (rules : Rules K V S) (by : Replaced K V S) (old new :
       (sym out.there ∙ entry_at-refilled old.slots b (k, v) (full_by_entry (bucket_at old.slots b) was there))
 
   -- a replacement was refused, and the pair taken out
-  pub gives_up : IsGivenUp rules by b old new l
+  pub gives_up : IsRemoved rules by b old new l
   gives_up = record {
     slots = subst (λ p. Removes (with_pair old b p).slots new.slots b) pair_is out.slots;
     order = out.order;
@@ -59,12 +60,12 @@ module _ {K V S H : Type 0} (by : Replaced K V S) (old new : OrderedTable K V) (
     (laws : IsEquivalence eq)
     (one : (x y : K) → names x ≡ true → names y ≡ eq x y) (distinct : AreDistinct eq (pairs_of old))
     (named : names was.0 ≡ true)
-    (beside : Beside S H) where
+    (fields : Fields S H) where
   abbrev before : State K V S H
-  before = state_of old beside
+  before = state_of old fields
 
   abbrev after : State K V S H
-  after = state_of new (record beside { limiter = l })
+  after = state_of new (record fields { limiter = l })
 
   others : (p : K × V) → entries_in (with_pair old b p).slots (without_bucket b old.order)
       ≡ without names (pairs_of old)
@@ -90,9 +91,9 @@ module _ {K V S H : Type 0} (by : Replaced K V S) (old new : OrderedTable K V) (
         let lengths : length (pairs_of new)
         ≡ length (pairs_of old) = omega
         (arith, pairs-length old first, pairs-length new next, ap length step.order) in record {
-          is = λ i. record (state_of new (record beside { limiter = step.notified i })) {
+          is = λ i. record (state_of new (record fields { limiter = step.notified i })) {
             pairs = replaced_pairs i;
-            placings = step.placings i;
+            counts = counts_of (step.placings i) fields;
           };
           room = record {
             table = ap length marks;
@@ -103,15 +104,15 @@ module _ {K V S H : Type 0} (by : Replaced K V S) (old new : OrderedTable K V) (
           };
         }
 
-    replaced_holds : (hash_of : H → K → ℕ) → names by.key ≡ true → Holds eq hash_of old beside
-        → KeysFit (hash_of beside.hasher) new.slots → Holds eq hash_of new (record beside { limiter = l })
-    replaced_holds hash_of kept holds fits = leaves_holds beside eq hash_of old new _ l holds next fits
+    replaced_holds : (hash_of : H → K → ℕ) → names by.key ≡ true → Holds eq hash_of old fields
+        → KeysFit (hash_of fields.hasher) new.slots → Holds eq hash_of new (record fields { limiter = l })
+    replaced_holds hash_of kept holds fits = leaves_holds fields eq hash_of old new _ l holds next fits
         (ap length step.slots ∙ length-set old.slots b _) replaced_leaves
         (subst (AreDistinct eq) (sym replaced_pairs)
         (distinct_set eq names one laws (by.key, by.new_value) kept (pairs_of old) distinct))
 
   -- the pair left, and the others are as they were
-  module _ (rules : Rules K V S) (step : IsGivenUp rules by b old new l) where
+  module _ (rules : Rules K V S) (step : IsRemoved rules by b old new l) where
     pub given_up_pairs : pairs_of new ≡ without names (pairs_of old)
     given_up_pairs = ap (entries_in new.slots) step.order
         ∙ removed-entries (with_pair old b (by.key, by.old_value)).slots new.slots b step.slots old.order
@@ -127,27 +128,27 @@ module _ {K V S H : Type 0} (by : Replaced K V S) (old new : OrderedTable K V) (
           limiter = (rules.on_removed by.limiter by.key by.old_value).limiter;
         }) after
     given_up_leaves = record {
-      is = λ i. record (state_of new (record beside { limiter = step.notified i })) {
+      is = λ i. record (state_of new (record fields { limiter = step.notified i })) {
         pairs = given_up_pairs i;
-        placings = step.placings i;
+        counts = counts_of (step.placings i) fields;
       };
       room = frees_room old new b first next given_up_length (ap (λ o. suc (length o)) step.order
-          ∙ fewer) step.room beside (record beside { limiter = l });
+          ∙ fewer) step.room fields (record fields { limiter = l });
     }
 
-    given_up_holds : (hash_of : H → K → ℕ) → Holds eq hash_of old beside
-        → KeysFit (hash_of beside.hasher) new.slots → Holds eq hash_of new (record beside { limiter = l })
-    given_up_holds hash_of holds fits = leaves_holds beside eq hash_of old new _ l holds next fits given_up_length
+    given_up_holds : (hash_of : H → K → ℕ) → Holds eq hash_of old fields
+        → KeysFit (hash_of fields.hasher) new.slots → Holds eq hash_of new (record fields { limiter = l })
+    given_up_holds hash_of holds fits = leaves_holds fields eq hash_of old new _ l holds next fits given_up_length
         given_up_leaves
         (subst (AreDistinct eq) (sym given_up_pairs) (distinct_without eq names (pairs_of old) distinct))
 
   -- one or the other
   module _ (rules : Rules K V S) (accepts : Bool) (replaced : accepts ≡ true → IsReplaced by b old new l)
-      (given_up : accepts ≡ false → IsGivenUp rules by b old new l) where
-    pub offered_holds : (hash_of : H → K → ℕ) → names by.key ≡ true → Holds eq hash_of old beside
-        → KeysFit (hash_of beside.hasher) new.slots → Holds eq hash_of new (record beside { limiter = l })
+      (given_up : accepts ≡ false → IsRemoved rules by b old new l) where
+    pub offered_holds : (hash_of : H → K → ℕ) → names by.key ≡ true → Holds eq hash_of old fields
+        → KeysFit (hash_of fields.hasher) new.slots → Holds eq hash_of new (record fields { limiter = l })
     offered_holds hash_of kept holds fits = go accepts refl
       where
-        go : (y : Bool) → accepts ≡ y → Holds eq hash_of new (record beside { limiter = l })
+        go : (y : Bool) → accepts ≡ y → Holds eq hash_of new (record fields { limiter = l })
         go true e = replaced_holds (replaced e) hash_of kept holds fits
         go false e = given_up_holds rules (given_up e) hash_of holds fits

@@ -9,7 +9,8 @@ use Rattle.schnellru.specs.Inside.OrderedTable.{OrderedTable, IsLinked, KeysFit,
 use Rattle.lru_model.specs.State.{Contents, Frees, Leaves, notified_of}
 use Rattle.lru_model.specs.Calls.{left_of}
 use Rattle.schnellru.specs.Inside.Steps.{IsTakenOut}
-use Rattle.schnellru.specs.Inside.Holds.{Beside, state_of, Holds}
+use Rattle.schnellru.specs.Inside.Fields.{Fields}
+use Rattle.schnellru.specs.Inside.Holds.{counts_of, table_state, state_of, Holds}
 use Rattle.lru_model.proofs.PairLists.DistinctKeys.{AreDistinct, distinct_without}
 use Rattle.schnellru.proofs.Maps.HeldMaps.{frees_room, leaves_holds}
 use Rattle.schnellru.proofs.OrderedTables.BucketPairs.{shorter, others_are, removed-entries}
@@ -28,36 +29,35 @@ module _ {K V S : Type 0} (rules : Rules K V S) (t u : OrderedTable K V) (b : �
     pub taken_notified : notified ≡ notified_of rules pair limiter
     taken_notified = out.notified ∙ ap (λ o. notified_of rules o limiter) (sym is)
 
-  module _ {H : Type 0} (first : IsLinked t) (next : IsLinked u) (beside : Beside S H) where
+  -- its bucket is free
+  pub taken_frees : (place : Option ℕ) → place ≡ Some b → Frees place (table_state t) (table_state u)
+  taken_frees place is = record {
+    bucket = b;
+    there = is;
+    freed = states-removed t.slots u.slots b out.slots;
+    others = out.order;
+  }
+
+  module _ {H : Type 0} (first : IsLinked t) (next : IsLinked u) (fields : Fields S H) where
     pub taken_leaves : (left : Contents K V S) → pairs_of u ≡ left.pairs → notified ≡ left.limiter
-        → Leaves (state_of t beside) left (state_of u (record beside { limiter = notified }))
+        → Leaves (state_of t fields) left (state_of u (record fields { limiter = notified }))
     taken_leaves left pairs_are told_is = record {
-      is = λ i. record (state_of u (record beside { limiter = told_is i })) {
+      is = λ i. record (state_of u (record fields { limiter = told_is i })) {
         pairs = pairs_are i;
-        placings = out.placings i;
+        counts = counts_of (out.placings i) fields;
       };
       room = frees_room t u b first next (length-removed t.slots u.slots b out.slots)
           (ap (λ o. suc (length o)) out.order
-          ∙ shorter t first b (full_by_entry (bucket_at t.slots b) out.pair out.there)) out.room beside
-          (record beside { limiter = notified });
-    }
-
-    -- its bucket is free
-    pub taken_frees : (place : Option ℕ) → place ≡ Some b
-        → Frees place (state_of t beside) (state_of u (record beside { limiter = notified }))
-    taken_frees place is = record {
-      bucket = b;
-      there = is;
-      freed = states-removed t.slots u.slots b out.slots;
-      others = out.order;
+          ∙ shorter t first b (full_by_entry (bucket_at t.slots b) out.pair out.there)) out.room fields
+          (record fields { limiter = notified });
     }
 
     -- what holds of a map holds of what is left
-    pub taken_holds : {eq : K → K → Bool} → IsEquivalence eq → (hash_of : H → K → ℕ) → Holds eq hash_of t beside
-        → KeysFit (hash_of beside.hasher) u.slots
-        → Holds eq hash_of u (record beside { limiter = notified })
+    pub taken_holds : {eq : K → K → Bool} → IsEquivalence eq → (hash_of : H → K → ℕ) → Holds eq hash_of t fields
+        → KeysFit (hash_of fields.hasher) u.slots
+        → Holds eq hash_of u (record fields { limiter = notified })
     taken_holds {eq} laws hash_of holds fits =
-        leaves_holds beside eq hash_of t u (record { pairs = pairs_of u; limiter = notified }) notified holds next fits
+        leaves_holds fields eq hash_of t u (record { pairs = pairs_of u; limiter = notified }) notified holds next fits
         (length-removed t.slots u.slots b out.slots)
         (taken_leaves (record { pairs = pairs_of u; limiter = notified }) refl refl)
         (subst (AreDistinct eq) (others_are t first b out.pair out.there (eq out.pair.0) laws

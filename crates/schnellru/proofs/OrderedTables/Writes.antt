@@ -12,7 +12,8 @@ use Rattle.group_table.proofs.SearchLemmas.{full_by_entry}
 use Rattle.lru_model.specs.Lists.{keys_of, set_entry}
 use Rattle.schnellru.specs.Inside.OrderedTable.{OrderedTable, IsLinked, KeysFit, pairs_of, entries_in, without_bucket}
 use Rattle.schnellru.specs.Inside.OrderedTable.{with_pair}
-use Rattle.schnellru.specs.Inside.Holds.{Beside, state_of, Holds}
+use Rattle.schnellru.specs.Inside.Fields.{Fields}
+use Rattle.schnellru.specs.Inside.Holds.{state_of, Holds}
 use Rattle.lru_model.specs.Calls.{written}
 use Rattle.schnellru.proofs.OrderedTables.OrderCuts.{without_lacks, entries-apart, entries-cut}
 use Rattle.lru_model.proofs.PairLists.DistinctKeys.{AreDistinct, NoneNamed}
@@ -69,17 +70,17 @@ module _ {K V : Type 0} (t : OrderedTable K V) (linked : IsLinked t) (b : ℕ) (
       ∙ sym (ap (λ l. set_value names l w) (cut_pairs t linked b p there names laws one distinct named)
       ∙ value_end names p named w _ _ (unnamed t linked b p there names laws one distinct named))
 
-  module _ {S H : Type 0} (beside : Beside S H) (w : V) where
-    pub kept_state : state_of (with_pair t b (p.0, w)) beside ≡ written names w (state_of t beside)
-    kept_state = λ i. record (state_of (with_pair t b (p.0, w)) beside) {
+  module _ {S H : Type 0} (fields : Fields S H) (w : V) where
+    pub kept_state : state_of (with_pair t b (p.0, w)) fields ≡ written names w (state_of t fields)
+    kept_state = λ i. record (state_of (with_pair t b (p.0, w)) fields) {
       pairs = kept_pairs w i;
-      marks = marks_of-refilled t.slots b (p.0, w) i;
+      table = record { marks = marks_of-refilled t.slots b (p.0, w) i; places = t.order };
     }
 
-    pub kept_holds : (hash_of : H → K → ℕ) → Holds eq hash_of t beside → IsLinked (with_pair t b (p.0, w))
-        → KeysFit (hash_of beside.hasher) (with_pair t b (p.0, w)).slots
-        → Holds eq hash_of (with_pair t b (p.0, w)) beside
-    kept_holds hash_of holds next fits = alike_holds beside eq hash_of t (with_pair t b (p.0, w)) holds next fits
+    pub kept_holds : (hash_of : H → K → ℕ) → Holds eq hash_of t fields → IsLinked (with_pair t b (p.0, w))
+        → KeysFit (hash_of fields.hasher) (with_pair t b (p.0, w)).slots
+        → Holds eq hash_of (with_pair t b (p.0, w)) fields
+    kept_holds hash_of holds next fits = alike_holds fields eq hash_of t (with_pair t b (p.0, w)) holds next fits
         (marks_of-refilled t.slots b (p.0, w))
         (subst (IsDistinct eq) (sym (ap keys_of (kept_pairs w) ∙ keys-set_value names (pairs_of t) w)) distinct)
 

@@ -12,6 +12,6 @@ module _ {K V F : Type 0} (closure : Mut F (K × (V × Unit {0})) (Unit {0})) wh
       × CalledWith closure first after g × step before after
 
   -- if a replacement is rejected, the callback gets what the limiter leaves of the pair
-  abbrev pub HandsGivenUp : {S : Type 0} → Rules K V S → Replaced K V S → F → F → Type 0
-  HandsGivenUp rules by f g = let notified = rules.on_removed by.limiter by.key by.old_value in
+  abbrev pub PassesRemoved : {S : Type 0} → Rules K V S → Replaced K V S → F → F → Type 0
+  PassesRemoved rules by f g = let notified = rules.on_removed by.limiter by.key by.old_value in
       Called closure f (notified.key, (notified.value, tt)) tt g

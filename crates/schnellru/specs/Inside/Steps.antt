@@ -19,7 +19,7 @@ pub record IsReplaced {K V S : Type 0} (by : Replaced K V S) (b : ℕ) (old new 
   pub notified : limiter ≡ by.limiter
 
 -- The limiter rejected the new value, and the pair was removed.
-pub record IsGivenUp {K V S : Type 0} (rules : Rules K V S) (by : Replaced K V S) (b : ℕ) (old new : OrderedTable K V)
+pub record IsRemoved {K V S : Type 0} (rules : Rules K V S) (by : Replaced K V S) (b : ℕ) (old new : OrderedTable K V)
     (limiter : S) : Type 0 where
   pub slots : Removes (with_pair old b (by.key, by.old_value)).slots new.slots b
   pub order : new.order ≡ without_bucket b old.order
@@ -50,5 +50,5 @@ pub record IsOffered {K V S H I : Type 0} (rules : Rules K V S) (offers : Offers
   pub unkept : result.1 ≡ unkept_of (replacement rules offers names pair i v (contents old))
   pub accepted : result.0 ≡ true → Leaves old (with_updated rules offers names pair i v (contents old)) new
   -- it is in the same bucket
-  pub place : result.0 ≡ true → new.places ≡ old.places
+  pub place : result.0 ≡ true → new.table.places ≡ old.table.places
   pub rejected : result.0 ≡ false → Leaves old (with_removed rules offers names pair i v (contents old)) new

@@ -28,16 +28,16 @@ module _ (K V L S N H : RattleType) (key : HashMembers K.Denot)
       × (n ≡ record made { pairs = set_newest made.pairs w }) × IsMap key.eq n
 
   -- the get left the map n, and lends no value
-  abbrev pub Lacks : Result (Option (MutBor V.Denot)) E → State K.Denot V.Denot L.Denot S.Denot → Type 0
-  Lacks r n = Step (is_kept r) n × IsMap key.eq n
+  abbrev pub LendsNone : Result (Option (MutBor V.Denot)) E → State K.Denot V.Denot L.Denot S.Denot → Type 0
+  LendsNone r n = Step (is_kept r) n × IsMap key.eq n
 
   -- what the map ends as, if the error of the result may say that the key is not there (`NotKept`)
   abbrev pub lends_or : Result (MutBor V.Denot) (NotLent E) → Fml
   lends_or r = LendsSoOk (map_row K V L S N H key limits links link_eq link_shown hashed hash) V m r
-      (λ n w. Made (lent_or_none r) n w) (λ n. Lacks (lent_or_none r) n)
+      (λ n w. Made (lent_or_none r) n w) (λ n. LendsNone (lent_or_none r) n)
 
   -- the same for a result that is `Ok None` if the key is not there
   abbrev pub lends_made : Result (Option (MutBor V.Denot)) E → Fml
   lends_made r = follows_so (map_row K V L S N H key limits links link_eq link_shown hashed hash) V m.ghost_name
       (name_lent r)
-      (λ w n. IsLent r → Made r n w) (λ n. NoneLent r → Lacks r n)
+      (λ w n. IsLent r → Made r n w) (λ n. NoneLent r → LendsNone r n)

@@ -1,7 +1,7 @@
 //! The search for a key, with which every look-up begins, and what follows it: a promotion, a demotion or a removal.
 ghost use Rattle.std.specs.Prelude.{◌≡◌, ℕ, ◌<◌, Bool, List, Some, None, IfSome, IfNone, IsTrue, Contains, length};
-ghost use Rattle.lru_model.specs.Lists.{lookup_entry, place_of, last, without_last, after};
-ghost use Rattle.lru_model.specs.State.{Frees, IsMap};
+ghost use Rattle.lru_model.specs.Lists.{lookup_entry, last, without_last, after};
+ghost use Rattle.lru_model.specs.State.{place_in, Frees, IsMap};
 ghost use Rattle.lru_model.specs.Calls.{promoted, demoted, RemoveEntry};
 
 use crate::map::LruMap;
@@ -15,8 +15,8 @@ impl<K: Eq + Hash, V, L: Limiter<K, V>, S: KeyHasher<K>> LruMap<K, V, L, S> {
     // compiler would call it from each.
     #[inline(always)]
     pub(crate) fn find<Q: LookupKey<K>>(&self, key: &Q) -> Option<usize>
-        ensures found { IfSome result (λ b. place_of (Q.names key.now) self.now.pairs self.now.places ≡ Some b) }
-        ensures there { IfSome result (Contains self.now.places) }
+        ensures found { IfSome result (λ b. place_in (Q.names key.now) self.now ≡ Some b) }
+        ensures there { IfSome result (Contains self.now.table.places) }
         ensures none { IfNone result (lookup_entry (Q.names key.now) self.now.pairs ≡ None) }
         ensures map { IsMap K.eq self.now }
     {
@@ -27,8 +27,8 @@ impl<K: Eq + Hash, V, L: Limiter<K, V>, S: KeyHasher<K>> LruMap<K, V, L, S> {
     #[inline]
     pub(super) fn find_hashed<Q: LookupKey<K>>(&self, hash: u64, key: &Q) -> Option<usize>
         requires hash { (k : K) → IsTrue (Q.names key.now k) → hash ≡ S.hash_of self.now.hasher k }
-        ensures found { IfSome result (λ b. place_of (Q.names key.now) self.now.pairs self.now.places ≡ Some b) }
-        ensures there { IfSome result (Contains self.now.places) }
+        ensures found { IfSome result (λ b. place_in (Q.names key.now) self.now ≡ Some b) }
+        ensures there { IfSome result (Contains self.now.table.places) }
         ensures none { IfNone result (lookup_entry (Q.names key.now) self.now.pairs ≡ None) }
     {
         self.entries.find(hash, key)
@@ -37,9 +37,9 @@ impl<K: Eq + Hash, V, L: Limiter<K, V>, S: KeyHasher<K>> LruMap<K, V, L, S> {
     // Returns the pair in a bucket.
     #[inline]
     pub(super) fn pair_in(&self, b: usize) -> &Pair<K, V>
-        requires { Contains self.now.places b }
+        requires { Contains self.now.table.places b }
         ensures { (names : K → Bool) → ((x y : K) → IsTrue (names x) → names y ≡ K.eq x y) →
-            place_of names self.now.pairs self.now.places ≡ Some b →
+            place_in names self.now ≡ Some b →
             lookup_entry names self.now.pairs ≡ Some (result.now.key, result.now.value) }
     {
         self.entries.pair(b)
@@ -48,10 +48,10 @@ impl<K: Eq + Hash, V, L: Limiter<K, V>, S: KeyHasher<K>> LruMap<K, V, L, S> {
     // Makes the pair in a bucket the newest.
     #[inline]
     pub(super) fn promote_at(&mut self, b: usize)
-        requires { Contains self.old.places b }
+        requires { Contains self.old.table.places b }
         ensures promoted { (names : K → Bool) → ((x y : K) → IsTrue (names x) → names y ≡ K.eq x y) →
-            place_of names self.old.pairs self.old.places ≡ Some b → self.new ≡ promoted names self.old }
-        ensures there { Contains self.new.places b }
+            place_in names self.old ≡ Some b → self.new ≡ promoted names self.old }
+        ensures there { Contains self.new.table.places b }
     {
         self.entries.promote(b);
     }
@@ -59,9 +59,9 @@ impl<K: Eq + Hash, V, L: Limiter<K, V>, S: KeyHasher<K>> LruMap<K, V, L, S> {
     // Makes the pair in a bucket the oldest.
     #[inline]
     pub(super) fn demote_at(&mut self, b: usize)
-        requires { Contains self.old.places b }
+        requires { Contains self.old.table.places b }
         ensures { (names : K → Bool) → ((x y : K) → IsTrue (names x) → names y ≡ K.eq x y) →
-            place_of names self.old.pairs self.old.places ≡ Some b → self.new ≡ demoted names self.old }
+            place_in names self.old ≡ Some b → self.new ≡ demoted names self.old }
     {
         self.entries.demote(b);
     }
@@ -72,7 +72,7 @@ impl<K: Eq + Hash, V, L: Limiter<K, V>, S: KeyHasher<K>> LruMap<K, V, L, S> {
         requires { 0 < length self.old.pairs }
         ensures { (places : List ℕ) × (self.new ≡ record self.old {
           pairs = after (last self.old.pairs) (without_last self.old.pairs);
-          places = places;
+          table = record self.old.table { places = places };
         }) }
     {
         let b = self.entries.oldest();
@@ -82,11 +82,11 @@ impl<K: Eq + Hash, V, L: Limiter<K, V>, S: KeyHasher<K>> LruMap<K, V, L, S> {
     // Takes out the pair in a bucket, and notifies the limiter. Returns what the limiter leaves of the pair.
     #[inline]
     pub(super) fn take_at(&mut self, b: usize) -> (K, V)
-        requires { Contains self.old.places b }
+        requires { Contains self.old.table.places b }
         ensures step { (names : K → Bool) → ((x y : K) → IsTrue (names x) → names y ≡ K.eq x y) →
-            place_of names self.old.pairs self.old.places ≡ Some b →
+            place_in names self.old ≡ Some b →
             RemoveEntry L.rules names self.old (Some result) self.new }
-        ensures freed { Frees (Some b) self.old self.new }
+        ensures freed { Frees (Some b) self.old.table self.new.table }
         ensures map { IsMap K.eq self.new }
     {
         take_out(&mut self.entries, &mut self.limiter, b, false)

@@ -1,8 +1,8 @@
 //! Removals, pops, a clear and evictions. The limiter is notified of each.
 ghost use Rattle.std.specs.Prelude.{◌≡◌, ℕ, ◌<◌, true, not, ◌∷◌, length, Some, IfSome, IsTrue};
 ghost use Rattle.group_table.specs.Bucket.{IsFull};
-ghost use Rattle.lru_model.specs.Lists.{is_empty, first, last, place_of};
-ghost use Rattle.lru_model.specs.State.{contents, notified_of, trim, Frees, Leaves, IsMap};
+ghost use Rattle.lru_model.specs.Lists.{is_empty, first, last};
+ghost use Rattle.lru_model.specs.State.{place_in, contents, notified_of, trim, Frees, Leaves, IsMap};
 ghost use Rattle.lru_model.specs.Calls.{left_of, Remove, RemoveEntry, PopOldest, PopNewest, cleared};
 ghost use Rattle.lru_model.specs.Inserts.{make_room};
 ghost use Rattle.lru_model.specs.Callbacks.{noting, noted};
@@ -28,7 +28,7 @@ impl<K: Eq + Hash, V, L: Limiter<K, V>, S: KeyHasher<K>> LruMap<K, V, L, S> {
     /// After schnellru's `LruMap::pop_oldest`.
     pub fn pop_oldest(&mut self) -> Option<(K, V)>
         ensures step { PopOldest L.rules self.old result self.new }
-        ensures freed { IfSome result (λ _. Frees (last self.old.places) self.old self.new) }
+        ensures freed { IfSome result (λ _. Frees (last self.old.table.places) self.old.table self.new.table) }
         ensures map { IsMap K.eq self.new }
     {
         if self.is_empty() {
@@ -50,7 +50,7 @@ impl<K: Eq + Hash, V, L: Limiter<K, V>, S: KeyHasher<K>> LruMap<K, V, L, S> {
     /// After schnellru's `LruMap::pop_newest`.
     pub fn pop_newest(&mut self) -> Option<(K, V)>
         ensures step { PopNewest L.rules self.old result self.new }
-        ensures freed { IfSome result (λ _. Frees (first self.old.places) self.old self.new) }
+        ensures freed { IfSome result (λ _. Frees (first self.old.table.places) self.old.table self.new.table) }
         ensures map { IsMap K.eq self.new }
     {
         let b = self.entries.first()?;
@@ -72,7 +72,7 @@ impl<K: Eq + Hash, V, L: Limiter<K, V>, S: KeyHasher<K>> LruMap<K, V, L, S> {
     pub fn remove_entry<Q: LookupKey<K>>(&mut self, key: &Q) -> Option<(K, V)>
         ensures step { RemoveEntry L.rules (Q.names key.now) self.old result self.new }
         ensures freed { IfSome result (λ _.
-            Frees (place_of (Q.names key.now) self.old.pairs self.old.places) self.old self.new) }
+            Frees (place_in (Q.names key.now) self.old) self.old.table self.new.table) }
         ensures map { IsMap K.eq self.new }
     {
         let b = self.find(key)?;
@@ -94,7 +94,7 @@ impl<K: Eq + Hash + Drop, V, L: Limiter<K, V>, S: KeyHasher<K>> LruMap<K, V, L, 
     pub fn remove<Q: LookupKey<K>>(&mut self, key: &Q) -> Option<V>
         ensures step { Remove L.rules (Q.names key.now) self.old result self.new }
         ensures freed { IfSome result (λ _.
-            Frees (place_of (Q.names key.now) self.old.pairs self.old.places) self.old self.new) }
+            Frees (place_in (Q.names key.now) self.old) self.old.table self.new.table) }
         ensures map { IsMap K.eq self.new }
     {
         let (_, value) = self.remove_entry(key)?;
@@ -129,7 +129,7 @@ impl<K: Eq + Hash, V, L: Limiter<K, V>, S: KeyHasher<K>> LruMap<K, V, L, S> {
     pub(super) fn take_oldest(&mut self) -> (K, V)
         requires { 0 < length self.old.pairs }
         ensures step { PopOldest L.rules self.old (Some result) self.new }
-        ensures freed { Frees (last self.old.places) self.old self.new }
+        ensures freed { Frees (last self.old.table.places) self.old.table self.new.table }
         ensures map { IsMap K.eq self.new }
     {
         let b = self.entries.oldest();
@@ -201,7 +201,7 @@ pub(super) fn take_out<K: Eq + Hash, V, L: Limiter<K, V>>(
     is_oldest: bool,
 ) -> (K, V)
     requires full { IsFull entries.old.slots b }
-    requires last { IsTrue is_oldest → last entries.old.order ≡ Some b }
+    requires oldest { IsTrue is_oldest → last entries.old.order ≡ Some b }
     ensures taken { IsTakenOut L.rules b entries.old entries.new limiter.old result limiter.new }
     ensures linked { IsLinked entries.new }
     ensures fits { (hash_of : K → ℕ) → KeysFit hash_of entries.old.slots → KeysFit hash_of entries.new.slots }

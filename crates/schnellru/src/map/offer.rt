@@ -3,12 +3,12 @@ ghost use Rattle.std.specs.Prelude.{◌≡◌, ℕ, true, false, length, Some, I
 ghost use Rattle.group_table.specs.Bucket.{entry_at};
 ghost use Rattle.schnellru.specs.Inside.OrderedTable.{IsLinked, KeysFit};
 ghost use Rattle.lru_model.specs.Inserts.{replacement, unkept_of};
-ghost use Rattle.lru_model.specs.Lists.{lookup_entry, place_of};
+ghost use Rattle.lru_model.specs.Lists.{lookup_entry};
 ghost use Rattle.lru_model.specs.MayTake.{MayTakeRejected};
-ghost use Rattle.lru_model.specs.State.{contents};
+ghost use Rattle.lru_model.specs.State.{place_in, contents};
 ghost use Rattle.lru_model.specs.Callbacks.{noting, noting_offers, noted};
-ghost use Rattle.schnellru.specs.Inside.Steps.{IsReplaced, IsGivenUp, IsOffered};
-ghost use Rattle.schnellru.specs.Inside.Handing.{Hands, HandsGivenUp};
+ghost use Rattle.schnellru.specs.Inside.Steps.{IsReplaced, IsRemoved, IsOffered};
+ghost use Rattle.schnellru.specs.Inside.Handing.{Hands, PassesRemoved};
 
 use crate::map::LruMap;
 use crate::map::leave::take_out;
@@ -34,7 +34,7 @@ impl<K: Eq + Hash, V, L: Limiter<K, V>, S: KeyHasher<K>> LruMap<K, V, L, S> {
         requires callable { (pair : K × V) → lookup_entry (I.names key) self.old.pairs ≡ Some pair →
             MayTakeRejected L.rules F.FnMut (replacement L.rules L.offers I.names pair key value (contents self.old))
             sink.old }
-        requires found { place_of (I.names key) self.old.pairs self.old.places ≡ Some b }
+        requires found { place_in (I.names key) self.old ≡ Some b }
         ensures handed { Hands F.FnMut sink.old sink.new (λ before after. IsOffered (noting L.rules)
             (noting_offers L.offers) I.names key value (noted before self.old) result (noted after self.new)) }
         ensures kept { result.0 ≡ true → sink.new ≡ sink.old }
@@ -64,11 +64,11 @@ pub(super) fn offer<K: Eq + Hash, V, I: LookupKey<K>, L: Insertion<K, V, I>, F: 
         IsReplaced (L.offers.on_replace limiter.old (length entries.old.order) pair.0 key pair.1 value) b entries.old
         entries.new limiter.new }
     ensures given_up { result.0 ≡ false → (pair : K × V) → entry_at entries.old.slots b ≡ Some pair →
-        IsGivenUp L.rules (L.offers.on_replace limiter.old (length entries.old.order) pair.0 key pair.1 value) b
+        IsRemoved L.rules (L.offers.on_replace limiter.old (length entries.old.order) pair.0 key pair.1 value) b
         entries.old entries.new limiter.new }
     ensures kept { result.0 ≡ true → sink.new ≡ sink.old }
     ensures handed { result.0 ≡ false → (pair : K × V) → entry_at entries.old.slots b ≡ Some pair →
-        HandsGivenUp F.FnMut L.rules
+        PassesRemoved F.FnMut L.rules
         (L.offers.on_replace limiter.old (length entries.old.order) pair.0 key pair.1 value) sink.old sink.new }
     ensures linked { IsLinked entries.new }
     ensures fits { (hash_of : K → ℕ) → ((x y : K) → IsTrue (K.eq x y) → hash_of x ≡ hash_of y) →

@@ -27,7 +27,7 @@ impl<K: Eq + Hash, V, L: Limiter<K, V>, S: KeyHasher<K>> LruMap<K, V, L, S> {
         requires { (key : Bor K) (value : Bor V) → last self.old.pairs ≡ Some (key.now, value.now)
             → F.pre accepts key value }
         ensures step { PopOldestIf L.rules (Says (F.post accepts)) self.old result self.new }
-        ensures freed { IfSome result (λ _. Frees (last self.old.places) self.old self.new) }
+        ensures freed { IfSome result (λ _. Frees (last self.old.table.places) self.old.table self.new.table) }
         ensures map { IsMap K.eq self.new }
     {
         // Nothing at run time: it opens the map, whose invariant is the clause `map`.
@@ -62,7 +62,8 @@ impl<K: Eq + Hash, V, L: Limiter<K, V>, S: KeyHasher<K>> LruMap<K, V, L, S> {
         requires { (key : Bor K) (value : Bor V) → last self.old.pairs ≡ Some (key.now, value.now)
             → F.pre release key value }
         ensures step { TryPopOldest L.rules (Says (F.post release)) self.old result self.new }
-        ensures freed { IfOk result (λ popped. IfSome popped (λ _. Frees (last self.old.places) self.old self.new)) }
+        ensures freed { IfOk result (λ popped. IfSome popped (λ _.
+            Frees (last self.old.table.places) self.old.table self.new.table)) }
         ensures map { IsMap K.eq self.new }
     {
         // Nothing at run time: it opens the map, whose invariant is the clause `map`.

@@ -33,9 +33,9 @@ impl<K: Eq + Hash, V, L: Limiter<K, V>, S: KeyHasher<K>> LruMap<K, V, L, S> {
     /// assert_eq!(rt; map.move_report(), MoveReport { moved: 0, placed: 3, shrunk: 0 });
     /// ```
     pub fn move_report(&self) -> MoveReport
-        ensures moved { result.moved ≡ self.now.moved }
-        ensures placed { result.placed ≡ self.now.placed }
-        ensures shrunk { result.shrunk ≡ self.now.shrunk }
+        ensures moved { result.moved ≡ self.now.counts.moved }
+        ensures placed { result.placed ≡ self.now.counts.placed }
+        ensures shrunk { result.shrunk ≡ self.now.counts.shrunk }
         ensures paid { result.moved ≤ 2 * result.placed + result.shrunk }
     {
         // Nothing at run time: it opens the map, whose invariant says that moves are paid for.

@@ -4,7 +4,7 @@ ghost use Rattle.std.specs.Prelude.{IsOk};
 ghost use Rattle.group_table.specs.Sizes.{IsPowerFromFour, full_capacity};
 ghost use Rattle.group_table.specs.Change.{count_up};
 ghost use Rattle.lru_model.specs.Sizes.{usage, larger};
-ghost use Rattle.lru_model.specs.State.{buckets, potential, MovesTo, IsMap};
+ghost use Rattle.lru_model.specs.State.{buckets, potential, MovesTo, IsAhead, IsMap};
 ghost use Rattle.lru_model.specs.Place.{table_for};
 
 use crate::map::LruMap;
@@ -50,9 +50,10 @@ impl<K: Eq + Hash, V, L: Limiter<K, V>, S: KeyHasher<K>> LruMap<K, V, L, S> {
 
     // Counts all pairs as moved.
     pub(super) fn count_moves(&mut self)
-        requires paid { self.old.shrunk < 2 ^ 64 - 1 →
-            self.old.moved + length self.old.pairs + potential self.old ≤ 2 * self.old.placed + self.old.shrunk }
-        ensures { self.new ≡ record self.old { moved = count_up self.old.moved (length self.old.pairs) } }
+        requires paid { IsAhead (length self.old.pairs + potential self.old) self.old.counts }
+        ensures { self.new ≡ record self.old {
+          counts = record self.old.counts { moved = count_up self.old.counts.moved (length self.old.pairs) };
+        } }
     {
         self.moved = self.moved.saturating_add(self.entries.len() as u64);
     }

@@ -6,7 +6,7 @@ ghost use Rattle.group_table.specs.Sizes.{IsPowerFromFour, full_capacity};
 ghost use Rattle.group_table.specs.Change.{HasNoPlace, count_up};
 ghost use Rattle.lru_model.specs.Lists.{lookup_entry};
 ghost use Rattle.lru_model.specs.Sizes.{usage};
-ghost use Rattle.lru_model.specs.State.{buckets, room};
+ghost use Rattle.lru_model.specs.State.{buckets, room, IsAhead};
 ghost use Rattle.lru_model.specs.Place.{Place, Evicts, IsPlacedInTable, IsPlacedByMove, FillsBucket, HasNoBucket};
 ghost use Rattle.lru_model.specs.Place.{IsOutgrown, outcome_of, unstored};
 ghost use Rattle.lru_model.specs.Callbacks.{noting, noted};
@@ -28,7 +28,7 @@ impl<K: Eq + Hash, V, L: Limiter<K, V>, S: KeyHasher<K>> LruMap<K, V, L, S> {
         requires absent { lookup_entry (K.eq pair.0) self.old.pairs ≡ None }
         requires room { 0 < room self.old }
         ensures placed { IsPlacedInTable pair self.old self.new }
-        ensures fills { FillsBucket hash self.old self.new }
+        ensures fills { FillsBucket hash self.old.table self.new.table }
         ensures within { length self.old.pairs < full_capacity (buckets self.old) }
         ensures spends { length self.old.pairs + room self.old ≡ full_capacity (buckets self.old) →
             room self.new + 1 ≡ room self.old }
@@ -45,11 +45,11 @@ impl<K: Eq + Hash, V, L: Limiter<K, V>, S: KeyHasher<K>> LruMap<K, V, L, S> {
         requires hash { hash ≡ S.hash_of self.old.hasher pair.0 }
         requires absent { lookup_entry (K.eq pair.0) self.old.pairs ≡ None }
         ensures placed { OnOk result (IsPlacedInTable pair self.old self.new) }
-        ensures fills { OnOk result (FillsBucket hash self.old self.new) }
+        ensures fills { OnOk result (FillsBucket hash self.old.table self.new.table) }
         ensures within { OnOk result (length self.old.pairs < full_capacity (buckets self.old)) }
         ensures returned { IfErr result (λ back. back ≡ pair) }
         ensures unchanged { OnErr result (self.new ≡ self.old) }
-        ensures no_place { OnErr result (HasNoPlace self.old.marks hash) }
+        ensures no_place { OnErr result (HasNoPlace self.old.table.marks hash) }
         ensures no_bucket { OnErr result (HasNoBucket hash self.old) }
     {
         self.entries.try_place(hash, pair)?;
@@ -123,7 +123,7 @@ impl<K: Eq + Hash, V, L: Limiter<K, V>, S: KeyHasher<K>> LruMap<K, V, L, S> {
         ensures callable { result ≡ Ok true → MayTakeEach L.rules F.FnMut self.new.pairs sink.new }
     {
         if self.is_empty() {
-            self.turn_away(pair, sink);
+            self.pass_unstored(pair, sink);
             return Ok(false);
         }
         self.store_after_eviction(hash, pair, sink)
@@ -177,8 +177,7 @@ impl<K: Eq + Hash, V, L: Limiter<K, V>, S: KeyHasher<K>> LruMap<K, V, L, S> {
         requires reached { count < L.LinkType.number L.LinkType.MAX }
         requires usable { (bytes : ℕ) × (usage self.old.entry_bytes count ≡ Some bytes) }
         requires half { 2 * length self.old.pairs ≤ full_capacity count }
-        requires paid { self.old.shrunk < 2 ^ 64 - 1 →
-            self.old.moved + length self.old.pairs ≤ 2 * self.old.placed + self.old.shrunk }
+        requires paid { IsAhead (length self.old.pairs) self.old.counts }
         ensures handed { Hands F.FnMut sink.old sink.new (λ before after. IsPlacedByMove (noting L.rules) pair count
             (noted before self.old) (outcome_of result) (noted after self.new)) }
         ensures succeeds { self.old.pairs ≡ [] → count ≡ buckets self.old → IsOk result }
@@ -191,14 +190,14 @@ impl<K: Eq + Hash, V, L: Limiter<K, V>, S: KeyHasher<K>> LruMap<K, V, L, S> {
                 Ok(true)
             }
             Err(error) => {
-                self.turn_away(pair, sink);
+                self.pass_unstored(pair, sink);
                 Err(error)
             }
         }
     }
 
     // Notifies the limiter of a pair that was not stored, and passes what it left of the pair to the callback.
-    fn turn_away<F: FnMut(K, V)>(&mut self, pair: (K, V), sink: &mut F)
+    fn pass_unstored<F: FnMut(K, V)>(&mut self, pair: (K, V), sink: &mut F)
         requires callable { MayTakeEach L.rules F.FnMut (pair ∷ []) sink.old }
         ensures handed { Hands F.FnMut sink.old sink.new (λ before after. noted after self.new ≡ unstored
             (noting L.rules) pair (noted before self.old)) }

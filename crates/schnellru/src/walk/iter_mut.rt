@@ -27,9 +27,9 @@ pub struct IterMut<'a, K: Eq + Hash, V, L: Limiter<K, V>, S: KeyHasher<K>> {
     end: usize,
     front: Option<usize>,
     back: Option<usize>,
-    ghost within: { end ≤ length map.now.places },
-    ghost first: { front ≡ slice_get map.now.places start },
-    ghost last: { back ≡ last_of end map.now.places },
+    ghost within: { end ≤ length map.now.table.places },
+    ghost first: { front ≡ slice_get map.now.table.places start },
+    ghost last: { back ≡ last_of end map.now.table.places },
 }
 
 impl<'a, K: Eq + Hash, V, L: Limiter<K, V>, S: KeyHasher<K>> IterMut<'a, K, V, L, S> {
@@ -214,7 +214,7 @@ impl<K: Eq + Hash, V, L: Limiter<K, V>, S: KeyHasher<K>> LruMap<K, V, L, S> {
     // Calls the closure with the pair in bucket `b`, which is at position `at` counted from the newest.
     #[inline]
     fn write_at<F: FnMut(&K, &mut V)>(&mut self, at: usize, b: usize, f: &mut F)
-        requires at { slice_get self.old.places at ≡ Some b }
+        requires at { slice_get self.old.table.places at ≡ Some b }
         requires callable { F.IsAlwaysCallable f.old }
         ensures writes { (pair : K × V) × (w : V) × (slice_get self.old.pairs at ≡ Some pair)
             × Writes F.FnMut f.old pair w f.new

@@ -14,9 +14,9 @@ impl<K: Eq + Hash, V, L: Limiter<K, V>, S: KeyHasher<K>> LruMap<K, V, L, S> {
     // The buckets of the newest and of the oldest pair.
     #[inline]
     pub(crate) fn ends(&self) -> (Option<usize>, Option<usize>)
-        ensures newest { result.0 ≡ slice_get self.now.places 0 }
-        ensures oldest { result.1 ≡ last_of (length self.now.pairs) self.now.places }
-        ensures places { length self.now.places ≡ length self.now.pairs }
+        ensures newest { result.0 ≡ slice_get self.now.table.places 0 }
+        ensures oldest { result.1 ≡ last_of (length self.now.pairs) self.now.table.places }
+        ensures places { length self.now.table.places ≡ length self.now.pairs }
     {
         (self.entries.first(), self.entries.last())
     }
@@ -24,8 +24,9 @@ impl<K: Eq + Hash, V, L: Limiter<K, V>, S: KeyHasher<K>> LruMap<K, V, L, S> {
     // The bucket after this one, towards the oldest.
     #[inline]
     pub(crate) fn older(&self, b: usize) -> Option<usize>
-        requires { Contains self.now.places b }
-        ensures { (i : ℕ) → slice_get self.now.places i ≡ Some b → result ≡ slice_get self.now.places (i + 1) }
+        requires { Contains self.now.table.places b }
+        ensures { (i : ℕ) → slice_get self.now.table.places i ≡ Some b →
+            result ≡ slice_get self.now.table.places (i + 1) }
     {
         self.entries.older(b)
     }
@@ -33,8 +34,8 @@ impl<K: Eq + Hash, V, L: Limiter<K, V>, S: KeyHasher<K>> LruMap<K, V, L, S> {
     // The bucket before this one, towards the newest.
     #[inline]
     pub(crate) fn newer(&self, b: usize) -> Option<usize>
-        requires { Contains self.now.places b }
-        ensures { (i : ℕ) → slice_get self.now.places i ≡ Some b → result ≡ last_of i self.now.places }
+        requires { Contains self.now.table.places b }
+        ensures { (i : ℕ) → slice_get self.now.table.places i ≡ Some b → result ≡ last_of i self.now.table.places }
     {
         self.entries.newer(b)
     }
@@ -42,7 +43,7 @@ impl<K: Eq + Hash, V, L: Limiter<K, V>, S: KeyHasher<K>> LruMap<K, V, L, S> {
     // Lends the pair in bucket `b`, which is at position `at` counted from the newest, its value for writing.
     #[inline]
     pub(crate) fn pair_at_mut(&mut self, at: usize, b: usize) -> (&K, &mut V)
-        requires { slice_get self.old.places at ≡ Some b }
+        requires { slice_get self.old.table.places at ≡ Some b }
         ensures* writes_back { sem 𝓛
             (lends_value_at K.row V.row L.row S.row L.LinkType.row S.Hasher.row K.Hash L.Limiter
             L.LinkType.LinkType.own L.LinkType.PartialEq L.LinkType.Debug S.KeyHasher S.Hasher.Hasher

@@ -30,4 +30,4 @@ returns c =
     let count = c.references_keep_the_newest.ensures.misses keys old new (λ a b. eqb-true a b) run
     (omega (arith, length, c.requires.some)) in
     c.move_report.ensures.placed ∙ count
-    ∙ (λ i. count_up (ap (λ st. st.placed) fresh i) (misses nat_eq (length i) (reverse keys)))
+    ∙ (λ i. count_up (ap (λ st. st.counts.placed) fresh i) (misses nat_eq (length i) (reverse keys)))

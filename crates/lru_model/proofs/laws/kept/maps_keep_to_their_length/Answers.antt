@@ -1,5 +1,5 @@
 use Rattle.std.proofs.Common.{refl, arith}
-use Rattle.lru_model.proofs.States.EmptyMaps.{empty_is_sized}
+use Rattle.lru_model.proofs.States.EmptyMaps.{empty_is_sound}
 use Rattle.lru_model.proofs.Theorems.NewestInserts.{keeps_on, keeps_written}
 use Rattle.lru_model.proofs.laws.kept.maps_keep_to_their_length.Goals as goal
 
@@ -9,7 +9,7 @@ returns-clause-begins g c = λ most entry_bytes hasher few entry. record {
   half = few;
   links = refl;
   entry = entry;
-  sized = empty_is_sized most hasher entry_bytes _;
+  sized = empty_is_sound entry_bytes _;
 }
 
 pub returns-clause-goes_on : goal.returns-clause-goes_on

@@ -1,8 +1,8 @@
 use Rattle.std.proofs.Common.{sym, ◌∙◌}
 use Rattle.lru_model.specs.Clones.{IsPairClone}
-use Rattle.schnellru.specs.Inside.Holds.{state_of}
+use Rattle.schnellru.specs.Inside.Holds.{counts_of, state_of}
 use Rattle.schnellru.specs.Inside.OrderedTable.{pairs_of}
-use Rattle.schnellru.proofs.Maps.Fields.{beside}
+use Rattle.schnellru.specs.Inside.Fields.{fields_of}
 use Rattle.schnellru.proofs.Maps.HeldMaps.{copied_holds}
 use Rattle.lru_model.proofs.PairLists.DistinctKeys.{distinct_same}
 use Rattle.schnellru.proofs.map.LruMap.clone.Goals as goal
@@ -25,15 +25,16 @@ invariant_of-result g c =
 pub returns-clause-clone : goal.returns-clause-clone
 returns-clause-clone g c =
     let m = c.self.inside in let done = c.in_ok-entries.ensures in
-    let rest = beside c.in_ok-limiter.limiter c.in_ok-hasher.hasher m.moved m.placed m.shrunk m.entry_bytes
-    (g.L.LinkType.LinkType.number g.L.LinkType.LinkType.MAX) in
+    let rest = record (fields_of m (g.L.LinkType.LinkType.number g.L.LinkType.LinkType.MAX)) {
+      limiter = c.in_ok-limiter.limiter;
+      hasher = c.in_ok-hasher.hasher;
+    } in
     rw (← c.self.view_is) (record {
       pairs = done.pairs;
       limiter = c.in_ok-limiter.ensures.cases;
       hasher = c.in_ok-hasher.ensures.cases;
       rest = λ i. record (state_of c.in_ok-entries.entries rest) {
-        marks = done.marks i;
-        places = done.order i;
-        placings = done.placings i;
+        table = record { marks = done.marks i; places = done.order i };
+        counts = counts_of (done.placings i) rest;
       };
     })

@@ -4,5 +4,5 @@ use Rattle.schnellru.proofs.map.LruMap.contains.Goals as goal
 
 pub returns : goal.returns
 returns g c = let st = c.args.self.now in
-    c.is_some.ensures ∙ search_says (g.Q.LookupKey.names c.args.key.now) st.pairs st.places c.find.result
+    c.is_some.ensures ∙ search_says (g.Q.LookupKey.names c.args.key.now) st.pairs st.table.places c.find.result
     c.find.ensures.found c.find.ensures.none

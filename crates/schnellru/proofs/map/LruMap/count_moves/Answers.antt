@@ -1,6 +1,6 @@
 use Rattle.std.proofs.Common.{◌+◌, ◌-◌, ◌^◌, min, sym, ap, ◌∙◌, arith}
 use Rattle.schnellru.specs.Inside.Holds.{state_of}
-use Rattle.schnellru.proofs.Maps.Fields.{beside_of}
+use Rattle.schnellru.specs.Inside.Fields.{fields_of}
 use Rattle.schnellru.proofs.OrderedTables.BucketPairs.{pairs-length}
 use Rattle.lru_model.proofs.Theorems.PaidMoves.{paid_ahead}
 use Rattle.schnellru.proofs.map.LruMap.count_moves.Goals as goal
@@ -23,7 +23,7 @@ invariant_of-self g c =
           placed = sized.placed;
           shrunk = sized.shrunk;
         };
-        paid = paid_ahead _ c.saturating_add-self-inside.type_inv
+        paid = paid_ahead c.saturating_add-self-inside.type_inv
             (λ below. omega (arith, paid below, len, c.saturating_add-self-inside.ensures));
       };
     }
@@ -33,5 +33,5 @@ returns g c =
     let m = c.self.inside in let rises = c.saturating_add-self-inside.ensures
     ∙ ap (λ n. min (m.moved + n) (2 ^ 64 - 1))
     (c.len.ensures.len ∙ sym (pairs-length m.entries c.self.invariant.linked)) in
-    let rest = beside_of m (g.L.LinkType.LinkType.number g.L.LinkType.LinkType.MAX) in
-    rw (← c.self.view_is) (λ i. record (state_of m.entries rest) { moved = rises i })
+    let rest = fields_of m (g.L.LinkType.LinkType.number g.L.LinkType.LinkType.MAX) in
+    rw (← c.self.view_is) (λ i. state_of m.entries (record rest { moved = rises i }))

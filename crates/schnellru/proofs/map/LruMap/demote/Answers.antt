@@ -6,7 +6,7 @@ use Rattle.schnellru.proofs.map.LruMap.demote.Goals as goal
 
 pub returns-in-Some-clause-there : goal.returns-in-Some-clause-there
 returns-in-Some-clause-there g c = let st = c.args.self.now in
-    sym (place_says (g.Q.LookupKey.names c.args.key.now) st.pairs st.places c.in-Some.b c.in-Some.ensures.found)
+    sym (place_says (g.Q.LookupKey.names c.args.key.now) st.pairs st.table.places c.in-Some.b c.in-Some.ensures.found)
 
 pub returns-in-None-clause-there : goal.returns-in-None-clause-there
 returns-in-None-clause-there g c = sym (ap is_some

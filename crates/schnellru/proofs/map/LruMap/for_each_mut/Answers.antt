@@ -19,7 +19,7 @@ pairs-init g c = record {
 
 pub older-next-requires : goal.older-next-requires
 older-next-requires g c =
-    got_in c.pairs.self.places c.pairs.at c.in-Some.b (sym c.pairs.invariant.next ∙ c.in-Some.is)
+    got_in c.pairs.self.table.places c.pairs.at c.in-Some.b (sym c.pairs.invariant.next ∙ c.in-Some.is)
 
 pub pairs-preserved : goal.pairs-preserved
 pairs-preserved g c = let i = c.pairs.invariant in elim c.match-next.branch [
@@ -36,7 +36,7 @@ pairs-preserved g c = let i = c.pairs.invariant in elim c.match-next.branch [
         many = length-set c.pairs.self.pairs c.pairs.at value ∙ i.many;
       })
   | in_default w ↦
-      let beyond = get_none c.pairs.self.places c.pairs.at (sym i.next ∙ w.in_default.is) in
+      let beyond = get_none c.pairs.self.table.places c.pairs.at (sym i.next ∙ w.in_default.is) in
       absurd (omega (arith, beyond, i.places, i.many, c.pairs-test.true, c.len-at-end.ensures.len))
 ]
 

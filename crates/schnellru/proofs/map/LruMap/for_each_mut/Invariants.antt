@@ -8,9 +8,9 @@ use Rattle.schnellru.proofs.map.LruMap.for_each_mut.Given as goal
 abbrev pub invariant-pairs : goal.invariant-pairs
 invariant-pairs g l = record {
   callable : always_mut g.F.FnMut l.f;
-  next : l.next ≡ slice_get l.self.places l.at;
+  next : l.next ≡ slice_get l.self.table.places l.at;
   written : IsWrittenTo g.F.FnMut l.fn.self.pairs l.fn.f l.at l.self.pairs l.f;
   state : l.self ≡ record l.fn.self { pairs = l.self.pairs };
-  places : length l.self.places ≡ length l.self.pairs;
+  places : length l.self.table.places ≡ length l.self.pairs;
   many : length l.self.pairs ≡ length l.fn.self.pairs;
 }

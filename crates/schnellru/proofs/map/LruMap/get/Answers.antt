@@ -36,13 +36,13 @@ returns g c =
     let old = c.args.self.now in let laws = g.met.K.Eq.laws in
     let names = g.Q.LookupKey.names c.args.key.now in let one = g.met.Q.LookupKey.laws.one c.args.key.now in
     let at = c.in_ok-b.ensures.found in let is = c.promote_at.ensures.promoted names one at in
-    let first = subst (λ st. place_of names st.pairs st.places ≡ Some c.in_ok-b.b) (sym (c.self.view_is ∙ is))
-    (front_place names old.pairs old.places c.in_ok-b.b at) in
+    let first = subst (λ st. place_of names st.pairs st.table.places ≡ Some c.in_ok-b.b) (sym (c.self.view_is ∙ is))
+    (front_place names old.pairs old.table.places c.in_ok-b.b at) in
     let (p, there, accepts) = pair_of_place t holds.linked names laws one holds.map.distinct c.in_ok-b.b first in
     let key : p ≡ (now.key, now.value) = ap (λ o. unwrap_or o p) (sym there ∙ c.pair_mut.ensures.pair) in
     let named : names now.key ≡ true = subst (λ p. names p.0 ≡ true) key accepts in
     let found : lookup_entry names old.pairs ≡ Some (now.key, now.value) =
-    sym (front_found names old.pairs old.places c.in_ok-b.b at)
+    sym (front_found names old.pairs old.table.places c.in_ok-b.b at)
     ∙ ap (λ st. lookup_entry names st.pairs) (sym (c.self.view_is ∙ is))
     ∙ pair_found t holds.linked c.in_ok-b.b (now.key, now.value) c.pair_mut.ensures.pair names laws one
     holds.map.distinct named in (

@@ -51,18 +51,18 @@ returns g c =
     let eq = g.K.PartialEq.eq in let laws = g.met.K.Eq.laws in let found = c.in_ok-b.ensures.found in
     let p = found.accepted.pair in let names = eq p.0 in
     let one : (x y : _) → names x ≡ true → names y ≡ eq x y = λ x y h. laws.congr p.0 x y h in
-    let at : place_of names old.pairs old.places ≡ Some b = rw (← c.self.view_is)
+    let at : place_of names old.pairs old.table.places ≡ Some b = rw (← c.self.view_is)
     (place_found t holds.linked b p found.accepted.there names laws one holds.map.distinct (laws.refl p.0)) in
     let is = c.promote_at.ensures.promoted names one at in
-    let first = subst (λ st. place_of names st.pairs st.places ≡ Some b) (sym (c.self-2.view_is ∙ is))
-    (front_place names old.pairs old.places b at) in
+    let first = subst (λ st. place_of names st.pairs st.table.places ≡ Some b) (sym (c.self-2.view_is ∙ is))
+    (front_place names old.pairs old.table.places b at) in
     let (q, there, accepts) = pair_of_place v after.linked names laws one after.map.distinct b first in
     let key : q ≡ (now.key, now.value) = ap (λ o. unwrap_or o q) (sym there ∙ c.pair_mut.ensures.pair) in
     let named : names now.key ≡ true = subst (λ p. names p.0 ≡ true) key accepts in
     let there_now : lookup_entry names old.pairs ≡ Some p = rw (← c.self.view_is)
     (pair_found t holds.linked b p found.accepted.there names laws one holds.map.distinct (laws.refl p.0)) in
     let same : p ≡ (now.key, now.value) = same_Some p (now.key, now.value) (sym there_now
-    ∙ sym (front_found names old.pairs old.places b at)
+    ∙ sym (front_found names old.pairs old.table.places b at)
     ∙ ap (λ st. lookup_entry names st.pairs) (sym (c.self-2.view_is ∙ is))
     ∙ pair_found v after.linked b (now.key, now.value) c.pair_mut.ensures.pair names laws one after.map.distinct
     named) in

@@ -25,12 +25,12 @@ returns g c =
     let old = c.args.self.now in
     let at = c.in_ok-b.ensures.found in
     let is = c.promote_at.ensures.promoted names one at in
-    let first = subst (λ st. place_of names st.pairs st.places ≡ Some c.in_ok-b.b) (sym is)
-    (front_place names old.pairs old.places c.in_ok-b.b at) in (
+    let first = subst (λ st. place_of names st.pairs st.table.places ≡ Some c.in_ok-b.b) (sym is)
+    (front_place names old.pairs old.table.places c.in_ok-b.b at) in (
       (refl, λ _. tt, is),
       record {
         leaves = tt;
-        value = sym (sym (front_found names old.pairs old.places c.in_ok-b.b at)
+        value = sym (sym (front_found names old.pairs old.table.places c.in_ok-b.b at)
             ∙ ap (λ st. lookup_entry names st.pairs) (sym is)
             ∙ c.pair_in-pair.ensures names one first);
         map = promoted_is_map g.met.Q.LookupKey.laws c.args.key.now old c.find.ensures.map;

@@ -3,7 +3,7 @@ use Rattle.schnellru.specs.Inside.OrderedTable.{pairs_of}
 use Rattle.schnellru.specs.Inside.Holds.{state_of}
 use Rattle.lru_model.specs.Inserts.{no_memory_to_admit, not_admitted, admitted}
 use Rattle.lru_model.specs.Callbacks.{noted}
-use Rattle.schnellru.proofs.Maps.Fields.{beside_of}
+use Rattle.schnellru.specs.Inside.Fields.{fields_of}
 use Rattle.schnellru.proofs.OrderedTables.BucketPairs.{pairs-length}
 use Rattle.schnellru.proofs.OrderedTables.Searches.{lookup_alike}
 use Rattle.schnellru.proofs.map.LruMap.insert_new.Goals as goal
@@ -61,7 +61,7 @@ pub returns-in-Err : goal.returns-in-Err
 returns-in-Err g c = record {
   handed =
       let m = c.self.inside in
-      let rest = beside_of m (g.L.LinkType.LinkType.number g.L.LinkType.LinkType.MAX) in
+      let rest = fields_of m (g.L.LinkType.LinkType.number g.L.LinkType.LinkType.MAX) in
       let len = c.len.ensures.len ∙ sym (pairs-length m.entries c.self.invariant.linked) in
       let absent = rw (← c.self.view_is) at c.requires.absent in
       let lacks = subst (λ n. g.L.Insertion.offers.may_lack m.limiter n c.args.key c.args.value) len

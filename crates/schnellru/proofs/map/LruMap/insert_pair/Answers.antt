@@ -2,7 +2,7 @@ use Rattle.std.proofs.Common.{[], Ok, inl, refl, ap, subst, arith, sym}
 use Rattle.lru_model.specs.State.{buckets, room}
 use Rattle.lru_model.specs.Place.{placed, in_bucket, FillsBucket}
 use Rattle.lru_model.specs.Callbacks.{noted}
-use Rattle.schnellru.proofs.Maps.NotedStates.{noted_placed, noted_fills}
+use Rattle.schnellru.proofs.Maps.NotedStates.{noted_placed}
 use Rattle.lru_model.proofs.States.NewKeys.{stays_new}
 use Rattle.lru_model.specs.MayTake.{MayTakeEach}
 use Rattle.lru_model.proofs.States.CallablePairs.{later_callable}
@@ -52,8 +52,8 @@ returns g c = record {
       c.args.self.now ready _ (c.make_room.ensures.handed c.args.sink.now [] refl).2 c.requires.hash
       c.requires.absent).hash in
       let put = in_bucket stored.within (inl (omega (arith, c.growth_left.ensures, c.if-growth_left-eq0.false)))
-      (subst (λ h. FillsBucket h (noted mid ready) (noted mid new)) is
-      (noted_fills mid mid _ ready new stored.fills)) refl
+      (subst (λ h. FillsBucket h ready.table new.table) is
+      stored.fills) refl
       (noted_placed mid c.args.pair (buckets ready) (room new) 0 ready new stored.placed) in
       let left = ap Ok c.evict_over_limit.ensures.left in
       (after, in_all, (noted mid ready, way, (placed, noted mid new, put, (left, trimmed))));

@@ -2,7 +2,7 @@ use Rattle.std.proofs.Common.{Ok, inr, refl, ap, sym, ◌∙◌, subst}
 use Rattle.lru_model.specs.State.{buckets, room}
 use Rattle.lru_model.specs.Place.{placed, in_bucket, FillsBucket}
 use Rattle.lru_model.specs.Callbacks.{noted}
-use Rattle.schnellru.proofs.Maps.NotedStates.{noted_placed, noted_fills}
+use Rattle.schnellru.proofs.Maps.NotedStates.{noted_placed}
 use Rattle.lru_model.proofs.PairLists.Emptiness.{some-length}
 use Rattle.lru_model.specs.MayTake.{MayTakeEach}
 use Rattle.schnellru.proofs.map.LruMap.insert_without_growth.Goals as goal
@@ -31,8 +31,8 @@ returns-in-Ok g c = record {
           placed,
           noted before new,
           in_bucket stored.within (inr (some-length old.pairs (sym c.is_empty.ensures ∙ c.if-is_empty.false)))
-              (subst (λ h. FillsBucket h (noted before old) (noted before new)) c.requires.hash
-              (noted_fills before before _ old new stored.fills)) refl
+              (subst (λ h. FillsBucket h old.table new.table) c.requires.hash
+              stored.fills) refl
               (noted_placed before (c.args.key, c.args.value) (buckets old) (room new) 0 old new stored.placed),
           (ap Ok c.evict_over_limit.ensures.left, trimmed),
         ),

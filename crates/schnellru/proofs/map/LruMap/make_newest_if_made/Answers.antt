@@ -12,7 +12,7 @@ make-requires g c = c.requires
 pub returns-in-Some : goal.returns-in-Some
 returns-in-Some g c =
     let old = c.args.self.now in let at = c.in-Some.ensures.found in let names = g.I.LookupKey.names c.args.key in
-    let (pair, there, accepts) = named_there names old.pairs old.places c.in-Some.b at in
+    let (pair, there, accepts) = named_there names old.pairs old.table.places c.in-Some.b at in
     as_made (Ok true) (got pair.1 (named_value names old.pairs pair there) refl
     (c.promote_at.ensures.promoted names (g.met.I.LookupKey.laws.one c.args.key) at)) refl
 

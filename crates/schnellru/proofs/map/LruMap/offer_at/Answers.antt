@@ -1,10 +1,10 @@
 use Rattle.std.proofs.Common.{◌≡◌, ℕ, length, sym, ◌∙◌, subst, true}
-use Rattle.schnellru.specs.Inside.Handing.{HandsGivenUp}
+use Rattle.schnellru.specs.Inside.Handing.{PassesRemoved}
 use Rattle.schnellru.specs.Inside.Holds.{state_of}
 use Rattle.schnellru.specs.Inside.OrderedTable.{pairs_of}
-use Rattle.schnellru.specs.Inside.Steps.{IsReplaced, IsGivenUp}
+use Rattle.schnellru.specs.Inside.Steps.{IsReplaced, IsRemoved}
 use Rattle.lru_model.specs.Inserts.{unkept_of}
-use Rattle.schnellru.proofs.Maps.Fields.{beside_of}
+use Rattle.schnellru.specs.Inside.Fields.{fields_of}
 use Rattle.schnellru.proofs.Maps.NotedStates.{noted_offer}
 use Rattle.schnellru.proofs.OrderedTables.BucketPairs.{pairs-length, pair_found}
 use Rattle.schnellru.proofs.OrderedTables.Replacements.{replaced_leaves, given_up_leaves, offered_holds}
@@ -45,7 +45,7 @@ returns-clause-handed g c =
     (rw (← c.self.view_is) at c.requires.found) in
     let by = λ (n : ℕ). g.L.Insertion.offers.on_replace m.limiter n was.0 c.args.key was.1 c.args.value in
     let replacement = by (length (pairs_of t)) in let same = sym (pairs-length t holds.linked) in
-    let rest = beside_of m (g.L.LinkType.LinkType.number g.L.LinkType.LinkType.MAX) in
+    let rest = fields_of m (g.L.LinkType.LinkType.number g.L.LinkType.LinkType.MAX) in
     rw (← c.self.view_is) (noted_offer g.F.FnMut g.L.Limiter.rules g.L.Insertion.offers g.I.LookupKey.names c.args.key
     c.args.value (state_of t rest) (state_of u (record rest { limiter = l })) c.offer.result c.args.sink.now
     c.offer.new.sink
@@ -60,11 +60,11 @@ returns-clause-handed g c =
       place = λ yes. (e.replaced yes was at).order;
       rejected = λ no. given_up_leaves replacement t u b l holds.linked e.linked was at names laws one
           holds.map.distinct
-          named rest g.L.Limiter.rules (subst (λ n. IsGivenUp g.L.Limiter.rules (by n) b t u l) same
+          named rest g.L.Limiter.rules (subst (λ n. IsRemoved g.L.Limiter.rules (by n) b t u l) same
           (e.given_up no was at));
     })
     e.kept
-    (λ no. subst (λ n. HandsGivenUp g.F.FnMut g.L.Limiter.rules (by n) c.args.sink.now c.offer.new.sink) same
+    (λ no. subst (λ n. PassesRemoved g.F.FnMut g.L.Limiter.rules (by n) c.args.sink.now c.offer.new.sink) same
     (e.handed no was at)))
 
 pub offer-requires-clause-callable : goal.offer-requires-clause-callable

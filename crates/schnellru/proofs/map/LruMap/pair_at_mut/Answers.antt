@@ -4,7 +4,7 @@ use Rattle.schnellru.specs.Inside.OrderedTable.{pairs_of}
 use Rattle.schnellru.proofs.OrderedTables.BucketPairs.{all_full}
 use Rattle.schnellru.proofs.OrderedTables.Places.{pair_at, at_set}
 use Rattle.schnellru.proofs.OrderedTables.Writes.{kept_holds, kept_state}
-use Rattle.schnellru.proofs.Maps.Fields.{beside_of}
+use Rattle.schnellru.specs.Inside.Fields.{fields_of}
 use Rattle.schnellru.proofs.map.LruMap.pair_at_mut.Goals as goal
 
 pub invariant_of-self-lent : goal.invariant_of-self-lent
@@ -21,7 +21,7 @@ invariant_of-self-lent g c = λ w.
 pub returns : goal.returns
 returns g c =
     let m = c.self.inside in
-    let rest = beside_of m (g.L.LinkType.LinkType.number g.L.LinkType.LinkType.MAX) in
+    let rest = fields_of m (g.L.LinkType.LinkType.number g.L.LinkType.LinkType.MAX) in
     let t = m.entries in let holds = c.self.invariant in let now = c.pair_mut-pair.result.now in
     let laws = g.met.K.Eq.laws in
     let at = rw (← c.self.view_is) at c.requires in

@@ -9,7 +9,7 @@ use Rattle.lru_model.specs.Shrinks.{shrink_counted, kept, shrunk, no_memory_to_s
 use Rattle.schnellru.specs.Inside.OrderedTable.{pairs_of}
 use Rattle.schnellru.specs.Inside.Holds.{state_of, Holds}
 use Rattle.schnellru.proofs.OrderedTables.BucketPairs.{pairs-length}
-use Rattle.schnellru.proofs.Maps.Fields.{beside_of}
+use Rattle.schnellru.specs.Inside.Fields.{fields_of}
 use Rattle.lru_model.proofs.States.Reservations.{some_there}
 use Rattle.lru_model.proofs.States.SomeShrink.{none_needed}
 use Rattle.schnellru.proofs.Maps.ShrunkMaps.{needs, shrinks_to, shrinks_holds}
@@ -18,7 +18,7 @@ use Rattle.schnellru.proofs.map.LruMap.shrink_to_fit.Goals as goal
 pub returns-in-None-clause-step : goal.returns-in-None-clause-step
 returns-in-None-clause-step g c =
     let m = c.self.inside in
-    let rest = beside_of m (g.L.LinkType.LinkType.number g.L.LinkType.LinkType.MAX) in
+    let rest = fields_of m (g.L.LinkType.LinkType.number g.L.LinkType.LinkType.MAX) in
     let st = state_of m.entries rest in
     let is = needs rest m.entries c.self.invariant.linked
     (c.into_usize.ensures ∙ ap g.L.LinkType.LinkType.number c.MAX.ensures) c.len-len.ensures.len
@@ -29,7 +29,7 @@ returns-in-None-clause-step g c =
 pub returns-then-buckets-count-clause-step : goal.returns-then-buckets-count-clause-step
 returns-then-buckets-count-clause-step g c =
     let m = c.self.inside in
-    let rest = beside_of m (g.L.LinkType.LinkType.number g.L.LinkType.LinkType.MAX) in
+    let rest = fields_of m (g.L.LinkType.LinkType.number g.L.LinkType.LinkType.MAX) in
     let st = state_of m.entries rest in
     let is = needs rest m.entries c.self.invariant.linked
     (c.into_usize.ensures ∙ ap g.L.LinkType.LinkType.number c.MAX.ensures) c.len-len.ensures.len
@@ -42,7 +42,7 @@ returns-then-buckets-count-clause-step g c =
 pub returns-in_err-move_to-clause-step : goal.returns-in_err-move_to-clause-step
 returns-in_err-move_to-clause-step g c =
     let m = c.self.inside in
-    let rest = beside_of m (g.L.LinkType.LinkType.number g.L.LinkType.LinkType.MAX) in
+    let rest = fields_of m (g.L.LinkType.LinkType.number g.L.LinkType.LinkType.MAX) in
     let st = state_of m.entries rest in
     let is = needs rest m.entries c.self.invariant.linked
     (c.into_usize.ensures ∙ ap g.L.LinkType.LinkType.number c.MAX.ensures) c.len-len.ensures.len
@@ -59,7 +59,7 @@ returns-in_err-move_to-clause-step g c =
 pub invariant_of-self-2 : goal.invariant_of-self-2
 invariant_of-self-2 g c =
     let m = c.self.inside in let e = c.in_ok-move_to.ensures in let holds = c.self.invariant in
-    let rest = beside_of m (g.L.LinkType.LinkType.number g.L.LinkType.LinkType.MAX) in
+    let rest = fields_of m (g.L.LinkType.LinkType.number g.L.LinkType.LinkType.MAX) in
     let rises : c.saturating_add-self-inside.result ≡ count_up m.shrunk (length (pairs_of m.entries)) =
     c.saturating_add-self-inside.ensures ∙ ap (λ n. min (m.shrunk + n) (2 ^ 64 - 1))
     (c.len-len.ensures.len ∙ sym (pairs-length m.entries holds.linked)) in
@@ -72,7 +72,7 @@ invariant_of-self-2 g c =
 pub returns-clause-step : goal.returns-clause-step
 returns-clause-step g c =
     let m = c.self.inside in let e = c.in_ok-move_to.ensures in let holds = c.self.invariant in
-    let rest = beside_of m (g.L.LinkType.LinkType.number g.L.LinkType.LinkType.MAX) in
+    let rest = fields_of m (g.L.LinkType.LinkType.number g.L.LinkType.LinkType.MAX) in
     let st = state_of m.entries rest in
     let is = needs rest m.entries holds.linked (c.into_usize.ensures ∙ ap g.L.LinkType.LinkType.number c.MAX.ensures)
     c.len-len.ensures.len c.in-Some.ensures.value in

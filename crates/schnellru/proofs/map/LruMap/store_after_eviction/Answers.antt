@@ -9,7 +9,7 @@ use Rattle.lru_model.specs.Callbacks.{noting, noted}
 use Rattle.lru_model.proofs.TableSizes.Growth.{full_capacity-some}
 use Rattle.lru_model.proofs.States.CallablePairs.{oldest_callable_with, rest_callable_with}
 use Rattle.lru_model.proofs.States.LeavingPairs.{leaves_self, leaves_more}
-use Rattle.schnellru.proofs.Maps.NotedStates.{takes_more, noted_sized, noted_placed, noted_fills, noted_pop}
+use Rattle.schnellru.proofs.Maps.NotedStates.{takes_more, noted_placed, noted_pop}
 use Rattle.lru_model.proofs.States.Placements.{one_more, one_fewer, left_absent, finds, rehashes_then, no_place_bucket}
 use Rattle.lru_model.proofs.States.Placements.{power_with_pairs}
 use Rattle.schnellru.proofs.map.LruMap.store_after_eviction.Goals as goal
@@ -62,7 +62,7 @@ returns-then-len-half-clause-handed g c =
       after,
       has,
       rehashes_then (noting rules) c.args.hash c.args.pair (noted before old) (noted mid st) (noted more u)
-          (noted_sized before old sized) (c.requires.some, c.requires.outgrown.no_bucket.no_room) i.n gone i.stuck
+          sized (c.requires.some, c.requires.outgrown.no_bucket.no_room) i.n gone i.stuck
           (noted_pop rules mid st u pair c.take_oldest-key.ensures.step) (noted after c.store_after_move.new.self) _ few
           (rw (i.same_pair, same) at step),
     )
@@ -84,10 +84,10 @@ returns-in-Ok-clause-handed g c =
       more,
       takes_more g.F.FnMut first mid c.evictions.sink pair c.sink.new.self had c.sink.ensures,
       finds (noting rules) c.args.hash c.args.pair (noted before old) (noted mid st) (noted more u)
-          (noted_sized before old sized) (c.requires.some, c.requires.outgrown.no_bucket.no_room) i.n gone i.stuck
+          sized (c.requires.some, c.requires.outgrown.no_bucket.no_room) i.n gone i.stuck
           (noted_pop rules mid st u pair c.take_oldest-key.ensures.step) (noted more new) enough
           (noted_placed more c.args.pair (buckets u) (room new) 0 u new placed)
-          (noted_fills more more c.args.hash u new c.in-Ok.ensures.fills),
+          c.in-Ok.ensures.fills,
     )
 
 pub evictions-init : goal.evictions-init
@@ -158,7 +158,7 @@ evictions-preserved g c =
             mid ++ pair ∷ [],
             takes_more g.F.FnMut first mid c.evictions.sink pair c.sink.new.self had c.sink.ensures,
             one_more (noting rules) c.args.hash c.args.pair (noted before old) (noted mid st)
-                (noted (mid ++ pair ∷ []) u) (noted_sized before old sized) lacks i.n gone i.stuck
+                (noted (mid ++ pair ∷ []) u) sized lacks i.n gone i.stuck
                 (noted_pop rules mid st u pair c.take_oldest-key.ensures.step),
           );
       leaves = leaves_more rules i.n old st u i.leaves c.take_oldest-key.ensures.step.state;

@@ -2,8 +2,7 @@ use Rattle.std.proofs.Common.{ap, sym, subst, ◌∙◌, ◌∷◌}
 use Rattle.lru_model.specs.State.{IsSized}
 use Rattle.schnellru.specs.Inside.Holds.{state_of}
 use Rattle.lru_model.specs.Callbacks.{noting, noted}
-use Rattle.schnellru.proofs.Maps.NotedStates.{noted_sized, noted_outgrown}
-use Rattle.schnellru.proofs.Maps.Fields.{beside_of}
+use Rattle.schnellru.specs.Inside.Fields.{fields_of}
 use Rattle.lru_model.proofs.States.Placements.{grown_place, denied_place, untold_place}
 use Rattle.lru_model.specs.MayTake.{MayTakeEach}
 use Rattle.schnellru.proofs.map.LruMap.store_after_growth.Goals as goal
@@ -11,7 +10,7 @@ use Rattle.schnellru.proofs.map.LruMap.store_after_growth.Goals as goal
 pub returns-then-on_grow-clause-handed : goal.returns-then-on_grow-clause-handed
 returns-then-on_grow-clause-handed g c =
     let m = c.self.inside in
-    let rest = beside_of m (g.L.LinkType.LinkType.number g.L.LinkType.LinkType.MAX) in
+    let rest = fields_of m (g.L.LinkType.LinkType.number g.L.LinkType.LinkType.MAX) in
     let old = state_of m.entries rest in
     let outgrown = rw (← c.self.view_is) at c.requires.outgrown in
     let next = rw (← c.self.view_is) at (sym c.in-Some.ensures.next) in
@@ -21,15 +20,15 @@ returns-then-on_grow-clause-handed g c =
       after,
       had,
       rw (← c.self.view_is) (grown_place (noting g.L.Limiter.rules) _ c.args.pair (noted before old)
-          (noted after c.store_after_move.new.self) (noted_sized before old c.self.invariant.map.sized) c.args.hash
-          hash (noted_outgrown before old outgrown) _ c.in-Some.count c.in-Some.bytes next (c.on_grow.new.self, before)
+          (noted after c.store_after_move.new.self) c.self.invariant.map.sized c.args.hash
+          hash outgrown _ c.in-Some.count c.in-Some.bytes next (c.on_grow.new.self, before)
           (ap (λ s. (s, before)) c.on_grow.ensures.limiter) (sym c.on_grow.ensures.allowed ∙ c.if-on_grow.true) step),
     )
 
 pub returns-else-on_grow-clause-handed : goal.returns-else-on_grow-clause-handed
 returns-else-on_grow-clause-handed g c =
     let m = c.self.inside in
-    let rest = beside_of m (g.L.LinkType.LinkType.number g.L.LinkType.LinkType.MAX) in
+    let rest = fields_of m (g.L.LinkType.LinkType.number g.L.LinkType.LinkType.MAX) in
     let old = state_of m.entries rest in
     let outgrown = rw (← c.self.view_is) at c.requires.outgrown in
     let next = rw (← c.self.view_is) at (sym c.in-Some.ensures.next) in
@@ -39,8 +38,8 @@ returns-else-on_grow-clause-handed g c =
       after,
       had,
       rw (← c.self.view_is) (denied_place (noting g.L.Limiter.rules) _ c.args.pair (noted before old)
-          (noted after c.store_without_growth.new.self) (noted_sized before old c.self.invariant.map.sized) c.args.hash
-          hash (noted_outgrown before old outgrown) _ c.in-Some.count c.in-Some.bytes next (c.on_grow.new.self, before)
+          (noted after c.store_without_growth.new.self) c.self.invariant.map.sized c.args.hash
+          hash outgrown _ c.in-Some.count c.in-Some.bytes next (c.on_grow.new.self, before)
           (ap (λ s. (s, before)) c.on_grow.ensures.limiter) (sym c.on_grow.ensures.allowed ∙ c.if-on_grow.false) step),
     )
 
@@ -53,8 +52,8 @@ returns-in-None-clause-handed g c =
       after,
       had,
       untold_place (noting g.L.Limiter.rules) _ c.args.pair (noted before old)
-          (noted after c.store_without_growth-in-None.new.self) (noted_sized before old sized) c.args.hash
-          c.requires.hash (noted_outgrown before old c.requires.outgrown) _ (sym c.in-None.ensures.next) step,
+          (noted after c.store_without_growth-in-None.new.self) sized c.args.hash
+          c.requires.hash c.requires.outgrown _ (sym c.in-None.ensures.next) step,
     )
 
 pub store_after_move-requires-clause-callable : goal.store_after_move-requires-clause-callable

@@ -29,15 +29,15 @@ returns-in-Ok-clause-handed g c =
 pub returns-in-Err-clause-handed : goal.returns-in-Err-clause-handed
 returns-in-Err-clause-handed g c =
     λ first before taken.
-    let (after, had, away) = c.turn_away.ensures.handed first before taken in (
+    let (after, had, away) = c.pass_unstored.ensures.handed first before taken in (
       after,
       had,
       away ∙ ap (λ st. unstored (noting g.L.Limiter.rules) c.args.pair (noted before st))
           c.in-Err.ensures.unchanged,
     )
 
-pub turn_away-requires : goal.turn_away-requires
-turn_away-requires g c = record {
+pub pass_unstored-requires : goal.pass_unstored-requires
+pass_unstored-requires g c = record {
   callable = first_callable g.L.Limiter.rules g.F.FnMut c.args.pair c.args.self.now.pairs c.args.sink.now
       c.requires.callable;
 }

@@ -3,7 +3,6 @@ use Rattle.group_table.specs.Sizes.{full_capacity, IsBucketCount}
 use Rattle.lru_model.specs.State.{buckets}
 use Rattle.lru_model.specs.Place.{HasNoBucket}
 use Rattle.lru_model.specs.Callbacks.{noting, noted}
-use Rattle.schnellru.proofs.Maps.NotedStates.{noted_sized, noted_no_bucket}
 use Rattle.lru_model.proofs.TableSizes.Growth.{full_capacity-at_most, full_capacity-some}
 use Rattle.lru_model.proofs.TableSizes.SizedMarks.{own_count}
 use Rattle.lru_model.proofs.States.Placements.{rehash_place}
@@ -13,7 +12,7 @@ pub store_after_move-requires-clause-count : goal.store_after_move-requires-clau
 store_after_move-requires-clause-count g c =
     let table = c.bucket_count-buckets.ensures in
     let takes = c.full_capacity.ensures ∙ ap full_capacity table.count in
-    rw table.count (own_count _ table.map.sized
+    rw table.count (own_count table.map.sized
     (omega (arith, c.if-len-full_capacity.true, takes, full_capacity-at_most (buckets c.args.self.now))))
 
 pub store_after_move-requires-clause-usable : goal.store_after_move-requires-clause-usable
@@ -46,6 +45,6 @@ returns-then-len-full_capacity-clause-handed g c =
       after,
       had,
       rehash_place (noting g.L.Limiter.rules) _ c.args.pair (noted before old)
-          (noted after c.store_after_move.new.self) (noted_sized before old table.map.sized) c.store_after_move.result
-          (noted_no_bucket before old none) fewer (rw table.count at step) (λ none. e.succeeds none table.count),
+          (noted after c.store_after_move.new.self) table.map.sized c.store_after_move.result
+          none fewer (rw table.count at step) (λ none. e.succeeds none table.count),
     )

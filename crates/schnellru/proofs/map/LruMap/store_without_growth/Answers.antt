@@ -10,11 +10,11 @@ returns-then-is_empty-clause-handed g c =
     let none = nil_from_length c.args.self.now.pairs
     (empty-length c.args.self.now.pairs (sym c.is_empty.ensures ∙ c.if-is_empty.true)) in
     λ first before taken.
-    let (after, had, away) = c.turn_away.ensures.handed first before taken in
+    let (after, had, away) = c.pass_unstored.ensures.handed first before taken in
     (after, had, nothing_to_evict none refl away)
 
-pub turn_away-requires : goal.turn_away-requires
-turn_away-requires g c = record {
+pub pass_unstored-requires : goal.pass_unstored-requires
+pass_unstored-requires g c = record {
   callable = first_callable g.L.Limiter.rules g.F.FnMut c.args.pair c.args.self.now.pairs c.args.sink.now
       c.requires.callable;
 }

@@ -40,7 +40,7 @@ pub returns-clause-freed : goal.returns-clause-freed
 returns-clause-freed g c =
     let m = c.self.inside in let took = c.take_out in
     rw (← c.self.view_is) (taken_frees g.L.Limiter.rules m.entries took.new.entries c.args.b m.limiter took.new.limiter
-    took.result took.ensures.taken c.self.invariant.linked took.ensures.linked _ _ refl)
+    took.result took.ensures.taken _ refl)
 
 pub returns-clause-map : goal.returns-clause-map
 returns-clause-map g c = (invariant_of-self g c).map

@@ -5,7 +5,6 @@ use Rattle.group_table.specs.Bucket.{marks_of, room}
 use Rattle.lru_model.specs.Sizes.{usage}
 use Rattle.schnellru.specs.Inside.OrderedTable.{entries_in}
 use Rattle.lru_model.proofs.PairLists.DistinctKeys.{AreDistinct}
-use Rattle.schnellru.proofs.Maps.Fields.{beside}
 use Rattle.schnellru.proofs.Maps.HeldMaps.{sized_by}
 use Rattle.schnellru.proofs.map.LruMap.with_hasher.Goals as goal
 
@@ -18,8 +17,15 @@ invariant_of-result g c =
       map = record {
         distinct = subst (λ o. AreDistinct g.K.PartialEq.eq (entries_in c.new.result.slots o))
             (sym c.new.ensures.order) tt;
-        sized = sized_by (beside c.args.limiter c.args.hasher 0 0 0 c.args.entry_bytes
-            (g.L.LinkType.LinkType.number g.L.LinkType.LinkType.MAX)) c.new.result c.new.ensures.linked (inl none)
+        sized = sized_by (record {
+          limiter = c.args.limiter;
+          hasher = c.args.hasher;
+          moved = 0;
+          placed = 0;
+          shrunk = 0;
+          entry_bytes = c.args.entry_bytes;
+          max = g.L.LinkType.LinkType.number g.L.LinkType.LinkType.MAX;
+        }) c.new.result c.new.ensures.linked (inl none)
             (0, ap (usage c.args.entry_bytes) none) (omega arith) (omega arith) (omega arith);
         paid = record {
           moved = omega arith;

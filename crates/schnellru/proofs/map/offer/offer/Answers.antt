@@ -1,8 +1,8 @@
 use Rattle.std.proofs.Common.{◌≡◌, ℕ, true, ap, sym, ◌∙◌, subst, [], ◌∷◌, Some}
 use Rattle.std.specs.Fn.{Called}
 use Rattle.std.proofs.lemmas.Option.{same_Some}
-use Rattle.schnellru.specs.Inside.Steps.{IsGivenUp}
-use Rattle.schnellru.specs.Inside.Handing.{HandsGivenUp}
+use Rattle.schnellru.specs.Inside.Steps.{IsRemoved}
+use Rattle.schnellru.specs.Inside.Handing.{PassesRemoved}
 use Rattle.schnellru.proofs.OrderedTables.Replacements.{gives_up, left_as_told}
 use Rattle.lru_model.specs.MayTake.{MayTakeRejected}
 use Rattle.lru_model.proofs.States.CallablePairs.{here, one_callable}
@@ -13,11 +13,11 @@ returns-else-taken-clause-given_up g c = λ refusal pair there.
     let k = c.pair_mut-pair.result.now.key in let v = c.pair_mut-pair.result.now.value in
     let notified = c.on_replace-taken.ensures in let old = c.args.entries.now in
     let same = same_Some (k, v) pair (sym c.pair_mut-pair.ensures.pair ∙ there) in
-    subst (λ n. IsGivenUp g.L.Limiter.rules
+    subst (λ n. IsRemoved g.L.Limiter.rules
     (g.L.Insertion.offers.on_replace c.args.limiter.now n pair.0 c.args.key pair.1 c.args.value) c.args.b old
     c.take_out-key.new.entries c.take_out-key.new.limiter)
     c.len-length.ensures.len
-    (subst (λ p. IsGivenUp g.L.Limiter.rules
+    (subst (λ p. IsRemoved g.L.Limiter.rules
     (g.L.Insertion.offers.on_replace c.args.limiter.now c.len-length.result p.0 c.args.key p.1 c.args.value) c.args.b
     old c.take_out-key.new.entries c.take_out-key.new.limiter)
     same
@@ -48,8 +48,8 @@ returns-else-taken-clause-handed g c = λ refusal pair there.
     c.pair_mut-pair.ensures.pair c.on_replace-taken.new.old_key c.on_replace-taken.new.old_value notified.old_key
     notified.old_value c.on_replace-taken.new.self notified.limiter c.take_out-key.result c.take_out-key.new.limiter
     c.take_out-key.ensures.taken in
-    subst (λ n. HandsGivenUp g.F.FnMut rules (by n pair) c.args.sink.now c.sink.new.self) c.len-length.ensures.len
-    (subst (λ p. HandsGivenUp g.F.FnMut rules (by c.len-length.result p) c.args.sink.now c.sink.new.self) same
+    subst (λ n. PassesRemoved g.F.FnMut rules (by n pair) c.args.sink.now c.sink.new.self) c.len-length.ensures.len
+    (subst (λ p. PassesRemoved g.F.FnMut rules (by c.len-length.result p) c.args.sink.now c.sink.new.self) same
     (subst (λ p. Called g.F.FnMut c.args.sink.now (p.0, (p.1, tt)) tt c.sink.new.self) left c.sink.ensures))
 
 pub sink-requires : goal.sink-requires

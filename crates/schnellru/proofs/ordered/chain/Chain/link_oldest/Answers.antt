@@ -1,6 +1,6 @@
 use Rattle.std.proofs.Common.{ap, ◌∙◌, Some, inl, inr}
 use Rattle.schnellru.proofs.Chains.LastBuckets.{oldest_leads, IsChain-linked_last}
-use Rattle.schnellru.proofs.Chains.LinkWrites.{IsChain-beside}
+use Rattle.schnellru.proofs.Chains.LinkWrites.{IsChain-fields}
 use Rattle.schnellru.proofs.OrderedTables.PairSlots.{same_full}
 use Rattle.schnellru.proofs.ordered.chain.Chain.link_oldest.Goals as goal
 
@@ -14,7 +14,7 @@ pub returns-clause-chain : goal.returns-clause-chain
 returns-clause-chain g c order chain absent =
     let links = c.set_links.ensures.links in
     rw c.from_usize-link.ensures (IsChain-linked_last g.met.N.LinkType.laws c.args.b
-    (IsChain-beside g.met.N.LinkType.laws c.args.b chain absent links) absent
+    (IsChain-fields g.met.N.LinkType.laws c.args.b chain absent links) absent
     (same_full _ _ links.pairs c.args.b ∙ c.requires.full) links.newer_there
     (links.older_there ∙ ap Some c.MAX.ensures) c.requires.some
     (rw c.from_usize-link.ensures at c.write_older.ensures.slots))

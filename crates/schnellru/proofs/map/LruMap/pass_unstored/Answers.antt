@@ -1,9 +1,9 @@
 use Rattle.std.proofs.Common.{[], ◌∷◌, ◌++◌, refl}
 use Rattle.schnellru.specs.Inside.Holds.{state_of}
 use Rattle.lru_model.proofs.States.CallablePairs.{here, one_callable}
-use Rattle.schnellru.proofs.Maps.Fields.{beside_of}
-use Rattle.schnellru.proofs.Maps.NotedStates.{takes_more, noted_turned_away}
-use Rattle.schnellru.proofs.map.LruMap.turn_away.Goals as goal
+use Rattle.schnellru.specs.Inside.Fields.{fields_of}
+use Rattle.schnellru.proofs.Maps.NotedStates.{takes_more, noted_unstored}
+use Rattle.schnellru.proofs.map.LruMap.pass_unstored.Goals as goal
 
 pub sink-requires : goal.sink-requires
 sink-requires g c = let left = c.notify-key.result in
@@ -13,13 +13,13 @@ sink-requires g c = let left = c.notify-key.result in
 pub returns : goal.returns
 returns g c =
     let m = c.self.inside in
-    let rest = beside_of m (g.L.LinkType.LinkType.number g.L.LinkType.LinkType.MAX) in
+    let rest = fields_of m (g.L.LinkType.LinkType.number g.L.LinkType.LinkType.MAX) in
     let left = c.notify-key.result in
     record {
       handed = λ first before taken. (
         before ++ left ∷ [],
         takes_more g.F.FnMut first before c.args.sink.now left c.sink.new.self taken c.sink.ensures,
-        rw (← c.self.view_is) (noted_turned_away g.L.Limiter.rules before (state_of m.entries rest) _ c.args.pair left
+        rw (← c.self.view_is) (noted_unstored g.L.Limiter.rules before (state_of m.entries rest) _ c.args.pair left
             c.notify-key.new.limiter refl c.notify-key.ensures.limiter c.notify-key.ensures.pair),
       );
     }
