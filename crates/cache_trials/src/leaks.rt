@@ -58,7 +58,7 @@ fn insert(map: &mut Held, key: &Rc<u64>, value: &Rc<u64>) -> bool {
     }
 }
 
-// Inserts a key without memory, and returns whether it is refused, unless the memory did not come to its end.
+// Inserts a key without memory, and returns whether the insert is refused, or the hog did not take all memory.
 fn is_refused(alloc: Global, map: &mut Held, key: &Rc<u64>) -> bool {
     match Hog::new(alloc, &[]) {
         Ok(hog) => !insert(map, key, key) || !hog.took_all(),

@@ -7,7 +7,7 @@ use std::alloc::Global;
 use std::test::Fail;
 use test_helpers::check;
 
-/// Makes a cache with one tenant, whose name is 1 and whose budget is 3.
+/// Makes a cache with one tenant, whose name is 1 and whose budget is 3. A test that puts an entry shows a failure.
 fn with_a_tenant(alloc: Global) -> TenantCache<u64, u64, u64> {
     let mut cache = TenantCache::new(alloc, [1, 2, 3, 4], 16);
     let _ = cache.open(1, 3);
@@ -129,17 +129,18 @@ fn of_runs(rt: HostRuntime) -> Result<(), Fail> {
     Ok(())
 }
 
-/// Lists of no calls and of 100,000.
+/// Lists of no calls and of 100,000, each of which opens a tenant.
 #[test]
 fn short_and_long_lists(rt: HostRuntime) -> Result<(), Fail> {
     let alloc = rt.alloc();
     for length in [0, 100_000usize] {
         let mut calls = Vec::new(alloc);
-        for _ in 0..length {
-            calls.push(TenantCall::Cost(1))?;
+        for name in 0..length {
+            calls.push(TenantCall::Open(name as u64, 1))?;
         }
         let mut cache: TenantCache<u64, u64, u64> = TenantCache::new(alloc, [1, 2, 3, 4], 16);
         check!(rt; run_tenants(alloc, &mut cache, calls)?.len() == length);
+        check!(rt; cache.len() == length);
     }
     Ok(())
 }

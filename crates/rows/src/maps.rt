@@ -35,7 +35,7 @@ fn write_row(out: &mut Text, alloc: Global, input: &[u8]) {
     write_under(out, alloc, words, hash, calls);
 }
 
-/// The same on an empty map under the limiter that the words name.
+/// Adds the answers to the calls on an empty map under the limiter that the words name.
 fn write_under(out: &mut Text, alloc: Global, words: &str, hash: &str, calls: &str) {
     let (first, rest) = words.split_once(' ').unwrap_or((words, ""));
     match first {
@@ -54,7 +54,7 @@ fn write_under(out: &mut Text, alloc: Global, words: &str, hash: &str, calls: &s
     }
 }
 
-/// The same on a map under a limiter of this type, with the hasher that the word names.
+/// Adds the answers to the calls on an empty map under a limiter of this type, with the hasher that the word names.
 fn write_of<L: Insertion<u64, u64, u64> + Spelled + Debug + Drop>(
     out: &mut Text,
     alloc: Global,
@@ -73,7 +73,7 @@ fn write_of<L: Insertion<u64, u64, u64> + Spelled + Debug + Drop>(
     }
 }
 
-/// The same on a map with this limiter and this hasher.
+/// Adds the answers to the calls on an empty map with this limiter and this hasher.
 fn write_on<L: Insertion<u64, u64, u64> + Spelled + Debug + Drop, S: BuildHasher + Drop>(
     out: &mut Text,
     alloc: Global,
@@ -93,7 +93,7 @@ fn write_on<L: Insertion<u64, u64, u64> + Spelled + Debug + Drop, S: BuildHasher
     }
 }
 
-/// The same on a map under a limit by cost, whose sum no call may change.
+/// Adds the answers to the calls on an empty map under a limit by cost, whose sum no call may change.
 fn write_summing(out: &mut Text, alloc: Global, words: &str, calls: &str) {
     let Some(limiter) = ByCost::spelled(words) else {
         return out.word(MALFORMED);

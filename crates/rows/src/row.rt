@@ -93,7 +93,7 @@ impl Row {
     }
 }
 
-/// The error of a data file that does not have the form of rows, or for which memory does not suffice.
+/// The error of a data file that does not have the form of rows, or for which there is not enough memory.
 pub fn malformed() -> Error {
     Error::from(ErrorKind::InvalidData)
 }

@@ -98,7 +98,7 @@ fn clonable<'a>(held: &Rc<u64>, clones: &'a Cell<u64>) -> Result<Holding<'a>, Al
     })
 }
 
-/// A map of no pairs.
+/// An empty map with this limiter and this hasher.
 fn map_held<'a>(
     alloc: Global,
     (limiter, hasher): (&Rc<u64>, &Rc<u64>),
@@ -150,7 +150,7 @@ fn are_cloned_once(map: &Held, held: (&Rc<u64>, &Rc<u64>), lives: &Lives) -> boo
     right
 }
 
-/// Both are dropped with the walk that takes their map apart.
+/// A limiter and a hasher whose clones are refused are dropped with the walk that takes their map apart.
 #[test]
 fn a_limiter_or_a_hasher_that_refuses(rt: HostRuntime) -> Result<(), Fail> {
     let alloc = rt.alloc();
