@@ -7,7 +7,7 @@ use std::alloc::Global;
 use std::test::Fail;
 use test_helpers::check;
 
-/// Makes a cache with one tenant, whose name is 1 and whose budget is 3. A test that puts an entry shows a failure.
+/// Makes a cache with one tenant, whose name is 1 and whose budget is 3. Out of memory, it has none, and puts fail.
 fn with_a_tenant(alloc: Global) -> TenantCache<u64, u64, u64> {
     let mut cache = TenantCache::new(alloc, [1, 2, 3, 4], 16);
     let _ = cache.open(1, 3);
