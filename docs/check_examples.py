@@ -4,8 +4,8 @@
 Run it at the top of the repository: `python3 docs/check_examples.py`. It prints what is missing, and exits with 1 if a
 line of an example is in no test. Layout, `rt.alloc()` for `alloc`, and a trailing comma make no difference. Tests write
 forms that are proved faster: `check!(rt; a == b)` for `assert_eq!(rt; a, b)`, `check!(rt; a)` for `assert!(rt; a)`,
-`all!(a, b)` for the assertions of `a` and of `b`, `is_pair(a, k, v)` for `a == Some((&k, &v))`, and `is_value(a, v)`
-for `a == Some(&v)`.
+`all!(a, b)`, whose result is read, for the assertions of `a` and of `b`, `is_pair(a, k, v)` for
+`a == Some((&k, &v))`, and `is_value(a, v)` for `a == Some(&v)`.
 """
 import pathlib
 import re
@@ -48,13 +48,24 @@ def expected(text):
     return text
 
 
+def is_read(text, start, end):
+    """Whether a function reads the result of the `all!` between these positions."""
+    name = re.search(r"let(\w+)=(?:\w+&&)*$", text[:start])
+    if name:
+        rest = re.split(r"\}(?:pub)?fn", text[end:], maxsplit=1)[0]
+        return re.search(rf"\b{name[1]}\b", rest) is not None
+    return not (text[start - 1] in ";{}" and text[end] == ";")
+
+
 def separate(text):
-    """The text with a `check!` for each condition of an `all!`."""
+    """The text with a `check!` for each condition of an `all!` whose result is read."""
     at = 0
     while (macro := re.compile(r"\ball!\(").search(text, at)):
+        at = macro.start() + 1
         given, end = arguments(text, macro.end())
-        checks = "".join(f"check!(rt;{it});" for it in given)
-        text, at = f"{text[:macro.start()]}{checks}{text[end:]}", macro.start() + 1
+        if is_read(text, macro.start(), end):
+            checks = "".join(f"check!(rt;{it});" for it in given)
+            text = f"{text[:macro.start()]}{checks}{text[end:]}"
     return text
 
 
