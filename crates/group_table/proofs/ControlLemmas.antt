@@ -19,7 +19,7 @@ pub buckets_are : {T : Type 0} (control : List ℕ) (entries : List (Option T)) 
 buckets_are control entries laid_out =
     elim laid_out.counts [ inl w ↦ omega (arith, w.0, w.1) | inr w ↦ omega (arith, w.1) ]
 
--- bytes for some bucket have the form, and the number is that of the last bucket
+-- if there are buckets, the bytes have the form, and the number is the number of the last bucket
 pub circle_of : (control : List ℕ) (last : ℕ) → IsControl control last → 0 < buckets_of control → IsCircle control
 circle_of control last (inl none) some = let e : length control ≡ 0 = ap length none.0 in absurd (omega (arith, e))
 circle_of control last (inr w) some = w.0
@@ -29,7 +29,7 @@ pub last_of : (control : List ℕ) (last : ℕ) → IsControl control last → 0
 last_of control last (inl none) some = let e : length control ≡ 0 = ap length none.0 in absurd (omega (arith, e))
 last_of control last (inr w) some = w.1
 
--- those of empty buckets have it
+-- the bytes of empty buckets have the form
 pub IsCircle-empty : (n : ℕ) → IsPowerFromFour n → n + 16 < 2 ^ 63 → IsCircle (replicate (n + 16) empty_byte)
 IsCircle-empty n power fits =
     let long : length (replicate (n + 16) empty_byte) ≡ n + 16 = length-replicate (n + 16) empty_byte in

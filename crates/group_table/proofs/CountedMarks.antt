@@ -1,4 +1,4 @@
--- When bucket states are those of a table: their number, and the numbers of used and deleted ones, decide it.
+-- When bucket states are the states of a table: their number, and the numbers of used and deleted ones, decide it.
 use Rattle.std.proofs.Common.{◌≡◌, ℕ, ◌+◌, ◌^◌, ◌<◌, ◌≤◌, List, length, ap, arith, inl, inr, subst, count_by}
 use Rattle.group_table.specs.Sizes.{full_capacity, IsBucketCount, IsPowerFromFour}
 use Rattle.group_table.specs.Bucket.{Mark, empty, bucket_at, is_full, is_used, is_deleted}

@@ -74,7 +74,7 @@ Reaches-first marks hash b first = record {
 }
 
 module _ {T : Type 0} where
-  -- the hashes fit again, with that of the entry placed
+  -- the hashes fit again, with the hash of the new entry
   pub Fits-reached : (slots : List (Slot T)) (hash_of : ℕ → ℕ) (hash b : ℕ) (entry : T) → b < length slots
       → Reaches (marks_of slots) hash b → Fits slots hash_of
       → Fits (set slots b (full (record { tag = hash_tag hash; entry = entry }))) (with_hash hash_of b hash)

@@ -1,4 +1,4 @@
--- How many control bytes are those of free buckets. Each turn leaves fewer.
+-- How many control bytes belong to free buckets. Each turn leaves fewer.
 use Rattle.std.proofs.Common.{◌≡◌, ℕ, ◌+◌, ◌<◌, ◌≤◌, max, cond, List, length, get_or, set}
 use Rattle.std.proofs.Common.{Option, ap, arith, count_by, nat_le}
 use Rattle.std.proofs.lemmas.Bool.{le-leb, lt-leb}
@@ -7,7 +7,7 @@ use Rattle.std.proofs.lemmas.List.Sums.{sum_by-set}
 use native.Mathlib.Decide.{dec_lt}
 use Rattle.group_table.specs.Layout.{written}
 
--- how many control bytes are those of free buckets
+-- how many control bytes belong to free buckets
 abbrev pub free_bytes : List ℕ → ℕ
 free_bytes control = count_by (λ byte. nat_le 128 byte) control
 

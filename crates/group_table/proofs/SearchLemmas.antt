@@ -73,7 +73,7 @@ module _ {T : Type 0} (slots : List (Slot T)) (hash : ℕ) where
       ≡ candidates slots hash steps ++ if_tagged slots (hash_tag hash) (probed (length slots) hash steps)
   candidates-next steps = tagged-next slots (hash_tag hash) (probed (length slots) hash) steps
 
-  -- the candidates of a group follow those of the groups before
+  -- the candidates of a group follow the candidates of the groups before
   pub candidates-group : (s lanes : ℕ) → s % 16 ≡ 0 → lanes ≤ 16
       → candidates slots hash (s + lanes) ≡ candidates slots hash s ++ tagged_lanes slots (hash_tag hash)
       (probed (length slots) hash s) lanes

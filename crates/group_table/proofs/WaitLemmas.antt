@@ -10,9 +10,9 @@ use Rattle.group_table.proofs.LayoutLemmas.{none_by}
 module _ {T : Type 0} (whole now : List (Option T)) (control : List ℕ) (passed : ℕ)
     (stays : StaysWhereFree whole now control passed) where
   -- the old bytes say what is in a place that is not passed
-  pub told_before : (before : List ℕ) → IsLaidOut before whole → (b : ℕ) → passed ≤ b → b < length whole
+  pub agrees_before : (before : List ℕ) → IsLaidOut before whole → (b : ℕ) → passed ≤ b → b < length whole
       → 128 ≤ get_or control b 0 → Agrees (get_or before b 0) (place_at now b)
-  told_before before laid_out b from within free = rw (stays b from within free) (laid_out.agrees b within)
+  agrees_before before laid_out b from within free = rw (stays b from within free) (laid_out.agrees b within)
 
   pub stays_past : StaysWhereFree whole now control (passed + 1)
   stays_past b from = stays b (omega arith)

@@ -59,7 +59,7 @@ module _ {T : Type 0} where
         ]
       ]
 
-  -- as each but those of the bucket that is written
+  -- and each byte that is not of the written bucket stays
   byte_at-other : (slots : List (Slot T)) (b p : ℕ) (s : Slot T) → p ≢ b → p ≢ b + max 16 (length slots)
       → byte_at (set slots b s) p ≡ byte_at slots p
   byte_at-other slots b p s h k =

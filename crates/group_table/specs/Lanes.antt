@@ -1,4 +1,4 @@
--- Masks of the sixteen lanes of a group. Of the public clauses, those of module `group` alone cite this module.
+-- Masks of the sixteen lanes of a group. No public clause cites this module, except the clauses of module `group`.
 use Rattle.std.specs.Prelude.{ℕ, ◌≡◌, ◌+◌, ◌-◌, ◌<◌, ◌≤◌, ◌↔◌, max, List, slice_index}
 use Rattle.group_table.specs.Bytes.{empty_byte}
 use Rattle.std.specs.Int.{w16, bit_at, trailing_zeros}
@@ -19,8 +19,8 @@ HasLane mask lane = bit_at mask lane ≡ 1
 abbrev pub lowest : ℕ → ℕ
 lowest mask = trailing_zeros w16 mask
 
--- after the bytes of the buckets come those of the first buckets again;
--- of 4 or 8 buckets, bytes of empty ones stand between
+-- After the bytes of the buckets, the bytes of the first buckets are repeated. With 4 or 8 buckets, bytes of empty
+-- buckets are between.
 pub record IsRepeated (control : List ℕ) (buckets : ℕ) : Type 0 where
   pub again : (p : ℕ) → max 16 buckets ≤ p → p < buckets + 16
       → slice_index control p ≡ slice_index control (p - max 16 buckets)

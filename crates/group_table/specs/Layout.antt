@@ -27,15 +27,15 @@ module _ {T : Type 0} where
   abbrev pub marks_by : List ℕ → List (Option T) → List Mark
   marks_by bytes entries = marks_of (slots_of bytes entries)
 
-  -- the control byte at a position: first those of the buckets, empty ones up to position 16, and then
-  -- those of the first buckets again
+  -- the control byte at a position: first the bytes of the buckets, then empty ones up to position 16, and then the
+  -- bytes of the first buckets again
   abbrev pub byte_at : List (Slot T) → ℕ → ℕ
   byte_at slots position =
       if nat_lt position (length slots) then byte_of (bucket_at slots position)
       else if nat_lt position 16 then empty_byte
       else byte_of (bucket_at slots (position - max 16 (length slots)))
 
-  -- the byte is the tag of an entry, or that of an empty or a deleted bucket
+  -- the byte is a tag if there is an entry, and else the byte of an empty or a deleted bucket
   abbrev pub Agrees : ℕ → Option T → Type 0
   Agrees byte (Some entry) = IsTag byte
   Agrees byte None = (byte ≡ deleted_byte) ⊎ (byte ≡ empty_byte)

@@ -10,7 +10,7 @@ abbrev pub narrowest_most : ℕ
 narrowest_most = 255
 
 pub record IsLinkType {N : Type 0} (number : N → ℕ) (link : ℕ → N) (most : N) (eq : N → N → Bool) : Type 0 where
-  -- the link of a number below that of `MAX` has that number
+  -- the link of a number below the number of `MAX` has that number
   pub number_of_link : (n : ℕ) → n < number most → number (link n) ≡ n
   -- so it is not `MAX`
   pub link_below : (n : ℕ) → n < number most → link n ≢ most

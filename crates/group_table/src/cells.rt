@@ -33,7 +33,7 @@ impl<T> Clone for Block<T> {
 impl<T> Copy for Block<T> {}
 
 // SAFETY: a `Block` is an address. To read or write there also takes the `Cells` of the same block, whose `Send` and
-// `Sync` require those of `T`.
+// `Sync` require the same of `T`.
 unsafe impl<T> Send for Block<T> {}
 
 unsafe impl<T> Sync for Block<T> {}

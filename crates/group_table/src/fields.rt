@@ -24,7 +24,7 @@ pub(crate) fn no_links<N: LinkType>(alloc: Global, count: usize) -> Result<Vec<N
 pub(crate) fn drop_first<T: Drop>(control: &Control, entries: &mut Entries<T>, count: usize)
     requires buckets { length entries.old ≤ buckets_of control.now }
     requires within { count ≤ length entries.old }
-    requires told { (b : ℕ) → b < count → Agrees (slice_index control.now b) (slice_index_or entries.old b None) }
+    requires agrees { (b : ℕ) → b < count → Agrees (slice_index control.now b) (slice_index_or entries.old b None) }
     requires others { (b : ℕ) → count ≤ b → slice_index_or entries.old b None ≡ None }
     ensures { entries.new ≡ replicate (length entries.old) None }
 {
@@ -77,7 +77,7 @@ pub(crate) fn put<T>(
 ) -> Option<T>
     requires one_each { buckets_of control.old ≡ length entries.old }
     requires bucket { b < length entries.old }
-    requires told { Agrees byte (slice_index_or entries.old b None) }
+    requires agrees { Agrees byte (slice_index_or entries.old b None) }
     ensures control { control.new ≡ written control.old entries.old b tag }
     ensures entries { entries.new ≡ slice_set entries.old b (Some entry) }
     ensures stood { result ≡ slice_index_or entries.old b None }

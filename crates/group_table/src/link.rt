@@ -19,7 +19,7 @@ pub trait LinkType: Copy + Eq + Debug {
     /// The number of a link.
     ghost number: { Self → ℕ };
 
-    /// The link of a number below that of `MAX`.
+    /// The link of a number that is below the number of `MAX`.
     ghost link: { ℕ → Self };
 
     /// Returns the link of this number, which is below `MAX`; no bits are cut off.
@@ -31,7 +31,8 @@ pub trait LinkType: Copy + Eq + Debug {
     fn into_usize(self) -> usize
         ensures { result ≡ number self };
 
-    /// Numbers below that of `MAX` come back from their links, `==` compares the numbers, and no width is below 8 bits.
+    /// A number below the number of `MAX` comes back from its link, `==` compares the numbers, and no width is below 8
+    /// bits.
     ghost laws: { IsLinkType number link MAX Self.PartialEq.eq };
 }
 

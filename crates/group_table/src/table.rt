@@ -31,7 +31,7 @@ mod relocation;
 ///
 /// It sees no key and stores no hash: the caller gives the hash when it inserts an entry, and a search calls the
 /// caller's closure with each entry that may be the one. An entry keeps its bucket until it is taken out, or all
-/// entries are moved. `docs/TABLE.md` explains its rules, which are those of hashbrown's raw table.
+/// entries are moved. `docs/TABLE.md` explains its rules, which hashbrown's raw table has, too.
 ///
 /// A table of B buckets has B + 16 control bytes and B places for entries. Only `with_buckets`, `relocate`, `rehash`
 /// and `clone_with` ask for memory. `get`, `get_mut`, `take` and the figures take O(1). `find`, `place` and

@@ -59,9 +59,9 @@ put_code (Err error) = 2
 -- inserted key the old value is returned.
 pub record Inserts (key value : ℕ) (old : Map) (answer : Inserted) (place left : Entry) (new : Map) : Type 0 where
   pub result : Result Bool AllocError
-  pub handed : List (ℕ × ℕ)
-  pub step : InsertPasses length_rules length_offers nat_eq hash_of key value old result handed new
-  pub evicted : noted_pair answer.evicted left ≡ first_other key handed
+  pub passed : List (ℕ × ℕ)
+  pub step : InsertPasses length_rules length_offers nat_eq hash_of key value old result passed new
+  pub evicted : noted_pair answer.evicted left ≡ first_other key passed
   pub untouched : answer.evicted ≡ false → left ≡ place
   pub replaced : replaced_value answer ≡ lookup (nat_eq key) old.pairs
   pub code : answer.code ≡ put_code result

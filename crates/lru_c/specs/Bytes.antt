@@ -53,7 +53,7 @@ input_of_bytes k = fed.slice fed.u8 k.items
 abbrev pub hash_of_bytes : Mixer → Bytes → ℕ
 hash_of_bytes = hash_by input_of_bytes random_builds.ghosts default_hashes.ghosts
 
--- 64 bytes for the entry, and those of its key and its value
+-- 64 bytes for the entry, and the bytes of its key and its value
 abbrev pub weight : ℕ → ℕ → ℕ
 weight key value = pair_cost 64 key value
 

@@ -37,11 +37,11 @@ fn insert_and_note(
     place: &mut Entry,
 ) -> Result<schnellru::Inserted<u64>, AllocError>
     requires { noted.old ≡ false }
-    ensures handed { (handed : List (ℕ × ℕ)) × (noted_pair noted.new place.new ≡ first_other key handed)
-        × InsertPasses length_rules length_offers nat_eq hash_of key value map.old (kept_of result) handed map.new }
+    ensures passed { (passed : List (ℕ × ℕ)) × (noted_pair noted.new place.new ≡ first_other key passed)
+        × InsertPasses length_rules length_offers nat_eq hash_of key value map.old (kept_of result) passed map.new }
     ensures untouched { noted.new ≡ false → place.new ≡ place.old }
     ensures replaced { IfOk result (λ inserted. inserted.unkept ≡ lookup (nat_eq key) map.old.pairs) }
-    ensures lacks { OnErr result (lookup (nat_eq key) map.old.pairs ≡ None) }
+    ensures out_of_memory { OnErr result (lookup (nat_eq key) map.old.pairs ≡ None) }
 {
     map.insert_full(key, value, &mut |k, v| note_other(noted, place, key, k, v))
 }

@@ -184,7 +184,7 @@ fn remembered<K: Copy + Eq + Hash, V: Copy, F: Fn(K) -> V, L: Insertion<K, V, K>
     ensures stored { IfSome (lookup (K.eq key) map.old.pairs) (λ value. result ≡ value) }
     ensures known { AreAnswers K.eq (F.post function.now) map.new.pairs }
 {
-    laws::inserts_give_up_the_oldest::<K, V, K, L, S>();
+    laws::inserts_evict_the_oldest::<K, V, K, L, S>();
     if let Some(value) = map.get(&key) {
         return *value;
     }
@@ -212,7 +212,7 @@ fn read_remembered<
         (λ value. (shown : Bor V) × (shown.now ≡ value) × U.post read shown result) }
     ensures known { AreAnswers K.eq (F.post function.now) map.new.pairs }
 {
-    laws::inserts_give_up_the_oldest::<K, V, K, L, S>();
+    laws::inserts_evict_the_oldest::<K, V, K, L, S>();
     if let Some(value) = map.get(&key) {
         return read(&*value);
     }

@@ -31,5 +31,5 @@ unfolding le_bytes
 written-le_bytes_16 h n fits =
     rw (word-low_bytes_8 n, word-high_bytes n fits)
 
--- those of one step
+-- what numbers of up to 16 bytes write
 pub ruleset number_writes = (written-le_bytes_2, written-le_bytes_4, written-le_bytes_8)

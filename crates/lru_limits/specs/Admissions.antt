@@ -4,13 +4,13 @@
 --     IsAdmission terms offers     the laws of `Admission`: an offer does what the terms say
 --     never_changes admits         the terms of a limiter that never changes
 --     budget_terms weight          the terms of a limiter by a cost
---     hands_over-terms, weighs-terms, offers_of-terms      their laws
+--     offers_if-terms, weighs-terms, offers_of-terms      their laws
 --     offers_of-lawful             the laws of `Insertion`, of offers by terms
 use Rattle.std.specs.Prelude.{◌≡◌, ◌-◌, ℕ, Bool, true, Option, refl}
 use Rattle.std.specs.Cmp.{IsEquivalence}
 use Rattle.lru_limits.specs.Rules.{Replaced, Offers}
 use Rattle.lru_limits.specs.Laws.{IsInsertion}
-use Rattle.lru_limits.specs.Stores.{HandsOver, hands_over, given-names}
+use Rattle.lru_limits.specs.Stores.{ReturnsPairIf, offers_if, given-names}
 use Rattle.lru_limits.specs.Budget.{Budget, can_add, charged, exchanged, weighs}
 
 -- Each is named after its callback. A map has n pairs.
@@ -36,20 +36,20 @@ module _ {K V S : Type 0} (terms : Terms K V S) where
 
   abbrev pub offers_of : Offers K V S K
   offers_of = record {
-    on_insert = λ s n k v t given. HandsOver (terms.accepts s n k v) (terms.on_stored s n k v) k v t given;
-    may_lack = λ s n k v. ⊥;
+    on_insert = λ s n k v t given. ReturnsPairIf (terms.accepts s n k v) (terms.on_stored s n k v) k v t given;
+    may_run_out = λ s n k v. ⊥;
     on_replace = λ s n k i v w. replaced s n k v w;
   }
 
   pub record IsAdmission (offers : Offers K V S K) : Type 0 where
     -- an offer does what the terms say
     pub stores : (s : S) (n : ℕ) (k : K) (v : V) (t : S) (given : Option (K × V)) → offers.on_insert s n k v t given
-        → HandsOver (terms.accepts s n k v) (terms.on_stored s n k v) k v t given
+        → ReturnsPairIf (terms.accepts s n k v) (terms.on_stored s n k v) k v t given
     -- and may do all that they say
     pub may_store : (s : S) (n : ℕ) (k : K) (v : V) (t : S) (given : Option (K × V))
-        → HandsOver (terms.accepts s n k v) (terms.on_stored s n k v) k v t given → offers.on_insert s n k v t given
+        → ReturnsPairIf (terms.accepts s n k v) (terms.on_stored s n k v) k v t given → offers.on_insert s n k v t given
     -- it never runs out of memory
-    pub lacks_nothing : (s : S) (n : ℕ) (k : K) (v : V) → offers.may_lack s n k v → ⊥
+    pub never_runs_out : (s : S) (n : ℕ) (k : K) (v : V) → offers.may_run_out s n k v → ⊥
     -- a replacement does what the terms say
     pub replaces : (s : S) (n : ℕ) (k i : K) (v w : V) → offers.on_replace s n k i v w ≡ replaced s n k v w
 
@@ -57,7 +57,7 @@ module _ {K V S : Type 0} (terms : Terms K V S) where
   offers_of-terms = record {
     stores = λ s n k v t given h. h;
     may_store = λ s n k v t given h. h;
-    lacks_nothing = λ s n k v h. h;
+    never_runs_out = λ s n k v h. h;
     replaces = λ s n k i v w. refl;
   }
 
@@ -76,9 +76,9 @@ never_changes admits = record {
   on_replaced = λ s n k v w. s;
 }
 
-pub hands_over-terms : {K V S : Type 0} (admits : S → K → V → Bool)
-    → IsAdmission (never_changes admits) (hands_over admits)
-hands_over-terms admits = offers_of-terms (never_changes admits)
+pub offers_if-terms : {K V S : Type 0} (admits : S → K → V → Bool)
+    → IsAdmission (never_changes admits) (offers_if admits)
+offers_if-terms admits = offers_of-terms (never_changes admits)
 
 module _ {K V : Type 0} (weight : K → V → ℕ) where
   abbrev pub budget_terms : Terms K V Budget

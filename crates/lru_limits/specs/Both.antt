@@ -8,7 +8,7 @@ use Rattle.std.proofs.Common.{ap, sym, ◌∙◌, subst, arith}
 use Rattle.lru_limits.specs.declared.limiters.both.Both.{Both}
 use Rattle.lru_limits.specs.Rules.{Rules, Offers}
 use Rattle.lru_limits.specs.Laws.{IsAccount, kept_value}
-use Rattle.lru_limits.specs.Stores.{HandsOver, given-adds, refused-keeps}
+use Rattle.lru_limits.specs.Stores.{ReturnsPairIf, given-adds, refused-keeps}
 use Rattle.lru_limits.specs.Admissions.{Terms, offers_of, IsAdmission}
 
 module _ {K V A B : Type 0} where
@@ -55,7 +55,7 @@ both_true false b h = absurd cc
 module _ {K V S : Type 0} (cost : K → V → ℕ) (account : S → ℕ) where
   adds_if : (accepts : Bool) (s s' : S) (i : K) (v : V) (t : S) (k : K) (w : V)
       → (IsTrue accepts → account s' ≡ account s + cost i v)
-      → HandsOver accepts (if accepts then s' else s) i v t (Some (k, w)) → account t ≡ account s + cost k w
+      → ReturnsPairIf accepts (if accepts then s' else s) i v t (Some (k, w)) → account t ≡ account s + cost k w
   adds_if true s s' i v t k w more h = given-adds cost account true s s' i v t k w (more refl) h
   adds_if false s s' i v t k w more h = let e = h.pair in cc
 

@@ -12,7 +12,7 @@ use Rattle.std.specs.Prelude.{◌+◌, ◌-◌, ◌^◌, ◌&&◌, ℕ, min, Boo
 use Rattle.std.specs.Cmp.{IsEquivalence}
 use Rattle.lru_limits.specs.Rules.{Replaced, Rules, Offers}
 use Rattle.lru_limits.specs.Laws.{IsInsertion, IsAccount}
-use Rattle.lru_limits.specs.Stores.{HandsOver, answers, given-names, given-adds, refused-keeps, replaced-exchanges}
+use Rattle.lru_limits.specs.Stores.{ReturnsPairIf, answers, given-names, given-adds, refused-keeps, replaced-exchanges}
 
 pub record Budget : Type 0 where
   pub limit : ℕ
@@ -47,8 +47,8 @@ module _ {K V : Type 0} (weight : K → V → ℕ) where
 
   abbrev pub weighs : Offers K V Budget K
   weighs = record {
-    on_insert = λ b n k v t given. HandsOver (can_add b.limit b.cost (weight k v)) (charged b (weight k v)) k v t given;
-    may_lack = λ b n k v. ⊥;
+    on_insert = λ b n k v t given. ReturnsPairIf (can_add b.limit b.cost (weight k v)) (charged b (weight k v)) k v t given;
+    may_run_out = λ b n k v. ⊥;
     on_replace = λ b n k i v w. exchanged b k v w (weight k v) (weight k w);
   }
 

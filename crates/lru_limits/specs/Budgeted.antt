@@ -6,7 +6,7 @@ use Rattle.std.specs.Prelude.{◌≡◌, ◌+◌, ◌-◌, ℕ, Bool, true, fals
 use Rattle.std.proofs.Common.{ap, ◌∙◌}
 use Rattle.std.proofs.lemmas.Bool.{true≢false}
 use Rattle.lru_limits.specs.Rules.{Rules, Offers}
-use Rattle.lru_limits.specs.Stores.{HandsOver}
+use Rattle.lru_limits.specs.Stores.{ReturnsPairIf}
 use Rattle.lru_limits.specs.Budget.{Budget, can_add, by_weight, weighs}
 
 pub record IsBudgeted {K V S : Type 0} (rules : Rules K V S) (offers : Offers K V S K) (account budget : S → ℕ)
@@ -25,7 +25,7 @@ pub record IsBudgeted {K V S : Type 0} (rules : Rules K V S) (offers : Offers K 
       → given ≡ (if accepts s k v then Some (k, v) else None)
   -- else none is stored, and the limiter stays; an offer never runs out of memory
   pub refuses : (s : S) (n : ℕ) (k : K) (v : V) → accepts s k v ≡ false → offers.on_insert s n k v s None
-  pub finds : (s : S) (n : ℕ) (k : K) (v : V) → offers.may_lack s n k v → ⊥
+  pub finds : (s : S) (n : ℕ) (k : K) (v : V) → offers.may_run_out s n k v → ⊥
   -- no key and no value is changed
   pub leaves : (s : S) (k : K) (v : V)
       → ((rules.on_removed s k v).key ≡ k) × ((rules.on_removed s k v).value ≡ v)
@@ -44,7 +44,7 @@ either_limit b c true same = same
 either_limit b c false same = refl
 
 kept-out : {K V : Type 0} (b c : Budget) (k : K) (v : V) (accepts : Bool) → accepts ≡ false
-    → HandsOver accepts (if accepts then c else b) k v b None
+    → ReturnsPairIf accepts (if accepts then c else b) k v b None
 kept-out b c k v true refused = absurd (true≢false refused)
 kept-out b c k v false refused = record { limiter = refl; pair = refl }
 
@@ -62,7 +62,7 @@ weighs-budgeted weight = record {
   grown = λ b n. refl;
   gives = λ b n k v t given offer. offer.pair;
   refuses = λ b n k v refused. kept-out b _ k v (can_add b.limit b.cost (weight k v)) refused;
-  finds = λ b n k v lacks. lacks;
+  finds = λ b n k v out_of_memory. out_of_memory;
   leaves = λ b k v. (refl, refl);
   replaces = λ b n k i v w. (refl, refl);
   made_budget = λ limit. refl;

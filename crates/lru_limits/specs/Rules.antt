@@ -39,6 +39,6 @@ pub record Offers (K V S I : Type 0) : Type 1 where
   -- of that pair may be made in fresh memory, which nothing determines, so this is a relation.
   pub on_insert : S → ℕ → I → V → S → Option (K × V) → Type 0
   -- when an offer may run out of memory
-  pub may_lack : S → ℕ → I → V → Type 0
+  pub may_run_out : S → ℕ → I → V → Type 0
   -- what is left after a stored value was to be replaced: the stored key, the offered one, the old value, the new one
   pub on_replace : S → ℕ → K → I → V → V → Replaced K V S

@@ -1,13 +1,13 @@
 -- Words for limiters that store a pair as it came.
 --     plain over grants                    the rules of a limiter that never changes
 --     rules_at of to rules                 the rules of a limiter that contains another: of and to read and make it
---     hands_over admits                    its offers: an element is stored if admits says so, a new value always
---     HandsOver accepts s k v t given      the limiter stays s, which is t, and the pair is given exactly if accepted
+--     offers_if admits                    its offers: an element is stored if admits says so, a new value always
+--     ReturnsPairIf accepts s k v t given      the limiter stays s, which is t, and the pair is given exactly if accepted
 --     unmoved s k v                        a pair that left, and the limiter is now s
 --     answers s b                          the answer b on growth, and the limiter is now s
 --     replaces s k v w                     the new value is taken, and the limiter is now s
 --     given-is, given-names                what a pair that was offered is
---     hands_over-lawful                    the laws of `hands_over`
+--     offers_if-lawful                    the laws of `offers_if`
 --     given-adds, refused-keeps, replaced-exchanges      what a running total becomes, for a `Summing` of your own
 use Rattle.std.specs.Prelude.{◌≡◌, ◌≤◌, ◌+◌, ◌-◌, ℕ, Bool, true, false, Option, Some, None, IsTrue, if◌then◌else◌}
 use Rattle.std.specs.Prelude.{unwrap_or}
@@ -16,7 +16,7 @@ use Rattle.std.proofs.Common.{ap, sym, ◌∙◌, subst, arith}
 use Rattle.lru_limits.specs.Rules.{Notified, Replaced, Allowed, Rules, Offers}
 use Rattle.lru_limits.specs.Laws.{IsInsertion}
 
-pub record HandsOver {S K V : Type 0} (accepts : Bool) (s : S) (k : K) (v : V) (t : S)
+pub record ReturnsPairIf {S K V : Type 0} (accepts : Bool) (s : S) (k : K) (v : V) (t : S)
     (given : Option (K × V)) : Type 0 where
   pub limiter : t ≡ s
   pub pair : given ≡ (if accepts then Some (k, v) else None)
@@ -47,28 +47,28 @@ rules_at of to rules = record {
   on_grow = λ w bytes. let asked = rules.on_grow (of w) bytes in answers (to asked.limiter) asked.allowed;
 }
 
-abbrev pub hands_over : {K V S : Type 0} → (S → K → V → Bool) → Offers K V S K
-hands_over admits = record {
-  on_insert = λ s n k v t given. HandsOver (admits s k v) s k v t given;
-  may_lack = λ s n k v. ⊥;
+abbrev pub offers_if : {K V S : Type 0} → (S → K → V → Bool) → Offers K V S K
+offers_if admits = record {
+  on_insert = λ s n k v t given. ReturnsPairIf (admits s k v) s k v t given;
+  may_run_out = λ s n k v. ⊥;
   on_replace = λ s n k i v w. replaces s k v w;
 }
 
 -- the returned pair is the offered one
 pub given-is : {S K V : Type 0} (accepts : Bool) (s : S) (k : K) (v : V) (t : S) (p : K × V)
-    → HandsOver accepts s k v t (Some p) → p ≡ (k, v)
+    → ReturnsPairIf accepts s k v t (Some p) → p ≡ (k, v)
 given-is true s k v t p h = ap (λ o. unwrap_or o (k, v)) h.pair
 given-is false s k v t p h = let e = h.pair in cc
 
 -- so a test that holds of each key and itself holds of the key that is returned
 pub given-names : {S K V : Type 0} {accepts : Bool} {s t : S} {i k : K} {v w : V} (E : K → K → Bool)
-    → ((x : K) → IsTrue (E x x)) → HandsOver accepts s i v t (Some (k, w)) → IsTrue (E i k)
+    → ((x : K) → IsTrue (E x x)) → ReturnsPairIf accepts s i v t (Some (k, w)) → IsTrue (E i k)
 given-names {accepts} {s} {t} {i} {k} {v} {w} E reflexive h =
     subst (λ x. IsTrue (E i x)) (sym (ap (λ p. p.0) (given-is accepts s i v t (k, w) h))) (reflexive i)
 
-pub hands_over-lawful : {K V S : Type 0} {admits : S → K → V → Bool} (eq : K → K → Bool) → IsEquivalence eq
-    → IsInsertion eq eq (hands_over admits)
-hands_over-lawful eq e = record {
+pub offers_if-lawful : {K V S : Type 0} {admits : S → K → V → Bool} (eq : K → K → Bool) → IsEquivalence eq
+    → IsInsertion eq eq (offers_if admits)
+offers_if-lawful eq e = record {
   names_given = λ s n i v t k w given. given-names eq e.refl given;
   keeps_key = λ s n k i v w named. e.refl k;
 }
@@ -78,14 +78,14 @@ hands_over-lawful eq e = record {
 -- A pair that is returned for storage adds its cost, if s' has that much more than s.
 pub given-adds : {K V S : Type 0} (cost : K → V → ℕ) (account : S → ℕ) (accepts : Bool) (s s' : S) (i : K) (v : V)
     (t : S) (k : K) (w : V) → account s' ≡ account s + cost i v
-    → HandsOver accepts (if accepts then s' else s) i v t (Some (k, w)) → account t ≡ account s + cost k w
+    → ReturnsPairIf accepts (if accepts then s' else s) i v t (Some (k, w)) → account t ≡ account s + cost k w
 given-adds cost account true s s' i v t k w more h = ap account h.limiter ∙ more ∙ ap (λ p. account s + cost p.0 p.1)
     (sym (given-is true s' i v t (k, w) h))
 given-adds cost account false s s' i v t k w more h = let e = h.pair in cc
 
 -- A rejected element changes nothing.
 pub refused-keeps : {K V S : Type 0} (account : S → ℕ) (accepts : Bool) (s s' : S) (i : K) (v : V) (t : S)
-    → HandsOver accepts (if accepts then s' else s) i v t None → account t ≡ account s
+    → ReturnsPairIf accepts (if accepts then s' else s) i v t None → account t ≡ account s
 refused-keeps account true s s' i v t h = let e = h.pair in cc
 refused-keeps account false s s' i v t h = ap account h.limiter
 

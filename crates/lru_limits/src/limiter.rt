@@ -76,8 +76,8 @@ pub trait Limiter<K, V> {
 /// `I` is the key itself, or something that names the key and becomes it only if it is stored, as a `&str` that becomes
 /// a `String`. The impl defines `offers`: what may be stored of an offered entry, when an offer may run out of memory,
 /// and what a replacement does to the key and the values. For a limiter that stores entries as they come, use
-/// [`crate::Storing`], or define the offers by `hands_over` of `specs/Stores.antt` in one line, and the laws by
-/// `hands_over-lawful`.
+/// [`crate::Storing`], or define the offers by `offers_if` of `specs/Stores.antt` in one line, and the laws by
+/// `offers_if-lawful`.
 ///
 /// ```
 /// assert!(rt; limiter.on_insert(alloc, 0, 1u64, 2u64)?.is_some());
@@ -93,7 +93,7 @@ pub trait Insertion<K: Eq + Hash, V, I: LookupKey<K>>: Limiter<K, V> {
     /// # Errors
     ///
     /// An `Err` says that there was no memory to make the key. It leaves the limiter unchanged, and comes only if
-    /// `offers.may_lack` permits it.
+    /// `offers.may_run_out` permits it.
     fn on_insert(
         &mut self,
         alloc: Global,
@@ -103,7 +103,7 @@ pub trait Insertion<K: Eq + Hash, V, I: LookupKey<K>>: Limiter<K, V> {
     ) -> Result<Option<(K, V)>, AllocError>
         ensures offered { IfOk result (offers.on_insert self.old length key value self.new) }
         ensures unchanged { OnErr result (self.new ≡ self.old) }
-        ensures lacks { OnErr result (offers.may_lack self.old length key value) };
+        ensures out_of_memory { OnErr result (offers.may_run_out self.old length key value) };
 
     /// Called by an insert or an update before `new_value` replaces `old_value` in a map of `length` entries, if
     /// `new_key` names the stored `old_key`. The stored key stays. Returns whether the new value is accepted. If not,

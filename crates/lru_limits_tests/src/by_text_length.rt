@@ -2,7 +2,7 @@
 //! `docs/LIMITERS.md` explains it.
 ghost use Rattle.std.specs.Prelude.{◌≡◌, ◌+◌, ◌-◌, true, Some, None, nat_lt, string_len, if◌then◌else◌, refl};
 ghost use Rattle.lru_limits.specs.Budget.{can_add};
-ghost use Rattle.lru_limits.specs.Stores.{HandsOver, answers, given-names, given-adds, refused-keeps};
+ghost use Rattle.lru_limits.specs.Stores.{ReturnsPairIf, answers, given-names, given-adds, refused-keeps};
 ghost use Rattle.lru_limits.specs.Stores.{replaced-exchanges};
 
 use lru_limits::{Insertion, Limiter, LookupKey, Summing};
@@ -62,8 +62,8 @@ impl<K: Eq + Hash + Drop> Insertion<K, String, K> for ByTextLength {
     ghost offers = { record {
       on_insert = λ s length i v t given.
           let fits = can_add s.limit s.total (string_len v) in
-          HandsOver fits (if fits then record s { total = s.total + string_len v } else s) i v t given;
-      may_lack = λ s length i v. ⊥;
+          ReturnsPairIf fits (if fits then record s { total = s.total + string_len v } else s) i v t given;
+      may_run_out = λ s length i v. ⊥;
       on_replace = λ s length k i v w.
           let fits = can_add s.limit (s.total - string_len v) (string_len w) in
           record {

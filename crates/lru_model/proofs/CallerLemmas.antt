@@ -5,13 +5,13 @@
 --     written-absent       if nothing is found, a write changes nothing
 --     written-found        after a value was written through a get, a look-up finds it
 --     read-all             what holds of each pair holds of each after a get through which nothing is written
---     hands_over-keeps     a limiter that stores pairs as they come keeps their values
+--     offers_if-keeps     a limiter that stores pairs as they come keeps their values
 --     weighs-keeps, charges-keeps      so do the limiters by a cost
---     hands_over-determined, weighs-determined, charges-determined      these limiters are determined
---     hands_over-finds, weighs-finds, charges-finds                     and never run out of memory
+--     offers_if-determined, weighs-determined, charges-determined      these limiters are determined
+--     offers_if-finds, weighs-finds, charges-finds                     and never run out of memory
 --     plain-grants, by_weight-grants, by_cost-grants                    if a limiter permits every growth
 --     plain-changes_none, by_weight-changes_none, by_cost-changes_none  limiters that change no removed pair
---     hands_over-accepts, weighs-accepts, charges-accepts               when they accept a pair of a new key
+--     offers_if-accepts, weighs-accepts, charges-accepts               when they accept a pair of a new key
 --     stored_key-same      a key that equals no other key is stored as it came
 --     stored-came          and so is the pair, by a limiter that stores pairs as they come
 --     inserted-found       under such a limiter, after an insert that returned true, a look-up finds the value
@@ -53,7 +53,7 @@ pub use Rattle.lru_model.proofs.TableSizes.Growth.{usage_bytes}
 pub use Rattle.lru_model.proofs.Theorems.RunLimits.{nothing_written}
 pub use Rattle.lru_model.proofs.Theorems.Runs.{any_step_same}
 pub use Rattle.lru_model.proofs.Theorems.StoringLimiters.{plain-changes_none, by_weight-changes_none}
-pub use Rattle.lru_model.proofs.Theorems.StoringLimiters.{by_cost-changes_none, hands_over-accepts, weighs-accepts}
+pub use Rattle.lru_model.proofs.Theorems.StoringLimiters.{by_cost-changes_none, offers_if-accepts, weighs-accepts}
 pub use Rattle.lru_model.proofs.Theorems.StoringLimiters.{charges-accepts, stored_key-same}
 pub use Rattle.lru_model.proofs.Theorems.StoringLimiters.{stored-came}
 pub use Rattle.lru_model.proofs.Theorems.Sums.{sum-set}
@@ -74,12 +74,12 @@ use Rattle.std.proofs.lemmas.Option.{none-some}
 use Rattle.std.specs.declared.alloc.AllocError.{AllocError}
 use Rattle.lru_limits.specs.Rules.{Rules, Offers}
 use Rattle.lru_limits.specs.Budget.{by_weight, weighs, by_cost, charges, can_add}
-use Rattle.lru_limits.specs.Stores.{plain, hands_over, given-is}
+use Rattle.lru_limits.specs.Stores.{plain, offers_if, given-is}
 use Rattle.lru_model.specs.Lists.{first, without_first, lookup, lookup_entry, without, after, front, back}
 use Rattle.lru_model.specs.Lists.{place_of, other_places, front_places, back_places}
 use Rattle.lru_model.specs.State.{State}
 use Rattle.lru_model.specs.Calls.{promoted, demoted, written}
-use Rattle.lru_model.specs.Exact.{IsDetermined, NeverLacks, AlwaysGrants}
+use Rattle.lru_model.specs.Exact.{IsDetermined, NeverRunsOut, AlwaysGrants}
 use Rattle.lru_model.specs.Theorems.{SaysWhether, Stores, KeepsValues, IsSummed, EvictsOldest, behind, with_none}
 use Rattle.lru_model.specs.Theorems.{without_one}
 use Rattle.lru_model.proofs.Theorems.InsertAnswers.{insert_found}
@@ -212,18 +212,18 @@ module _ {K V : Type 0} (P : K × V → Type 0) (names : K → Bool) where
   inserted-all old new (without_one pair found refused is) h one = subst (All P) (sym is) (all-without old h)
 
 -- a limiter that stores pairs as they come keeps their values
-pub hands_over-keeps : {K V S : Type 0} (admits : S → K → V → Bool) → KeepsValues (hands_over admits)
-hands_over-keeps admits = record {
+pub offers_if-keeps : {K V S : Type 0} (admits : S → K → V → Bool) → KeepsValues (offers_if admits)
+offers_if-keeps admits = record {
   given = λ s n i v t k w h. ap (λ p. p.1) (given-is (admits s i v) s i v t (k, w) h);
   replaced = λ s n k i v w. refl;
 }
 
 -- it leaves nothing open, and does not run out of memory
-pub hands_over-determined : {K V S : Type 0} (admits : S → K → V → Bool) → IsDetermined (hands_over admits)
-hands_over-determined admits = λ s n i v t u given other h k. (h.limiter ∙ sym k.limiter, h.pair ∙ sym k.pair)
+pub offers_if-determined : {K V S : Type 0} (admits : S → K → V → Bool) → IsDetermined (offers_if admits)
+offers_if-determined admits = λ s n i v t u given other h k. (h.limiter ∙ sym k.limiter, h.pair ∙ sym k.pair)
 
-pub hands_over-finds : {K V S : Type 0} (admits : S → K → V → Bool) → NeverLacks (hands_over admits)
-hands_over-finds admits = λ s n i v lacks. lacks
+pub offers_if-finds : {K V S : Type 0} (admits : S → K → V → Bool) → NeverRunsOut (offers_if admits)
+offers_if-finds admits = λ s n i v out_of_memory. out_of_memory
 
 -- and so do the limiters by a cost
 module _ {K V : Type 0} (weight : K → V → ℕ) where
@@ -236,8 +236,8 @@ module _ {K V : Type 0} (weight : K → V → ℕ) where
   pub weighs-determined : IsDetermined (weighs weight)
   weighs-determined = λ s n i v t u given other h k. (h.limiter ∙ sym k.limiter, h.pair ∙ sym k.pair)
 
-  pub weighs-finds : NeverLacks (weighs weight)
-  weighs-finds = λ s n i v lacks. lacks
+  pub weighs-finds : NeverRunsOut (weighs weight)
+  weighs-finds = λ s n i v out_of_memory. out_of_memory
 
 module _ {K V : Type 0} (cost : V → ℕ) where
   pub charges-keeps : KeepsValues (charges {K = K} cost)
@@ -246,7 +246,7 @@ module _ {K V : Type 0} (cost : V → ℕ) where
   pub charges-determined : IsDetermined (charges {K = K} cost)
   charges-determined = weighs-determined (λ k v. cost v)
 
-  pub charges-finds : NeverLacks (charges {K = K} cost)
+  pub charges-finds : NeverRunsOut (charges {K = K} cost)
   charges-finds = weighs-finds (λ k v. cost v)
 
 -- those permit every growth that answer true

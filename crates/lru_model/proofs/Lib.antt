@@ -3,5 +3,5 @@ pub mod PairLists
 pub mod States
 pub mod Theorems
 pub mod CallerLemmas
-pub mod HandingLemmas
+pub mod PassingLemmas
 pub mod CallbackLemmas

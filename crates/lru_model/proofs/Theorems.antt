@@ -9,9 +9,9 @@ pub mod Fronts
 pub mod InsertAnswers
 pub mod StoringLimiters
 pub mod PlainInserts
-pub mod HandedPairs
+pub mod PassedPairs
 pub mod NothingLost
-pub mod LackOfMemory
+pub mod OutOfMemory
 pub mod Exactness
 pub mod GrantedGrowth
 pub mod RoomyInserts

@@ -35,7 +35,7 @@ module _ {K V S : Type 0} where
   abbrev pub noting_offers : {I : Type 0} → Offers K V S I → Offers K V (S × List (K × V)) I
   noting_offers offers = record {
     on_insert = λ s n i v t given. offers.on_insert s.0 n i v t.0 given × (t.1 ≡ s.1);
-    may_lack = λ s n i v. offers.may_lack s.0 n i v;
+    may_run_out = λ s n i v. offers.may_run_out s.0 n i v;
     on_replace = λ s n k i v w. let left = offers.on_replace s.0 n k i v w in record {
       limiter = (left.limiter, s.1);
       taken = left.taken;
@@ -63,12 +63,12 @@ CalledWith closure f pairs g = FoldsTo (λ p pair q. Called closure p (pair.0, (
 
 module _ {K V S H I : Type 0} (rules : Rules K V S) (offers : Offers K V S I) (names : I → K → Bool)
     (hash_of : H → K → ℕ) where
-  -- An insert that passes the pairs `handed` to its callback: it is an insert under the limiter with a list, which is
-  -- empty before the call, and `handed` after it.
+  -- An insert that passes the pairs `passed` to its callback: it is an insert under the limiter with a list, which is
+  -- empty before the call, and `passed` after it.
   abbrev pub InsertPasses : I → V → State K V S H → Result Bool AllocError → List (K × V) → State K V S H → Type 0
-  InsertPasses i v old result handed new = Insert (noting rules) (noting_offers offers) names hash_of i v (noted [] old)
-      result (noted handed new)
+  InsertPasses i v old result passed new = Insert (noting rules) (noting_offers offers) names hash_of i v (noted [] old)
+      result (noted passed new)
 
--- a trim that passes the pairs `handed` to its callback
+-- a trim that passes the pairs `passed` to its callback
 abbrev pub TrimPasses : {K V S H : Type 0} → Rules K V S → State K V S H → List (K × V) → State K V S H → Type 0
-TrimPasses rules old handed new = Trims (noting rules) (noted [] old) (noted handed new)
+TrimPasses rules old passed new = Trims (noting rules) (noted [] old) (noted passed new)

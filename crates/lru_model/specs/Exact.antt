@@ -114,7 +114,7 @@ module _ {K V S I : Type 0} (rules : Rules K V S) (offers : Offers K V S I) (nam
         InsertsInList old result new
     -- or the limiter runs out of memory, and nothing changes,
     not_offered : lookup_entry (names i) old.pairs ≡ None →
-        offers.may_lack old.limiter (length old.pairs) i v →
+        offers.may_run_out old.limiter (length old.pairs) i v →
         IsErr result → new ≡ old →
         InsertsInList old result new
     -- or the insertion runs out of memory after `make_room`, and the limiter is notified of the pair, which is not
@@ -137,8 +137,8 @@ IsDetermined {K} {V} {S} {I} offers = (s : S) (n : ℕ) (i : I) (v : V) (t u : S
     offers.on_insert s n i v t given → offers.on_insert s n i v u other → (t ≡ u) × (given ≡ other)
 
 -- `on_insert` never runs out of memory
-abbrev pub NeverLacks : {K V S I : Type 0} → Offers K V S I → Type 0
-NeverLacks {V = V} {S = S} {I = I} offers = (s : S) (n : ℕ) (i : I) (v : V) → offers.may_lack s n i v → ⊥
+abbrev pub NeverRunsOut : {K V S I : Type 0} → Offers K V S I → Type 0
+NeverRunsOut {V = V} {S = S} {I = I} offers = (s : S) (n : ℕ) (i : I) (v : V) → offers.may_run_out s n i v → ⊥
 
 -- two maps differ at most in which of their buckets are full or deleted: their growth left is the same
 pub record LookAlike {K V S H : Type 0} (st other : State K V S H) : Type 0 where

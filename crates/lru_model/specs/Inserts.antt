@@ -95,7 +95,7 @@ module _ {K V S I : Type 0} (rules : Rules K V S) (offers : Offers K V S I) (nam
           Insert i v old result new
       -- The key is new: the limiter runs out of memory, or returns no pair to store,
       no_memory_to_admit : lookup_entry (names i) old.pairs ≡ None →
-          offers.may_lack old.limiter (length old.pairs) i v →
+          offers.may_run_out old.limiter (length old.pairs) i v →
           IsErr result → new ≡ old →
           Insert i v old result new
       not_admitted : lookup_entry (names i) old.pairs ≡ None →
@@ -121,4 +121,4 @@ module _ {K V S I : Type 0} (rules : Rules K V S) (offers : Offers K V S I) (nam
     -- nothing has changed, or the table needed memory.
     abbrev pub IsOutOfMemory : I → V → State K V S H → State K V S H → Type 0
     IsOutOfMemory i v old new = (lookup_entry (names i) old.pairs ≡ None)
-        × ((offers.may_lack old.limiter (length old.pairs) i v × (new ≡ old)) ⊎ NeedsMemory i v old)
+        × ((offers.may_run_out old.limiter (length old.pairs) i v × (new ≡ old)) ⊎ NeedsMemory i v old)

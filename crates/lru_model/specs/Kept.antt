@@ -20,33 +20,33 @@ pub record ChangesNoPair {K V S : Type 0} (rules : Rules K V S) : Type 0 where
 
 module _ {K V S H I : Type 0} (rules : Rules K V S) (offers : Offers K V S I) (names : I → K → Bool) where
   -- An insert loses nothing but a value that it replaces: each old pair, and the pair that the limiter returned for a
-  -- new key, is left or was passed to the callback. `handed` lists what the callback got, oldest first.
+  -- new key, is left or was passed to the callback. `passed` lists what the callback got, oldest first.
   pub data LosesNothing (i : I) (v : V) (old : State K V S H) (result : Result Bool AllocError)
-      (handed : List (K × V)) (new : State K V S H) : Type 0 where
+      (passed : List (K × V)) (new : State K V S H) : Type 0 where
     -- A pair is stored as the newest, before the pairs of other keys. (If no pair is left, this one was evicted, too.)
     stored : (pair : K × V) → Stores rules offers names i v old pair →
         result ≡ Ok (not (is_empty new.pairs)) →
-        new.pairs ++ reverse handed ≡ pair ∷ without (names i) old.pairs →
-        LosesNothing i v old result handed new
+        new.pairs ++ reverse passed ≡ pair ∷ without (names i) old.pairs →
+        LosesNothing i v old result passed new
     -- The key is there, and its new value is rejected: its pair alone is passed to the callback, with the old value.
     value_rejected : (was : K × V) → lookup_entry (names i) old.pairs ≡ Some was →
         (replacement rules offers names was i v (contents old)).taken ≡ false →
         result ≡ Ok false →
-        handed ≡ with_old_value rules offers names was i v (contents old) ∷ [] →
+        passed ≡ with_old_value rules offers names was i v (contents old) ∷ [] →
         new.pairs ≡ without (names i) old.pairs →
-        LosesNothing i v old result handed new
+        LosesNothing i v old result passed new
     -- The key is new, and the limiter runs out of memory or returns no pair to store: all pairs stay.
     nothing_to_store : lookup_entry (names i) old.pairs ≡ None →
-        (offers.may_lack old.limiter (length old.pairs) i v × IsErr result)
+        (offers.may_run_out old.limiter (length old.pairs) i v × IsErr result)
         ⊎ ((s : S) × MayGive rules offers names i v (contents old) s None × (result ≡ Ok false)) →
-        handed ≡ [] → new.pairs ≡ old.pairs →
-        LosesNothing i v old result handed new
+        passed ≡ [] → new.pairs ≡ old.pairs →
+        LosesNothing i v old result passed new
     -- The key is new, and the pair that the limiter returns is not stored: it is the last pair that the callback gets.
     pair_not_stored : lookup_entry (names i) old.pairs ≡ None →
         (s : S) (pair : K × V) → MayGive rules offers names i v (contents old) s (Some pair) →
         (result ≡ Ok true → ⊥) →
-        (evicted : List (K × V)) → handed ≡ evicted ++ pair ∷ [] → new.pairs ++ reverse evicted ≡ old.pairs →
-        LosesNothing i v old result handed new
+        (evicted : List (K × V)) → passed ≡ evicted ++ pair ∷ [] → new.pairs ++ reverse evicted ≡ old.pairs →
+        LosesNothing i v old result passed new
 
   -- The pair is added to all the others. The number of buckets stays, and the growth left falls by at most one.
   pub record IsAdded (i : I) (v : V) (pair : K × V) (old : State K V S H) (result : Result Bool AllocError)
@@ -61,7 +61,7 @@ module _ {K V S I : Type 0} (rules : Rules K V S) (offers : Offers K V S I) (nam
   -- For this key and value the limiter does not run out of memory, returns this pair to store, and is then not over its
   -- limit with one more pair.
   pub record AcceptsNew (i : I) (v : V) (c : Contents K V S) (pair : K × V) : Type 0 where
-    pub finds : offers.may_lack c.limiter (length c.pairs) i v → ⊥
+    pub finds : offers.may_run_out c.limiter (length c.pairs) i v → ⊥
     pub gives : (s : S) (given : Option (K × V)) → MayGive rules offers names i v c s given →
         (given ≡ Some pair) × (rules.is_over_the_limit s (length c.pairs + 1) ≡ false)
 

@@ -6,7 +6,6 @@ use Rattle.std.specs.Prelude.{Result, Ok, Err, slice_set}
 use Rattle.group_table.specs.Sizes.{full_capacity}
 use Rattle.group_table.specs.Bucket.{Mark, empty, deleted, full, bucket_at, room as room_of}
 use Rattle.group_table.specs.Probe.{IsFirstFree}
-use Rattle.group_table.specs.Change.{HasNoPlace}
 use Rattle.lru_limits.specs.Rules.{Rules}
 use Rattle.lru_model.specs.Sizes.{target, Target, no_table, new_table}
 use Rattle.lru_model.specs.State.{State, TableState, buckets, room, FirstFreeIs, count_insert, contents, Leaves, pop}
@@ -33,17 +32,17 @@ pub record FillsBucket (hash : ℕ) (old new : TableState) : Type 0 where
   pub spends : ((bucket_at old.marks bucket ≡ empty) × (room_of new.marks + 1 ≡ room_of old.marks))
       ⊎ ((bucket_at old.marks bucket ≡ deleted) × (16 < length old.marks) × (room_of new.marks ≡ room_of old.marks))
 
--- A table of n pairs in which no bucket takes a pair of this hash: no growth is left, and the first free bucket that a
+-- In a table of n pairs no bucket takes a pair of this hash: no growth is left, and the first free bucket that a
 -- search finds is empty. A table without pairs is not searched: without growth left it is rehashed, even if a deleted
 -- bucket could take the pair.
-pub record IsFullFor (hash n : ℕ) (marks : List Mark) : Type 0 where
+pub record NoBucketTakes (hash n : ℕ) (marks : List Mark) : Type 0 where
   pub no_room : room_of marks ≡ 0
   pub first_empty : 0 < n → FirstFreeIs empty hash marks
 
 -- No bucket takes a pair of this hash, and a rehash is no remedy: with one pair more the table would be over half full.
 -- Either there is no table yet, or it contains pairs.
 pub record IsTooSmallFor (hash n : ℕ) (marks : List Mark) : Type 0 where
-  pub no_bucket : IsFullFor hash n marks
+  pub no_bucket : NoBucketTakes hash n marks
   pub above_half : full_capacity (length marks) / 2 < n + 1
   pub begun : (length marks ≡ 0) ⊎ (0 < n)
 
@@ -65,7 +64,7 @@ module _ {K V S H : Type 0} where
 
   -- no bucket takes a pair of this hash
   abbrev pub HasNoBucket : ℕ → State K V S H → Type 0
-  HasNoBucket hash st = IsFullFor hash (length st.pairs) st.table.marks
+  HasNoBucket hash st = NoBucketTakes hash (length st.pairs) st.table.marks
 
   -- no bucket takes a pair of this hash, and a rehash is no remedy
   abbrev pub IsOutgrown : ℕ → State K V S H → Type 0
@@ -76,8 +75,8 @@ module _ {K V S H : Type 0} where
   table_for n st = target st.max st.entry_bytes (buckets st) (length st.pairs + n)
 
   -- there are pairs, and no growth is left
-  abbrev pub IsFullWithPairs : State K V S H → Type 0
-  IsFullWithPairs st = (0 < length st.pairs) × (room st ≡ 0)
+  abbrev pub HasPairsButNoGrowth : State K V S H → Type 0
+  HasPairsButNoGrowth st = (0 < length st.pairs) × (room st ≡ 0)
 
 module _ {K V S H : Type 0} (rules : Rules K V S) where
   -- the map after its limiter was queried for a table of n bytes (`on_grow`)
@@ -100,7 +99,7 @@ module _ {K V S H : Type 0} (rules : Rules K V S) where
   abbrev pub OldestEvicted : ℕ → ℕ → State K V S H → State K V S H → Type 0
   OldestEvicted hash zero old new = new ≡ old
   OldestEvicted hash (suc n) old new = (before : State K V S H) × OldestEvicted hash n old before
-      × HasNoPlace before.table.marks hash × Leaves before (pop rules (contents before)) new
+      × HasNoBucket hash before × Leaves before (pop rules (contents before)) new
 
   -- the pair is stored as `IsPlaced` says, or the map ran out of memory, and the limiter was notified of the pair
   abbrev pub IsPlacedIfMemory : K × V → ℕ → ℕ → ℕ → State K V S H → Outcome → State K V S H → Type 0

@@ -48,7 +48,7 @@ pub record State (K V S H : Type 0) : Type 0 where
   pub counts : Counts
   -- how many bytes of the table an entry takes, as passed to the constructor
   pub entry_bytes : ℕ
-  -- the number of the link `MAX`, above that of each bucket
+  -- the number of the link `MAX`, above the number of each bucket
   pub max : ℕ
 
 -- what holds of the bucket states and the counts of every map with n pairs
@@ -70,7 +70,7 @@ abbrev pub IsAhead : ℕ → Counts → Type 0
 IsAhead n counts = counts.shrunk < 2 ^ 64 - 1 → counts.moved + n ≤ 2 * counts.placed + counts.shrunk
 
 -- Moves are paid for: inserts moved at most two entries for each entry that they stored, plus one for each entry that
--- shrinks rehashed. As many more as the potential are paid for, too.
+-- shrinks rehashed. `potential` more moves are paid for, too.
 pub record IsPaid (potential : ℕ) (counts : Counts) : Type 0 where
   pub moved : counts.moved ≤ 2 * counts.placed + counts.shrunk
   pub ahead : IsAhead potential counts

@@ -10,7 +10,7 @@ use Rattle.lru_limits.specs.Rules.{Rules, Offers}
 use Rattle.lru_model.specs.Sizes.{usage}
 use Rattle.lru_model.specs.Lists.{IsFront, lookup_entry, without}
 use Rattle.lru_model.specs.State.{State, Counts, buckets, contents, potential}
-use Rattle.lru_model.specs.Place.{IsFullWithPairs, CannotGrow}
+use Rattle.lru_model.specs.Place.{HasPairsButNoGrowth, CannotGrow}
 use Rattle.lru_model.specs.Inserts.{replacement, with_new_value, MayGive}
 
 -- the count of insertions into the table rises by the entries moved and the entries stored, unless a count has stopped
@@ -64,7 +64,7 @@ pub data EvictsOldest {K V : Type 0} (names : K → Bool) (refuses : K × V → 
 module _ {K V S H : Type 0} (rules : Rules K V S) where
   -- the table has no growth left, would be more than half full, and cannot grow
   pub record IsRefusedGrowth (st : State K V S H) : Type 0 where
-    pub is_full : IsFullWithPairs st
+    pub is_full : HasPairsButNoGrowth st
     pub above_half : full_capacity (buckets st) / 2 < length st.pairs + 1
     pub known : State K V S H
     pub refused : CannotGrow rules st known

@@ -38,9 +38,9 @@ module _ {K V S I : Type 0} (rules : Rules K V S) (offers : Offers K V S I) (nam
         result ≡ Absent v → new ≡ old →
         Update i v old result new
 
--- An update that passes the pairs `handed` to its callback: it is an update under the limiter with a list, which is
--- empty before the call, and `handed` after it.
+-- An update that passes the pairs `passed` to its callback: it is an update under the limiter with a list, which is
+-- empty before the call, and `passed` after it.
 abbrev pub UpdatePasses : {K V S H I : Type 0} → Rules K V S → Offers K V S I → (I → K → Bool) → I → V → State K V S H
     → Updated V → List (K × V) → State K V S H → Type 0
-UpdatePasses rules offers names i v old result handed new =
-    Update (noting rules) (noting_offers offers) names i v (noted [] old) result (noted handed new)
+UpdatePasses rules offers names i v old result passed new =
+    Update (noting rules) (noting_offers offers) names i v (noted [] old) result (noted passed new)

@@ -12,13 +12,13 @@ ghost use Rattle.lru_model.specs.Lists.{first, without_last, keys_of, lookup, lo
 ghost use Rattle.lru_model.specs.Sizes.{usage, IsGreatestUsage};
 ghost use Rattle.lru_model.specs.State.{State, Contents, contents, buckets, room, potential, FirstFreeIs, IsSized};
 ghost use Rattle.lru_model.specs.State.{IsPaid, IsMap};
-ghost use Rattle.lru_model.specs.Place.{Place, Outcome, placed, no_memory, IsPlaced, IsFullWithPairs, FillsBucket};
+ghost use Rattle.lru_model.specs.Place.{Place, Outcome, placed, no_memory, IsPlaced, HasPairsButNoGrowth, FillsBucket};
 ghost use Rattle.lru_model.specs.Calls.{Get, promoted, Remove, PopOldest, PopNewest, cleared};
 ghost use Rattle.lru_model.specs.Reservations.{Reserve};
 ghost use Rattle.lru_model.specs.declared.results.ReserveError.{ReserveError};
 ghost use Rattle.lru_model.specs.Callbacks.{InsertPasses};
 ghost use Rattle.lru_model.specs.Inserts.{Insert, replacement, IsOutOfMemory};
-ghost use Rattle.lru_model.specs.Exact.{IsDetermined, NeverLacks, EndsExactly, EndsIfLanded, InsertsInList};
+ghost use Rattle.lru_model.specs.Exact.{IsDetermined, NeverRunsOut, EndsExactly, EndsIfLanded, InsertsInList};
 ghost use Rattle.lru_model.specs.Exact.{Landing, EndsAlike, LookAlike, AlwaysGrants, HasTables};
 ghost use Rattle.lru_model.specs.Theorems.{PaysForMoves, CountsPlacings, Stores, KeepsValues, IsRefusedGrowth};
 ghost use Rattle.lru_model.specs.Theorems.{UsesAtMost, EvictsOldest, IsSummed, SaysWhether};
@@ -32,7 +32,7 @@ mod runs;
 mod shrinks;
 
 pub use calls::{
-    calls_add_one_pair, calls_give_up_the_oldest, calls_keep_maps, calls_keep_sums,
+    calls_add_one_pair, calls_evict_the_oldest, calls_keep_maps, calls_keep_sums,
     calls_keep_the_cost, calls_keep_the_length, calls_keep_the_memory_usage, calls_keep_the_weight,
     calls_pay_for_moves,
 };
@@ -41,7 +41,7 @@ pub use kept::{
     nothing_is_lost,
 };
 pub use runs::{
-    runs_begin_with_maps, runs_give_up_the_oldest, runs_keep_maps, runs_keep_sums,
+    runs_begin_with_maps, runs_evict_the_oldest, runs_keep_maps, runs_keep_sums,
     runs_keep_the_cost, runs_keep_the_length, runs_keep_the_memory_usage, runs_keep_the_weight,
     runs_pay_for_moves,
 };
@@ -49,7 +49,7 @@ pub use shrinks::{shrinks_keep_the_list, shrinks_leave_a_tight_table, shrinks_pa
 
 /// An insert evicts from the old end alone. The one other entry that it may remove is the entry whose replacement is
 /// rejected.
-pub fn inserts_give_up_the_oldest<
+pub fn inserts_evict_the_oldest<
     K: Eq + Hash,
     V,
     I: LookupKey<K>,
@@ -81,20 +81,14 @@ pub fn inserts_say_whether<
 /// The entries that an insert passes to its callback, together with those that are left, are at most one more than
 /// there were. So a callback that keeps them needs space for one entry more than the map contains. An insert with such
 /// a callback is an insert like any other (`step`).
-pub fn inserts_hand_over_few<
-    K: Eq + Hash,
-    V,
-    I: LookupKey<K>,
-    L: Insertion<K, V, I>,
-    S: KeyHasher<K>,
->()
+pub fn inserts_pass_few<K: Eq + Hash, V, I: LookupKey<K>, L: Insertion<K, V, I>, S: KeyHasher<K>>()
     ensures few { (key : I) (value : V) (old : State K V L S) (result : Result Bool AllocError)
-        (handed : List (K × V)) (new : State K V L S) →
+        (passed : List (K × V)) (new : State K V L S) →
         InsertPasses L.rules L.offers I.names S.hash_of key value old result
-        handed new → length handed + length new.pairs ≤ length old.pairs + 1 }
+        passed new → length passed + length new.pairs ≤ length old.pairs + 1 }
     ensures step { (key : I) (value : V) (old : State K V L S) (result : Result Bool AllocError)
-        (handed : List (K × V)) (new : State K V L S) →
-        InsertPasses L.rules L.offers I.names S.hash_of key value old result handed new →
+        (passed : List (K × V)) (new : State K V L S) →
+        InsertPasses L.rules L.offers I.names S.hash_of key value old result passed new →
         Insert L.rules L.offers I.names S.hash_of key value old result new }
 {}
 
@@ -118,14 +112,14 @@ pub fn inserts_store_the_value<
 
 /// If an insert runs out of memory, `on_insert` did, or the table had no growth left. The entries that stay are the
 /// newest of the old ones.
-pub fn inserts_lack_memory_at_no_room<
+pub fn inserts_run_out_without_growth<
     K: Eq + Hash,
     V,
     I: LookupKey<K>,
     L: Insertion<K, V, I>,
     S: KeyHasher<K>,
 >()
-    ensures lacks { (key : I) (value : V) (old : State K V L S) (result : Result Bool AllocError)
+    ensures out_of_memory { (key : I) (value : V) (old : State K V L S) (result : Result Bool AllocError)
         (new : State K V L S) →
         IsErr result →
         Insert L.rules L.offers I.names S.hash_of key value old result new →
@@ -171,7 +165,7 @@ pub fn small_inserts_look_alike<
 >()
     ensures { (key : I) (value : V) (old : State K V L S) (result : Result Bool AllocError) (new other : State K V L S)
         (answer : Result Bool AllocError) (last : State K V L S) →
-        IsDetermined L.offers → NeverLacks L.offers →
+        IsDetermined L.offers → NeverRunsOut L.offers →
         buckets old ≤ 16 → buckets new ≤ 16 → buckets last ≤ 16 →
         LookAlike old other → is_err result ≡ is_err answer →
         Insert L.rules L.offers I.names S.hash_of key value old result new →
@@ -213,13 +207,13 @@ pub fn inserts_grow_little<
 /// fills that bucket: the limiter is not queried and nothing moves. No other insertion into the table ends so.
 pub fn deleted_buckets_serve<K: Eq + Hash, V, L: Limiter<K, V>, S: KeyHasher<K>>()
     ensures served { (pair : K × V) (old : State K V L S) (outcome : Outcome) (new : State K V L S) →
-        IsFullWithPairs old →
+        HasPairsButNoGrowth old →
         FirstFreeIs deleted (S.hash_of old.hasher pair.0) old.table.marks →
         Place L.rules S.hash_of pair old outcome new →
         (outcome ≡ placed) × IsPlaced pair (buckets old) 0 0 old new ×
         FillsBucket (S.hash_of old.hasher pair.0) old.table new.table }
     ensures only { (pair : K × V) (old new : State K V L S) →
-        IsFullWithPairs old → IsSized old →
+        HasPairsButNoGrowth old → IsSized old →
         Place L.rules S.hash_of pair old placed new →
         IsPlaced pair (buckets old) 0 0 old new →
         FirstFreeIs deleted (S.hash_of old.hasher pair.0) old.table.marks }

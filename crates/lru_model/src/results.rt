@@ -1,4 +1,4 @@
-//! The types that the calls of a map return, except those of std.
+//! The types that the calls of a map return, except the types of std.
 
 use thiserror::Error;
 

@@ -11,10 +11,10 @@ use Rattle.lru_limits.specs.Rules.{Rules, Offers}
 use Rattle.lru_model.proofs.CallerLemmas.{Shape, shape, same_shape, look_alike, with_left, left_shape}
 use Rattle.lru_model.proofs.CallerLemmas.{clears, cleared_shape, reserve_in, reserve_is, found_named}
 use Rattle.lru_model.proofs.CallerLemmas.{shrinks_look_alike}
-use Rattle.lru_model.proofs.HandingLemmas.{plain, small_inserts_alike}
+use Rattle.lru_model.proofs.PassingLemmas.{plain, small_inserts_alike}
 use Rattle.lru_model.specs.Calls.{promoted, left_of, removal, pop_first}
 use Rattle.lru_model.specs.Drains.{pops_first, newest_given, oldest_given}
-use Rattle.lru_model.specs.Exact.{IsDetermined, NeverLacks, LookAlike}
+use Rattle.lru_model.specs.Exact.{IsDetermined, NeverRunsOut, LookAlike}
 use Rattle.lru_model.specs.GetOrInserts.{MakesNewest, got, inserted}
 use Rattle.lru_model.specs.Callbacks.{noting, noting_offers, noted}
 use Rattle.lru_model.specs.Inserts.{Insert}
@@ -95,12 +95,12 @@ module _ {K V S H : Type 0} (rules : Rules K V S) (offers : Offers K V S K) (eq 
   -- what is proved of two inserts of the same
   abbrev pub InsertsAlike : Type 0
   InsertsAlike = (key : K) (v : V) (old : State K V S H) (result : Result Bool AllocError) (new other : State K V S H)
-      (answer : Result Bool AllocError) (last : State K V S H) → IsDetermined offers → NeverLacks offers
+      (answer : Result Bool AllocError) (last : State K V S H) → IsDetermined offers → NeverRunsOut offers
       → buckets old ≤ 16 → buckets new ≤ 16 → buckets last ≤ 16 → LookAlike old other → is_err result ≡ is_err answer
       → Insert rules offers eq hash_of key v old result new → Insert rules offers eq hash_of key v other answer last
       → (result ≡ answer) × LookAlike new last
 
-  module _ (law : InsertsAlike) (determined : IsDetermined offers) (never : NeverLacks offers)
+  module _ (law : InsertsAlike) (determined : IsDetermined offers) (never : NeverRunsOut offers)
       (respects : (h : H) (k l : K) → IsTrue (eq k l) → hash_of h k ≡ hash_of h l) where
     -- with a list the offers leave nothing more open
     noting_determined : IsDetermined (noting_offers offers)
@@ -132,9 +132,9 @@ module _ {K V S H : Type 0} (rules : Rules K V S) (offers : Offers K V S K) (eq 
       same_pairs = ap (λ st. st.pairs) alike.state
 
       -- a call that the shape determines
-      told_by : (R : Shape K V S H → Reply K V) (F : Shape K V S H → Shape K V S H) → reply ≡ R (shape old)
+      replies_by : (R : Shape K V S H → Reply K V) (F : Shape K V S H → Shape K V S H) → reply ≡ R (shape old)
           → shape new ≡ F (shape old) → answer ≡ R (shape other) → shape last ≡ F (shape other) → AreAlike
-      told_by R F r n a l =
+      replies_by R F r n a l =
           let same = same_shape alike in
           (r ∙ ap R (sym same) ∙ sym a, look_alike new last (l ∙ ap F same ∙ sym n))
 
@@ -150,9 +150,9 @@ module _ {K V S H : Type 0} (rules : Rules K V S) (offers : Offers K V S K) (eq 
             let both = law k v old result new other result' last determined never small after too alike errs h h' in
             (is ∙ ap insert_reply both.0 ∙ sym is', both.1)
 
-        handed_alike : (k : K) (v : V) → ReplyStep rules offers eq hash_of old (calls.InsertWith k v) reply new
+        passed_alike : (k : K) (v : V) → ReplyStep rules offers eq hash_of old (calls.InsertWith k v) reply new
             → ReplyStep rules offers eq hash_of other (calls.InsertWith k v) answer last → AreAlike
-        handed_alike k v (result, out, h, is) (result', out', h', is') =
+        passed_alike k v (result, out, h, is) (result', out', h', is') =
             let errs = sym (given_wants result out) ∙ ap wants_memory (sym is) ∙ both_short
             ∙ ap wants_memory is' ∙ given_wants result' out' in
             let both = small_inserts_alike (noting rules) (noting_offers offers) eq k v noting_determined
@@ -166,7 +166,7 @@ module _ {K V S H : Type 0} (rules : Rules K V S) (offers : Offers K V S K) (eq 
             → MakesNewest rules offers eq hash_of (λ made. made ≡ v) k old result new
             → MakesNewest rules offers eq hash_of (λ made. made ≡ v) k other result' last
             → reply ≡ made_reply result new.pairs → answer ≡ made_reply result' last.pairs → AreAlike
-        made_alike k v result result' (got w f r e) (got w' f' r' e') is is' = told_by
+        made_alike k v result result' (got w f r e) (got w' f' r' e') is is' = replies_by
             (λ sh. value (newest_value (front (eq k) sh.bare.pairs)))
             (λ sh. record sh { bare = record sh.bare { pairs = front (eq k) sh.bare.pairs } })
             (is ∙ (λ j. made_reply (r j) (e j).pairs)) (ap shape e)
@@ -215,10 +215,10 @@ module _ {K V S H : Type 0} (rules : Rules K V S) (offers : Offers K V S K) (eq 
       get_alike : (k : K) (result result' : Option V) → result ≡ result' → reply ≡ value result → answer ≡ value result'
           → new ≡ (if is_some result then promoted (eq k) old else old)
           → last ≡ (if is_some result' then promoted (eq k) other else other) → AreAlike
-      get_alike k None result' same is is' e e' = told_by (λ sh. value None) (λ sh. sh) is (ap shape e)
+      get_alike k None result' same is is' e e' = replies_by (λ sh. value None) (λ sh. sh) is (ap shape e)
           (is' ∙ ap value (sym same))
           (ap shape (e' ∙ ap (λ r. if is_some r then promoted (eq k) other else other) (sym same)))
-      get_alike k (Some w) result' same is is' e e' = told_by (λ sh. value (Some w))
+      get_alike k (Some w) result' same is is' e e' = replies_by (λ sh. value (Some w))
           (λ sh. record sh { bare = record sh.bare { pairs = front (eq k) sh.bare.pairs } }) is (ap shape e)
           (is' ∙ ap value (sym same))
           (ap shape (e' ∙ ap (λ r. if is_some r then promoted (eq k) other else other) (sym same)))
@@ -227,72 +227,72 @@ module _ {K V S H : Type 0} (rules : Rules K V S) (offers : Offers K V S K) (eq 
           → HasPlainSearch (hash_of old.hasher) call → ReplyStep rules offers eq hash_of old call reply new
           → ReplyStep rules offers eq hash_of other call answer last → AreAlike
       step_alike wants (calls.Insert k v) plain h h' = insert_alike wants k v h h'
-      step_alike wants (calls.InsertWith k v) plain h h' = handed_alike wants k v h h'
+      step_alike wants (calls.InsertWith k v) plain h h' = passed_alike wants k v h h'
       step_alike wants (calls.GetOrInsert k v) plain (result, h, is) (result', h', is') =
           made_alike wants k v result result' h h' is is'
-      step_alike wants (calls.Update k v) plain (result, h, is) (result', h', is') = told_by
+      step_alike wants (calls.Update k v) plain (result, h, is) (result', h', is') = replies_by
           (λ sh. updated (updated_in_list rules offers eq k v (contents sh.bare)).0)
           (λ sh. with_left (updated_in_list rules offers eq k v (contents sh.bare)).1 sh)
           (is ∙ ap updated (update_is h).0) (update_shape old new small h)
           (is' ∙ ap updated (update_is h').0) (update_shape other last small_other h')
-      step_alike wants (calls.Get k) plain (is, e) (is', e') = told_by (λ sh. value (lookup (eq k) sh.bare.pairs))
+      step_alike wants (calls.Get k) plain (is, e) (is', e') = replies_by (λ sh. value (lookup (eq k) sh.bare.pairs))
           (λ sh. record sh { bare = record sh.bare { pairs = front (eq k) sh.bare.pairs } }) is (ap shape e) is'
           (ap shape e')
-      step_alike wants (calls.Peek k) plain (is, e) (is', e') = told_by (λ sh. value (lookup (eq k) sh.bare.pairs))
+      step_alike wants (calls.Peek k) plain (is, e) (is', e') = replies_by (λ sh. value (lookup (eq k) sh.bare.pairs))
           (λ sh. sh) is (ap shape e) is' (ap shape e')
       step_alike wants (calls.Contains k) plain (is, e) (is', e') =
-          told_by (λ sh. flag (is_some (lookup (eq k) sh.bare.pairs))) (λ sh. sh) is (ap shape e) is' (ap shape e')
+          replies_by (λ sh. flag (is_some (lookup (eq k) sh.bare.pairs))) (λ sh. sh) is (ap shape e) is' (ap shape e')
       step_alike wants (calls.Promote k) plain (is, e) (is', e') =
-          told_by (λ sh. flag (is_some (lookup (eq k) sh.bare.pairs)))
+          replies_by (λ sh. flag (is_some (lookup (eq k) sh.bare.pairs)))
           (λ sh. record sh { bare = record sh.bare { pairs = front (eq k) sh.bare.pairs } }) is (ap shape e) is'
           (ap shape e')
       step_alike wants (calls.Demote k) plain (is, e) (is', e') =
-          told_by (λ sh. flag (is_some (lookup (eq k) sh.bare.pairs)))
+          replies_by (λ sh. flag (is_some (lookup (eq k) sh.bare.pairs)))
           (λ sh. record sh { bare = record sh.bare { pairs = back (eq k) sh.bare.pairs } }) is (ap shape e) is'
           (ap shape e')
       step_alike wants (calls.GetByHash hash k) plain (result, h, is, e) (result', h', is', e') =
           get_alike k result result' (search_alike hash k result result' plain h h') is is' e e'
       step_alike wants (calls.PeekByHash hash k) plain (result, h, is, e) (result', h', is', e') =
-          told_by (λ sh. value result) (λ sh. sh) is (ap shape e)
+          replies_by (λ sh. value result) (λ sh. sh) is (ap shape e)
           (is' ∙ ap value (sym (search_alike hash k result result' plain h h'))) (ap shape e')
       step_alike wants (calls.Write k v) plain (is, e) (is', e') =
-          told_by (λ sh. flag (is_some (lookup (eq k) sh.bare.pairs)))
+          replies_by (λ sh. flag (is_some (lookup (eq k) sh.bare.pairs)))
           (λ sh. record sh { bare = record sh.bare { pairs = set_value (eq k) sh.bare.pairs v } }) is (ap shape e) is'
           (ap shape e')
-      step_alike wants (calls.Remove k) plain (result, h, is) (result', h', is') = told_by
+      step_alike wants (calls.Remove k) plain (result, h, is) (result', h', is') = replies_by
           (λ sh. value (option_map (λ p. p.1) (left_of rules sh.bare.limiter (lookup_entry (eq k) sh.bare.pairs))))
           (λ sh. with_left (removal rules (eq k) (contents sh.bare)) sh)
           (is ∙ ap value h.value) (left_shape old _ new small h.state)
           (is' ∙ ap value h'.value) (left_shape other _ last small_other h'.state)
-      step_alike wants (calls.RemoveEntry k) plain (result, h, is) (result', h', is') = told_by
+      step_alike wants (calls.RemoveEntry k) plain (result, h, is) (result', h', is') = replies_by
           (λ sh. pair (left_of rules sh.bare.limiter (lookup_entry (eq k) sh.bare.pairs)))
           (λ sh. with_left (removal rules (eq k) (contents sh.bare)) sh)
           (is ∙ ap pair h.pair) (left_shape old _ new small h.state)
           (is' ∙ ap pair h'.pair) (left_shape other _ last small_other h'.state)
-      step_alike wants calls.PopOldest plain (result, h, is) (result', h', is') = told_by
+      step_alike wants calls.PopOldest plain (result, h, is) (result', h', is') = replies_by
           (λ sh. pair (left_of rules sh.bare.limiter (last_of sh.bare.pairs)))
           (λ sh. with_left (pop rules (contents sh.bare)) sh)
           (is ∙ ap pair h.pair) (left_shape old _ new small h.state)
           (is' ∙ ap pair h'.pair) (left_shape other _ last small_other h'.state)
-      step_alike wants calls.PopNewest plain (result, h, is) (result', h', is') = told_by
+      step_alike wants calls.PopNewest plain (result, h, is) (result', h', is') = replies_by
           (λ sh. pair (left_of rules sh.bare.limiter (first sh.bare.pairs)))
           (λ sh. with_left (pop_first rules (contents sh.bare)) sh)
           (is ∙ ap pair h.pair) (left_shape old _ new small h.state)
           (is' ∙ ap pair h'.pair) (left_shape other _ last small_other h'.state)
-      step_alike wants calls.PeekOldest plain (is, e) (is', e') = told_by (λ sh. pair (last_of sh.bare.pairs))
+      step_alike wants calls.PeekOldest plain (is, e) (is', e') = replies_by (λ sh. pair (last_of sh.bare.pairs))
           (λ sh. sh) is (ap shape e) is' (ap shape e')
-      step_alike wants calls.PeekNewest plain (is, e) (is', e') = told_by (λ sh. pair (first sh.bare.pairs))
+      step_alike wants calls.PeekNewest plain (is, e) (is', e') = replies_by (λ sh. pair (first sh.bare.pairs))
           (λ sh. sh) is (ap shape e) is' (ap shape e')
       step_alike wants (calls.Reserve n) plain (result, h, is) (result', h', is') =
           reserve_alike wants n result result' h h' is is'
       step_alike wants calls.Shrink plain (result, h, is) (result', h', is') =
           shrink_alike wants result result' h h' is is'
-      step_alike wants calls.Trim plain (is, h) (is', h') = told_by (λ sh. done)
+      step_alike wants calls.Trim plain (is, h) (is', h') = replies_by (λ sh. done)
           (λ sh. with_left (trim rules (contents sh.bare)) sh) is (left_shape old _ new small h) is'
           (left_shape other _ last small_other h')
-      step_alike wants calls.Clear plain (is, e) (is', e') = told_by (λ sh. done) (clears rules) is
+      step_alike wants calls.Clear plain (is, e) (is', e') = replies_by (λ sh. done) (clears rules) is
           (ap shape e ∙ cleared_shape rules old) is' (ap shape e' ∙ cleared_shape rules other)
-      step_alike wants (calls.Drain front back) plain (pairs, h, is) (pairs', h', is') = told_by
+      step_alike wants (calls.Drain front back) plain (pairs, h, is) (pairs', h', is') = replies_by
           (λ sh. listed (newest_given rules front (contents sh.bare)
           ++ oldest_given rules back (pops_first rules front (contents sh.bare))))
           (λ sh. clears rules (with_left (pops rules back (pops_first rules front (contents sh.bare))) sh))
@@ -302,12 +302,12 @@ module _ {K V S H : Type 0} (rules : Rules K V S) (offers : Offers K V S K) (eq 
           (is' ∙ ap listed h'.pairs)
           (ap shape h'.state.2 ∙ cleared_shape rules h'.state.0
           ∙ ap (clears rules) (left_shape other _ h'.state.0 small_other h'.state.1))
-      step_alike wants calls.List plain (is, e) (is', e') = told_by (λ sh. listed sh.bare.pairs) (λ sh. sh) is
+      step_alike wants calls.List plain (is, e) (is', e') = replies_by (λ sh. listed sh.bare.pairs) (λ sh. sh) is
           (ap shape e) is' (ap shape e')
-      step_alike wants calls.Stats plain (figures, h, is, e) (figures', h', is', e') = told_by (λ sh. stats figures)
+      step_alike wants calls.Stats plain (figures, h, is, e) (figures', h', is', e') = replies_by (λ sh. stats figures)
           (λ sh. sh) is (ap shape e)
           (is' ∙ ap stats (sym (figures_alike old other figures figures' alike h h'))) (ap shape e')
-      step_alike wants (calls.SetLimiter s) plain (is, e) (is', e') = told_by (λ sh. done)
+      step_alike wants (calls.SetLimiter s) plain (is, e) (is', e') = replies_by (λ sh. done)
           (λ sh. record sh { bare = record sh.bare { limiter = s } }) is (ap shape e) is' (ap shape e')
 
     -- a call that stores pairs and finds memory for them returns more than a lack of memory
@@ -335,7 +335,7 @@ module _ {K V S H : Type 0} (rules : Rules K V S) (offers : Offers K V S K) (eq 
         ∙ stored_tells other last call answer stores t in
         absurd (true≢false both)
     call_alike old other new last alike small after too reply answer wants call plain (inr h) (inr k) =
-        told_by old other new last alike small after too reply answer (λ sh. no_memory) (λ sh. sh)
+        replies_by old other new last alike small after too reply answer (λ sh. no_memory) (λ sh. sh)
         h.1 (ap shape h.2) k.1 (ap shape k.2)
 
     pub summing_alike : (cost : K → V → ℕ) (account : S → ℕ) (old other new last : State K V S H) → LookAlike old other
@@ -351,7 +351,7 @@ module _ {K V S H : Type 0} (rules : Rules K V S) (offers : Offers K V S K) (eq 
     summing_alike cost account old other new last alike small after too reply answer wants call plain (inr s) (inl t) =
         absurd (s.0 (subst (λ c. KeepsCost eq cost account c call) (ap contents alike.state) t.0))
     summing_alike cost account old other new last alike small after too reply answer wants call plain (inr s) (inr t) =
-        told_by old other new last alike small after too reply answer (λ sh. cost_differs) (λ sh. sh)
+        replies_by old other new last alike small after too reply answer (λ sh. cost_differs) (λ sh. sh)
         s.1 (ap shape s.2) t.1 (ap shape t.2)
 
 -- Where two steps of the same call are alike, so are two runs of the same calls.

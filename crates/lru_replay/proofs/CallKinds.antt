@@ -2,7 +2,7 @@
 use Rattle.std.proofs.Common.{◌≡◌, ℕ, Bool, Some, None, option_map, refl, subst, inl, inr, ◌⊎◌}
 use Rattle.lru_limits.specs.Rules.{Rules, Offers}
 use Rattle.lru_model.proofs.CallerLemmas.{value_removed}
-use Rattle.lru_model.proofs.HandingLemmas.{plain_insert}
+use Rattle.lru_model.proofs.PassingLemmas.{plain_insert}
 use Rattle.lru_model.specs.Calls.{written}
 use Rattle.lru_model.specs.Runs.{Step, inserts, makes_newest, updates, gets, demotes, removes, pops_oldest}
 use Rattle.lru_model.specs.Runs.{pops_newest, drains, clears, reserves, shrinks, trims, NamesOnly, AnyStep}

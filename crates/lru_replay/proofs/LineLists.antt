@@ -64,7 +64,7 @@ takes_line_before a b c first lines part (lacks, p) (lack, none, q) = (
       (Consumes-trans a b c (fed first) (flat_map fed lines ++ part) p q),
 )
 
--- the lines of the input are those that were read, and those of what is left
+-- the lines of the input are the lines that were read, and the lines of what is left
 pub lines_left : (x y : List ℕ) (lines : List (List ℕ)) (part : List ℕ) → TakesLines (Some x) (Some y) lines part
     → lines_of x ≡ lines ++ lines_of (part ++ y)
 lines_left x y lines part (lack, none, p) = ap lines_of (p ∙ append_assoc (flat_map fed lines) part y)

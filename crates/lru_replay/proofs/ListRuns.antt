@@ -5,7 +5,7 @@ use Rattle.std.specs.List.{IsDistinct}
 use Rattle.std.specs.declared.alloc.AllocError.{AllocError}
 use Rattle.lru_limits.specs.Rules.{Rules, Offers}
 use Rattle.lru_model.proofs.CallerLemmas.{any_step_same, has_tables, shrink_contents}
-use Rattle.lru_model.proofs.HandingLemmas.{insert_granted}
+use Rattle.lru_model.proofs.PassingLemmas.{insert_granted}
 use Rattle.lru_model.specs.Exact.{AlwaysGrants, HasTables, HasTableFor, InsertsInList}
 use Rattle.lru_model.specs.GetOrInserts.{MakesNewest, got, inserted}
 use Rattle.lru_model.specs.Callbacks.{noting, noting_offers, noted, InsertPasses}
@@ -26,7 +26,7 @@ use Rattle.lru_replay.specs.Steps.{ReplyStep}
 use Rattle.lru_replay.specs.declared.calls.call.Call.{Call}
 use Rattle.lru_replay.specs.declared.calls.call.Call.TheVariants as calls
 
--- a value that is found is that of the pair that comes to the front
+-- a value that is found is the value of the pair that comes to the front
 newest_found : {K V : Type 0} (names : K → Bool) (others xs : List (K × V)) (w : V) → lookup names xs ≡ Some w
     → newest_value (after (lookup_entry names xs) others) ≡ Some w
 newest_found names others [] w found = absurd (grind (arith, found))
@@ -77,11 +77,11 @@ module _ {K V S H : Type 0} (rules : Rules K V S) (offers : Offers K V S K) (eq 
     noting_grants s bytes = ((grants s.0 bytes).0, ap (λ t. (t, s.1)) (grants s.0 bytes).1)
 
     module _ (old new : State K V S H) (tables : HasTables old) where
-      handed_in_list : (key : K) (v : V) (result : Result Bool AllocError) (out : List (K × V))
+      passed_in_list : (key : K) (v : V) (result : Result Bool AllocError) (out : List (K × V))
           → InsertPasses rules offers eq hash_of key v old result out new
           → InsertsInList (noting rules) (noting_offers offers) eq key v (beside [] (contents old)) result
           (beside out (contents new))
-      handed_in_list key v result out step = insert_granted (noting rules) (noting_offers offers) eq key v
+      passed_in_list key v result out step = insert_granted (noting rules) (noting_offers offers) eq key v
           (noted [] old) (noted out new) result noting_grants tables step
 
       made_in_list : (key : K) (v : V) (result : Result Bool AllocError) (reply : Reply K V)
@@ -103,7 +103,7 @@ module _ {K V S H : Type 0} (rules : Rules K V S) (offers : Offers K V S K) (eq 
       in_list : (call : Call K V S) (reply : Reply K V) → ReplyStep rules offers eq hash_of old call reply new
           → ListStep rules offers eq (hash_of old.hasher) (contents old) call reply (contents new)
       in_list (calls.Insert k v) reply (result, h, is) = (result, law k v old result new grants tables h, is)
-      in_list (calls.InsertWith k v) reply (result, out, h, is) = (result, out, handed_in_list k v result out h, is)
+      in_list (calls.InsertWith k v) reply (result, out, h, is) = (result, out, passed_in_list k v result out h, is)
       in_list (calls.GetOrInsert k v) reply (result, h, is) = made_in_list k v result reply h is
       in_list (calls.Update k v) reply (result, h, is) =
           let (r, left) = update_is h in both (is ∙ ap says_updated r) left
@@ -165,7 +165,7 @@ module _ {K V S H : Type 0} {rules : Rules K V S} {offers : Offers K V S K} {eq 
     )
     run_in_list hasher old calls replies new built tables none = absurd none
 
-  -- Where links and bytes reach a table for many more pairs than there are and calls, they reach those of each state.
+  -- If links and bytes reach a table for the pairs and one more for each call, they reach the table of each state.
   module _ (adds : (old new : State K V S H) → AnyStep rules offers eq hash_of old new
       → length new.pairs ≤ length old.pairs + 1) where
     table_stays : (n m : ℕ) (old new : State K V S H) → m ≤ n → new.max ≡ old.max → new.entry_bytes ≡ old.entry_bytes

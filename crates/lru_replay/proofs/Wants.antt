@@ -6,7 +6,7 @@ use Rattle.lru_model.proofs.CallerLemmas.{is_memory}
 use Rattle.lru_model.specs.declared.results.ReserveError.{ReserveError}
 use Rattle.lru_model.specs.declared.results.ReserveError.TheVariants.{TooLarge, Refused, Memory}
 use Rattle.lru_replay.specs.Replies.{Reply, given, reserved, shrunk, insert_reply, made_reply}
-use Rattle.lru_replay.specs.Replies.{Want, found_all, lacks, lacks_beside, want_of}
+use Rattle.lru_replay.specs.Replies.{Want, found_all, runs_out, runs_out_with_pairs, want_of}
 
 pub head_same : {x y : Want} {xs ys : List Want} → x ∷ xs ≡ y ∷ ys → x ≡ y
 head_same e = cc
@@ -17,14 +17,14 @@ tail_same e = cc
 -- whether not all memory was found
 abbrev pub is_short : Want → Bool
 is_short found_all = false
-is_short lacks = true
-is_short lacks_beside = true
+is_short runs_out = true
+is_short runs_out_with_pairs = true
 
 -- whether the answer says nothing else
 abbrev pub is_alone : Want → Bool
 is_alone found_all = false
-is_alone lacks = true
-is_alone lacks_beside = false
+is_alone runs_out = true
+is_alone runs_out_with_pairs = false
 
 abbrev pub wants_memory : {K V : Type 0} → Reply K V → Bool
 wants_memory reply = is_short (want_of reply)

@@ -35,7 +35,7 @@ failed a b c t u v all e p (same, begun) whole =
 pub failed_front : (a b : Option (List ℕ)) (t u : List ℕ) (e : ReplayError) → Fails e a b t → Fails e a b (t ++ u)
 failed_front a b t u e (same, begun) = (same, begins_front a b t u begun)
 
--- the text of an insert is that of its reply
+-- the text of an insert is the text of its reply
 pub inserted_text : (cost : Option ℕ) (result : Result Bool AllocError)
     → insert_text result ≡ reply_text cost (insert_reply result)
 inserted_text cost (Ok there) = refl

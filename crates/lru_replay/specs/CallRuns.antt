@@ -35,7 +35,7 @@ module _ {K V S : Type 0} where
   StepIfMemory IsStep old call reply new = IsStep old call reply new
       ⊎ (StoresPairs call × (reply ≡ no_memory) × (new ≡ old))
 
-  -- a search by a hash is by that of its key, or by one of another tag
+  -- a search by a hash is by the hash of its key, or by a hash of another tag
   abbrev pub HasPlainSearch : (K → ℕ) → Call K V S → Type 0
   HasPlainSearch hash_of (calls.GetByHash hash key) = hash_tag (hash_of key) ≡ hash_tag hash → hash_of key ≡ hash
   HasPlainSearch hash_of (calls.PeekByHash hash key) = hash_tag (hash_of key) ≡ hash_tag hash → hash_of key ≡ hash

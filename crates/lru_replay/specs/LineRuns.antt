@@ -28,7 +28,7 @@ module _ {S : Type 0} (rules : Rules ℕ ℕ S) (offers : Offers ℕ ℕ S ℕ) 
       ⊎ (StoresFirst command × (reply ≡ no_memory) × (new ≡ old))
 
 module _ {S : Type 0} (rules : Rules ℕ ℕ S) (offers : Offers ℕ ℕ S ℕ) (reported : S → Option ℕ) where
-  -- the command is carried out, and the text is that of the reply
+  -- the command is carried out, and the text is the text of the reply
   abbrev pub CommandStep : Map S → Command → List ℕ → Map S → Type 0
   CommandStep old command text new = (reply : Reply ℕ ℕ)
       × AnswersCommand rules offers old command reply new
@@ -45,8 +45,8 @@ module _ {S : Type 0} (rules : Rules ℕ ℕ S) (offers : Offers ℕ ℕ S ℕ) 
   AnswersLine before line after old new result =
       (text : List ℕ) × LineStep before line text after × Writes old new result (fed text)
 
-  -- A run over the lines, in which each line leaves a map whose table is sound. The text is that of each line with a
-  -- line feed, one after another.
+  -- A run over the lines, in which each line leaves a map whose table is sound. The text contains what each line
+  -- writes, with a line feed, one after another.
   abbrev pub IsLineRun : Map S → List (List ℕ) → List ℕ → Map S → Type 0
   IsLineRun old lines text new =
       (texts : List (List ℕ)) × IsRun LineStep IsSized old lines texts new × (text ≡ flat_map fed texts)

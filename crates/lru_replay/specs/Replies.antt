@@ -39,17 +39,17 @@ pub data Want : Type 0 where
   -- that all was found
   found_all : Want
   -- that some was not, and no more
-  lacks : Want
+  runs_out : Want
   -- that memory ran out, and the pairs that were passed to the callback
-  lacks_beside : Want
+  runs_out_with_pairs : Want
 
 module _ {K V : Type 0} where
   -- what it says of memory
   abbrev pub want_of : Reply K V → Want
-  want_of no_memory = lacks
-  want_of (reserved (Err Memory)) = lacks
-  want_of (shrunk (Err e)) = lacks
-  want_of (given (Err e) out) = lacks_beside
+  want_of no_memory = runs_out
+  want_of (reserved (Err Memory)) = runs_out
+  want_of (shrunk (Err e)) = runs_out
+  want_of (given (Err e) out) = runs_out_with_pairs
   want_of reply = found_all
 
   -- what an answer says

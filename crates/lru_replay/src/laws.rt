@@ -2,7 +2,7 @@
 //! nothing: their contracts are the theorems.
 ghost use Rattle.std.specs.Prelude.{◌≡◌, ℕ, ◌≤◌, ◌+◌, ◌*◌, Bool, length, List, map, nat_eq, Option};
 ghost use Rattle.std.specs.List.{AllByRecursion, IsDistinct};
-ghost use Rattle.lru_model.specs.Exact.{AlwaysGrants, HasTables, HasTableFor, IsDetermined, NeverLacks, LookAlike};
+ghost use Rattle.lru_model.specs.Exact.{AlwaysGrants, HasTables, HasTableFor, IsDetermined, NeverRunsOut, LookAlike};
 ghost use Rattle.lru_model.specs.Lists.{keys_of, IsFront};
 ghost use Rattle.lru_model.specs.State.{State, contents, buckets, IsSized, IsMap};
 ghost use Rattle.lru_model.specs.Theorems.{PaysForMoves, UsesAtMost, IsSummed, others};
@@ -33,7 +33,7 @@ pub fn calls_pay_for_moves<K: Eq + Hash, V, L: Insertion<K, V, K>, S: KeyHasher<
 /// A list of calls evicts from the old end alone: of the pairs whose keys none of the calls names, those that are left
 /// are the newest, in their order, unless one of the calls is `PopNewest`. So does a list under a limiter with a
 /// running total.
-pub fn calls_give_up_the_oldest<K: Eq + Hash, V, L: Insertion<K, V, K>, S: KeyHasher<K>>()
+pub fn calls_evict_the_oldest<K: Eq + Hash, V, L: Insertion<K, V, K>, S: KeyHasher<K>>()
     ensures oldest { (test : K → Bool) (old new : State K V L S) (calls : List (Call K V L))
         (replies : List (Reply K V)) →
         IsRun (CallStep L.rules L.offers K.eq S.hash_of) (IsMap K.eq) old calls replies new →
@@ -43,7 +43,7 @@ pub fn calls_give_up_the_oldest<K: Eq + Hash, V, L: Insertion<K, V, K>, S: KeyHa
         IsRun (SummingStep L.rules L.offers K.eq S.hash_of cost account) (IsMap K.eq) old calls replies new →
         AllByRecursion (NamesAmong K.eq test) calls → IsFront (others test new.pairs) (others test old.pairs) }
 {
-    laws::runs_give_up_the_oldest::<K, V, K, L, S>();
+    laws::runs_evict_the_oldest::<K, V, K, L, S>();
 }
 
 /// With `ByLength` there are at most `max_length` pairs after each of the calls, if there were no more before, and none
@@ -137,7 +137,7 @@ pub fn granted_summing_is_exact<K: Eq + Hash, V, L: Summing<K, V, K>, S: KeyHash
 pub fn small_calls_are_alike<K: Eq + Hash, V, L: Insertion<K, V, K>, S: KeyHasher<K>>()
     ensures alike { (old other new last : State K V L S) (calls : List (Call K V L))
         (replies answers : List (Reply K V)) →
-        IsDetermined L.offers → NeverLacks L.offers → LookAlike old other → buckets old ≤ 16 →
+        IsDetermined L.offers → NeverRunsOut L.offers → LookAlike old other → buckets old ≤ 16 →
         AllByRecursion (HasPlainSearch (S.hash_of old.hasher)) calls →
         IsRun (CallStep L.rules L.offers K.eq S.hash_of) (λ st. buckets st ≤ 16) old calls replies new →
         IsRun (CallStep L.rules L.offers K.eq S.hash_of) (λ st. buckets st ≤ 16) other calls answers last →
@@ -169,7 +169,7 @@ pub fn small_budgets_are_alike<K: Eq + Hash + Drop, V: Drop, S: KeyHasher<K>>()
 pub fn small_summing_is_alike<K: Eq + Hash, V, L: Summing<K, V, K>, S: KeyHasher<K>>()
     ensures alike { (old other new last : State K V L S) (calls : List (Call K V L))
         (replies answers : List (Reply K V)) →
-        IsDetermined L.offers → NeverLacks L.offers → LookAlike old other → buckets old ≤ 16 →
+        IsDetermined L.offers → NeverRunsOut L.offers → LookAlike old other → buckets old ≤ 16 →
         AllByRecursion (HasPlainSearch (S.hash_of old.hasher)) calls →
         IsRun (SummingStep L.rules L.offers K.eq S.hash_of
         L.cost_of L.account) (λ st. buckets st ≤ 16) old calls replies new →

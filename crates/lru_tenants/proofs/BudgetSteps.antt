@@ -27,9 +27,9 @@ use Rattle.lru_model.proofs.Theorems.Sums.{split_last}
 module _ {K V S : Type 0} {rules : Rules K V S} {offers : Offers K V S K} {account budget : S → ℕ}
     {accepts : S → K → V → Bool} {made : ℕ → S} {rebudgeted : ℕ → S → S}
     (laws : IsBudgeted rules offers account budget accepts made rebudgeted) where
-  told_budget : (pair : Option (K × V)) (s : S) → budget (notified_of rules pair s) ≡ budget s
-  told_budget None s = refl
-  told_budget (Some pair) s = laws.removed s pair.0 pair.1
+  notified_budget : (pair : Option (K × V)) (s : S) → budget (notified_of rules pair s) ≡ budget s
+  notified_budget None s = refl
+  notified_budget (Some pair) s = laws.removed s pair.0 pair.1
 
   -- no call sets the budget
   pub keeps_budget : {names : K → K → Bool} → KeepsOffers rules offers names
@@ -40,9 +40,9 @@ module _ {K V S : Type 0} {rules : Rules K V S} {offers : Offers K V S K} {accou
         self = λ c. refl;
         trans = λ p q. q ∙ p;
         asked = λ bytes c. laws.grown c.limiter bytes;
-        popped = λ c. told_budget (last c.pairs) c.limiter;
+        popped = λ c. notified_budget (last c.pairs) c.limiter;
       };
-      left = λ test c. told_budget (lookup_entry test c.pairs) c.limiter;
+      left = λ test c. notified_budget (lookup_entry test c.pairs) c.limiter;
       dropped = λ newer older pair s. laws.removed s pair.0 pair.1;
       first = λ test c. refl;
       last = λ test c. refl;

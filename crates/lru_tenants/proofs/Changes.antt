@@ -26,7 +26,7 @@ module _ {N K V L S : Type 0} where
       record { tenants = tenants.entries; hasher = hasher; entry_bytes = entry_bytes; total_limit = limit }
 
   module _ {eq : N → N → Bool} (laws : IsEquivalence eq) where
-    -- equal names are those of one tenant
+    -- equal names name one tenant
     pub same-tenant : (name other : N) → eq name other ≡ true → (cache : Cache N K V L S)
         → tenant (eq name) cache ≡ tenant (eq other) cache
     same-tenant name other e cache = ap (λ named. tenant named cache) (λ i n. laws.congr name other n e i)

@@ -73,28 +73,28 @@ module _ {K V L S : Type 0} where
   -- what is passed to the callback of a tenant that is open; of any other nothing is
   abbrev pub PassesOn : (State K V L S → List (K × V) → Option (State K V L S) → Type 0) → Option (State K V L S)
       → List (K × V) → Option (State K V L S) → Type 0
-  PassesOn does None handed new = (handed ≡ []) × (new ≡ None)
-  PassesOn does (Some map) handed new = does map handed new
+  PassesOn does None passed new = (passed ≡ []) × (new ≡ None)
+  PassesOn does (Some map) passed new = does map passed new
 
   -- its pair becomes the newest
   abbrev pub Gets : (K → Bool) → Option (State K V L S) → Result (Option V) TenantError → Option (State K V L S) →
       Type 0
   Gets names old answer new = (answer ≡ got names old) × (new ≡ option_map (promoted names) old)
 
-  -- the cost is that of its limiter
+  -- the cost is the cost of its limiter
   abbrev pub Costs : (L → ℕ) → Option (State K V L S) → Result ℕ TenantError → Option (State K V L S) → Type 0
   Costs account None answer new = (answer ≡ Err NotOpen) × (new ≡ None)
   Costs account (Some map) answer new = (answer ≡ Ok (account map.limiter)) × (new ≡ Some map)
 
   -- its limiter gets a budget, if the total limit lets it, and what is over it is passed on
-  abbrev pub BudgetHands : Rules K V L → (L → L) → Bool → State K V L S → List (K × V) → Option (State K V L S) → Type 0
-  BudgetHands rules rebudgeted true old handed new = (handed ≡ []) × (new ≡ Some old)
-  BudgetHands rules rebudgeted false old handed new = (left : State K V L S)
-      × TrimPasses rules (with_limiter (rebudgeted old.limiter) old) handed left × (new ≡ Some left)
+  abbrev pub BudgetPasses : Rules K V L → (L → L) → Bool → State K V L S → List (K × V) → Option (State K V L S) → Type 0
+  BudgetPasses rules rebudgeted true old passed new = (passed ≡ []) × (new ≡ Some old)
+  BudgetPasses rules rebudgeted false old passed new = (left : State K V L S)
+      × TrimPasses rules (with_limiter (rebudgeted old.limiter) old) passed left × (new ≡ Some left)
 
   -- it closes, and passes on its pairs, oldest first
-  abbrev pub CloseHands : State K V L S → List (K × V) → Option (State K V L S) → Type 0
-  CloseHands old handed new = (handed ≡ reverse old.pairs) × (new ≡ None)
+  abbrev pub ClosePasses : State K V L S → List (K × V) → Option (State K V L S) → Type 0
+  ClosePasses old passed new = (passed ≡ reverse old.pairs) × (new ≡ None)
 
   -- one that is open closes, and n pairs are dropped
   abbrev pub Closes : Option (State K V L S) → Result ℕ TenantError → Option (State K V L S) → Type 0
@@ -111,10 +111,10 @@ module _ {K V L S : Type 0} where
       pub said : answer ≡ put_answer result
 
     -- and passes on what leaves
-    pub record PutHands (old : State K V L S) (handed : List (K × V)) (new : Option (State K V L S)) : Type 0 where
+    pub record PutPasses (old : State K V L S) (passed : List (K × V)) (new : Option (State K V L S)) : Type 0 where
       pub left : State K V L S
       pub result : Result Bool AllocError
-      pub inserts : InsertPasses rules offers eq hash_of key value old result handed left
+      pub inserts : InsertPasses rules offers eq hash_of key value old result passed left
       pub is : new ≡ Some left
 
     abbrev pub Puts : Option (State K V L S) → Result Bool TenantError → Option (State K V L S) → Type 0

@@ -29,8 +29,8 @@ pub(crate) fn insert<
     requires callable { F.IsAlwaysCallable sink.old }
     ensures inserts { Insert L.rules L.offers K.eq S.hash_of key value
         map.old result map.new }
-    ensures handed { (handed : List (K × V)) × CalledWith F.FnMut sink.old handed sink.new
-        × InsertPasses L.rules L.offers K.eq S.hash_of key value map.old result handed
+    ensures passed { (passed : List (K × V)) × CalledWith F.FnMut sink.old passed sink.new
+        × InsertPasses L.rules L.offers K.eq S.hash_of key value map.old result passed
         map.new }
     ensures callable { F.IsAlwaysCallable sink.new }
     ensures budget { L.budget_of map.new.limiter ≡ L.budget_of map.old.limiter }
@@ -56,8 +56,8 @@ pub(crate) fn insert_full<
         ≡ comes_back L.accepts_new K.eq key value L.rules L.offers map.old) }
     ensures rejects { rejects L.accepts_new K.eq key value map.old ≡ true →
         (result ≡ Ok (record { kept = false; unkept = Some value })) × (map.new ≡ map.old) }
-    ensures handed { (handed : List (K × V)) × CalledWith F.FnMut sink.old handed sink.new
-        × InsertPasses L.rules L.offers K.eq S.hash_of key value map.old (kept_of result) handed map.new }
+    ensures passed { (passed : List (K × V)) × CalledWith F.FnMut sink.old passed sink.new
+        × InsertPasses L.rules L.offers K.eq S.hash_of key value map.old (kept_of result) passed map.new }
     ensures callable { F.IsAlwaysCallable sink.new }
     ensures budget { L.budget_of map.new.limiter ≡ L.budget_of map.old.limiter }
     ensures tenant { IsTenant K.eq L.cost_of L.account L.budget_of map.new }
@@ -164,8 +164,8 @@ pub(crate) fn set_budget<
     requires tenant { IsTenant K.eq L.cost_of L.account L.budget_of map.old }
     requires callable { F.IsAlwaysCallable sink.old }
     ensures trims { Trims L.rules (with_limiter (L.rebudgeted budget map.old.limiter) map.old) map.new }
-    ensures handed { (handed : List (K × V)) × CalledWith F.FnMut sink.old handed sink.new
-        × TrimPasses L.rules (with_limiter (L.rebudgeted budget map.old.limiter) map.old) handed map.new }
+    ensures passed { (passed : List (K × V)) × CalledWith F.FnMut sink.old passed sink.new
+        × TrimPasses L.rules (with_limiter (L.rebudgeted budget map.old.limiter) map.old) passed map.new }
     ensures callable { F.IsAlwaysCallable sink.new }
     ensures budget { L.budget_of map.new.limiter ≡ budget }
     ensures tenant { IsTenant K.eq L.cost_of L.account L.budget_of map.new }
@@ -183,7 +183,7 @@ pub(crate) fn empty<K: Eq + Hash, V, L: Budgeted<K, V>, S: KeyHasher<K>, F: FnMu
 ) -> usize
     requires callable { F.IsAlwaysCallable sink.old }
     ensures count { result ≡ length map.old.pairs }
-    ensures handed { CalledWith F.FnMut sink.old (reverse map.old.pairs) sink.new }
+    ensures passed { CalledWith F.FnMut sink.old (reverse map.old.pairs) sink.new }
     ensures callable { F.IsAlwaysCallable sink.new }
 {
     let count = map.len();

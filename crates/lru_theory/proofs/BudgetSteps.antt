@@ -8,7 +8,7 @@ use Rattle.std.specs.Set.{remove_key}
 use Rattle.std.specs.declared.alloc.AllocError.{AllocError}
 use Rattle.std.proofs.lemmas.Bool.{lt-ltb, le-ltb, le-leb, cases_lt}
 use Rattle.lru_limits.specs.Budget.{Budget, by_cost, charges, can_add}
-use Rattle.lru_limits.specs.Stores.{HandsOver}
+use Rattle.lru_limits.specs.Stores.{ReturnsPairIf}
 use Rattle.lru_model.proofs.CallerLemmas.{found_named}
 use Rattle.lru_model.specs.Exact.{InsertsInList, ends, not_offered, not_placed, EndsBy, ending_there, ending_new, lands}
 use Rattle.lru_model.specs.Inserts.{make_room}
@@ -28,11 +28,11 @@ use Rattle.lru_theory.proofs.BudgetLists.{key_cost, pair_of, spending, holding, 
 use Rattle.lru_theory.proofs.BudgetLists.{without_is}
 use Rattle.lru_theory.proofs.BudgetLists.{none_removed, spent_without, fewer}
 use Rattle.lru_theory.proofs.ReferenceRuns.{reversed, head_of, tail_of}
-use Rattle.lru_theory.proofs.ReferenceSteps.{clash, some_same, nothing, lacking, value_there}
+use Rattle.lru_theory.proofs.ReferenceSteps.{clash, some_same, nothing, ran_out, value_there}
 
 -- an offer that is accepted
 accepted : {K V S : Type 0} (accepts : Bool) (s more : S) (key : K) (v : V) (t : S) (given : Option (K × V))
-    → accepts ≡ true → HandsOver accepts (cond accepts more s) key v t given → (t ≡ more) × (given ≡ Some (key, v))
+    → accepts ≡ true → ReturnsPairIf accepts (cond accepts more s) key v t given → (t ≡ more) × (given ≡ Some (key, v))
 accepted true s more key v t given e h = (h.limiter, h.pair)
 accepted false s more key v t given e h = absurd cc
 
@@ -129,7 +129,7 @@ module _ {K V : Type 0} (cost : V → ℕ) (value_of : K → V) (n : ℕ) (fits 
   insert_holds : (key : K) (keys : List K) (flag : Bool) (new : Left) → costs key ≤ n → spent costs keys ≤ n
       → InsertsInList (by_cost cost) (charges cost) eq key (value_of key) (held keys) (Ok flag) new
       → new ≡ held (left_by key keys)
-  insert_holds key keys flag new cheap few (not_offered none lacks err same) = absurd lacks
+  insert_holds key keys flag new cheap few (not_offered none runs_out err same) = absurd runs_out
   insert_holds key keys flag new cheap few (not_placed none s pair gives err same) = clash err
   insert_holds key keys flag new cheap few (ends h) =
       go (lookup_entry (eq key) (map pair keys)) refl h
@@ -178,7 +178,7 @@ module _ {K V : Type 0} (cost : V → ℕ) (value_of : K → V) (n : ℕ) (fits 
         (subst (λ p. InsertsInList (by_cost cost) (charges cost) eq p.0 p.1 (held keys) (Ok flag) new)
         (some_same (at, v) (pair key) e) h)
     call_holds (calls.Insert at v) key keys reply new (inl (Err x, h, is)) e found cheap few =
-        absurd (lacking (sym (ap want_of is) ∙ found))
+        absurd (ran_out (sym (ap want_of is) ∙ found))
     call_holds (calls.Insert at v) key keys reply new (inr (none, is, same)) e found cheap few = absurd none
     call_holds (calls.GetOrInsert at v) key keys reply new (inr (none, is, same)) e found cheap few = absurd none
     call_holds (calls.GetOrInsert at v) key keys reply new (inl h) e found cheap few =
@@ -193,7 +193,7 @@ module _ {K V : Type 0} (cost : V → ℕ) (value_of : K → V) (n : ℕ) (fits 
             (λ there. (reply ≡ value (Some there)) × (new ≡ fronted eq key (held keys)))
             → new ≡ held (left_by key keys)
         made None none (Ok flag, h, is) = insert_holds key keys flag new cheap few h
-        made None none (Err x, h, is) = absurd (lacking (sym (ap want_of is) ∙ found))
+        made None none (Err x, h, is) = absurd (ran_out (sym (ap want_of is) ∙ found))
         made (Some w) there (is, same) =
             let p = value_there (eq key) (map pair keys) w there in
             same ∙ fronted_holds key keys p.0 few p.1

@@ -6,7 +6,7 @@ use Rattle.std.specs.Set.{remove_key}
 use Rattle.std.proofs.lemmas.Map.{keys-set_value}
 use Rattle.lru_limits.specs.Limiters.{length_rules, length_offers}
 use Rattle.lru_model.proofs.CallerLemmas.{found_named, shrink_contents}
-use Rattle.lru_model.proofs.HandingLemmas.{plain_insert}
+use Rattle.lru_model.proofs.PassingLemmas.{plain_insert}
 use Rattle.lru_model.specs.Calls.{written}
 use Rattle.lru_model.specs.Kept.{KeepsToLength}
 use Rattle.lru_model.specs.Lists.{keys_of, lookup_entry, without, after, front}
@@ -20,12 +20,12 @@ use Rattle.recency.specs.Recency.{IsExact, is_in}
 use Rattle.lru_replay.specs.declared.calls.call.Call.{Call}
 use Rattle.lru_replay.specs.declared.calls.call.Call.TheVariants as calls
 use Rattle.lru_replay.specs.CallRuns.{IsRun, CallStep}
-use Rattle.lru_replay.specs.Replies.{Reply, want_of, found_all, lacks_beside}
+use Rattle.lru_replay.specs.Replies.{Reply, want_of, found_all, runs_out_with_pairs}
 use Rattle.lru_theory.specs.KeyCalls.{key_call, CallsOn}
 use Rattle.lru_theory.specs.References.{FoundMemory}
 use Rattle.lru_theory.proofs.ReferenceRuns.{head_of, tail_of}
 use Rattle.lru_theory.proofs.ReferenceSteps.{Known, Refers, call_refers, insert_refers, keys_without, there, absent}
-use Rattle.lru_theory.proofs.ReferenceSteps.{lacking}
+use Rattle.lru_theory.proofs.ReferenceSteps.{ran_out}
 
 call_same : {K : Type 0} (x y : KeyCall K) → Some x ≡ Some y → x ≡ y
 call_same x y e = ap (λ o. unwrap_or o x) e
@@ -33,8 +33,8 @@ call_same x y e = ap (λ o. unwrap_or o x) e
 no_call : {K : Type 0} {x : KeyCall K} → None ≡ Some x → ⊥
 no_call e = cc
 
-lacking_beside : lacks_beside ≡ found_all → ⊥
-lacking_beside e = cc
+ran_out_with_pairs : runs_out_with_pairs ≡ found_all → ⊥
+ran_out_with_pairs e = cc
 
 -- What a call leaves of the keys and of the length.
 pub record Keeps {K V H : Type 0} (eq : K → K → Bool) (call : KeyCall K) (old new : State K V ℕ H) : Type 0 where
@@ -70,9 +70,9 @@ module _ {K V H : Type 0} (old new : State K V ℕ H) where
   reserve_pairs : (n : ℕ) (result : Result (Unit {0}) ReserveError) → Reserve length_rules n old result new
       → new.pairs ≡ old.pairs
   reserve_pairs n result (unchanged why e) = ap (λ st. st.pairs) e
-  reserve_pairs n result (rehashed lacks t r m) = ap (λ st. st.pairs) m.state
-  reserve_pairs n result (reserved lacks count bytes t g r m) = ap (λ st. st.pairs) m.state
-  reserve_pairs n result (asked_only lacks count bytes t f e) = ap (λ st. st.pairs) e
+  reserve_pairs n result (rehashed needs_growth t r m) = ap (λ st. st.pairs) m.state
+  reserve_pairs n result (reserved needs_growth count bytes t g r m) = ap (λ st. st.pairs) m.state
+  reserve_pairs n result (asked_only needs_growth count bytes t f e) = ap (λ st. st.pairs) e
 
 module _ {K V H : Type 0} {eq : K → K → Bool} {hash_of : H → K → ℕ} (exact : IsExact eq)
     (known : Known V eq hash_of)
@@ -113,9 +113,9 @@ module _ {K V H : Type 0} {eq : K → K → Bool} {hash_of : H → K → ℕ} (e
       (from_refers key old new (insert_refers exact known key v old flag new keeps sized
       (inserts key v (Ok flag) (plain_insert h)) (plain_insert h)))
   call_keeps (calls.InsertWith key v) on old reply new (inl (Err x, out, h, is)) e found keeps sized =
-      absurd (lacking_beside (sym (ap want_of is) ∙ found))
+      absurd (ran_out_with_pairs (sym (ap want_of is) ∙ found))
   call_keeps (calls.InsertWith key v) on old reply new (inr (stores, is, same)) e found keeps sized =
-      absurd (lacking (sym (ap want_of is) ∙ found))
+      absurd (ran_out (sym (ap want_of is) ∙ found))
   call_keeps (calls.Get key) on old reply new (inl (is, same)) e found keeps sized =
       subst (λ c. Keeps eq c old new) (call_same (promotes key) on e)
       (steps (promotes key) old new keeps sized (gets (eq key) same)

@@ -23,7 +23,7 @@ use Rattle.lru_model.specs.Runs.{Step, inserts, makes_newest}
 use Rattle.lru_model.specs.State.{State, IsSized}
 use Rattle.recency.specs.Recency.{IsExact, is_in}
 use Rattle.lru_replay.specs.CallRuns.{CallStep}
-use Rattle.lru_replay.specs.Replies.{Reply, want_of, found_all, lacks}
+use Rattle.lru_replay.specs.Replies.{Reply, want_of, found_all, runs_out}
 use Rattle.lru_replay.specs.declared.calls.call.Call.{Call}
 use Rattle.lru_replay.specs.declared.calls.call.Call.TheVariants as calls
 use Rattle.lru_theory.specs.References.{referenced}
@@ -163,8 +163,8 @@ some_same x y e = ap (λ o. unwrap_or o x) e
 pub nothing : {A : Type 0} {x : A} → None ≡ Some x → ⊥
 nothing e = cc
 
-pub lacking : lacks ≡ found_all → ⊥
-lacking e = cc
+pub ran_out : runs_out ≡ found_all → ⊥
+ran_out e = cc
 
 -- What a reference leaves of the keys, and of the count of stored entries.
 pub record Refers {K V H : Type 0} (eq : K → K → Bool) (key : K) (old new : State K V ℕ H) : Type 0 where
@@ -229,7 +229,7 @@ module _ {K V H : Type 0} {eq : K → K → Bool} {hash_of : H → K → ℕ} (e
       subst (λ k. Refers eq k old new) (some_same at key e)
       (insert_refers at v old flag new keeps sized (inserts at v (Ok flag) h) h)
   call_refers (calls.Insert at v) key old reply new (inl (Err x, h, is)) e found keeps sized =
-      absurd (lacking (sym (ap want_of is) ∙ found))
+      absurd (ran_out (sym (ap want_of is) ∙ found))
   call_refers (calls.Insert at v) key old reply new (inr (none, is, same)) e found keeps sized = absurd none
   call_refers (calls.GetOrInsert at v) key old reply new (inl (result, got w there r same, is)) e found keeps sized =
       subst (λ k. Refers eq k old new) (some_same at key e)
@@ -241,6 +241,6 @@ module _ {K V H : Type 0} {eq : K → K → Bool} {hash_of : H → K → ℕ} (e
       (insert_refers at w old flag new keeps sized (makes_newest v at (Ok flag) (inserted none w makes h)) h)
   call_refers (calls.GetOrInsert at v) key old reply new (inl (Err x, inserted none w makes h, is)) e found keeps
       sized =
-      absurd (lacking (sym (ap want_of is) ∙ found))
+      absurd (ran_out (sym (ap want_of is) ∙ found))
   call_refers (calls.GetOrInsert at v) key old reply new (inr (none, is, same)) e found keeps sized = absurd none
   call_refers call key old reply new step e found keeps sized = absurd (nothing e)

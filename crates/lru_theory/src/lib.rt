@@ -56,7 +56,7 @@ pub fn more_capacity_never_misses_more<K: Eq + Hash + Drop, V: Drop, S: KeyHashe
     recency::more_places_never_miss_more::<K>();
 }
 
-/// After the same calls a smaller map is included in a larger map: its keys are among those of the larger map, in the
+/// After the same calls a smaller map is included in a larger map: its keys are keys of the larger map, in the
 /// same order (`included`). So what the smaller map finds, the larger map finds (`finds`). The calls may insert, get,
 /// peek, write, remove, clear, reserve and shrink, in any order. Pops, drains, gets by a hash and other limiters are
 /// left out.

@@ -127,7 +127,7 @@ impl Distances {
         ensures room { OnOk result (0 < self.new.room) }
     {
         let mut levels = self.levels;
-        // All marks but perhaps that of slot 0.
+        // All marks, but perhaps not the mark of slot 0.
         if self.marks.len() / 2 <= self.marks.marks_behind(0) {
             levels += 1;
         }

@@ -96,7 +96,7 @@ module _ {K : Type 0} {eq : K → K → Bool} (exact : IsExact eq) where
       go false true same found ih = rw found refl
       go false false same found ih = rw (found, same) (ap (λ ys. x ∷ ys) ih)
 
-  -- the keys before a key in the recency list are those of the references after its last one
+  -- the keys before a key in the recency list are the keys of the references after its last one
   pub since_recency : (key : K) (past : List K) → since eq key (recency eq past) ≡ recency eq (since eq key past)
   since_recency key [] = refl
   since_recency key (x ∷ past) = go (eq key x) refl (since_recency key past)

@@ -27,13 +27,13 @@ module _ {K : Type 0} (eq : K → K → Bool) (n : ℕ) where
   after_calls [] keys = keys
   after_calls (call ∷ calls) keys = after_calls calls (after_call call keys)
 
--- the elements of xs are among those of ys, in the same order
+-- the elements of xs are elements of ys, in the same order
 pub data IsSubsequence {X : Type 0} : List X → List X → Type 0 where
   none : (ys : List X) → IsSubsequence [] ys
   both : (x : X) (xs ys : List X) → IsSubsequence xs ys → IsSubsequence (x ∷ xs) (x ∷ ys)
   skips : (y : X) (xs ys : List X) → IsSubsequence xs ys → IsSubsequence xs (y ∷ ys)
 
--- A cache of n places is included in one of m: its keys are among those of the larger cache, in the same order, and the
+-- A cache of n places is included in one of m: its keys are keys of the larger cache, in the same order, and the
 -- larger cache contains at most m - n more.
 pub record IsIncluded {K : Type 0} (n m : ℕ) (small large : List K) : Type 0 where
   pub keys : IsSubsequence small large

@@ -33,8 +33,8 @@ pub fn lru_is_competitive<K: Eq>()
         (k + 1 - h) * misses K.eq k past ≤ k * missed + (k + 1 - h) * k }
 {}
 
-/// After the same calls a smaller cache is included in a larger one, if it was before (`included`): its keys are among
-/// those of the larger cache, in the same order, and the larger cache contains at most m - n more. So what the smaller
+/// After the same calls a smaller cache is included in a larger one, if it was before (`included`): its keys are keys
+/// of the larger cache, in the same order, and the larger cache contains at most m - n more. So what the smaller
 /// cache finds, the larger cache finds (`finds`). The calls may reference keys, make them the newest, remove them or
 /// look at them. Pops are left out.
 pub fn a_smaller_cache_is_included<K: Eq>()
@@ -47,7 +47,7 @@ pub fn a_smaller_cache_is_included<K: Eq>()
 
 /// A larger budget never means more misses. Of two LRU caches with limits of cost, the keys of the one with the smaller
 /// limit are the newest keys of the other (`front`), and it misses at least as often (`misses`). The definitions are
-/// those of LRU caches if no key alone costs more than the smaller limit.
+/// definitions of LRU caches if no key alone costs more than the smaller limit.
 pub fn a_larger_budget_never_misses_more<K: Eq>()
     ensures front { (cost : K → ℕ) (n m : ℕ) (past : List K) → n ≤ m →
         cached_within K.eq cost n past

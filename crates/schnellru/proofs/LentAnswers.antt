@@ -69,7 +69,7 @@ module _ {M : Type 1} {𝓤 : Ura M} (𝓛 : Logic 𝓤) (𝓜 : Model 𝓤 𝓛
   𝓣 = tables 𝓤 𝓛.H 𝓜 𝓡 𝓡.env
 
   -- The code of both, over the two functions that are called. σ, σ₁ and σ₅ are the types behind references to the map,
-  -- and τ₂ and τ₃ those of the key and of the closure.
+  -- and τ₂ and τ₃ are the types of the key and of the closure.
   abbrev fn : (base : Fn) (σ σ₁ σ₅ τ₂ τ₃ : Ty) (first second : Callee) → Fn
   fn base σ σ₁ σ₅ τ₂ τ₃ first second =
       let got : Ty = layout (result.the_row (MutRef erased [] (param 1 V)) (NL.the_row E)) in

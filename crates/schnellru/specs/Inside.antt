@@ -6,5 +6,5 @@ pub mod Steps
 pub mod Rest
 pub mod Searches
 pub mod Copies
-pub mod Handing
+pub mod Passing
 pub mod Fields

@@ -72,7 +72,7 @@ fn memo<F: Fn(u64) -> u64>(
     ensures value { IfOk result (λ value. F.post answers key value) }
     ensures knows { All (λ p. F.post answers p.0 p.1) map.new.pairs }
 {
-    laws::inserts_give_up_the_oldest::<u64, u64, u64, ByLength, RandomState>();
+    laws::inserts_evict_the_oldest::<u64, u64, u64, ByLength, RandomState>();
     if let Some(value) = map.get(&key) {
         return Ok(*value);
     }
@@ -117,8 +117,8 @@ fn put_and_show<F: FnMut(u64, u64)>(
     callback: &mut F,
 ) -> Result<bool, AllocError>
     requires callable { F.IsAlwaysCallable callback.old }
-    ensures shown { result ≡ Ok true → (handed : List (ℕ × ℕ)) × CalledWith F.FnMut callback.old handed callback.new
-        × (map.new.pairs ++ reverse handed ≡ (key, value) ∷ without (nat_eq key) map.old.pairs) }
+    ensures shown { result ≡ Ok true → (passed : List (ℕ × ℕ)) × CalledWith F.FnMut callback.old passed callback.new
+        × (map.new.pairs ++ reverse passed ≡ (key, value) ∷ without (nat_eq key) map.old.pairs) }
 {
     laws::nothing_is_lost::<u64, u64, u64, ByLength, RandomState>();
     map.insert_with(key, value, callback)

@@ -3,7 +3,7 @@
 //! limiter left it, and before the limiter is called again.
 ghost use Rattle.std.specs.Prelude.{◌≡◌, true, nat_lt, nat_le, nat_eq};
 ghost use Rattle.std.specs.Cmp.{nat_eq_equiv};
-ghost use Rattle.lru_limits.specs.Stores.{HandsOver, answers, given-names};
+ghost use Rattle.lru_limits.specs.Stores.{ReturnsPairIf, answers, given-names};
 
 use map_helpers::{insert_all, map_of};
 use schnellru::{Insertion, Limiter, LruMap, RandomState};
@@ -80,8 +80,8 @@ impl Limiter<u64, u64> for Noting<'_> {
 
 impl Insertion<u64, u64, u64> for Noting<'_> {
     ghost offers = { record {
-      on_insert = λ s length i v t given. HandsOver true s i v t given;
-      may_lack = λ s length i v. ⊥;
+      on_insert = λ s length i v t given. ReturnsPairIf true s i v t given;
+      may_run_out = λ s length i v. ⊥;
       on_replace = λ s length k i v w. record {
         limiter = s;
         taken = nat_le w 100;

@@ -2,7 +2,7 @@
 //! both.
 ghost use Rattle.std.specs.Prelude.{◌≡◌, ◌+◌, ⊤, true, min, string_bytes};
 ghost use Rattle.lru_limits.specs.Limiters.{no_rules};
-ghost use Rattle.lru_limits.specs.Stores.{replaces, HandsOver, given-names};
+ghost use Rattle.lru_limits.specs.Stores.{replaces, ReturnsPairIf, given-names};
 ghost use Rattle.lru_limits.specs.Texts.{names_text, names_text-lawful, GivesText, given-names_text, same_text};
 
 use lru_limits::{Insertion, Limiter, LookupKey};
@@ -53,7 +53,7 @@ impl<'a> Insertion<String, u32, InsertKey<'a>> for Counting {
     ghost offers = { record {
       on_insert = λ s length i v t given. (t ≡ record s { inserts = min (s.inserts + 1) 4294967295 })
           × GivesText i.0.now v given;
-      may_lack = λ s length i v. ⊤;
+      may_run_out = λ s length i v. ⊤;
       on_replace = λ s length k i v w. replaces (record s { replacements = min (s.replacements + 1) 4294967295 }) k v w;
     } };
 
@@ -89,8 +89,8 @@ impl<'a> Insertion<String, u32, InsertKey<'a>> for Counting {
 
 impl Insertion<String, u32, String> for Counting {
     ghost offers = { record {
-      on_insert = λ s length i v t given. HandsOver true s i v t given;
-      may_lack = λ s length i v. ⊥;
+      on_insert = λ s length i v t given. ReturnsPairIf true s i v t given;
+      may_run_out = λ s length i v. ⊥;
       on_replace = λ s length k i v w. replaces s k v w;
     } };
 

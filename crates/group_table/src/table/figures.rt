@@ -38,8 +38,8 @@ impl<T> Table<T> {
         self.room
     }
 
-    /// Returns how many insertions the table has made, those of moves included; a count that reaches `u64::MAX` stays
-    /// there.
+    /// Returns how many insertions the table has made. A moved entry counts as one insertion. A count that reaches
+    /// `u64::MAX` stays there.
     #[inline]
     pub fn placings(&self) -> u64
         ensures value { result ≡ self.now.placings }

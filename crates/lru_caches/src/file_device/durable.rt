@@ -3,7 +3,7 @@ use std::fs::File;
 use std::io;
 use std::io::Cursor;
 
-/// A file that can be told to keep its bytes through a crash.
+/// A file with a call that makes its bytes outlast a crash.
 ///
 /// A file device calls this when it syncs, after it has flushed the writer.
 ///

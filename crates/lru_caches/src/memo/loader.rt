@@ -169,7 +169,7 @@ fn loaded<
     ensures failed { OnErr result (map.new.pairs ≡ map.old.pairs) }
     ensures known { AreAnswers K.eq (loads (F.post function.now)) map.new.pairs }
 {
-    laws::inserts_give_up_the_oldest::<K, V, K, L, S>();
+    laws::inserts_evict_the_oldest::<K, V, K, L, S>();
     if let Some(value) = map.get(&key) {
         return Ok(*value);
     }

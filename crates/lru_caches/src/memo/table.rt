@@ -196,6 +196,6 @@ fn keep<K: Copy + Eq + Hash, V: Copy, Q: Question<K, V>, L: Insertion<K, V, K>, 
     requires known { AreAnswers K.eq Q.answers map.old.pairs }
     ensures known { AreAnswers K.eq Q.answers map.new.pairs }
 {
-    laws::inserts_give_up_the_oldest::<K, V, K, L, S>();
+    laws::inserts_evict_the_oldest::<K, V, K, L, S>();
     let _ = map.insert(key, value);
 }

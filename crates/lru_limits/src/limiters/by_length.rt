@@ -1,8 +1,8 @@
 //! The limiter by the number of entries.
 ghost use Rattle.std.specs.Prelude.{◌≡◌, nat_lt};
-ghost use Rattle.lru_limits.specs.Admissions.{never_changes, hands_over-terms};
+ghost use Rattle.lru_limits.specs.Admissions.{never_changes, offers_if-terms};
 ghost use Rattle.lru_limits.specs.Limiters.{length_rules, length_offers};
-ghost use Rattle.lru_limits.specs.Stores.{hands_over-lawful};
+ghost use Rattle.lru_limits.specs.Stores.{offers_if-lawful};
 
 use crate::admission::Admission;
 use crate::keys::LookupKey;
@@ -125,7 +125,7 @@ impl<K: Eq + Hash + Drop, V: Drop> Insertion<K, V, K> for ByLength {
         true
     }
 
-    ghost laws = { hands_over-lawful K.eq K.Eq.laws };
+    ghost laws = { offers_if-lawful K.eq K.Eq.laws };
 }
 
 impl<K: Eq + Hash + Drop, V: Drop> Admission<K, V> for ByLength {
@@ -147,5 +147,5 @@ impl<K: Eq + Hash + Drop, V: Drop> Admission<K, V> for ByLength {
     #[inline]
     fn on_replaced(&mut self, _length: usize, _key: &K, _old_value: &V, _new_value: &V) {}
 
-    ghost laws = { hands_over-terms (λ most _ _. nat_lt 0 most) };
+    ghost laws = { offers_if-terms (λ most _ _. nat_lt 0 most) };
 }

@@ -1,8 +1,8 @@
 //! The limiter by the size of the table.
 ghost use Rattle.std.specs.Prelude.{◌≡◌, true};
-ghost use Rattle.lru_limits.specs.Admissions.{never_changes, hands_over-terms};
+ghost use Rattle.lru_limits.specs.Admissions.{never_changes, offers_if-terms};
 ghost use Rattle.lru_limits.specs.Limiters.{memory_rules, all_offers};
-ghost use Rattle.lru_limits.specs.Stores.{hands_over-lawful};
+ghost use Rattle.lru_limits.specs.Stores.{offers_if-lawful};
 
 use crate::admission::Admission;
 use crate::keys::LookupKey;
@@ -119,7 +119,7 @@ impl<K: Eq + Hash + Drop, V> Insertion<K, V, K> for ByMemoryUsage {
         true
     }
 
-    ghost laws = { hands_over-lawful K.eq K.Eq.laws };
+    ghost laws = { offers_if-lawful K.eq K.Eq.laws };
 }
 
 impl<K: Eq + Hash + Drop, V> Admission<K, V> for ByMemoryUsage {
@@ -141,5 +141,5 @@ impl<K: Eq + Hash + Drop, V> Admission<K, V> for ByMemoryUsage {
     #[inline]
     fn on_replaced(&mut self, _length: usize, _key: &K, _old_value: &V, _new_value: &V) {}
 
-    ghost laws = { hands_over-terms (λ _ _ _. true) };
+    ghost laws = { offers_if-terms (λ _ _ _. true) };
 }

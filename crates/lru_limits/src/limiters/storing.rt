@@ -1,8 +1,8 @@
 //! An adapter for limiters that store each entry as it comes.
 ghost use Rattle.std.specs.Prelude.{true};
-ghost use Rattle.lru_limits.specs.Admissions.{never_changes, hands_over-terms};
+ghost use Rattle.lru_limits.specs.Admissions.{never_changes, offers_if-terms};
 ghost use Rattle.lru_limits.specs.Limiters.{all_offers};
-ghost use Rattle.lru_limits.specs.Stores.{rules_at, hands_over-lawful};
+ghost use Rattle.lru_limits.specs.Stores.{rules_at, offers_if-lawful};
 
 use crate::admission::Admission;
 use crate::keys::LookupKey;
@@ -74,7 +74,7 @@ impl<K: Eq + Hash + Drop, V, L: Limiter<K, V>> Insertion<K, V, K> for Storing<L>
         true
     }
 
-    ghost laws = { hands_over-lawful K.eq K.Eq.laws };
+    ghost laws = { offers_if-lawful K.eq K.Eq.laws };
 }
 
 impl<K: Eq + Hash + Drop, V, L: Limiter<K, V>> Admission<K, V> for Storing<L> {
@@ -96,5 +96,5 @@ impl<K: Eq + Hash + Drop, V, L: Limiter<K, V>> Admission<K, V> for Storing<L> {
     #[inline]
     fn on_replaced(&mut self, _length: usize, _key: &K, _old_value: &V, _new_value: &V) {}
 
-    ghost laws = { hands_over-terms (λ _ _ _. true) };
+    ghost laws = { offers_if-terms (λ _ _ _. true) };
 }

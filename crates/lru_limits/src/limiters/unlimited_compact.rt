@@ -1,8 +1,8 @@
 //! The limiter that limits nothing, with links of 32 bits.
 ghost use Rattle.std.specs.Prelude.{true};
-ghost use Rattle.lru_limits.specs.Admissions.{never_changes, hands_over-terms};
+ghost use Rattle.lru_limits.specs.Admissions.{never_changes, offers_if-terms};
 ghost use Rattle.lru_limits.specs.Limiters.{no_rules, all_offers};
-ghost use Rattle.lru_limits.specs.Stores.{hands_over-lawful};
+ghost use Rattle.lru_limits.specs.Stores.{offers_if-lawful};
 
 use crate::admission::Admission;
 use crate::keys::LookupKey;
@@ -67,7 +67,7 @@ impl<K: Eq + Hash + Drop, V> Insertion<K, V, K> for UnlimitedCompact {
         true
     }
 
-    ghost laws = { hands_over-lawful K.eq K.Eq.laws };
+    ghost laws = { offers_if-lawful K.eq K.Eq.laws };
 }
 
 impl<K: Eq + Hash + Drop, V> Admission<K, V> for UnlimitedCompact {
@@ -89,5 +89,5 @@ impl<K: Eq + Hash + Drop, V> Admission<K, V> for UnlimitedCompact {
     #[inline]
     fn on_replaced(&mut self, _length: usize, _key: &K, _old_value: &V, _new_value: &V) {}
 
-    ghost laws = { hands_over-terms (λ _ _ _. true) };
+    ghost laws = { offers_if-terms (λ _ _ _. true) };
 }

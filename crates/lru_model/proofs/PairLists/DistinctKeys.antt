@@ -39,7 +39,7 @@ module _ {K V : Type 0} (P : K → Type 0) where
   all_of (y ∷ ys) x h (zero, p, e) = subst (λ z. P z.0) e h.0
   all_of (y ∷ ys) x h (suc k, p, e) = all_of ys x h.1 (k, omega (arith, p), e)
 
-  -- and of those of fewer pairs
+  -- and of the keys of fewer pairs
   all_front : (xs rest : List (K × V)) → AllByRecursion P (keys_of (xs ++ rest)) → AllByRecursion P (keys_of xs)
   all_front [] rest h = tt
   all_front (x ∷ xs) rest h = (h.0, all_front xs rest h.1)

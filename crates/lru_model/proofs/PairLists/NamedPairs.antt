@@ -9,7 +9,7 @@ use Rattle.std.proofs.lemmas.List.Elements.{Contains-append_right}
 use Rattle.lru_model.specs.Lists.{lookup, lookup_entry, without, last, without_last}
 use Rattle.lru_model.proofs.PairLists.DistinctKeys.{AreDistinct, NoneNamed, all_of}
 
--- the value of a key is that of its pair
+-- the value of a key is the value of its pair
 pub lookup-entry : {K V : Type 0} (names : K → Bool) (xs : List (K × V)) → lookup names xs
     ≡ option_map (λ p. p.1) (lookup_entry names xs)
 lookup-entry names [] = refl

@@ -101,11 +101,11 @@ module _ {K V S H : Type 0} (rules : Rules K V S) where
       ∙ sym (pops-more rules n (contents old)))
       (leaves_trans old before new (pops rules n (contents old)) (pop rules (contents before)) first last)
 
-  -- those of the oldest that left one after another left
+  -- evictions of the oldest pair, one after another, are the pops of as many
   pub oldest_leaves : (hash n : ℕ) (old new : State K V S H) → OldestEvicted rules hash n old new
       → Leaves old (pops rules n (contents old)) new
   oldest_leaves hash zero old new h = rw h (leaves_self old)
-  oldest_leaves hash (suc n) old new (before, first, no_place, last) = leaves_more n old before new
+  oldest_leaves hash (suc n) old new (before, first, no_bucket, last) = leaves_more n old before new
       (oldest_leaves hash n old before first) last
 
 -- what is trimmed after some left

@@ -6,7 +6,7 @@ use Rattle.std.specs.declared.alloc.AllocError.{AllocError}
 use native.Mathlib.Decide.{dec_lt}
 use Rattle.std.proofs.lemmas.List.{nil_from_length}
 use Rattle.group_table.specs.Sizes.{IsPowerFromFour, full_capacity}
-use Rattle.group_table.specs.Bucket.{Mark, room as room_of}
+use Rattle.group_table.specs.Bucket.{Mark}
 use Rattle.group_table.specs.Change.{HasNoPlace}
 use Rattle.lru_limits.specs.Rules.{Rules}
 use Rattle.lru_model.specs.Sizes.{no_table, new_table}
@@ -14,10 +14,10 @@ use Rattle.lru_model.specs.State.{State, TableState, buckets, room, contents, Is
 use Rattle.lru_model.specs.Place.{Place, rehashed, grown, not_grown, HasNoBucket, IsOutgrown, CannotGrow}
 use Rattle.lru_model.specs.Place.{no_target, denied, Evicts, nothing_to_evict, finds_bucket, rehashes, OldestEvicted}
 use Rattle.lru_model.specs.Place.{Outcome, outcome_of, placed, no_memory, IsPlaced, IsPlacedIfMemory}
-use Rattle.lru_model.specs.Place.{IsFullWithPairs, FillsBucket, table_for}
+use Rattle.lru_model.specs.Place.{HasPairsButNoGrowth, NoBucketTakes, FillsBucket, table_for}
 use Rattle.lru_model.proofs.TableSizes.SizedMarks.{fits, exact}
 use Rattle.lru_model.proofs.TableSizes.Growth.{full_capacity-at_most, full_capacity-even}
-use Rattle.lru_model.proofs.Theorems.LackOfMemory.{no_room}
+use Rattle.lru_model.proofs.Theorems.OutOfMemory.{no_room}
 use Rattle.lru_model.proofs.States.Outcomes.{placed-not_no_memory, refused-not_no_memory}
 use Rattle.lru_model.proofs.States.LeavingPairs.{length-without_last, length-pops, known_is, leaves_more, oldest_leaves}
 use Rattle.lru_model.proofs.States.LeavingPairs.{room_after}
@@ -110,9 +110,9 @@ module _ {K V S H : Type 0} (rules : Rules K V S) (hash_of : H → K → ℕ) (p
           step
 
     -- there is no larger table
-    pub untold_place : table_for 1 old ≡ no_table → Evicts rules hash pair old old outcome new
+    pub no_target_place : table_for 1 old ≡ no_table → Evicts rules hash pair old old outcome new
         → Place rules hash_of pair old outcome new
-    untold_place none step = evicts_place old (no_target none refl) step
+    no_target_place none step = evicts_place old (no_target none refl) step
 
 module _ {K V S H : Type 0} (st : State K V S H) (ok : IsSized st) (hash : ℕ) where
   -- a table that fills a bucket holds fewer pairs than it may
@@ -122,7 +122,7 @@ module _ {K V S H : Type 0} (st : State K V S H) (ok : IsSized st) (hash : ℕ) 
     | inr d ↦ omega (arith, (deleted_first_large ok hash (fills.bucket, fills.first, d.0)).1)
   ]
 
-  -- no bucket takes a pair for which a map has no place
+  -- no bucket takes a pair for which the table has no place
   pub no_place_bucket : HasNoPlace st.table.marks hash → HasNoBucket hash st
   no_place_bucket (inl none) = record {
     no_room = no_room st.table.marks none;
@@ -134,16 +134,15 @@ module _ {K V S H : Type 0} (st : State K V S H) (ok : IsSized st) (hash : ℕ) 
 pub record IsStuck (hash least : ℕ) (marks : List Mark) (pairs : ℕ) : Type 0 where
   pub some : 0 < pairs
   pub half : least ≤ pairs
-  pub no_place : HasNoPlace marks hash
-  pub no_room : room_of marks ≡ 0
+  pub no_bucket : NoBucketTakes hash pairs marks
 
--- The n oldest pairs were evicted, after none of which the new pair had a place, and then one more.
+-- The n oldest pairs were evicted, each because no bucket took the new pair, and then one more.
 module _ {K V S H : Type 0} (rules : Rules K V S) (hash : ℕ) (pair : K × V) (old before left : State K V S H)
-    (ok : IsSized old) (lacks : IsFullWithPairs old) (n : ℕ) (gone : OldestEvicted rules hash n old before)
+    (ok : IsSized old) (is_full : HasPairsButNoGrowth old) (n : ℕ) (gone : OldestEvicted rules hash n old before)
     (stuck : IsStuck hash (full_capacity (buckets old) / 2) before.table.marks (length before.pairs))
     (step : Leaves before (pop rules (contents before)) left) where
   pub one_more : OldestEvicted rules hash (suc n) old left
-  one_more = (before, gone, stuck.no_place, step)
+  one_more = (before, gone, stuck.no_bucket, step)
 
   leaves : Leaves old (pops rules n (contents old)) before
   leaves = oldest_leaves rules hash n old before gone
@@ -157,8 +156,8 @@ module _ {K V S H : Type 0} (rules : Rules K V S) (hash : ℕ) (pair : K × V) (
   only_one : buckets old ≤ 16 → suc n ≡ 1
   only_one small = omega (
     arith,
-    room_after rules n old before leaves small (omega (arith, in_all)) lacks.1
-        stuck.no_room,
+    room_after rules n old before leaves small (omega (arith, in_all)) is_full.1
+        stuck.no_bucket.no_room,
   )
 
   pub same_buckets : buckets left ≡ buckets old
@@ -182,7 +181,7 @@ module _ {K V S H : Type 0} (rules : Rules K V S) (hash : ℕ) (pair : K × V) (
         IsPlacedIfMemory rules pair (buckets old) (full_capacity (buckets old) - length left.pairs - 1)
         (length left.pairs) left outcome new →
         Evicts rules hash pair old old outcome new
-    rehashes_then outcome few m = rehashes lacks.0 (suc n) (omega arith) only_one
+    rehashes_then outcome few m = rehashes is_full.0 (suc n) (omega arith) only_one
         (omega (arith, few, stuck.half, one_fewer, in_all)) left one_more
         (subst (λ s. IsPlacedIfMemory rules pair (buckets old) s (length left.pairs) left outcome new)
         (spare (dec_lt 8 (buckets old))) m)
@@ -195,13 +194,13 @@ module _ {K V S H : Type 0} (rules : Rules K V S) (hash : ℕ) (pair : K × V) (
           stuck.half,
           one_fewer,
           full_capacity-even (buckets old)
-              (power_with_pairs old ok lacks.0) large,
+              (power_with_pairs old ok is_full.0) large,
         )
         spare (no small) = absurd
             (omega (
               arith,
               exact ok (omega (arith, small)),
-              lacks.1,
+              is_full.1,
               only_one (omega (arith, small)),
               in_all,
               few,

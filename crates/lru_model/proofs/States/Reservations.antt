@@ -13,20 +13,20 @@ some_there [] some = absurd (some refl)
 some_there (x ∷ xs) some = omega arith
 
 -- the limiter was asked for a larger table
-module _ {K V S H : Type 0} (rules : Rules K V S) (n : ℕ) (old new : State K V S H) (lacks : NeedsGrowthFor n old)
+module _ {K V S H : Type 0} (rules : Rules K V S) (n : ℕ) (old new : State K V S H) (needs_growth : NeedsGrowthFor n old)
     (count bytes : ℕ) (is : table_for n old ≡ new_table count bytes)
     (s : S) (queried : s ≡ (rules.on_grow old.limiter bytes).limiter) where
   pub is_reserved : (rules.on_grow old.limiter bytes).allowed ≡ true → MovesTo count (record old { limiter = s }) new
       → Reserve rules n old (Ok tt) new
-  is_reserved granted step = reserved lacks count bytes is granted refl
+  is_reserved granted step = reserved needs_growth count bytes is granted refl
       (subst (λ l. MovesTo count (record old { limiter = l }) new) queried step)
 
-  pub lacks_memory : (rules.on_grow old.limiter bytes).allowed ≡ true → new ≡ record old { limiter = s }
+  pub asked_only_granted : (rules.on_grow old.limiter bytes).allowed ≡ true → new ≡ record old { limiter = s }
       → Reserve rules n old (Err Memory) new
-  lacks_memory granted step = asked_only lacks count bytes is (inl (granted, refl))
+  asked_only_granted granted step = asked_only needs_growth count bytes is (inl (granted, refl))
       (step ∙ ap {A = S} {B = State K V S H} (λ l. record old { limiter = l }) queried)
 
   pub is_denied : (rules.on_grow old.limiter bytes).allowed ≡ false → new ≡ record old { limiter = s }
       → Reserve rules n old (Err Refused) new
-  is_denied refusal step = asked_only lacks count bytes is (inr (refusal, refl))
+  is_denied refusal step = asked_only needs_growth count bytes is (inr (refusal, refl))
       (step ∙ ap {A = S} {B = State K V S H} (λ l. record old { limiter = l }) queried)

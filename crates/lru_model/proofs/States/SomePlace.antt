@@ -232,11 +232,10 @@ module _ {K V S H : Type 0} (rules : Rules K V S) (hash_of : H → K → ℕ) (p
 
       with_pairs : 0 < length old.pairs → Ends
       with_pairs some =
-          let none = outgrown.no_bucket.no_room in let free = outgrown.no_bucket.first_empty some in
           let left = pops rules 1 (contents mid) in
           let fewer = length-pops rules 1 (contents mid) in
           let (end, leaves, sized, freed) = some_leave mid left ok (omega (arith, fewer)) in
-          let gone : OldestEvicted rules hash 1 mid end = (mid, refl, inr (none, free.0, free.1, free.2), leaves) in
+          let gone : OldestEvicted rules hash 1 mid end = (mid, refl, outgrown.no_bucket, leaves) in
           elim (dec_lt half (length old.pairs)) [
             | yes l ↦
                 let (new, is, fills, after) = some_filled pair end sized hash (omega (arith, freed, fewer, some)) in (

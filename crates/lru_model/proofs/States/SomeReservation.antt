@@ -36,7 +36,7 @@ module _ {K V S H : Type 0} (rules : Rules K V S) (n : ℕ) (old : State K V S H
 
   -- the table is rehashed at its size
   some_remade : NeedsGrowthFor n old → table_for n old ≡ same_table → CanReserve
-  some_remade lacks is =
+  some_remade needs_growth is =
       let within : length old.pairs + 0 ≤ full_capacity (buckets old) = omega
       (arith, used_count-split old.table.marks, ok.taken, ok.table.used_within) in
       let new : State K V S H = record old {
@@ -45,7 +45,7 @@ module _ {K V S H : Type 0} (rules : Rules K V S) (n : ℕ) (old : State K V S H
       } in (
         Ok tt,
         new,
-        rehashed lacks is refl
+        rehashed needs_growth is refl
             (record {
               table = length-marked old ok old.pairs 0 within;
               exact = omega (arith, room-marked old ok old.pairs 0 within, within);
@@ -57,15 +57,15 @@ module _ {K V S H : Type 0} (rules : Rules K V S) (n : ℕ) (old : State K V S H
   -- the limiter is asked for a larger one
   some_asked : NeedsGrowthFor n old → (count bytes : ℕ) → table_for n old ≡ new_table count bytes → (allowed : Bool)
       → (rules.on_grow old.limiter bytes).allowed ≡ allowed → CanReserve
-  some_asked lacks count bytes is true grants =
-      (Err Memory, asked rules bytes old, asked_only lacks count bytes is (inl (grants, refl)) refl, ok)
-  some_asked lacks count bytes is false denies =
-      (Err Refused, asked rules bytes old, asked_only lacks count bytes is (inr (denies, refl)) refl, ok)
+  some_asked needs_growth count bytes is true grants =
+      (Err Memory, asked rules bytes old, asked_only needs_growth count bytes is (inl (grants, refl)) refl, ok)
+  some_asked needs_growth count bytes is false denies =
+      (Err Refused, asked rules bytes old, asked_only needs_growth count bytes is (inr (denies, refl)) refl, ok)
 
   some_table : NeedsGrowthFor n old → (t : Target) → table_for n old ≡ t → CanReserve
-  some_table lacks no_table is = (Err TooLarge, old, unchanged (no_such_table lacks is refl) refl, ok)
-  some_table lacks same_table is = some_remade lacks is
-  some_table lacks (new_table count bytes) is = some_asked lacks count bytes is
+  some_table needs_growth no_table is = (Err TooLarge, old, unchanged (no_such_table needs_growth is refl) refl, ok)
+  some_table needs_growth same_table is = some_remade needs_growth is
+  some_table needs_growth (new_table count bytes) is = some_asked needs_growth count bytes is
       (rules.on_grow old.limiter bytes).allowed refl
 
   pub some_reservation : CanReserve
@@ -73,6 +73,6 @@ module _ {K V S H : Type 0} (rules : Rules K V S) (n : ℕ) (old : State K V S H
     | no many ↦ (Err TooLarge, old, unchanged (too_many (omega (arith, many)) refl) refl, ok)
     | yes fits ↦ elim (dec_lt (room old) n) [
       | no enough ↦ (Ok tt, old, unchanged (enough_room (omega (arith, enough)) fits refl) refl, ok)
-      | yes lacks ↦ some_table (lacks, fits) (table_for n old) refl
+      | yes needs_growth ↦ some_table (needs_growth, fits) (table_for n old) refl
     ]
   ]

@@ -14,17 +14,17 @@ use Rattle.lru_model.specs.Theorems.{EvictsOldest, behind, with_none, without_on
 use Rattle.lru_model.specs.declared.results.ReserveError.{ReserveError}
 use Rattle.lru_model.proofs.States.LeavingPairs.{length-without_first, length-without_last}
 use Rattle.lru_model.proofs.States.Promotions.{length-front_pairs, length-back_pairs}
-use Rattle.lru_model.proofs.Theorems.Fronts.{insert_gives_up, front_trim, length-front}
+use Rattle.lru_model.proofs.Theorems.Fronts.{insert_evicts, front_trim, length-front}
 use Rattle.lru_model.proofs.Theorems.Limits.{length-without, length-update}
 use Rattle.lru_model.proofs.Theorems.RetainedPairs.{length-retained}
 use Rattle.lru_model.proofs.Theorems.Shrinks.{shrunk_list}
 
-gives_up_adds : {K V : Type 0} (names : K → Bool) (refuses : K × V → Type 0) (xs ys : List (K × V))
+evicts_adds : {K V : Type 0} (names : K → Bool) (refuses : K × V → Type 0) (xs ys : List (K × V))
     → EvictsOldest names refuses xs ys → length ys ≤ length xs + 1
-gives_up_adds names refuses xs ys (behind newest named f) =
+evicts_adds names refuses xs ys (behind newest named f) =
     omega (arith, length-front ys (newest ∷ without names xs) f, length-without names xs)
-gives_up_adds names refuses xs ys (with_none absent f) = omega (arith, length-front ys xs f)
-gives_up_adds names refuses xs ys (without_one pair found r e) = omega (arith, ap length e, length-without names xs)
+evicts_adds names refuses xs ys (with_none absent f) = omega (arith, length-front ys xs f)
+evicts_adds names refuses xs ys (without_one pair found r e) = omega (arith, ap length e, length-without names xs)
 
 module _ {K V S H : Type 0} (rules : Rules K V S) (n : ℕ) (old new : State K V S H) where
   pub reserve_stays : (result : Result (Unit {0}) ReserveError) → Reserve rules n old result new → new.pairs ≡ old.pairs
@@ -39,11 +39,11 @@ module _ {K V S H I : Type 0} {rules : Rules K V S} {offers : Offers K V S I} {n
     (laws : IsInsertion names eq offers) (old new : State K V S H) where
   step_adds : Step rules offers names hash_of old new → length new.pairs ≤ length old.pairs + 1
   step_adds (inserts key value result h) =
-      gives_up_adds (names key) _ old.pairs new.pairs (insert_gives_up looks_up laws key value old result new h)
+      evicts_adds (names key) _ old.pairs new.pairs (insert_evicts looks_up laws key value old result new h)
   step_adds (makes_newest value key result (got w f r e)) =
       omega (arith, ap (λ st. length st.pairs) e, length-front_pairs (names key) old.pairs)
   step_adds (makes_newest value key result (inserted none v made h)) =
-      gives_up_adds (names key) _ old.pairs new.pairs (insert_gives_up looks_up laws key v old result new h)
+      evicts_adds (names key) _ old.pairs new.pairs (insert_evicts looks_up laws key v old result new h)
   step_adds (updates key value result h) = omega (arith, length-update result h)
   step_adds (gets named e) = omega (arith, ap (λ st. length st.pairs) e, length-front_pairs named old.pairs)
   step_adds (demotes named e) = omega (arith, ap (λ st. length st.pairs) e, length-back_pairs named old.pairs)

@@ -35,7 +35,7 @@ module _ {K V S : Type 0} (terms : Terms K V S) (rules : Rules K V S) (offers : 
       let yes = both (terms.accepts c.limiter n key value)
       (rules.is_over_the_limit (terms.on_stored c.limiter n key value) (n + 1)) place in
       record {
-        finds = law.lacks_nothing c.limiter n key value;
+        finds = law.never_runs_out c.limiter n key value;
         gives = λ s given h. let stored = law.stores c.limiter n key value s given h in (
           stored.pair ∙ ap (λ b. if b then Some (key, value) else None) yes.0,
           ap (λ t. rules.is_over_the_limit t (n + 1)) stored.limiter ∙ yes.1,

@@ -21,10 +21,10 @@ use Rattle.lru_model.proofs.Theorems.Shrinks.{shrunk_list}
 use Rattle.lru_model.proofs.Theorems.Sums.{total, total-is, total-front, total-back, total-least, split-least}
 use Rattle.lru_model.proofs.Theorems.Sums.{split_last}
 
-told_limit : {K V : Type 0} (weight : K → V → ℕ) (pair : Option (K × V)) (b : Budget)
+notified_limit : {K V : Type 0} (weight : K → V → ℕ) (pair : Option (K × V)) (b : Budget)
     → (notified_of (by_weight weight) pair b).limit ≡ b.limit
-told_limit weight None b = refl
-told_limit weight (Some pair) b = refl
+notified_limit weight None b = refl
+notified_limit weight (Some pair) b = refl
 
 charged_limit : (b : Budget) (accepts : Bool) (c : Budget) → c.limit ≡ b.limit
     → (let d : Budget = cond accepts c b in d).limit ≡ b.limit
@@ -40,9 +40,9 @@ keeps_limit weight = record {
       self = λ c. refl;
       trans = λ p q. q ∙ p;
       asked = λ bytes c. refl;
-      popped = λ c. told_limit weight (last c.pairs) c.limiter;
+      popped = λ c. notified_limit weight (last c.pairs) c.limiter;
     };
-    left = λ test c. told_limit weight (lookup_entry test c.pairs) c.limiter;
+    left = λ test c. notified_limit weight (lookup_entry test c.pairs) c.limiter;
     dropped = λ newer older pair s. refl;
     first = λ test c. refl;
     last = λ test c. refl;

@@ -141,18 +141,18 @@ module _ {K V S H I : Type 0} {rules : Rules K V S} {offers : Offers K V S I} {n
     (looks_up : IsLookup names eq query_input key_input)
     (laws : IsInsertion names eq offers) (i : I) (v : V) (old : State K V S H) where
   -- Inserts evict pairs from the old end alone, except one whose new value is rejected.
-  pub insert_gives_up : (result : Result Bool AllocError) (new : State K V S H)
+  pub insert_evicts : (result : Result Bool AllocError) (new : State K V S H)
       → Insert rules offers names hash_of i v old result new
       → EvictsOldest (names i) (λ pair. (replacement rules offers names pair i v (contents old)).taken ≡ false)
       old.pairs new.pairs
-  insert_gives_up result new (replaced pair found y r l) =
+  insert_evicts result new (replaced pair found y r l) =
       behind _ (replaced_named rules offers names looks_up laws i v old pair found)
       (front_trans _ (front_same (ap (λ st. st.pairs) l.is))
       (front_trim rules (with_replaced rules offers names pair i v (contents old))))
-  insert_gives_up result new (not_replaced pair found y r l) = without_one pair found y (ap (λ st. st.pairs) l.is)
-  insert_gives_up result new (no_memory_to_admit a k r e) = with_none a (front_same (ap (λ st. st.pairs) e))
-  insert_gives_up result new (not_admitted a s n r e) = with_none a (front_same (ap (λ st. st.pairs) e))
-  insert_gives_up result new (admitted a s pair n (ready, l, (outcome, landed, p, t))) = go
+  insert_evicts result new (not_replaced pair found y r l) = without_one pair found y (ap (λ st. st.pairs) l.is)
+  insert_evicts result new (no_memory_to_admit a k r e) = with_none a (front_same (ap (λ st. st.pairs) e))
+  insert_evicts result new (not_admitted a s n r e) = with_none a (front_same (ap (λ st. st.pairs) e))
+  insert_evicts result new (admitted a s pair n (ready, l, (outcome, landed, p, t))) = go
       (place_ends rules hash_of pair ready outcome landed p)
     where
       ready_front : IsFront ready.pairs old.pairs

@@ -15,7 +15,7 @@ use Rattle.lru_model.proofs.PairLists.DistinctKeys.{AreDistinct}
 use Rattle.lru_model.proofs.Theorems.Fronts.{found_named}
 use Rattle.lru_model.proofs.PairLists.NamedPairs.{lookup-entry, no_pair}
 use Rattle.lru_model.proofs.Theorems.InsertAnswers.{insert_says}
-use Rattle.lru_model.proofs.Theorems.LackOfMemory.{err_is}
+use Rattle.lru_model.proofs.Theorems.OutOfMemory.{err_is}
 use Rattle.lru_model.proofs.States.Outcomes.{ok-not_err}
 use Rattle.lru_model.specs.declared.results.GetOrInsertError.TheVariants.{Memory}
 use Rattle.std.specs.Prelude.{IsErr}
@@ -71,17 +71,17 @@ module _ {K V S H I E : Type 0} {rules : Rules K V S} {offers : Offers K V S I} 
 -- why it runs out of memory
 module _ {K V S H I : Type 0} {rules : Rules K V S} {offers : Offers K V S I} {names : I → K → Bool}
     {hash_of : H → K → ℕ} {i : I} {old new : State K V S H} where
-  pub makes_lacks : {makes : V → Type 0} {result : Result Bool AllocError} → IsErr result
+  pub newest_out_of_memory : {makes : V → Type 0} {result : Result Bool AllocError} → IsErr result
       → MakesNewest rules offers names hash_of makes i old result new
       → IsOutOfMemoryFor rules offers names hash_of makes i old new
-  makes_lacks {result = result} h (got w there r step) = ok-not_err result (rw r refl) h
-  makes_lacks h (inserted absent v made step) = (v, made, err_is h step)
+  newest_out_of_memory {result = result} h (got w there r step) = ok-not_err result (rw r refl) h
+  newest_out_of_memory h (inserted absent v made step) = (v, made, err_is h step)
 
-  pub lacks_if_made : {E : Type 0} {makes : Result V E → Type 0} {result : Result Bool (GetOrInsertError E)}
+  pub out_of_memory_if_made : {E : Type 0} {makes : Result V E → Type 0} {result : Result Bool (GetOrInsertError E)}
       → result ≡ Err Memory → MakesNewestIfMade rules offers names hash_of makes i old result new
       → IsOutOfMemoryFor rules offers names hash_of (λ v. makes (Ok v)) i old new
-  lacks_if_made h (failed none e made r step) = absurd (grind (arith, sym r ∙ h))
-  lacks_if_made {E} h (as_made flag step r) = makes_lacks (is_err flag (sym r ∙ h)) step
+  out_of_memory_if_made h (failed none e made r step) = absurd (grind (arith, sym r ∙ h))
+  out_of_memory_if_made {E} h (as_made flag step r) = newest_out_of_memory (is_err flag (sym r ∙ h)) step
     where
       is_err : (flag : Result Bool AllocError)
           → ◌≡◌ {A = Result Bool (GetOrInsertError E)} (or_memory flag) (Err Memory) → IsErr flag

@@ -4,7 +4,7 @@ use Rattle.std.proofs.Common.{Option, Some, None, Result, refl, sym, ap, ◌∙�
 use Rattle.std.proofs.lemmas.Bool.Decides.{nat_tests}
 use Rattle.std.specs.declared.alloc.AllocError.{AllocError}
 use Rattle.lru_limits.specs.Rules.{Rules, Offers}
-use Rattle.lru_limits.specs.Stores.{plain, hands_over}
+use Rattle.lru_limits.specs.Stores.{plain, offers_if}
 use Rattle.lru_limits.specs.Limiters.{length_rules, length_offers}
 use Rattle.lru_model.specs.Sizes.{usage}
 use Rattle.lru_model.specs.Lists.{last, lookup_entry, without, set_entry}
@@ -46,23 +46,23 @@ module _ {K V : Type 0} (names : K → Bool) where
       go true h e = omega arith
       go false h e = omega (arith, h e)
 
-pub told_plain : {K V S : Type 0} (over grants : S → ℕ → Bool) (pair : Option (K × V)) (s : S)
+pub notified_plain : {K V S : Type 0} (over grants : S → ℕ → Bool) (pair : Option (K × V)) (s : S)
     → notified_of (plain over grants) pair s ≡ s
-told_plain over grants None s = refl
-told_plain over grants (Some pair) s = refl
+notified_plain over grants None s = refl
+notified_plain over grants (Some pair) s = refl
 
 module _ {K V S : Type 0} {over grants : S → ℕ → Bool} {admits : S → K → V → Bool} {names : K → K → Bool} where
   -- a limiter that ignores its notifications stays as it is
-  pub keeps_limiter : KeepsOffers (plain over grants) (hands_over admits) names (λ c d. d.limiter ≡ c.limiter)
+  pub keeps_limiter : KeepsOffers (plain over grants) (offers_if admits) names (λ c d. d.limiter ≡ c.limiter)
   keeps_limiter = record {
     keeps = record {
       way = record {
         self = λ c. refl;
         trans = λ p q. q ∙ p;
         asked = λ bytes c. refl;
-        popped = λ c. told_plain over grants (last c.pairs) c.limiter;
+        popped = λ c. notified_plain over grants (last c.pairs) c.limiter;
       };
-      left = λ test c. told_plain over grants (lookup_entry test c.pairs) c.limiter;
+      left = λ test c. notified_plain over grants (lookup_entry test c.pairs) c.limiter;
       dropped = λ newer older pair s. refl;
       first = λ test c. refl;
       last = λ test c. refl;
@@ -75,7 +75,7 @@ module _ {K V S : Type 0} {over grants : S → ℕ → Bool} {admits : S → K �
   }
 
 module _ {K V : Type 0} (f : K × V → ℕ) where
-  -- the total of what is left without a named pair is at most that of all
+  -- the total of what is left without a named pair is at most the total of all
   pub total-without : (names : K → Bool) (xs : List (K × V)) → total f (without names xs) ≤ total f xs
   total-without names xs = split-least f xs (lookup_entry names xs) (without names xs) (split_named f names xs)
 

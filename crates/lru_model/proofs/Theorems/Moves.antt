@@ -1,7 +1,7 @@
 -- The moves that calls make of the pairs and the limiter. What each move keeps, every call keeps.
 --     KeepsWay rules R                      the moves that make room
 --     Keeps rules R                         and all that need no offers
---     KeepsOffers rules offers names R      and those of an insert
+--     KeepsOffers rules offers names R      and the moves of an insert
 use Rattle.std.proofs.Common.{◌≡◌, ℕ, zero, suc, ◌+◌, Bool, true, false, cond, List, [], ◌∷◌, ◌++◌, length, Some, None}
 use Rattle.std.proofs.Common.{Result, sym, ap, subst}
 use Rattle.std.specs.declared.alloc.AllocError.{AllocError}

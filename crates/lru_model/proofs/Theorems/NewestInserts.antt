@@ -9,7 +9,7 @@ use Rattle.std.proofs.lemmas.Option.{none-some}
 use Rattle.std.specs.Prelude.{not, IsErr, nat_lt, option_map, unwrap_or}
 use Rattle.std.specs.declared.alloc.AllocError.{AllocError}
 use native.Mathlib.Decide.{dec_lt}
-use Rattle.lru_limits.specs.Stores.{HandsOver}
+use Rattle.lru_limits.specs.Stores.{ReturnsPairIf}
 use Rattle.lru_limits.specs.Limiters.{length_rules, length_offers}
 use Rattle.lru_model.specs.Sizes.{no_table}
 use Rattle.lru_model.specs.Lists.{is_empty, last, lookup_entry, without, without_last}
@@ -29,7 +29,7 @@ use Rattle.lru_model.proofs.PairLists.Emptiness.{is_empty-some}
 use Rattle.lru_model.proofs.TableSizes.ReachedTables.{has_table_of_half}
 use Rattle.lru_model.proofs.Theorems.Fronts.{without_none}
 use Rattle.lru_model.proofs.Theorems.GrantedGrowth.{insert_in_list, insert_with_room, place_granted}
-use Rattle.lru_model.proofs.Theorems.Limits.{told_plain, keeps_limiter, length-without_found}
+use Rattle.lru_model.proofs.Theorems.Limits.{notified_plain, keeps_limiter, length-without_found}
 use Rattle.lru_model.proofs.Theorems.RunLimits.{step_stays_short}
 use Rattle.lru_model.proofs.Theorems.Runs.{any_step_same, step_changes}
 
@@ -65,14 +65,14 @@ module _ {K V : Type 0} where
       go (yes full) = rw (lt-ltb most (length pairs + 1) full)
           (λ j. record {
             pairs = but_last (most - 1) pairs (omega (arith, full, few, some)) j;
-            limiter = told_plain (λ n length. nat_lt n length) (λ _ _. true) (last pairs) most j;
+            limiter = notified_plain (λ n length. nat_lt n length) (λ _ _. true) (last pairs) most j;
           })
       go (no loose) = rw (le-ltb most (length pairs + 1) (omega (arith, loose)))
           (ap (λ xs. record { pairs = xs; limiter = most }) (sym (take_all (most - 1) pairs (omega (arith, loose)))))
 
 -- a pair is returned to be stored only if the length is not 0
 more_than_none : {K V : Type 0} (most : ℕ) (key : K) (value : V) (s : ℕ) (pair : K × V)
-    → HandsOver (nat_lt 0 most) most key value s (Some pair) → 0 < most
+    → ReturnsPairIf (nat_lt 0 most) most key value s (Some pair) → 0 < most
 more_than_none most key value s pair n = elim (dec_lt 0 most) [
   | yes some ↦ some
   | no none ↦ absurd (none-some pair (sym (rw (le-ltb 0 most (omega (arith, none))) at n.pair)))
@@ -182,7 +182,7 @@ module _ {K V H : Type 0} (eq : K → K → Bool) (key : K) (value : V) (old : S
       (tables s pair n ready l))
       step)
     where
-      tables : (s : ℕ) (pair : K × V) → HandsOver (nat_lt 0 old.limiter) old.limiter key value s (Some pair)
+      tables : (s : ℕ) (pair : K × V) → ReturnsPairIf (nat_lt 0 old.limiter) old.limiter key value s (Some pair)
           → (ready : State K V ℕ H)
           → Leaves (record old { limiter = s }) (make_room length_rules (record { pairs = old.pairs; limiter = s }))
           ready

@@ -30,14 +30,14 @@ module _ {K V S : Type 0} where
 
 module _ {K V S : Type 0} (rules : Rules K V S) (leaves : ChangesNoPair rules) where
   -- a pair is put on the list as it was
-  told_same : (s : S) (pair : K × V)
+  notified_same : (s : S) (pair : K × V)
       → ((rules.on_removed s pair.0 pair.1).key, (rules.on_removed s pair.0 pair.1).value) ≡ pair
-  told_same s pair = λ j. (leaves.key s pair.0 pair.1 j, leaves.value s pair.0 pair.1 j)
+  notified_same s pair = λ j. (leaves.key s pair.0 pair.1 j, leaves.value s pair.0 pair.1 j)
 
   noted_same : (list : List (K × V)) (s : S) (pair : K × V)
       → list ++ ((rules.on_removed s pair.0 pair.1).key, (rules.on_removed s pair.0 pair.1).value) ∷ []
       ≡ list ++ pair ∷ []
-  noted_same list s pair = ap (λ p. list ++ p ∷ []) (told_same s pair)
+  noted_same list s pair = ap (λ p. list ++ p ∷ []) (notified_same s pair)
 
   pop_all : (pairs : List (K × V)) (s : S × List (K × V))
       → without_last pairs ++ reverse (notified_of (noting rules) (last pairs) s).1 ≡ pairs ++ reverse s.1
@@ -56,15 +56,15 @@ module _ {K V S : Type 0} (rules : Rules K V S) (leaves : ChangesNoPair rules) w
 
 module _ {K V S H I : Type 0} (rules : Rules K V S) (offers : Offers K V S I) (names : I → K → Bool)
     (leaves : ChangesNoPair rules) (i : I) (v : V) (old : State K V S H)
-    (result : Result Bool AllocError) (handed : List (K × V)) (new : State K V S H) where
+    (result : Result Bool AllocError) (passed : List (K × V)) (new : State K V S H) where
   abbrev EndsSo : Type 0
-  EndsSo = LosesNothing rules offers names i v old result handed new
+  EndsSo = LosesNothing rules offers names i v old result passed new
 
   -- a pair that the limiter returned is the last that is passed on
   turned : lookup_entry (names i) old.pairs ≡ None → (s : S) (pair : K × V)
       → MayGive rules offers names i v (contents old) s (Some pair) → (result ≡ Ok true → ⊥)
       → (mid : State K V (S × List (K × V)) H) → all_of (contents mid) ≡ old.pairs
-      → noted handed new ≡ unstored (noting rules) pair mid → EndsSo
+      → noted passed new ≡ unstored (noting rules) pair mid → EndsSo
   turned a s pair n untrue mid same e = pair_not_stored a s pair n untrue mid.limiter.1
       (ap (λ st. st.limiter.1) e ∙ noted_same rules leaves mid.limiter.1 mid.limiter.0 pair)
       (ap (λ st. st.pairs ++ reverse mid.limiter.1) e ∙ same)
@@ -74,9 +74,9 @@ module _ {K V S H I : Type 0} (rules : Rules K V S) (offers : Offers K V S I) (n
       → MayGive rules offers names i v (contents old) s (Some pair)
       → (outcome : Outcome) (ready mid landed : State K V (S × List (K × V)) H) → all_of (contents mid) ≡ old.pairs
       → Lands (noting rules) (λ _. Unit {0}) pair ready outcome mid landed
-      → Settles (noting rules) outcome landed result (noted handed new) → EndsSo
+      → Settles (noting rules) outcome landed result (noted passed new) → EndsSo
   settles a s pair n placed ready mid landed same l t = stored pair (given a s n) t.0
-      (leaves_keep (λ c d. all_of d ≡ all_of c) landed _ (noted handed new) t.1
+      (leaves_keep (λ c d. all_of d ≡ all_of c) landed _ (noted passed new) t.1
       (trim_keeps (noting rules) _ (way_all rules leaves) (contents landed))
       ∙ ap (λ st. all_of (contents st)) l.is.state
       ∙ ap (λ xs. pair ∷ xs) (same ∙ sym (without_none (names i) old.pairs a)))
@@ -85,9 +85,9 @@ module _ {K V S H I : Type 0} (rules : Rules K V S) (offers : Offers K V S I) (n
   settles a s pair n no_memory ready mid landed same l t =
       turned a s pair n (λ e. ok-not_err result (rw e refl) t.0) mid same (t.1 ∙ l)
 
-  pub loses_nothing : {hash_of : H → K → ℕ} → InsertPasses rules offers names hash_of i v old result handed new → EndsSo
+  pub loses_nothing : {hash_of : H → K → ℕ} → InsertPasses rules offers names hash_of i v old result passed new → EndsSo
   loses_nothing (replaced was found y r l) = stored _ (left was found y refl) r
-      (ap all_of (left_are _ _ (noted handed new) l)
+      (ap all_of (left_are _ _ (noted passed new) l)
       ∙ trim_keeps (noting rules) _ (way_all rules leaves) _ ∙ append-nil _)
   loses_nothing (not_replaced was found y r l) = value_rejected was found y r
       (ap (λ st. st.limiter.1) l.is ∙ noted_same rules leaves [] _ _)
@@ -121,11 +121,11 @@ contains_without names p other (x ∷ xs) has = go (names x.0) refl (contains_wi
     go false named later (inr there) = Contains-append_right (x ∷ []) (without names xs) p (later there)
 
 module _ {K V S H I : Type 0} {rules : Rules K V S} {offers : Offers K V S I} {names : I → K → Bool} {i : I} {v : V}
-    {old : State K V S H} {result : Result Bool AllocError} {handed : List (K × V)} {new : State K V S H} where
+    {old : State K V S H} {result : Result Bool AllocError} {passed : List (K × V)} {new : State K V S H} where
   -- if the result is true, the stored pair comes first
-  pub stored_first : LosesNothing rules offers names i v old result handed new → result ≡ Ok true
+  pub stored_first : LosesNothing rules offers names i v old result passed new → result ≡ Ok true
       → (pair : K × V) × Stores rules offers names i v old pair
-      × (new.pairs ++ reverse handed ≡ pair ∷ without (names i) old.pairs)
+      × (new.pairs ++ reverse passed ≡ pair ∷ without (names i) old.pairs)
   stored_first (stored pair stores r e) q = (pair, stores, e)
   stored_first (value_rejected was found y r h e) q = absurd (false≢true (same_kept false true (sym r ∙ q)))
   stored_first (nothing_to_store a (inl (k, r)) h e) q = ok-not_err result (rw q refl) r
@@ -133,8 +133,8 @@ module _ {K V S H I : Type 0} {rules : Rules K V S} {offers : Offers K V S I} {n
   stored_first (pair_not_stored a s pair n untrue evicted h e) q = absurd (untrue q)
 
   -- whatever it is, each pair of another key is left or passed on
-  pub others_kept : LosesNothing rules offers names i v old result handed new → (p : K × V) → names i p.0 ≡ false
-      → Contains old.pairs p → Contains new.pairs p ⊎ Contains handed p
+  pub others_kept : LosesNothing rules offers names i v old result passed new → (p : K × V) → names i p.0 ≡ false
+      → Contains old.pairs p → Contains new.pairs p ⊎ Contains passed p
   others_kept h p other has = go h
     where
       in_both : (xs list : List (K × V)) → Contains (xs ++ reverse list) p → Contains xs p ⊎ Contains list p
@@ -148,8 +148,8 @@ module _ {K V S H I : Type 0} {rules : Rules K V S} {offers : Offers K V S I} {n
       left_over : Contains (without (names i) old.pairs) p
       left_over = contains_without (names i) p other old.pairs has
 
-      go : LosesNothing rules offers names i v old result handed new → Contains new.pairs p ⊎ Contains handed p
-      go (stored pair stores r e) = in_both new.pairs handed
+      go : LosesNothing rules offers names i v old result passed new → Contains new.pairs p ⊎ Contains passed p
+      go (stored pair stores r e) = in_both new.pairs passed
           (subst (λ xs. Contains xs p) (sym e)
           (Contains-append_right (pair ∷ []) (without (names i) old.pairs) p left_over))
       go (value_rejected was found y r h e) = inl (subst (λ xs. Contains xs p) (sym e) left_over)

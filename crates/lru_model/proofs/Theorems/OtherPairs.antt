@@ -18,7 +18,7 @@ use Rattle.lru_model.specs.Retains.{retained}
 use Rattle.lru_model.specs.State.{State, contents}
 use Rattle.lru_model.specs.Theorems.{EvictsOldest, behind, with_none, without_one, others}
 use Rattle.lru_model.proofs.Theorems.AddedPairs.{reserve_stays}
-use Rattle.lru_model.proofs.Theorems.Fronts.{insert_gives_up, front_same, front_self, front_trans, front_trim}
+use Rattle.lru_model.proofs.Theorems.Fronts.{insert_evicts, front_same, front_self, front_trans, front_trim}
 use Rattle.lru_model.proofs.Theorems.Fronts.{front_without_last}
 use Rattle.lru_model.proofs.Theorems.Fronts.{found_named, replaced_named}
 use Rattle.lru_model.specs.Updates.{updated, rejected, not_there, with_updated}
@@ -97,69 +97,69 @@ module _ {K V : Type 0} (test : K → Bool) where
         go true e h = others_behind (x.0, value) xs (among x.0 e) ∙ sym (others_behind x xs (among x.0 e))
         go false e h = ap (λ l. cond (not (test x.0)) (x ∷ l) l) h
 
-    gives_up_others : (refuses : K × V → Type 0) (old new : List (K × V)) → EvictsOldest names refuses old new
+    evicts_others : (refuses : K × V → Type 0) (old new : List (K × V)) → EvictsOldest names refuses old new
         → IsFront (others test new) (others test old)
-    gives_up_others refuses old new (behind newest named f) = subst (IsFront (others test new))
+    evicts_others refuses old new (behind newest named f) = subst (IsFront (others test new))
         (others_behind newest (without names old) (among newest.0 named) ∙ others_without old)
         (front_others new (newest ∷ without names old) f)
-    gives_up_others refuses old new (with_none absent f) = front_others new old f
-    gives_up_others refuses old new (without_one pair found r e) = front_same (ap (others test) e ∙ others_without old)
+    evicts_others refuses old new (with_none absent f) = front_others new old f
+    evicts_others refuses old new (without_one pair found r e) = front_same (ap (others test) e ∙ others_without old)
 
 module _ {K V S H I : Type 0} {rules : Rules K V S} {offers : Offers K V S I} {names : I → K → Bool}
     {hash_of : H → K → ℕ} {eq : K → K → Bool} {query_input : I → List (List ℕ)} {key_input : K → List (List ℕ)}
     (looks_up : IsLookup names eq query_input key_input) (laws : IsInsertion names eq offers) (test : K → Bool) where
   -- a call evicts others from the old end alone
-  pub step_gives_up : (old new : State K V S H) (step : AnyStep rules offers names hash_of old new)
+  pub step_keeps_newest : (old new : State K V S H) (step : AnyStep rules offers names hash_of old new)
       → NamesOnly rules offers names hash_of test old new step → IsFront (others test new.pairs) (others test old.pairs)
-  step_gives_up old new (calls (inserts key value result h)) among =
-      gives_up_others test (names key) among _ old.pairs new.pairs
-      (insert_gives_up looks_up laws key value old result new h)
-  step_gives_up old new (calls (makes_newest value key result (got w f r e))) among =
+  step_keeps_newest old new (calls (inserts key value result h)) among =
+      evicts_others test (names key) among _ old.pairs new.pairs
+      (insert_evicts looks_up laws key value old result new h)
+  step_keeps_newest old new (calls (makes_newest value key result (got w f r e))) among =
       front_same (ap (λ st. others test st.pairs) e ∙ others_front test (names key) among old.pairs)
-  step_gives_up old new (calls (makes_newest value key result (inserted none v made h))) among =
-      gives_up_others test (names key) among _ old.pairs new.pairs
-      (insert_gives_up looks_up laws key v old result new h)
-  step_gives_up old new (calls (updates key value result (updated pair found y r l))) among =
+  step_keeps_newest old new (calls (makes_newest value key result (inserted none v made h))) among =
+      evicts_others test (names key) among _ old.pairs new.pairs
+      (insert_evicts looks_up laws key v old result new h)
+  step_keeps_newest old new (calls (updates key value result (updated pair found y r l))) among =
       subst (IsFront (others test new.pairs)) (others_set test (names key) among _
       (replaced_named rules offers names looks_up laws key value old pair found) old.pairs)
       (front_trans _ (others_same test new.pairs _ (ap (λ st. st.pairs) l.is))
       (front_others test _ _ (front_trim rules (with_updated rules offers names pair key value (contents old)))))
-  step_gives_up old new (calls (updates key value result (rejected pair found y r l))) among =
+  step_keeps_newest old new (calls (updates key value result (rejected pair found y r l))) among =
       front_same (ap (λ st. others test st.pairs) l.is ∙ others_without test (names key) among old.pairs)
-  step_gives_up old new (calls (updates key value result (not_there a r e))) among =
+  step_keeps_newest old new (calls (updates key value result (not_there a r e))) among =
       others_same test new.pairs old.pairs (ap (λ st. st.pairs) e)
-  step_gives_up old new (calls (gets named e)) among =
+  step_keeps_newest old new (calls (gets named e)) among =
       front_same (ap (λ st. others test st.pairs) e ∙ others_front test named among old.pairs)
-  step_gives_up old new (calls (demotes named e)) among =
+  step_keeps_newest old new (calls (demotes named e)) among =
       front_same (ap (λ st. others test st.pairs) e ∙ others_back test named among old.pairs)
-  step_gives_up old new (calls (removes named result h)) among =
+  step_keeps_newest old new (calls (removes named result h)) among =
       front_same (ap (λ st. others test st.pairs) h.state.is ∙ others_without test named among old.pairs)
-  step_gives_up old new (calls (pops_oldest result h)) among =
+  step_keeps_newest old new (calls (pops_oldest result h)) among =
       front_trans _ (others_same test new.pairs _ (ap (λ st. st.pairs) h.state.is))
       (front_others test _ old.pairs (front_without_last old.pairs))
-  step_gives_up old new (calls (pops_newest result h)) among = absurd among
-  step_gives_up old new (calls (drains newest oldest result h)) among =
+  step_keeps_newest old new (calls (pops_newest result h)) among = absurd among
+  step_keeps_newest old new (calls (drains newest oldest result h)) among =
       subst (λ xs. IsFront (others test xs) (others test old.pairs)) (sym (ap (λ st. st.pairs) h.state.2))
       (others test old.pairs, refl)
-  step_gives_up old new (calls (clears e)) among =
+  step_keeps_newest old new (calls (clears e)) among =
       subst (λ xs. IsFront (others test xs) (others test old.pairs)) (sym (ap (λ st. st.pairs) e))
       (others test old.pairs, refl)
-  step_gives_up old new (calls (reserves n result h)) among =
+  step_keeps_newest old new (calls (reserves n result h)) among =
       others_same test new.pairs old.pairs (reserve_stays rules n old new result h)
-  step_gives_up old new (calls (shrinks result h)) among =
+  step_keeps_newest old new (calls (shrinks result h)) among =
       others_same test new.pairs old.pairs (shrunk_list old result new h).0
-  step_gives_up old new (calls (trims h)) among =
+  step_keeps_newest old new (calls (trims h)) among =
       front_trans _ (others_same test new.pairs _ (ap (λ st. st.pairs) h.is))
       (front_others test _ old.pairs (front_trim rules (contents old)))
-  step_gives_up old new (calls (retains asked each h)) among =
+  step_keeps_newest old new (calls (retains asked each h)) among =
       front_same (ap (λ st. others test st.pairs) h.is ∙ others_retained test rules asked old.limiter among
       ∙ ap (others test) each)
-  step_gives_up old new (writes named value e) among =
+  step_keeps_newest old new (writes named value e) among =
       front_same (ap (λ st. others test st.pairs) e ∙ others_written test named among old.pairs value)
-  step_gives_up old new (sets_limiter s e) among = others_same test new.pairs old.pairs (ap (λ st. st.pairs) e)
+  step_keeps_newest old new (sets_limiter s e) among = others_same test new.pairs old.pairs (ap (λ st. st.pairs) e)
 
-  pub run_gives_up : (new old : State K V S H) → Run (StepAmong rules offers names hash_of test) new old
+  pub run_keeps_newest : (new old : State K V S H) → Run (StepAmong rules offers names hash_of test) new old
       → IsFront (others test new.pairs) (others test old.pairs)
-  run_gives_up new old ends = front_self (others test new.pairs)
-  run_gives_up new old (goes_on mid step sized run) =
-      front_trans _ (run_gives_up new mid run) (step_gives_up old mid step.0 step.1)
+  run_keeps_newest new old ends = front_self (others test new.pairs)
+  run_keeps_newest new old (goes_on mid step sized run) =
+      front_trans _ (run_keeps_newest new mid run) (step_keeps_newest old mid step.0 step.1)

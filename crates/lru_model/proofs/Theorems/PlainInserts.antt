@@ -39,15 +39,15 @@ module _ {K V S : Type 0} where
   plain_contents c = record { pairs = c.pairs; limiter = c.limiter.0 }
 
 module _ {K V S : Type 0} (rules : Rules K V S) where
-  plain_told : (was : Option (K × V)) (s : S × List (K × V)) → (notified_of (noting rules) was s).0 ≡ notified_of
+  plain_notified : (was : Option (K × V)) (s : S × List (K × V)) → (notified_of (noting rules) was s).0 ≡ notified_of
       rules was s.0
-  plain_told None s = refl
-  plain_told (Some pair) s = refl
+  plain_notified None s = refl
+  plain_notified (Some pair) s = refl
 
   plain_pop : (c : Contents K V (S × List (K × V)))
       → plain_contents (pop (noting rules) c) ≡ pop rules (plain_contents c)
   plain_pop c = ap {A = S} {B = Contents K V S} (λ s. record { pairs = (pop (noting rules) c).pairs; limiter = s })
-      (plain_told (last c.pairs) c.limiter)
+      (plain_notified (last c.pairs) c.limiter)
 
   plain_if : (b : Bool) (c d : Contents K V (S × List (K × V))) (p q : Contents K V S) → plain_contents c ≡ p
       → plain_contents d ≡ q → plain_contents (if b then c else d) ≡ (if b then p else q)
@@ -97,10 +97,10 @@ module _ {K V S H : Type 0} (rules : Rules K V S) where
   plain_gone : (hash n : ℕ) (old new : State K V (S × List (K × V)) H) → OldestEvicted (noting rules) hash n old new
       → OldestEvicted rules hash n (plain old) (plain new)
   plain_gone hash zero old new h = ap plain h
-  plain_gone hash (suc n) old new (before, gone, no_place, leaves) = (
+  plain_gone hash (suc n) old new (before, gone, no_bucket, leaves) = (
     plain before,
     plain_gone hash n old before gone,
-    no_place,
+    no_bucket,
     plain_leaves before new (pop (noting rules) (contents before)) (pop rules (contents (plain before)))
         (plain_pop rules (contents before)) leaves,
   )
@@ -169,7 +169,7 @@ module _ {K V S H I : Type 0} {rules : Rules K V S} {offers : Offers K V S I} {n
       replaced pair there taken r (plain_leaves old new _ _ (plain_trim rules _) leaves)
   plain_insert_of old new (not_replaced pair there untaken r leaves) =
       not_replaced pair there untaken r (plain_leaves old new _ _ refl leaves)
-  plain_insert_of old new (no_memory_to_admit absent lacks r e) = no_memory_to_admit absent lacks r (ap plain e)
+  plain_insert_of old new (no_memory_to_admit absent out_of_memory r e) = no_memory_to_admit absent out_of_memory r (ap plain e)
   plain_insert_of old new (not_admitted absent s given r e) = not_admitted absent s.0 given.0 r (ap plain e)
   plain_insert_of old new (admitted absent s pair given places) =
       admitted absent s.0 pair given.0 (plain_places rules hash_of pair _ result new places)
@@ -208,13 +208,13 @@ module _ {K V S : Type 0} (rules : Rules K V S) where
   plain_retained ((pair, false) ∷ older) s = ap {A = Contents K V S} {B = Contents K V S}
       (λ c. record { pairs = c.pairs; limiter = notified_of rules (Some pair) c.limiter }) (plain_retained older s)
 
-  pub plain_retains : {H F : Type 0} (closure : Mut F (Bor K × (Bor V × Unit {0})) Bool) (f : F) (handed : List (K × V))
-      (old new : State K V S H) → RetainPasses rules closure f old handed new → Retains closure rules f old new
-  plain_retains closure f handed old new step = record {
+  pub plain_retains : {H F : Type 0} (closure : Mut F (Bor K × (Bor V × Unit {0})) Bool) (f : F) (passed : List (K × V))
+      (old new : State K V S H) → RetainPasses rules closure f old passed new → Retains closure rules f old new
+  plain_retains closure f passed old new step = record {
     asked = step.asked;
     each = step.each;
     last = step.last;
     answers = step.answers;
-    state = plain_leaves (noted [] old) (noted handed new) _ (retained rules step.asked old.limiter)
+    state = plain_leaves (noted [] old) (noted passed new) _ (retained rules step.asked old.limiter)
         (plain_retained step.asked (old.limiter, [])) step.state;
   }

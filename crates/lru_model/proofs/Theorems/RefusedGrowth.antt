@@ -10,7 +10,7 @@ use Rattle.lru_model.specs.Sizes.{no_table, new_table}
 use Rattle.lru_model.specs.Place.{Place, in_bucket, rehashed, grown, not_grown}
 use Rattle.lru_model.specs.Place.{nothing_to_evict, finds_bucket, rehashes}
 use Rattle.lru_model.specs.Place.{CannotGrow, no_target, denied, Outcome, placed, refused, no_memory, IsPlaced}
-use Rattle.lru_model.specs.Place.{IsPlacedIfMemory, Grants, asked, table_for, IsFullWithPairs, FillsBucket}
+use Rattle.lru_model.specs.Place.{IsPlacedIfMemory, Grants, asked, table_for, HasPairsButNoGrowth, FillsBucket}
 use Rattle.lru_model.specs.Place.{OldestEvicted}
 use Rattle.lru_model.specs.Theorems.{IsRefusedGrowth}
 use Rattle.lru_model.proofs.States.Outcomes.{placed-not_no_memory, refused-not_no_memory, refused-not_placed}
@@ -63,13 +63,13 @@ module _ {K V S H : Type 0} (rules : Rules K V S) (hash_of : H → K → ℕ) (p
       ∙ ap (λ st. length st.pairs - n) (known_is rules old mid c)
 
   -- growth is refused, n of the oldest are evicted, and the pair is stored with the others
-  gives_way : IsFullWithPairs old → full_capacity (buckets old) / 2 < length old.pairs + 1 → (mid : State K V S H)
+  eviction_keeps_half : HasPairsButNoGrowth old → full_capacity (buckets old) / 2 < length old.pairs + 1 → (mid : State K V S H)
       → CannotGrow rules old mid → (n : ℕ) → (buckets old ≤ 16 → n ≡ 1)
       → (left : State K V S H) → OldestEvicted rules (hash_of old.hasher pair.0) n mid left → (new : State K V S H)
       → (length left.pairs ≡ length old.pairs - n → full_capacity (buckets old) / 2 ≤ suc (length left.pairs))
       → new.pairs ≡ pair ∷ left.pairs → buckets new ≡ buckets old
       → KeepsAll new ⊎ (IsRefusedGrowth rules old × GivesWay new)
-  gives_way f l mid c n one left gone new half there same = inr (
+  eviction_keeps_half f l mid c n one left gone new half there same = inr (
     record { is_full = f; above_half = l; known = mid; refused = c },
     record {
       half = omega (arith, ap length there, half (left_length n mid left c gone));
@@ -102,39 +102,39 @@ module _ {K V S H : Type 0} (rules : Rules K V S) (hash_of : H → K → ℕ) (p
       })
   place_keeps outcome new q (not_grown b mid c (nothing_to_evict e o n)) = refused-not_placed (sym o ∙ q)
   place_keeps outcome new q (not_grown b mid c (finds_bucket n pos one half left gone fills o p)) =
-      gives_way (omega (arith, pos, half), b.no_bucket.no_room) b.above_half mid c n one left gone new
+      eviction_keeps_half (omega (arith, pos, half), b.no_bucket.no_room) b.above_half mid c n one left gone new
       (λ taken. omega (arith, half, taken)) (ap (λ st. st.pairs) p.state) p.table
   place_keeps outcome new q (not_grown b mid c (rehashes some n pos one half left gone m)) =
       let p = placed_if left new _ _ _ outcome q m in
-      gives_way (some, b.no_bucket.no_room) b.above_half mid c n one left gone new
+      eviction_keeps_half (some, b.no_bucket.no_room) b.above_half mid c n one left gone new
       (λ taken. omega (arith, half, taken)) (ap (λ st. st.pairs) p.state) p.table
 
   -- if memory runs out after that, at least one fewer than half are left
-  pub place_lacks_half : IsRefusedGrowth rules old → (outcome : Outcome) (new : State K V S H) → outcome ≡ no_memory
+  pub place_runs_out_half : IsRefusedGrowth rules old → (outcome : Outcome) (new : State K V S H) → outcome ≡ no_memory
       → Place rules hash_of pair old outcome new
       → full_capacity (buckets old) / 2 ≤ length new.pairs + 1
-  place_lacks_half refusal outcome new q (in_bucket l f s o n) = placed-not_no_memory (sym o ∙ q)
-  place_lacks_half refusal outcome new q (rehashed b l some m) = absurd (omega (arith, l, refusal.above_half))
-  place_lacks_half refusal outcome new q (grown b count bytes t g m) =
+  place_runs_out_half refusal outcome new q (in_bucket l f s o n) = placed-not_no_memory (sym o ∙ q)
+  place_runs_out_half refusal outcome new q (rehashed b l some m) = absurd (omega (arith, l, refusal.above_half))
+  place_runs_out_half refusal outcome new q (grown b count bytes t g m) =
       not_granted count bytes t g refusal.known refusal.refused
-  place_lacks_half refusal outcome new q (not_grown b mid c (nothing_to_evict e o n)) =
+  place_runs_out_half refusal outcome new q (not_grown b mid c (nothing_to_evict e o n)) =
       refused-not_no_memory (sym o ∙ q)
-  place_lacks_half refusal outcome new q (not_grown b mid c (finds_bucket n pos one half left gone fills o p)) =
+  place_runs_out_half refusal outcome new q (not_grown b mid c (finds_bucket n pos one half left gone fills o p)) =
       placed-not_no_memory (sym o ∙ q)
-  place_lacks_half refusal outcome new q (not_grown b mid c (rehashes some n pos one half left gone m)) =
+  place_runs_out_half refusal outcome new q (not_grown b mid c (rehashes some n pos one half left gone m)) =
       omega (arith, ap length (left_if left new _ _ _ outcome q m), left_length n mid left c gone, half)
 
   -- if memory runs out, all pairs are left, or growth was refused
-  pub place_lacks_keeps : (outcome : Outcome) (new : State K V S H) → outcome ≡ no_memory
+  pub place_runs_out_keeps : (outcome : Outcome) (new : State K V S H) → outcome ≡ no_memory
       → Place rules hash_of pair old outcome new → (new.pairs ≡ old.pairs) ⊎ IsRefusedGrowth rules old
-  place_lacks_keeps outcome new q (in_bucket l f s o n) = placed-not_no_memory (sym o ∙ q)
-  place_lacks_keeps outcome new q (rehashed b l some m) = inl (left_if old new _ _ _ outcome q m)
-  place_lacks_keeps outcome new q (grown b count bytes t g m) = inl
+  place_runs_out_keeps outcome new q (in_bucket l f s o n) = placed-not_no_memory (sym o ∙ q)
+  place_runs_out_keeps outcome new q (rehashed b l some m) = inl (left_if old new _ _ _ outcome q m)
+  place_runs_out_keeps outcome new q (grown b count bytes t g m) = inl
       (left_if (asked rules bytes old) new _ _ _ outcome q m)
-  place_lacks_keeps outcome new q (not_grown b mid c (nothing_to_evict e o n)) = refused-not_no_memory (sym o ∙ q)
-  place_lacks_keeps outcome new q (not_grown b mid c (finds_bucket n pos one half left gone fills o p)) =
+  place_runs_out_keeps outcome new q (not_grown b mid c (nothing_to_evict e o n)) = refused-not_no_memory (sym o ∙ q)
+  place_runs_out_keeps outcome new q (not_grown b mid c (finds_bucket n pos one half left gone fills o p)) =
       placed-not_no_memory (sym o ∙ q)
-  place_lacks_keeps outcome new q (not_grown b mid c (rehashes some n pos one half left gone m)) = inr
+  place_runs_out_keeps outcome new q (not_grown b mid c (rehashes some n pos one half left gone m)) = inr
       (record {
         is_full = (some, b.no_bucket.no_room);
         above_half = b.above_half;

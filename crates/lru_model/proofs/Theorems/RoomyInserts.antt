@@ -53,10 +53,10 @@ module _ {K V S H I : Type 0} (rules : Rules K V S) (offers : Offers K V S I) (n
 module _ {K V S H I : Type 0} (rules : Rules K V S) (offers : Offers K V S I) (names : I → K → Bool) (i : I) (v : V)
     (pair : K × V) (old : State K V S H) (result : Result Bool AllocError) (new : State K V S H) where
   -- the limiter together with a list accepts it too, so the list stays
-  pub hands_nothing : {hash_of : H → K → ℕ} (handed : List (K × V))
+  pub passes_nothing : {hash_of : H → K → ℕ} (passed : List (K × V))
       → AcceptsNew rules offers names i v (contents old) pair
       → lookup_entry (names i) old.pairs ≡ None → 0 < room old
-      → InsertPasses rules offers names hash_of i v old result handed new → handed ≡ []
-  hands_nothing handed w absent some step =
-      (is_added (noting rules) (noting_offers offers) names i v pair (noted [] old) result (noted handed new)
+      → InsertPasses rules offers names hash_of i v old result passed new → passed ≡ []
+  passes_nothing passed w absent some step =
+      (is_added (noting rules) (noting_offers offers) names i v pair (noted [] old) result (noted passed new)
       (record { finds = w.finds; gives = λ s given n. w.gives s.0 given n.0 }) absent some step).limiter.1

@@ -30,7 +30,7 @@ use Rattle.lru_model.proofs.Theorems.CallChanges.{reserve_changes, makes_newest_
 use Rattle.lru_model.proofs.Theorems.Shrinks.{shrink_changes, shrink_pays, shrink_kept}
 
 module _ {K V S H : Type 0} where
-  -- moves are paid for, also those of entries that are rehashed
+  -- moves are paid for, and moves of entries that shrinks rehash, too
   abbrev pub Pays : State K V S H → State K V S H → Type 0
   Pays old new = (anew : ℕ) × RehashedByShrink anew old new × PaysForMoves anew old new
 

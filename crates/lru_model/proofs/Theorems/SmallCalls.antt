@@ -59,12 +59,12 @@ abbrev pub is_memory : Result (Unit {0}) ReserveError → Bool
 is_memory (Err Memory) = true
 is_memory result = false
 
-module _ {K V S H : Type 0} (rules : Rules K V S) (n : ℕ) (lacks : Bool) where
+module _ {K V S H : Type 0} (rules : Rules K V S) (n : ℕ) (runs_out : Bool) where
   abbrev reserve_to : Target → Shape K V S H → Result (Unit {0}) ReserveError × Shape K V S H
   reserve_to no_table sh = (Err TooLarge, sh)
-  reserve_to same_table sh = cond lacks (Err Memory, sh) (Ok tt, moved_to sh.count sh)
+  reserve_to same_table sh = cond runs_out (Err Memory, sh) (Ok tt, moved_to sh.count sh)
   reserve_to (new_table count bytes) sh = let g = rules.on_grow sh.bare.limiter bytes in
-      cond g.allowed (cond lacks (Err Memory, relimited g.limiter sh) (Ok tt, moved_to count (relimited g.limiter sh)))
+      cond g.allowed (cond runs_out (Err Memory, relimited g.limiter sh) (Ok tt, moved_to count (relimited g.limiter sh)))
       (Err Refused, relimited g.limiter sh)
 
   -- what a reservation returns and makes of a shape, if memory runs out or not
@@ -76,9 +76,9 @@ module _ {K V S H : Type 0} (rules : Rules K V S) (n : ℕ) (lacks : Bool) where
       else (Err TooLarge, sh)
 
 module _ {K V S H : Type 0} (rules : Rules K V S) (n : ℕ) (old : State K V S H) where
-  lacks_room : (lacks : Bool) → NeedsGrowthFor n old
-      → reserve_in rules n lacks (shape old) ≡ reserve_to rules n lacks (table_for n old) (shape old)
-  lacks_room lacks l = rw (lt-ltb (length old.pairs + n) (2 ^ 64) l.1, lt-leb n (room old) l.0) refl
+  needs_growth_is : (runs_out : Bool) → NeedsGrowthFor n old
+      → reserve_in rules n runs_out (shape old) ≡ reserve_to rules n runs_out (table_for n old) (shape old)
+  needs_growth_is runs_out l = rw (lt-ltb (length old.pairs + n) (2 ^ 64) l.1, lt-leb n (room old) l.0) refl
 
   pub reserve_is : (result : Result (Unit {0}) ReserveError) (new : State K V S H) → Reserve rules n old result new
       → reserve_in rules n (is_memory result) (shape old) ≡ (result, shape new)
@@ -86,30 +86,30 @@ module _ {K V S H : Type 0} (rules : Rules K V S) (n : ℕ) (old : State K V S H
       rw (r, lt-ltb (length old.pairs + n) (2 ^ 64) l, le-leb n (room old) s) (ap (λ st. (Ok tt, shape st)) (sym e))
   reserve_is result new (unchanged (too_many l r) e) =
       rw (r, le-ltb (length old.pairs + n) (2 ^ 64) l) (ap (λ st. (Err TooLarge, shape st)) (sym e))
-  reserve_is result new (unchanged (no_such_table l t r) e) = lacks_room (is_memory result) l
+  reserve_is result new (unchanged (no_such_table l t r) e) = needs_growth_is (is_memory result) l
       ∙ rw (t, r) (ap (λ st. (Err TooLarge, shape st)) (sym e))
-  reserve_is result new (rehashed l t r m) = lacks_room (is_memory result) l
+  reserve_is result new (rehashed l t r m) = needs_growth_is (is_memory result) l
       ∙ rw (t, r) (ap (λ sh. (Ok tt, sh)) (sym (moved_shape _ old new m)))
-  reserve_is result new (unchanged (no_memory_to_rehash l t p r) e) = lacks_room (is_memory result) l
+  reserve_is result new (unchanged (no_memory_to_rehash l t p r) e) = needs_growth_is (is_memory result) l
       ∙ rw (t, r) (ap (λ st. (Err Memory, shape st)) (sym e))
-  reserve_is result new (reserved l count bytes t g r m) = lacks_room (is_memory result) l
+  reserve_is result new (reserved l count bytes t g r m) = needs_growth_is (is_memory result) l
       ∙ rw (t, g, r) (ap (λ sh. (Ok tt, sh)) (sym (moved_shape count (asked rules bytes old) new m)))
-  reserve_is result new (asked_only l count bytes t (inl (g, r)) e) = lacks_room (is_memory result) l
+  reserve_is result new (asked_only l count bytes t (inl (g, r)) e) = needs_growth_is (is_memory result) l
       ∙ rw (t, g, r) (ap (λ st. (Err Memory, shape st)) (sym e))
-  reserve_is result new (asked_only l count bytes t (inr (d, r)) e) = lacks_room (is_memory result) l
+  reserve_is result new (asked_only l count bytes t (inr (d, r)) e) = needs_growth_is (is_memory result) l
       ∙ rw (t, d, r) (ap (λ st. (Err Refused, shape st)) (sym e))
 
 module _ {K V S H : Type 0} where
   -- what a shrink into the buckets that the pairs need returns and makes of a shape, if memory runs out or not
   abbrev shrink_to : Option ℕ → Bool → Shape K V S H → Option Bool × Shape K V S H
-  shrink_to None lacks sh = (Some false, sh)
-  shrink_to (Some count) lacks sh =
+  shrink_to None runs_out sh = (Some false, sh)
+  shrink_to (Some count) runs_out sh =
       if nat_lt count sh.count then
-      cond lacks (None, sh) (Some true, moved_to count (record sh { bare = shrink_counted sh.bare }))
+      cond runs_out (None, sh) (Some true, moved_to count (record sh { bare = shrink_counted sh.bare }))
       else (Some false, sh)
 
   abbrev shrink_in : Bool → Shape K V S H → Option Bool × Shape K V S H
-  shrink_in lacks sh = shrink_to (buckets_for sh.bare.max (length sh.bare.pairs)) lacks sh
+  shrink_in runs_out sh = shrink_to (buckets_for sh.bare.max (length sh.bare.pairs)) runs_out sh
 
   shrink_is : (old : State K V S H) (result : Result Bool AllocError) (new : State K V S H) → Shrink old result new
       → shrink_in (is_err result) (shape old) ≡ (said result, shape new)

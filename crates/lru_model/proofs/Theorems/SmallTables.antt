@@ -6,7 +6,7 @@ use Rattle.std.specs.declared.alloc.AllocError.{AllocError}
 use Rattle.std.proofs.lemmas.Bool.{lt-ltb, le-ltb, le-leb, lt-leb}
 use Rattle.group_table.specs.Sizes.{full_capacity}
 use Rattle.lru_limits.specs.Rules.{Rules, Offers}
-use Rattle.lru_model.specs.Exact.{LookAlike, IsDetermined, NeverLacks}
+use Rattle.lru_model.specs.Exact.{LookAlike, IsDetermined, NeverRunsOut}
 use Rattle.lru_model.specs.Inserts.{Insert, replaced, not_replaced, no_memory_to_admit, not_admitted, admitted}
 use Rattle.lru_model.specs.Inserts.{make_room}
 use Rattle.lru_model.specs.Inserts.{MayGive, replacement, with_replaced, with_removed, Settles}
@@ -82,18 +82,18 @@ module _ {K V S H : Type 0} where
       elim fills.spends [ inl e ↦ e.1 | inr d ↦ absurd (omega (arith, small, d.1)) ]
 
 -- whether memory ran out
-abbrev pub lacks_memory : Outcome → Bool
-lacks_memory no_memory = true
-lacks_memory placed = false
-lacks_memory refused = false
+abbrev pub is_no_memory : Outcome → Bool
+is_no_memory no_memory = true
+is_no_memory placed = false
+is_no_memory refused = false
 
 -- What an insertion makes of a shape, if memory runs out or not.
-module _ {K V S H : Type 0} (rules : Rules K V S) (pair : K × V) (lacks : Bool) where
+module _ {K V S H : Type 0} (rules : Rules K V S) (pair : K × V) (runs_out : Bool) where
   abbrev turned : Shape K V S H → Shape K V S H
   turned sh = relimited (rules.on_removed sh.bare.limiter pair.0 pair.1).limiter sh
 
   abbrev if_memory : Shape K V S H → ℕ → ℕ → ℕ → Outcome × Shape K V S H
-  if_memory sh count spare moves = cond lacks (no_memory, turned sh) (placed, landed pair sh count spare moves)
+  if_memory sh count spare moves = cond runs_out (no_memory, turned sh) (placed, landed pair sh count spare moves)
 
   -- the oldest is evicted for it, or it is not stored if there is none
   abbrev evict : Shape K V S H → Outcome × Shape K V S H
@@ -120,7 +120,7 @@ module _ {K V S H : Type 0} (rules : Rules K V S) (pair : K × V) (lacks : Bool)
 module _ {K V S H : Type 0} (rules : Rules K V S) (hash_of : H → K → ℕ) (pair : K × V) where
   if_memory_is : (st : State K V S H) (count spare moves : ℕ) (outcome : Outcome) (new : State K V S H)
       → IsPlacedIfMemory rules pair count spare moves st outcome new
-      → if_memory rules pair (lacks_memory outcome) (shape st) count spare moves ≡ (outcome, shape new)
+      → if_memory rules pair (is_no_memory outcome) (shape st) count spare moves ≡ (outcome, shape new)
   if_memory_is st count spare moves placed new h =
       ap (λ sh. (placed, sh)) (sym (landed_shape pair count spare moves st new h))
   if_memory_is st count spare moves no_memory new h = ap (λ st. (no_memory, shape st)) (sym h)
@@ -139,12 +139,12 @@ module _ {K V S H : Type 0} (rules : Rules K V S) (hash_of : H → K → ℕ) (p
     same_length : length old.pairs ≡ length mid.pairs
     same_length = sym (ap (λ st. length st.pairs) (known_is rules old mid cannot))
 
-    grow_evicts : (lacks : Bool) → grow rules pair lacks (table_for 1 old) (shape old)
-        ≡ evict rules pair lacks (shape mid)
-    grow_evicts lacks = go cannot
+    grow_evicts : (runs_out : Bool) → grow rules pair runs_out (table_for 1 old) (shape old)
+        ≡ evict rules pair runs_out (shape mid)
+    grow_evicts runs_out = go cannot
       where
-        go : CannotGrow rules old mid → grow rules pair lacks (table_for 1 old) (shape old)
-            ≡ evict rules pair lacks (shape mid)
+        go : CannotGrow rules old mid → grow rules pair runs_out (table_for 1 old) (shape old)
+            ≡ evict rules pair runs_out (shape mid)
         go (no_target t e) = rw (t, e) refl
         go (denied count bytes t d e) = rw (t, d, e) refl
 
@@ -158,7 +158,7 @@ module _ {K V S H : Type 0} (rules : Rules K V S) (hash_of : H → K → ℕ) (p
         → OldestEvicted rules (hash_of old.hasher pair.0) n mid left
         → FillsBucket (hash_of old.hasher pair.0) left.table new.table
         → outcome ≡ placed → IsPlaced pair (buckets old) (room new) 0 left new
-        → evict rules pair (lacks_memory outcome) (shape mid) ≡ (outcome, shape new)
+        → evict rules pair (is_no_memory outcome) (shape mid) ≡ (outcome, shape new)
     found_is n left new outcome one half gone fills o p =
         let is = one_left n left one gone in
         let half_of = ap full_capacity same_table_mid in
@@ -180,7 +180,7 @@ module _ {K V S H : Type 0} (rules : Rules K V S) (hash_of : H → K → ℕ) (p
         → OldestEvicted rules (hash_of old.hasher pair.0) n mid left
         → IsPlacedIfMemory rules pair (buckets old) (full_capacity (buckets old) / 2) (length left.pairs) left outcome
         new
-        → evict rules pair (lacks_memory outcome) (shape mid) ≡ (outcome, shape new)
+        → evict rules pair (is_no_memory outcome) (shape mid) ≡ (outcome, shape new)
     anew_is some n left new outcome one half gone m =
         let is = one_left n left one gone in
         let half_of = ap full_capacity same_table_mid in
@@ -188,21 +188,21 @@ module _ {K V S H : Type 0} (rules : Rules K V S) (hash_of : H → K → ℕ) (p
           is_empty-some mid.pairs (omega (arith, some, same_length)),
           lt-leb (full_capacity (buckets mid) / 2 + 1) (length mid.pairs)
               (omega (arith, half, half_of, one, same_length)),
-        ) ((λ j. if_memory rules pair (lacks_memory outcome) (sym is j) (sym same_table_mid j)
+        ) ((λ j. if_memory rules pair (is_no_memory outcome) (sym is j) (sym same_table_mid j)
         (full_capacity (sym same_table_mid j) / 2) (length (sym is j).bare.pairs))
         ∙ if_memory_is left _ _ _ outcome new m)
 
   module _ (old : State K V S H) (small : buckets old ≤ 16) where
-    full_grows : (lacks : Bool) → IsOutgrown (hash_of old.hasher pair.0) old
-        → place_in rules pair lacks (shape old) ≡ grow rules pair lacks (table_for 1 old) (shape old)
-    full_grows lacks b = rw (
+    full_grows : (runs_out : Bool) → IsOutgrown (hash_of old.hasher pair.0) old
+        → place_in rules pair runs_out (shape old) ≡ grow rules pair runs_out (table_for 1 old) (shape old)
+    full_grows runs_out b = rw (
       le-ltb 0 (room old) (le_of_eq b.no_bucket.no_room),
       lt-leb (length old.pairs + 1) (full_capacity (buckets old) / 2) b.above_half,
     ) refl
 
     -- a placing makes this of the shape
     pub place_is : (outcome : Outcome) (new : State K V S H) → Place rules hash_of pair old outcome new
-        → place_in rules pair (lacks_memory outcome) (shape old) ≡ (outcome, shape new)
+        → place_in rules pair (is_no_memory outcome) (shape old) ≡ (outcome, shape new)
     place_is outcome new (in_bucket l f s o n) = let spends = fills_one _ old new small s in
         rw (lt-ltb 0 (room old) (omega (arith, spends)))
         (placed_is old _ _ _ outcome new o n _ (omega (arith, spends)))
@@ -210,17 +210,17 @@ module _ {K V S H : Type 0} (rules : Rules K V S) (hash_of : H → K → ℕ) (p
       le-ltb 0 (room old) (le_of_eq b.no_room),
       le-leb (length old.pairs + 1) (full_capacity (buckets old) / 2) l,
     ) (if_memory_is old _ _ _ outcome new m)
-    place_is outcome new (grown b count bytes t g m) = full_grows (lacks_memory outcome) b
+    place_is outcome new (grown b count bytes t g m) = full_grows (is_no_memory outcome) b
         ∙ rw (t, g) (if_memory_is (asked rules bytes old) _ _ _ outcome new m)
     place_is outcome new (not_grown b mid c (nothing_to_evict e o n)) =
-        full_grows (lacks_memory outcome) b ∙ grow_evicts old mid small c (lacks_memory outcome)
+        full_grows (is_no_memory outcome) b ∙ grow_evicts old mid small c (is_no_memory outcome)
         ∙ rw (ap is_empty (ap (λ st. st.pairs) (known_is rules old mid c) ∙ e), o)
         (ap (λ st. (refused, shape st)) (sym n))
     place_is outcome new (not_grown b mid c (finds_bucket n pos one half left gone fills o p)) =
-        full_grows (lacks_memory outcome) b ∙ grow_evicts old mid small c (lacks_memory outcome)
+        full_grows (is_no_memory outcome) b ∙ grow_evicts old mid small c (is_no_memory outcome)
         ∙ found_is old mid small c n left new outcome (one small) half gone fills o p
     place_is outcome new (not_grown b mid c (rehashes some n pos one half left gone m)) =
-        full_grows (lacks_memory outcome) b ∙ grow_evicts old mid small c (lacks_memory outcome)
+        full_grows (is_no_memory outcome) b ∙ grow_evicts old mid small c (is_no_memory outcome)
         ∙ anew_is old mid small c some n left new outcome (one small) half gone m
 
 -- the flag of an answer, if it has one
@@ -261,11 +261,11 @@ module _ {K V S H : Type 0} (rules : Rules K V S) where
   settled_is refused mid result new small s = rw s.0 (ap (λ st. (Some false, shape st)) (sym s.1))
   settled_is no_memory mid result new small s = rw (said_err result s.0) (ap (λ st. (None, shape st)) (sym s.1))
 
-  lacks_is : (outcome : Outcome) (mid : State K V S H) (result : Result Bool AllocError) (new : State K V S H)
-      → Settles rules outcome mid result new → is_err result ≡ lacks_memory outcome
-  lacks_is placed mid result new s = ap is_err s.0
-  lacks_is refused mid result new s = ap is_err s.0
-  lacks_is no_memory mid result new s = s.0
+  no_memory_is : (outcome : Outcome) (mid : State K V S H) (result : Result Bool AllocError) (new : State K V S H)
+      → Settles rules outcome mid result new → is_err result ≡ is_no_memory outcome
+  no_memory_is placed mid result new s = ap is_err s.0
+  no_memory_is refused mid result new s = ap is_err s.0
+  no_memory_is no_memory mid result new s = s.0
 
 module _ {K V S H I : Type 0} (rules : Rules K V S) (offers : Offers K V S I) (names : I → K → Bool) (i : I) (v : V)
   where
@@ -278,26 +278,26 @@ module _ {K V S H I : Type 0} (rules : Rules K V S) (offers : Offers K V S I) (n
         (Some false, with_left (with_removed rules offers names pair i v (contents sh.bare)) sh)
 
     abbrev ends_new : Bool → Shape K V S H → S → Option (K × V) → Option Bool × Shape K V S H
-    ends_new lacks sh s None = (Some false, relimited s sh)
-    ends_new lacks sh s (Some pair) = settles (place_in rules pair lacks
+    ends_new runs_out sh s None = (Some false, relimited s sh)
+    ends_new runs_out sh s (Some pair) = settles (place_in rules pair runs_out
         (with_left (make_room rules (record { pairs = sh.bare.pairs; limiter = s })) (relimited s sh)))
 
     abbrev EndsBy : Bool → Shape K V S H → Option (K × V) → Option Bool × Shape K V S H → Type 0
-    EndsBy lacks sh (Some pair) ended = ends_there pair sh ≡ ended
-    EndsBy lacks sh None ended = (s : S) × (given : Option (K × V))
-        × MayGive rules offers names i v (contents sh.bare) s given × (ends_new lacks sh s given ≡ ended)
+    EndsBy runs_out sh (Some pair) ended = ends_there pair sh ≡ ended
+    EndsBy runs_out sh None ended = (s : S) × (given : Option (K × V))
+        × MayGive rules offers names i v (contents sh.bare) s given × (ends_new runs_out sh s given ≡ ended)
 
     abbrev Ends : Bool → Shape K V S H → Option Bool × Shape K V S H → Type 0
-    Ends lacks sh ended = EndsBy lacks sh (lookup_entry (names i) sh.bare.pairs) ended
+    Ends runs_out sh ended = EndsBy runs_out sh (lookup_entry (names i) sh.bare.pairs) ended
 
-    ends_alike : IsDetermined offers → (lacks : Bool) (sh : Shape K V S H) (o : Option (K × V))
-        (ended other : Option Bool × Shape K V S H) → EndsBy lacks sh o ended → EndsBy lacks sh o other → ended ≡ other
-    ends_alike determined lacks sh (Some pair) ended other h k = sym h ∙ k
-    ends_alike determined lacks sh None ended other h k =
+    ends_alike : IsDetermined offers → (runs_out : Bool) (sh : Shape K V S H) (o : Option (K × V))
+        (ended other : Option Bool × Shape K V S H) → EndsBy runs_out sh o ended → EndsBy runs_out sh o other → ended ≡ other
+    ends_alike determined runs_out sh (Some pair) ended other h k = sym h ∙ k
+    ends_alike determined runs_out sh None ended other h k =
         let d = determined sh.bare.limiter (length sh.bare.pairs) i v h.0 k.0 h.1 k.1 h.2 k.2 in
-        sym h.3 ∙ (λ j. ends_new lacks sh (d.0 j) (d.1 j)) ∙ k.3
+        sym h.3 ∙ (λ j. ends_new runs_out sh (d.0 j) (d.1 j)) ∙ k.3
 
-    module _ (hash_of : H → K → ℕ) (never : NeverLacks offers) (old : State K V S H) (small : buckets old ≤ 16)
+    module _ (hash_of : H → K → ℕ) (never : NeverRunsOut offers) (old : State K V S H) (small : buckets old ≤ 16)
         (result : Result Bool AllocError) (new : State K V S H) (after : buckets new ≤ 16) where
       insert_is : Insert rules offers names hash_of i v old result new → Ends (is_err result) (shape old)
           (said result, shape new)
@@ -315,13 +315,13 @@ module _ {K V S H I : Type 0} (rules : Rules K V S) (offers : Offers K V S I) (n
             s,
             Some pair,
             n,
-            (λ j. settles (place_in rules pair (lacks_is rules outcome mid result new t j) (sym is j)))
+            (λ j. settles (place_in rules pair (no_memory_is rules outcome mid result new t j) (sym is j)))
                 ∙ ap settles (place_is rules hash_of pair ready tiny outcome mid p)
                 ∙ settled_is rules outcome mid result new after t,
           )
 
     -- two inserts of the same end alike, if both find memory or neither does
-    pub small_inserts_alike : {hash_of : H → K → ℕ} → IsDetermined offers → NeverLacks offers
+    pub small_inserts_alike : {hash_of : H → K → ℕ} → IsDetermined offers → NeverRunsOut offers
         → (old : State K V S H) (result : Result Bool AllocError) (new other : State K V S H)
         (answer : Result Bool AllocError) (last : State K V S H) → buckets old ≤ 16
         → buckets new ≤ 16 → buckets last ≤ 16 → LookAlike old other → is_err result ≡ is_err answer
@@ -331,7 +331,7 @@ module _ {K V S H I : Type 0} (rules : Rules K V S) (offers : Offers K V S I) (n
         let e = same_shape alike in
         let one = insert_is hash_of never old small result new after h in
         let two = insert_is hash_of never other (omega (arith, small, alike.table)) answer last too k in
-        let moved = subst (λ lacks. Ends lacks (shape old) (said answer, shape last)) (sym same)
+        let moved = subst (λ runs_out. Ends runs_out (shape old) (said answer, shape last)) (sym same)
         (subst (λ sh. Ends (is_err answer) sh (said answer, shape last)) e two) in
         let ends = ends_alike determined (is_err result) (shape old) (lookup_entry (names i) old.pairs)
         (said result, shape new) (said answer, shape last) one moved in

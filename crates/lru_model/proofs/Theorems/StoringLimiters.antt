@@ -7,7 +7,7 @@ use Rattle.std.specs.Prelude.{option_map, unwrap_or}
 use Rattle.std.proofs.lemmas.Bool.{le-ltb}
 use Rattle.lru_limits.specs.Rules.{Rules}
 use Rattle.lru_limits.specs.Budget.{Budget, by_weight, weighs, by_cost, charges, can_add}
-use Rattle.lru_limits.specs.Stores.{plain, hands_over, given-is}
+use Rattle.lru_limits.specs.Stores.{plain, offers_if, given-is}
 use Rattle.lru_model.specs.Lists.{lookup_entry}
 use Rattle.lru_model.specs.State.{State, Contents}
 use Rattle.lru_model.specs.Theorems.{Stores, left, given}
@@ -28,11 +28,11 @@ by_cost-changes_none cost = by_weight-changes_none (λ k v. cost v)
 module _ {K V S : Type 0} (rules : Rules K V S) (admits : S → K → V → Bool) (eq : K → K → Bool) (key : K)
     (value : V) where
   -- a limiter that stores pairs as they come accepts a pair, if it admits that and is not over with one more
-  pub hands_over-accepts : (c : Contents K V S) → admits c.limiter key value ≡ true
+  pub offers_if-accepts : (c : Contents K V S) → admits c.limiter key value ≡ true
       → rules.is_over_the_limit c.limiter (length c.pairs + 1) ≡ false
-      → AcceptsNew rules (hands_over admits) eq key value c (key, value)
-  hands_over-accepts c admitted within = record {
-    finds = λ lacks. lacks;
+      → AcceptsNew rules (offers_if admits) eq key value c (key, value)
+  offers_if-accepts c admitted within = record {
+    finds = λ out_of_memory. out_of_memory;
     gives = λ s given n. (
       n.pair ∙ ap (λ b. cond b (Some (key, value)) None) admitted,
       ap (λ t. rules.is_over_the_limit t (length c.pairs + 1)) n.limiter ∙ within,
@@ -45,7 +45,7 @@ pub weighs-accepts : {K V : Type 0} (weight : K → V → ℕ) (eq : K → K →
     → c.limiter.cost + weight key value ≤ c.limiter.limit
     → AcceptsNew (by_weight weight) (weighs weight) eq key value c (key, value)
 weighs-accepts weight eq key value c fits within = record {
-  finds = λ lacks. lacks;
+  finds = λ out_of_memory. out_of_memory;
   gives = λ s given n.
       let charged = rw fits at n.limiter in (
         n.pair ∙ ap (λ b. cond b (Some (key, value)) None) fits,
@@ -71,7 +71,7 @@ stored_key-same {K} {V} names key pairs one = go (lookup_entry names pairs) refl
 -- and a limiter that stores pairs as they come stores it with its value
 pub stored-came : {K V S H : Type 0} (rules : Rules K V S) (admits : S → K → V → Bool) (eq : K → K → Bool) (key : K)
     (value : V) (old : State K V S H) (pair : K × V) → ((k : K) → eq key k ≡ true → key ≡ k)
-    → Stores rules (hands_over admits) eq key value old pair → pair ≡ (key, value)
+    → Stores rules (offers_if admits) eq key value old pair → pair ≡ (key, value)
 stored-came rules admits eq key value old pair one (left was found y is) =
     is ∙ ap (λ k. (k, value)) (sym (one was.0 (found_named (eq key) old.pairs was found)))
 stored-came rules admits eq key value old pair one (given absent s n) =

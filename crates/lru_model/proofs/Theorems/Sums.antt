@@ -25,11 +25,11 @@ module _ {X : Type 0} (f : X → ℕ) where
   total-append [] ys = omega arith
   total-append (x ∷ xs) ys = omega (arith, total-append xs ys)
 
-  -- the total of a front part is at most that of the list
+  -- the total of a front part is at most the total of the list
   pub total-least : (xs ys : List X) → IsFront xs ys → total xs ≤ total ys
   total-least xs ys h = omega (arith, ap total h.1, total-append xs h.0)
 
-  -- the list's total is that of what is left and of what goes
+  -- the total of xs is the total of ys, plus the pair that goes, if there is one
   abbrev pub IsSplit : List X → Option X → List X → Type 0
   IsSplit xs None ys = ys ≡ xs
   IsSplit xs (Some x) ys = total ys + f x ≡ total xs
@@ -96,7 +96,7 @@ module _ {K V : Type 0} (cost : K × V → ℕ) (names : K → Bool) where
       go false e h = omega (arith, h e)
 
 module _ {K V : Type 0} (cost : K × V → ℕ) (names : K → Bool) (v : V) where
-  -- the value v in place of that of the named pair keeps its cost
+  -- the named pair costs the same with the value v
   abbrev KeepsPair : List (K × V) → Type 0
   KeepsPair xs = MatchOption (lookup_entry names xs) (Unit {0}) (λ p. cost (p.0, v) ≡ cost (p.0, p.1))
 
@@ -122,10 +122,10 @@ module _ {K V S I : Type 0} {rules : Rules K V S} {offers : Offers K V S I} {cos
   Holds c = account c.limiter ≡ total (λ p. cost p.0 p.1) c.pairs
 
   -- the cost of a pair that leaves is taken off
-  told_holds : (xs ys : List (K × V)) (o : Option (K × V)) (s : S) → IsSplit (λ p. cost p.0 p.1) xs o ys → account s
+  notified_holds : (xs ys : List (K × V)) (o : Option (K × V)) (s : S) → IsSplit (λ p. cost p.0 p.1) xs o ys → account s
       ≡ total (λ p. cost p.0 p.1) xs → account (notified_of rules o s) ≡ total (λ p. cost p.0 p.1) ys
-  told_holds xs ys None s h e = e ∙ ap (total (λ p. cost p.0 p.1)) (sym h)
-  told_holds xs ys (Some p) s h e = let r = laws.takes_off s p.0 p.1 (omega arith) in omega arith
+  notified_holds xs ys None s h e = e ∙ ap (total (λ p. cost p.0 p.1)) (sym h)
+  notified_holds xs ys (Some p) s h e = let r = laws.takes_off s p.0 p.1 (omega arith) in omega arith
 
   exchanged_holds : (names : I → K → Bool) (i : I) (v : V) (c : Contents K V S) (pair : K × V)
       → lookup_entry (names i) c.pairs ≡ Some pair → Holds c → Holds (exchange rules offers names pair i v c)
@@ -147,10 +147,10 @@ module _ {K V S I : Type 0} {rules : Rules K V S} {offers : Offers K V S I} {cos
         self = λ c h. h;
         trans = λ p q h. q (p h);
         asked = λ bytes c h. laws.keeps c.limiter bytes ∙ h;
-        popped = λ c. told_holds c.pairs _ _ c.limiter (split_last _ c.pairs);
+        popped = λ c. notified_holds c.pairs _ _ c.limiter (split_last _ c.pairs);
       };
-      left = λ test c. told_holds c.pairs _ _ c.limiter (split_named _ test c.pairs);
-      dropped = λ newer older pair s. told_holds (newer ++ pair ∷ older) _ (Some pair) s
+      left = λ test c. notified_holds c.pairs _ _ c.limiter (split_named _ test c.pairs);
+      dropped = λ newer older pair s. notified_holds (newer ++ pair ∷ older) _ (Some pair) s
           (split_between _ newer older pair);
       first = λ test c h. h ∙ sym (total-front _ test c.pairs);
       last = λ test c h. h ∙ sym (total-back _ test c.pairs);

@@ -119,7 +119,7 @@ pub fn calls_add_one_pair<
 ///
 /// A call names the key that it inserts, looks up or removes, or whose value it writes, and a retain names the keys
 /// that its closure rejects. An insert may remove the entry of its key, too, if the replacement is rejected.
-pub fn calls_give_up_the_oldest<
+pub fn calls_evict_the_oldest<
     K: Eq + Hash,
     V,
     I: LookupKey<K>,

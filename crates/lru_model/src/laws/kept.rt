@@ -27,26 +27,26 @@ use std::hash::Hash;
 /// is, each old entry of another key is left or was passed to the callback (`others`).
 pub fn nothing_is_lost<K: Eq + Hash, V, I: LookupKey<K>, L: Insertion<K, V, I>, S: KeyHasher<K>>()
     ensures all { (key : I) (value : V) (old : State K V L S) (result : Result Bool AllocError)
-        (handed : List (K × V)) (new : State K V L S) →
+        (passed : List (K × V)) (new : State K V L S) →
         ChangesNoPair L.rules →
-        InsertPasses L.rules L.offers I.names S.hash_of key value old result handed new →
-        LosesNothing L.rules L.offers I.names key value old result handed new }
-    ensures stored { (key : I) (value : V) (old : State K V L S) (handed : List (K × V)) (new : State K V L S) →
+        InsertPasses L.rules L.offers I.names S.hash_of key value old result passed new →
+        LosesNothing L.rules L.offers I.names key value old result passed new }
+    ensures stored { (key : I) (value : V) (old : State K V L S) (passed : List (K × V)) (new : State K V L S) →
         ChangesNoPair L.rules →
-        InsertPasses L.rules L.offers I.names S.hash_of key value old (Ok true) handed new →
+        InsertPasses L.rules L.offers I.names S.hash_of key value old (Ok true) passed new →
         (pair : K × V) × Stores L.rules L.offers I.names key value old pair
-        × (new.pairs ++ reverse handed ≡ pair ∷ without (I.names key) old.pairs) }
+        × (new.pairs ++ reverse passed ≡ pair ∷ without (I.names key) old.pairs) }
     ensures others { (key : I) (value : V) (old : State K V L S) (result : Result Bool AllocError)
-        (handed : List (K × V)) (new : State K V L S) →
+        (passed : List (K × V)) (new : State K V L S) →
         ChangesNoPair L.rules →
-        InsertPasses L.rules L.offers I.names S.hash_of key value old result handed new →
+        InsertPasses L.rules L.offers I.names S.hash_of key value old result passed new →
         (pair : K × V) → I.names key pair.0 ≡ false →
-        Contains old.pairs pair → Contains new.pairs pair ⊎ Contains handed pair }
+        Contains old.pairs pair → Contains new.pairs pair ⊎ Contains passed pair }
 {}
 
 /// If growth is left, an insert does what it would do to a plain list without a table (`list`), whatever `on_grow`
 /// returns. If the limiter accepts the entry of a new key, and is not over its limit with it, the insert returns true
-/// and adds the entry to all the others (`added`). So it evicts nothing, and passes nothing to its callback (`handed`).
+/// and adds the entry to all the others (`added`). So it evicts nothing, and passes nothing to its callback (`passed`).
 pub fn inserts_with_room_are_exact<
     K: Eq + Hash,
     V,
@@ -65,16 +65,16 @@ pub fn inserts_with_room_are_exact<
         AcceptsNew L.rules L.offers I.names key value (contents old) pair →
         Insert L.rules L.offers I.names S.hash_of key value old result new →
         IsAdded L.rules L.offers I.names key value pair old result new }
-    ensures handed { (key : I) (value : V) (pair : K × V) (old : State K V L S) (result : Result Bool AllocError)
-        (handed : List (K × V)) (new : State K V L S) →
+    ensures passed { (key : I) (value : V) (pair : K × V) (old : State K V L S) (result : Result Bool AllocError)
+        (passed : List (K × V)) (new : State K V L S) →
         0 < room old → lookup_entry (I.names key) old.pairs ≡ None →
         AcceptsNew L.rules L.offers I.names key value (contents old) pair →
-        InsertPasses L.rules L.offers I.names S.hash_of key value old result handed new → handed ≡ [] }
+        InsertPasses L.rules L.offers I.names S.hash_of key value old result passed new → passed ≡ [] }
 {}
 
 /// With `ByLength` an insert leaves its entry first, under the key that is stored, and then the newest others, up to
 /// `max_length` entries. The premise is that the map keeps to its length (`maps_keep_to_their_length`), or that growth
-/// is left in its table. So do the inserts of a list, such as those of `try_extend` (`lists`).
+/// is left in its table. So do the inserts of a list, such as the inserts of `try_extend` (`lists`).
 pub fn inserts_leave_the_newest<K: Eq + Hash + Drop, V: Drop, S: KeyHasher<K>>()
     ensures newest { (key : K) (value : V) (old : State K V ByLength S) (result : Result Bool AllocError)
         (new : State K V ByLength S) →

@@ -47,7 +47,7 @@ pub fn runs_pay_for_moves<
 
 /// Any calls evict from the old end alone: of the entries whose keys none of them names, those that are left are the
 /// newest, in their order, unless one of the calls is `pop_newest`.
-pub fn runs_give_up_the_oldest<
+pub fn runs_evict_the_oldest<
     K: Eq + Hash,
     V,
     I: LookupKey<K>,

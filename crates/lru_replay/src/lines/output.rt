@@ -52,7 +52,7 @@ pub fn write_given<W: Write>(
     ensures { Writes (W.contents writer.old) (W.contents writer.new) result (insert_text done ++ rest_text out.now) }
 {
     write_insert(writer, done)?;
-    write_handed(writer, out)
+    write_passed(writer, out)
 }
 
 /// Writes whether the key is there, or `no memory`.
@@ -69,7 +69,7 @@ pub fn write_insert<W: Write>(
 }
 
 /// Writes each pair with a space before it.
-fn write_handed<W: Write>(writer: &mut W, pairs: &[(u64, u64)]) -> Result<(), ReplayError>
+fn write_passed<W: Write>(writer: &mut W, pairs: &[(u64, u64)]) -> Result<(), ReplayError>
     ensures { Writes (W.contents writer.old) (W.contents writer.new) result (rest_text pairs.now) }
 {
     for pair in pairs {

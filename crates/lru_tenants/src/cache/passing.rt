@@ -5,8 +5,8 @@ ghost use Rattle.lru_model.specs.Callbacks.{CalledWith};
 ghost use Rattle.lru_model.specs.Inserts.{kept_of};
 ghost use Rattle.lru_tenants.specs.Cache.{tenant, budgets, budgets_with, is_over, AreTenants, On};
 ghost use Rattle.lru_tenants.specs.PutFulls.{comes_back, rejects};
-ghost use Rattle.lru_tenants.specs.TenantRuns.{put_answer, PassesOn, Puts, PutHands, SetsBudget, BudgetHands, Closes};
-ghost use Rattle.lru_tenants.specs.TenantRuns.{CloseHands};
+ghost use Rattle.lru_tenants.specs.TenantRuns.{put_answer, PassesOn, Puts, PutPasses, SetsBudget, BudgetPasses, Closes};
+ghost use Rattle.lru_tenants.specs.TenantRuns.{ClosePasses};
 
 use crate::cache::TenantCache;
 use crate::cache::totals::is_above;
@@ -48,8 +48,8 @@ impl<
         requires callable { F.IsAlwaysCallable sink.old }
         ensures puts { On N.eq name.now (Puts L.rules L.offers L.budget_of K.eq S.hash_of key value)
             self.old result self.new }
-        ensures handed { (handed : List (K × V)) × CalledWith F.FnMut sink.old handed sink.new × On N.eq name.now
-            (PassesOn (PutHands L.rules L.offers L.budget_of K.eq S.hash_of key value)) self.old handed self.new }
+        ensures passed { (passed : List (K × V)) × CalledWith F.FnMut sink.old passed sink.new × On N.eq name.now
+            (PassesOn (PutPasses L.rules L.offers L.budget_of K.eq S.hash_of key value)) self.old passed self.new }
         ensures callable { F.IsAlwaysCallable sink.new }
         ensures total { budgets L.budget_of self.new ≡ budgets L.budget_of self.old }
         ensures tenants { AreTenants K.eq L.cost_of L.account L.budget_of self.new }
@@ -100,8 +100,8 @@ impl<
             rejects L.accepts_new K.eq key value map ≡ true →
             (result ≡ Ok (record { kept = false; unkept = Some value }))
             × (tenant (N.eq name.now) self.new ≡ Some map)) }
-        ensures handed { (handed : List (K × V)) × CalledWith F.FnMut sink.old handed sink.new × On N.eq name.now
-            (PassesOn (PutHands L.rules L.offers L.budget_of K.eq S.hash_of key value)) self.old handed self.new }
+        ensures passed { (passed : List (K × V)) × CalledWith F.FnMut sink.old passed sink.new × On N.eq name.now
+            (PassesOn (PutPasses L.rules L.offers L.budget_of K.eq S.hash_of key value)) self.old passed self.new }
         ensures callable { F.IsAlwaysCallable sink.new }
         ensures total { budgets L.budget_of self.new ≡ budgets L.budget_of self.old }
         ensures tenants { AreTenants K.eq L.cost_of L.account L.budget_of self.new }
@@ -138,9 +138,9 @@ impl<
         ensures total { result ≡ Ok tt →
             budgets L.budget_of self.new ≡ budgets_with L.budget_of (N.eq name.now) budget self.old }
         ensures unchanged { OnErr result (self.new ≡ self.old) }
-        ensures handed { (handed : List (K × V)) × CalledWith F.FnMut sink.old handed sink.new × On N.eq name.now
-            (PassesOn (BudgetHands L.rules (L.rebudgeted budget) (is_over L.budget_of (N.eq name.now) budget self.old)))
-            self.old handed self.new }
+        ensures passed { (passed : List (K × V)) × CalledWith F.FnMut sink.old passed sink.new × On N.eq name.now
+            (PassesOn (BudgetPasses L.rules (L.rebudgeted budget) (is_over L.budget_of (N.eq name.now) budget self.old)))
+            self.old passed self.new }
         ensures callable { F.IsAlwaysCallable sink.new }
         ensures tenants { AreTenants K.eq L.cost_of L.account L.budget_of self.new }
     {
@@ -179,8 +179,8 @@ impl<
         requires callable { F.IsAlwaysCallable sink.old }
         ensures closes { On N.eq name.now Closes self.old result self.new }
         ensures total { budgets L.budget_of self.new ≡ budgets_with L.budget_of (N.eq name.now) 0 self.old }
-        ensures handed { (handed : List (K × V)) × CalledWith F.FnMut sink.old handed sink.new × On N.eq name.now
-            (PassesOn CloseHands) self.old handed self.new }
+        ensures passed { (passed : List (K × V)) × CalledWith F.FnMut sink.old passed sink.new × On N.eq name.now
+            (PassesOn ClosePasses) self.old passed self.new }
         ensures callable { F.IsAlwaysCallable sink.new }
         ensures tenants { AreTenants K.eq L.cost_of L.account L.budget_of self.new }
     {

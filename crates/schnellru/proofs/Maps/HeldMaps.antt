@@ -5,7 +5,7 @@ use Rattle.group_table.specs.Sizes.{full_capacity}
 use Rattle.group_table.specs.Bucket.{Mark, marks_of, room, room_at, is_used, bucket_at}
 use Rattle.group_table.proofs.BucketLemmas.{length-marks_of, entry_count-marks_of}
 use Rattle.lru_model.specs.Sizes.{usage}
-use Rattle.lru_model.specs.State.{Contents, IsSized, FreesRoom, Leaves}
+use Rattle.lru_model.specs.State.{Contents, IsSized, GivesBack, Leaves}
 use Rattle.schnellru.specs.Inside.OrderedTable.{OrderedTable, IsLinked, KeysFit, pairs_of}
 use Rattle.schnellru.specs.Inside.Fields.{Fields}
 use Rattle.schnellru.specs.Inside.Holds.{state_of, Holds}
@@ -40,8 +40,8 @@ room_at-most marks b = go (is_used (bucket_at marks b))
 module _ {K V : Type 0} (old new : OrderedTable K V) (b : ℕ) (first : IsLinked old) (last : IsLinked new)
     (table : length new.slots ≡ length old.slots) (one : suc (length new.order) ≡ length old.order)
     (freed : room (marks_of new.slots) ≡ room (marks_of old.slots) + room_at (marks_of new.slots) b) where
-  pub frees_room : {S H : Type 0} (before after : Fields S H) → FreesRoom (state_of old before) (state_of new after)
-  frees_room before after = record {
+  pub frees_room : GivesBack (length (pairs_of old)) (length (pairs_of new)) (marks_of old.slots) (marks_of new.slots)
+  frees_room = record {
     table = same;
     keeps = omega (arith, freed);
     at_most = omega (arith, freed, news, olds, one, room_at-most (marks_of new.slots) b);

@@ -41,10 +41,10 @@ module _ {K V F : Type 0} (closure : Mut F (K × (V × Unit {0})) (Unit {0})) (k
       }
 
   -- it has all that it got, from none on, if there is space for them
-  pub all_kept : (handed : List (K × V)) (last : F) → vec_capacity (kept first).now ≡ room
-      → (kept first).now.items ≡ [] → vec_len (kept first).now ≡ 0 → CalledWith closure first handed last
-      → AllKept handed last
-  all_kept handed last capacity none empty took = chained_keeps _ AllKept one_more handed first last (record {
+  pub all_kept : (passed : List (K × V)) (last : F) → vec_capacity (kept first).now ≡ room
+      → (kept first).now.items ≡ [] → vec_len (kept first).now ≡ 0 → CalledWith closure first passed last
+      → AllKept passed last
+  all_kept passed last capacity none empty took = chained_keeps _ AllKept one_more passed first last (record {
     same = refl;
     capacity = capacity;
     items = λ _. none;

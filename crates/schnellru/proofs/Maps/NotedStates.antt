@@ -13,10 +13,10 @@ use Rattle.lru_model.specs.Calls.{PopOldest, left_of}
 use Rattle.lru_model.specs.Place.{IsPlaced, unstored}
 use Rattle.lru_model.specs.Inserts.{make_room, replacement}
 use Rattle.lru_model.specs.Callbacks.{noting, noting_offers, noted, CalledWith}
-use Rattle.schnellru.specs.Inside.Handing.{Hands, PassesRemoved}
+use Rattle.schnellru.specs.Inside.Passing.{Passes, PassesRemoved}
 use Rattle.schnellru.specs.Inside.Steps.{IsOffered}
 
--- the sink was handed one pair more
+-- the sink was passed one pair more
 pub takes_more : {K V F : Type 0} (closure : Mut F (K × (V × Unit {0})) (Unit {0})) (first : F) (before : List (K × V))
     (f : F) (pair : K × V) (g : F) → CalledWith closure first before f → Called closure f (pair.0, (pair.1, tt)) tt g →
     CalledWith closure first (before ++ pair ∷ []) g
@@ -42,11 +42,11 @@ module _ {K V S H : Type 0} where
 
 module _ {K V S : Type 0} (rules : Rules K V S) (before : List (K × V)) (s : S) (pair : K × V) where
   -- the pair that was answered goes to the list
-  pub noted_told : (was : Option (K × V)) → Some pair ≡ left_of rules s was
+  pub noted_notified : (was : Option (K × V)) → Some pair ≡ left_of rules s was
       → ◌≡◌ {A = S × List (K × V)} (notified_of rules was s, before ++ pair ∷ [])
       (notified_of (noting rules) was (s, before))
-  noted_told None e = absurd (grind (arith, e))
-  noted_told (Some was) e =
+  noted_notified None e = absurd (grind (arith, e))
+  noted_notified (Some was) e =
       let notified = rules.on_removed s was.0 was.1 in
       ap {A = K × V} {B = S × List (K × V)} (λ p. (notified.limiter, before ++ p ∷ []))
       (same_Some pair (notified.key, notified.value) e)
@@ -61,7 +61,7 @@ module _ {K V S H : Type 0} (rules : Rules K V S) (before : List (K × V)) (old 
           pairs = (pop rules (contents old)).pairs;
           limiter = s;
           table = new.table;
-        }) (noted_told rules before old.limiter pair (last old.pairs) step.pair);
+        }) (noted_notified rules before old.limiter pair (last old.pairs) step.pair);
     room = step.state.room;
   }
 
@@ -80,7 +80,7 @@ noted_unstored {K} {V} {S} {H} rules before old new pair left s is notified e =
     ∙ ap {A = S} {B = State K V (S × List (K × V)) H}
     (λ t. noted (before ++ left ∷ []) (record old { limiter = t })) notified
     ∙ ap {A = S × List (K × V)} {B = State K V (S × List (K × V)) H} (λ t. record (noted before old) { limiter = t })
-    (noted_told rules before old.limiter left (Some pair) e)
+    (noted_notified rules before old.limiter left (Some pair) e)
 
 -- what the limiter was offered
 module _ {K V S H I F : Type 0} (closure : Mut F (K × (V × Unit {0})) (Unit {0})) (rules : Rules K V S)
@@ -90,7 +90,7 @@ module _ {K V S H I F : Type 0} (closure : Mut F (K × (V × Unit {0})) (Unit {0
     (rejected : result.0 ≡ false
     → PassesRemoved closure rules (replacement rules offers names offer.pair i v (contents old)) f g) where
   -- if it rejected that, the pair goes to the list
-  pub noted_offer : Hands closure f g (λ before after. IsOffered (noting rules) (noting_offers offers) names i v
+  pub noted_offer : Passes closure f g (λ before after. IsOffered (noting rules) (noting_offers offers) names i v
       (noted before old) result (noted after new))
   noted_offer first before taken = go result.0 refl
     where

@@ -64,11 +64,11 @@ module _ {K V S H F G : Type 0} (rules : Rules K V S) (closure : Mut F (Bor K ×
     pub whole : rest ++ map (λ one. one.0) asked ≡ old.pairs
     pub many : length rest ≡ left
     pub answers : Answers closure keep asked f
-    pub handed : List (K × V)
-    pub takes : CalledWith sinks sink handed g
+    pub passed : List (K × V)
+    pub takes : CalledWith sinks sink passed g
     pub pairs : st.pairs ≡ (after_asked asked).pairs ++ rest
-    pub notified : ◌≡◌ {A = S × List (K × V)} (st.limiter, handed) (after_asked asked).limiter
-    pub leaves : Leaves (noted [] old) (contents (noted handed st)) (noted handed st)
+    pub notified : ◌≡◌ {A = S × List (K × V)} (st.limiter, passed) (after_asked asked).limiter
+    pub leaves : Leaves (noted [] old) (contents (noted passed st)) (noted passed st)
 
   pub retains_none : IsRetainedTo (length old.pairs) old keep sink
   retains_none = record {
@@ -77,7 +77,7 @@ module _ {K V S H F G : Type 0} (rules : Rules K V S) (closure : Mut F (Bor K ×
     whole = append-nil old.pairs;
     many = refl;
     answers = refl;
-    handed = [];
+    passed = [];
     takes = refl;
     pairs = refl;
     notified = refl;
@@ -135,12 +135,12 @@ module _ {K V S H F G : Type 0} (rules : Rules K V S) (closure : Mut F (Bor K ×
       whole = whole;
       many = many;
       answers = (f, i.answers, answer);
-      handed = i.handed;
+      passed = i.passed;
       takes = i.takes;
       pairs = λ j. after (asks j) (others j);
       notified = i.notified;
-      leaves = leaves_trans (noted [] old) (noted i.handed st) _ (contents (noted i.handed st)) _ i.leaves
-          (reordered (noted i.handed st) _ places as_many);
+      leaves = leaves_trans (noted [] old) (noted i.passed st) _ (contents (noted i.passed st)) _ i.leaves
+          (reordered (noted i.passed st) _ places as_many);
     }
       where
         as_many : length (after (last st.pairs) (without_last st.pairs)) ≡ length st.pairs
@@ -153,31 +153,31 @@ module _ {K V S H F G : Type 0} (rules : Rules K V S) (closure : Mut F (Bor K ×
         → IsRetainedTo (left - 1) u h k
     unfolding before
     removes_more h answer u removed popped k called =
-        let pops = noted_pop rules i.handed st u removed popped in record {
+        let pops = noted_pop rules i.passed st u removed popped in record {
           asked = (pair, false) ∷ i.asked;
           rest = front;
           whole = whole;
           many = many;
           answers = (f, i.answers, answer);
-          handed = i.handed ++ removed ∷ [];
-          takes = takes_more sinks sink i.handed g removed k i.takes called;
+          passed = i.passed ++ removed ∷ [];
+          takes = takes_more sinks sink i.passed g removed k i.takes called;
           pairs = ap (λ s. s.pairs) popped.state.is ∙ others;
           notified = ap (λ s. s.limiter) pops.is ∙ (λ j. notified_of (noting rules) (asks j) (i.notified j));
-          leaves = leaves_trans (noted [] old) (noted i.handed st) (noted (i.handed ++ removed ∷ []) u)
-              (contents (noted i.handed st)) (contents (noted (i.handed ++ removed ∷ []) u)) i.leaves
-              (subst (λ left. Leaves (noted i.handed st) left (noted (i.handed ++ removed ∷ []) u))
+          leaves = leaves_trans (noted [] old) (noted i.passed st) (noted (i.passed ++ removed ∷ []) u)
+              (contents (noted i.passed st)) (contents (noted (i.passed ++ removed ∷ []) u)) i.leaves
+              (subst (λ left. Leaves (noted i.passed st) left (noted (i.passed ++ removed ∷ []) u))
               (sym (ap contents pops.is)) pops);
         }
 
   -- all were asked
   pub retains_all : (st : State K V S H) (f : F) (g : G) → (i : IsRetainedTo 0 st f g)
-      → RetainPasses rules closure keep old i.handed st
+      → RetainPasses rules closure keep old i.passed st
   retains_all st f g i = record {
     asked = i.asked;
     each = ap (λ l. l ++ map (λ one. one.0) i.asked) (sym (no_items i.rest i.many)) ∙ i.whole;
     last = f;
     answers = i.answers;
-    state = subst (λ left. Leaves (noted [] old) left (noted i.handed st)) (λ j. record {
+    state = subst (λ left. Leaves (noted [] old) left (noted i.passed st)) (λ j. record {
       pairs = (i.pairs ∙ ap (λ l. (after_asked i.asked).pairs ++ l) (no_items i.rest i.many)
           ∙ append-nil (after_asked i.asked).pairs) j;
       limiter = i.notified j;

@@ -5,7 +5,7 @@ use Rattle.lru_limits.specs.Rules.{Rules}
 use Rattle.lru_model.specs.State.{State, contents, trim, Leaves}
 use Rattle.lru_model.specs.Calls.{PopOldest}
 use Rattle.lru_model.specs.Callbacks.{noting, noted}
-use Rattle.schnellru.specs.Inside.Handing.{Hands}
+use Rattle.schnellru.specs.Inside.Passing.{Passes}
 use Rattle.lru_model.proofs.States.LeavingPairs.{leaves_trans, trim-over}
 use Rattle.schnellru.proofs.Maps.NotedStates.{takes_more, noted_pop}
 
@@ -13,7 +13,7 @@ module _ {K V S H F : Type 0} (rules : Rules K V S) (closure : Mut F (K × (V ×
     (old : State K V S H) (sink : F) where
   -- what left was passed to the callback, and what is still to leave is what was to leave of the old map
   abbrev pub IsTrimmedTo : State K V S H → F → Type 0
-  IsTrimmedTo st f = Hands closure sink f (λ before after.
+  IsTrimmedTo st f = Passes closure sink f (λ before after.
       Leaves (noted before old) (contents (noted after st)) (noted after st)
       × (trim (noting rules) (contents (noted before old)) ≡ trim (noting rules) (contents (noted after st))))
 

@@ -89,7 +89,7 @@ module _ {K V : Type 0} (t : OrderedTable K V) (linked : IsLinked t) where
           ∙ place_cut t.slots names p named b cut_here.after cut_here.before
           (all_full t.slots cut_here.before (λ c w. linked.only c (before_in cut_here c w))) unnamed
 
-      -- and those of the others
+      -- and the places of the others
       pub other_places_are : other_places names (pairs_of t) t.order ≡ without_bucket b t.order
       other_places_are = (λ i. other_places names (cut_pairs i) (cut_here.whole i))
           ∙ places_cut t.slots names p named b cut_here.after cut_here.before

@@ -117,7 +117,7 @@ module _ {T : Type 0} where
 
   module _ (slots : List (Slot T)) {b : ℕ} {order : List ℕ} (cut : Cut b order) (entry : T) (there : entry_at slots b
       ≡ Some entry) where
-    -- the entries, cut at that of the bucket
+    -- the entries, cut at the entry of the bucket
     pub entries-cut : entries_in slots order ≡ entries_in slots cut.before ++ entry ∷ entries_in slots cut.after
     entries-cut = ap (entries_in slots) cut.whole ∙ entries-append slots cut.before (b ∷ cut.after)
         ∙ ap (λ o. entries_in slots cut.before ++ (option_to_list o ++ entries_in slots cut.after)) there

@@ -63,7 +63,7 @@ module _ {K V N : Type 0} where
   entry_by_pair None pair e = absurd (cc)
   entry_by_pair (Some entry) pair e = let same : pair_of entry ≡ pair = cc in (entry, refl, same)
 
-  -- a pair is that of an entry
+  -- a pair in a bucket is the pair of an entry
   pub entry_of-pair_at : (slots : List (Slot (Entry K V N))) (b : ℕ) (pair : K × V) → entry_at (pair_slots slots) b
       ≡ Some pair
       → (entry : Entry K V N) × (entry_at slots b ≡ Some entry) × (pair_of entry ≡ pair)

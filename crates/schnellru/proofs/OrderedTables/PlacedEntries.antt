@@ -19,7 +19,7 @@ use Rattle.schnellru.proofs.OrderedTables.PairSlots.{pair_of, marks_of-pair_slot
 use Rattle.schnellru.proofs.OrderedTables.PairSlots.{same_marks}
 use Rattle.schnellru.proofs.OrderedTables.PairSlots.{Fits-pair_slots, Fits-entries}
 
--- the growth left is that of the table with links
+-- the growth left is the growth left of the table with links
 pub linked_room : {K V N : Type 0} (slots : List (Slot (Entry K V N))) → 0 < room (marks_of (pair_slots slots))
     → 0 < room (marks_of slots)
 linked_room slots some = rw (← marks_of-pair_slots slots) some

@@ -35,8 +35,8 @@ module _ {K V S : Type 0} (rules : Rules K V S) (by : Replaced K V S) (old new :
       (sym out.there ∙ entry_at-refilled old.slots b (k, v) (full_by_entry (bucket_at old.slots b) was there))
 
   -- a replacement was refused, and the pair taken out
-  pub gives_up : IsRemoved rules by b old new l
-  gives_up = record {
+  pub is_removed : IsRemoved rules by b old new l
+  is_removed = record {
     slots = subst (λ p. Removes (with_pair old b p).slots new.slots b) pair_is out.slots;
     order = out.order;
     placings = out.placings;
@@ -46,9 +46,9 @@ module _ {K V S : Type 0} (rules : Rules K V S) (by : Replaced K V S) (old new :
   }
 
   -- and it is as the limiter left it
-  pub left_as_told : let left = rules.on_removed by.limiter by.key by.old_value in
+  pub left_as_notified : let left = rules.on_removed by.limiter by.key by.old_value in
       ◌≡◌ {A = K × V} result (left.key, left.value)
-  left_as_told =
+  left_as_notified =
       let was_left = rules.on_removed s out.pair.0 out.pair.1 in
       same_Some result (was_left.key, was_left.value) out.left
       ∙ (λ i. let left = rules.on_removed (notified i) ((taken_is ∙ pair_is) i).0 ((taken_is ∙ pair_is) i).1 in
@@ -113,42 +113,42 @@ module _ {K V S H : Type 0} (by : Replaced K V S) (old new : OrderedTable K V) (
 
   -- the pair left, and the others are as they were
   module _ (rules : Rules K V S) (step : IsRemoved rules by b old new l) where
-    pub given_up_pairs : pairs_of new ≡ without names (pairs_of old)
-    given_up_pairs = ap (entries_in new.slots) step.order
+    pub removed_pairs : pairs_of new ≡ without names (pairs_of old)
+    removed_pairs = ap (entries_in new.slots) step.order
         ∙ removed-entries (with_pair old b (by.key, by.old_value)).slots new.slots b step.slots old.order
         ∙ others (by.key, by.old_value)
 
-    pub given_up_length : length new.slots ≡ length old.slots
-    given_up_length = length-removed (with_pair old b (by.key, by.old_value)).slots new.slots b step.slots
+    pub removed_length : length new.slots ≡ length old.slots
+    removed_length = length-removed (with_pair old b (by.key, by.old_value)).slots new.slots b step.slots
         ∙ length-set old.slots b _
 
-    pub given_up_leaves : Leaves before
+    pub removed_leaves : Leaves before
         (record {
           pairs = without names (pairs_of old);
           limiter = (rules.on_removed by.limiter by.key by.old_value).limiter;
         }) after
-    given_up_leaves = record {
+    removed_leaves = record {
       is = λ i. record (state_of new (record fields { limiter = step.notified i })) {
-        pairs = given_up_pairs i;
+        pairs = removed_pairs i;
         counts = counts_of (step.placings i) fields;
       };
-      room = frees_room old new b first next given_up_length (ap (λ o. suc (length o)) step.order
-          ∙ fewer) step.room fields (record fields { limiter = l });
+      room = frees_room old new b first next removed_length (ap (λ o. suc (length o)) step.order
+          ∙ fewer) step.room;
     }
 
-    given_up_holds : (hash_of : H → K → ℕ) → Holds eq hash_of old fields
+    removed_holds : (hash_of : H → K → ℕ) → Holds eq hash_of old fields
         → KeysFit (hash_of fields.hasher) new.slots → Holds eq hash_of new (record fields { limiter = l })
-    given_up_holds hash_of holds fits = leaves_holds fields eq hash_of old new _ l holds next fits given_up_length
-        given_up_leaves
-        (subst (AreDistinct eq) (sym given_up_pairs) (distinct_without eq names (pairs_of old) distinct))
+    removed_holds hash_of holds fits = leaves_holds fields eq hash_of old new _ l holds next fits removed_length
+        removed_leaves
+        (subst (AreDistinct eq) (sym removed_pairs) (distinct_without eq names (pairs_of old) distinct))
 
   -- one or the other
   module _ (rules : Rules K V S) (accepts : Bool) (replaced : accepts ≡ true → IsReplaced by b old new l)
-      (given_up : accepts ≡ false → IsRemoved rules by b old new l) where
+      (removed : accepts ≡ false → IsRemoved rules by b old new l) where
     pub offered_holds : (hash_of : H → K → ℕ) → names by.key ≡ true → Holds eq hash_of old fields
         → KeysFit (hash_of fields.hasher) new.slots → Holds eq hash_of new (record fields { limiter = l })
     offered_holds hash_of kept holds fits = go accepts refl
       where
         go : (y : Bool) → accepts ≡ y → Holds eq hash_of new (record fields { limiter = l })
         go true e = replaced_holds (replaced e) hash_of kept holds fits
-        go false e = given_up_holds rules (given_up e) hash_of holds fits
+        go false e = removed_holds rules (removed e) hash_of holds fits

@@ -41,15 +41,14 @@ module _ {K V S : Type 0} (rules : Rules K V S) (t u : OrderedTable K V) (b : �
   module _ {H : Type 0} (first : IsLinked t) (next : IsLinked u) (fields : Fields S H) where
     pub taken_leaves : (left : Contents K V S) → pairs_of u ≡ left.pairs → notified ≡ left.limiter
         → Leaves (state_of t fields) left (state_of u (record fields { limiter = notified }))
-    taken_leaves left pairs_are told_is = record {
-      is = λ i. record (state_of u (record fields { limiter = told_is i })) {
+    taken_leaves left pairs_are notified_is = record {
+      is = λ i. record (state_of u (record fields { limiter = notified_is i })) {
         pairs = pairs_are i;
         counts = counts_of (out.placings i) fields;
       };
       room = frees_room t u b first next (length-removed t.slots u.slots b out.slots)
           (ap (λ o. suc (length o)) out.order
-          ∙ shorter t first b (full_by_entry (bucket_at t.slots b) out.pair out.there)) out.room fields
-          (record fields { limiter = notified });
+          ∙ shorter t first b (full_by_entry (bucket_at t.slots b) out.pair out.there)) out.room;
     }
 
     -- what holds of a map holds of what is left

@@ -5,7 +5,7 @@ use Rattle.lru_model.specs.State.{State, TableState, Counts, IsMap}
 use Rattle.schnellru.specs.Inside.Fields.{Fields}
 use Rattle.schnellru.specs.Inside.OrderedTable.{OrderedTable, IsLinked, KeysFit, pairs_of}
 
--- the counts of a map, with the number of insertions into its table
+-- What a map counts: the table counts its insertions, and the fields contain the other counts.
 abbrev pub counts_of : {S H : Type 0} → ℕ → Fields S H → Counts
 counts_of placings fields = record {
   placings = placings;

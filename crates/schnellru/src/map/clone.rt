@@ -24,7 +24,7 @@ impl<
     /// ```
     ///
     /// A clone of a key has to equal the key, and a clone of the hasher has to hash alike. Cost: `O(buckets)`, with two
-    /// requests for memory and those of the clones; a map without buckets does not make the two.
+    /// requests for memory and the requests of the clones; a map without buckets does not make the two.
     ///
     /// # Errors
     ///

@@ -55,8 +55,8 @@ impl<K: Eq + Hash, V, L: Limiter<K, V>, S: KeyHasher<K>> LruMap<K, V, L, S> {
         self.entries.len() + self.entries.room()
     }
 
-    /// Returns the bytes of the table, or 0 without buckets: those of its entries, rounded up to a multiple of 16, a
-    /// byte for each bucket, and 16 more.
+    /// Returns the bytes of the table, or 0 without buckets: the bytes of its entries, rounded up to a multiple of 16,
+    /// a byte for each bucket, and 16 more.
     ///
     /// An entry counts as the bytes that the constructor was given. 4 buckets of 16 bytes are 64 + 4 + 16 = 84. Cost:
     /// `O(1)`.

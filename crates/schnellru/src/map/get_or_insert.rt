@@ -76,7 +76,7 @@ impl<K: Eq + Hash + Drop, V: Drop, L: Limiter<K, V>, S: KeyHasher<K>> LruMap<K, 
         requires { lookup (I.names key) self.old.pairs ≡ None → F.pre make }
         ensures step { MakesNewest L.rules L.offers I.names S.hash_of (F.post make) key self.old result self.new }
         ensures says { SaysNewest (I.names key) result self.new }
-        ensures lacks { OnErr result
+        ensures out_of_memory { OnErr result
             (IsOutOfMemoryFor L.rules L.offers I.names S.hash_of (F.post make) key self.old self.new) }
         ensures map { IsMap K.eq self.new }
     {
@@ -201,7 +201,7 @@ impl<K: Eq + Hash + Drop, V: Drop, L: Limiter<K, V>, S: KeyHasher<K>> LruMap<K, 
         ensures step { MakesNewestIfMade L.rules L.offers I.names S.hash_of
             (F.post make) key self.old result self.new }
         ensures says { SaysNewest (I.names key) result self.new }
-        ensures lacks { IsErrOf result GetOrInsertError.Memory → IsOutOfMemoryFor L.rules L.offers I.names S.hash_of
+        ensures out_of_memory { IsErrOf result GetOrInsertError.Memory → IsOutOfMemoryFor L.rules L.offers I.names S.hash_of
             (λ value. F.post make (Ok value)) key self.old self.new }
         ensures map { IsMap K.eq self.new }
     {

@@ -9,7 +9,7 @@ ghost use Rattle.lru_model.specs.Place.{HasNoBucket};
 ghost use Rattle.lru_model.specs.Theorems.{SaysWhether, Stores};
 ghost use Rattle.lru_model.specs.MayTake.{MayTakeEach, MayTakeNew, MayTakeInserted};
 ghost use Rattle.lru_model.specs.Callbacks.{noting, noting_offers, noted, CalledWith, InsertPasses};
-ghost use Rattle.schnellru.specs.Inside.Handing.{Hands};
+ghost use Rattle.schnellru.specs.Inside.Passing.{Passes};
 
 use crate::map::LruMap;
 use lru_limits::{Insertion, KeyHasher, Limiter, LookupKey};
@@ -56,7 +56,7 @@ impl<K: Eq + Hash + Drop, V: Drop, L: Limiter<K, V>, S: KeyHasher<K>> LruMap<K, 
         ensures says { SaysWhether L.rules (I.names key) result self.new }
         ensures stores { result ≡ Ok true
             → IfSome (first self.new.pairs) (Stores L.rules L.offers I.names key value self.old) }
-        ensures lacks { OnErr result
+        ensures out_of_memory { OnErr result
             (IsOutOfMemory L.rules L.offers I.names S.hash_of key value self.old self.new) }
         ensures keeps { OnErr result (IsFront self.new.pairs self.old.pairs) }
         ensures map { IsMap K.eq self.new }
@@ -95,13 +95,13 @@ impl<K: Eq + Hash, V: Drop, L: Limiter<K, V>, S: KeyHasher<K>> LruMap<K, V, L, S
         L: Insertion<K, V, I>,
         requires callable { MayTakeInserted L.rules F.FnMut L.offers I.names key value (contents self.old) sink.old }
         ensures step { Insert L.rules L.offers I.names S.hash_of key value self.old result self.new }
-        ensures handed { (handed : List (K × V)) × CalledWith F.FnMut sink.old handed sink.new
-            × InsertPasses L.rules L.offers I.names S.hash_of key value self.old result handed self.new }
+        ensures passed { (passed : List (K × V)) × CalledWith F.FnMut sink.old passed sink.new
+            × InsertPasses L.rules L.offers I.names S.hash_of key value self.old result passed self.new }
         ensures callable { F.IsAlwaysCallable sink.old → F.IsAlwaysCallable sink.new }
         ensures says { SaysWhether L.rules (I.names key) result self.new }
         ensures stores { result ≡ Ok true
             → IfSome (first self.new.pairs) (Stores L.rules L.offers I.names key value self.old) }
-        ensures lacks { OnErr result
+        ensures out_of_memory { OnErr result
             (IsOutOfMemory L.rules L.offers I.names S.hash_of key value self.old self.new) }
         ensures keeps { OnErr result (IsFront self.new.pairs self.old.pairs) }
         ensures map { IsMap K.eq self.new }
@@ -145,13 +145,13 @@ impl<K: Eq + Hash, V, L: Limiter<K, V>, S: KeyHasher<K>> LruMap<K, V, L, S> {
         ensures step { Insert L.rules L.offers I.names S.hash_of key value self.old (kept_of result) self.new }
         ensures unkept { IfOk result (λ inserted. inserted.unkept
             ≡ unkept_value L.rules L.offers I.names key value (contents self.old)) }
-        ensures handed { (handed : List (K × V)) × CalledWith F.FnMut sink.old handed sink.new
-            × InsertPasses L.rules L.offers I.names S.hash_of key value self.old (kept_of result) handed self.new }
+        ensures passed { (passed : List (K × V)) × CalledWith F.FnMut sink.old passed sink.new
+            × InsertPasses L.rules L.offers I.names S.hash_of key value self.old (kept_of result) passed self.new }
         ensures callable { F.IsAlwaysCallable sink.old → F.IsAlwaysCallable sink.new }
         ensures says { SaysWhether L.rules (I.names key) (kept_of result) self.new }
         ensures stores { kept_of result ≡ Ok true
             → IfSome (first self.new.pairs) (Stores L.rules L.offers I.names key value self.old) }
-        ensures lacks { OnErr result
+        ensures out_of_memory { OnErr result
             (IsOutOfMemory L.rules L.offers I.names S.hash_of key value self.old self.new) }
         ensures keeps { OnErr result (IsFront self.new.pairs self.old.pairs) }
         ensures map { IsMap K.eq self.new }
@@ -192,13 +192,13 @@ impl<K: Eq + Hash, V, L: Limiter<K, V>, S: KeyHasher<K>> LruMap<K, V, L, S> {
         ensures step { Insert L.rules L.offers I.names S.hash_of key value self.old (kept_of result) self.new }
         ensures unkept { IfOk result (λ inserted. inserted.unkept
             ≡ unkept_value L.rules L.offers I.names key value (contents self.old)) }
-        ensures handed { (handed : List (K × V)) × CalledWith F.FnMut sink.old handed sink.new
-            × InsertPasses L.rules L.offers I.names S.hash_of key value self.old (kept_of result) handed self.new }
+        ensures passed { (passed : List (K × V)) × CalledWith F.FnMut sink.old passed sink.new
+            × InsertPasses L.rules L.offers I.names S.hash_of key value self.old (kept_of result) passed self.new }
         ensures callable { F.IsAlwaysCallable sink.old → F.IsAlwaysCallable sink.new }
         ensures says { SaysWhether L.rules (I.names key) (kept_of result) self.new }
         ensures stores { kept_of result ≡ Ok true
             → IfSome (first self.new.pairs) (Stores L.rules L.offers I.names key value self.old) }
-        ensures lacks { OnErr result
+        ensures out_of_memory { OnErr result
             (IsOutOfMemory L.rules L.offers I.names S.hash_of key value self.old self.new) }
         ensures keeps { OnErr result (IsFront self.new.pairs self.old.pairs) }
         ensures map { IsMap K.eq self.new }
@@ -223,7 +223,7 @@ impl<K: Eq + Hash, V, L: Limiter<K, V>, S: KeyHasher<K>> LruMap<K, V, L, S> {
         L: Insertion<K, V, I>,
         requires callable { MayTakeInserted L.rules F.FnMut L.offers I.names key value (contents self.old) sink.old }
         requires hash { (k : K) → IsTrue (I.names key k) → hash ≡ S.hash_of self.old.hasher k }
-        ensures handed { Hands F.FnMut sink.old sink.new (λ before after. Insert (noting L.rules)
+        ensures passed { Passes F.FnMut sink.old sink.new (λ before after. Insert (noting L.rules)
             (noting_offers L.offers) I.names S.hash_of key value
             (noted before self.old) (kept_of result) (noted after self.new)) }
         ensures unkept { IfOk result (λ inserted. inserted.unkept
@@ -266,7 +266,7 @@ impl<K: Eq + Hash, V, L: Limiter<K, V>, S: KeyHasher<K>> LruMap<K, V, L, S> {
         requires callable { MayTakeNew L.rules F.FnMut L.offers I.names key value (contents self.old) sink.old }
         requires hash { (k : K) → IsTrue (I.names key k) → hash ≡ S.hash_of self.old.hasher k }
         requires absent { lookup_entry (I.names key) self.old.pairs ≡ None }
-        ensures handed { Hands F.FnMut sink.old sink.new (λ before after. Insert (noting L.rules)
+        ensures passed { Passes F.FnMut sink.old sink.new (λ before after. Insert (noting L.rules)
             (noting_offers L.offers) I.names S.hash_of key value
             (noted before self.old) result (noted after self.new)) }
     {
@@ -292,7 +292,7 @@ impl<K: Eq + Hash, V, L: Limiter<K, V>, S: KeyHasher<K>> LruMap<K, V, L, S> {
         requires callable { MayTakeEach L.rules F.FnMut (pair ∷ self.old.pairs) sink.old }
         requires hash { hash ≡ S.hash_of self.old.hasher pair.0 }
         requires absent { lookup_entry (K.eq pair.0) self.old.pairs ≡ None }
-        ensures handed { Hands F.FnMut sink.old sink.new (λ before after. PlacesNew (noting L.rules)
+        ensures passed { Passes F.FnMut sink.old sink.new (λ before after. PlacesNew (noting L.rules)
             S.hash_of pair (noted before self.old) result (noted after self.new)) }
     {
         self.make_room(sink);
@@ -320,7 +320,7 @@ impl<K: Eq + Hash, V, L: Limiter<K, V>, S: KeyHasher<K>> LruMap<K, V, L, S> {
         requires hash { hash ≡ S.hash_of self.old.hasher key }
         requires absent { lookup_entry (K.eq key) self.old.pairs ≡ None }
         requires no_room { room self.old ≡ 0 }
-        ensures handed { Hands F.FnMut sink.old sink.new (λ before after. PlacesAndTrims (noting L.rules)
+        ensures passed { Passes F.FnMut sink.old sink.new (λ before after. PlacesAndTrims (noting L.rules)
             S.hash_of (key, value) (noted before self.old) result (noted after self.new)) }
     {
         // An empty map is rehashed, which takes no memory, even if a deleted bucket could take the pair.
@@ -346,7 +346,7 @@ impl<K: Eq + Hash, V, L: Limiter<K, V>, S: KeyHasher<K>> LruMap<K, V, L, S> {
         requires hash { hash ≡ S.hash_of self.old.hasher pair.0 }
         requires absent { lookup_entry (K.eq pair.0) self.old.pairs ≡ None }
         requires no_bucket { HasNoBucket hash self.old }
-        ensures handed { Hands F.FnMut sink.old sink.new (λ before after. PlacesAndTrims (noting L.rules)
+        ensures passed { Passes F.FnMut sink.old sink.new (λ before after. PlacesAndTrims (noting L.rules)
             S.hash_of pair (noted before self.old) result (noted after self.new)) }
     {
         if !self.store_without_bucket(hash, pair, sink)? {

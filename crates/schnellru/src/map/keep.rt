@@ -9,7 +9,7 @@ ghost use Rattle.lru_model.specs.Theorems.{SaysWhether, Stores};
 
 use crate::map::LruMap;
 use lru_limits::{Insertion, KeyHasher, Limiter, LookupKey};
-use lru_model::laws::inserts_hand_over_few;
+use lru_model::laws::inserts_pass_few;
 use std::alloc::AllocError;
 use std::hash::Hash;
 
@@ -37,19 +37,19 @@ impl<K: Eq + Hash + Drop, V: Drop, L: Limiter<K, V>, S: KeyHasher<K>> LruMap<K, 
     ) -> Result<(Result<bool, AllocError>, Vec<(K, V)>), AllocError>
     where
         L: Insertion<K, V, I>,
-        ensures handed { IfOk result (λ answer. InsertPasses L.rules L.offers I.names
+        ensures passed { IfOk result (λ answer. InsertPasses L.rules L.offers I.names
             S.hash_of key value self.old answer.0 answer.1.items self.new) }
         ensures says { IfOk result (λ answer. SaysWhether L.rules (I.names key) answer.0 self.new) }
         ensures stores { IfOk result (λ answer. answer.0 ≡ Ok true
             → IfSome (first self.new.pairs) (Stores L.rules L.offers I.names key value self.old)) }
-        ensures lacks { IfOk result (λ answer. OnErr answer.0
+        ensures out_of_memory { IfOk result (λ answer. OnErr answer.0
             (IsOutOfMemory L.rules L.offers I.names S.hash_of key value self.old self.new)) }
         ensures keeps { IfOk result (λ answer. OnErr answer.0 (IsFront self.new.pairs self.old.pairs)) }
         ensures unchanged { OnErr result (self.new ≡ self.old) }
         ensures map { IsMap K.eq self.new }
     {
         // Nothing at run time: it shows the proof that there is memory for all that the callback gets.
-        inserts_hand_over_few::<K, V, I, L, S>();
+        inserts_pass_few::<K, V, I, L, S>();
         let mut left = Vec::with_capacity(self.alloc, self.len() + 1)?;
         let done = self.insert_with(key, value, &mut |key, value| keep(&mut left, (key, value)));
         Ok((done, left))

@@ -8,7 +8,7 @@ ghost use Rattle.lru_model.specs.Inserts.{make_room};
 ghost use Rattle.lru_model.specs.Callbacks.{noting, noted};
 ghost use Rattle.lru_model.specs.MayTake.{MayTakeEach};
 ghost use Rattle.schnellru.specs.Inside.OrderedTable.{IsLinked, KeysFit};
-ghost use Rattle.schnellru.specs.Inside.Handing.{Hands};
+ghost use Rattle.schnellru.specs.Inside.Passing.{Passes};
 ghost use Rattle.schnellru.specs.Inside.Steps.{IsTakenOut};
 
 use crate::map::LruMap;
@@ -142,7 +142,7 @@ impl<K: Eq + Hash, V, L: Limiter<K, V>, S: KeyHasher<K>> LruMap<K, V, L, S> {
     #[inline]
     pub(super) fn make_room<F: FnMut(K, V)>(&mut self, sink: &mut F)
         requires callable { MayTakeEach L.rules F.FnMut self.old.pairs sink.old }
-        ensures handed { Hands F.FnMut sink.old sink.new (λ before after. Leaves (noted before self.old)
+        ensures passed { Passes F.FnMut sink.old sink.new (λ before after. Leaves (noted before self.old)
             (make_room (noting L.rules) (contents (noted before self.old))) (noted after self.new)) }
         ensures callable { (pair : K × V) → MayTakeEach L.rules F.FnMut (pair ∷ self.old.pairs) sink.old →
             MayTakeEach L.rules F.FnMut (pair ∷ self.new.pairs) sink.new }
@@ -159,7 +159,7 @@ impl<K: Eq + Hash, V, L: Limiter<K, V>, S: KeyHasher<K>> LruMap<K, V, L, S> {
         requires some { 0 < length self.old.pairs }
         requires callable { MayTakeEach L.rules F.FnMut self.old.pairs sink.old }
         ensures left { result ≡ not (is_empty self.new.pairs) }
-        ensures handed { Hands F.FnMut sink.old sink.new (λ before after. Leaves (noted before self.old)
+        ensures passed { Passes F.FnMut sink.old sink.new (λ before after. Leaves (noted before self.old)
             (trim (noting L.rules) (contents (noted before self.old))) (noted after self.new)) }
     {
         if self.is_over_the_limit() {
@@ -176,7 +176,7 @@ impl<K: Eq + Hash, V, L: Limiter<K, V>, S: KeyHasher<K>> LruMap<K, V, L, S> {
         requires over { L.rules.is_over_the_limit self.old.limiter (length self.old.pairs) ≡ true }
         requires callable { MayTakeEach L.rules F.FnMut self.old.pairs sink.old }
         ensures left { result ≡ not (is_empty self.new.pairs) }
-        ensures handed { Hands F.FnMut sink.old sink.new (λ before after. Leaves (noted before self.old)
+        ensures passed { Passes F.FnMut sink.old sink.new (λ before after. Leaves (noted before self.old)
             (trim (noting L.rules) (contents (noted before self.old))) (noted after self.new)) }
     {
         'evictions: loop {

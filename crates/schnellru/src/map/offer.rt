@@ -8,7 +8,7 @@ ghost use Rattle.lru_model.specs.MayTake.{MayTakeRejected};
 ghost use Rattle.lru_model.specs.State.{place_in, contents};
 ghost use Rattle.lru_model.specs.Callbacks.{noting, noting_offers, noted};
 ghost use Rattle.schnellru.specs.Inside.Steps.{IsReplaced, IsRemoved, IsOffered};
-ghost use Rattle.schnellru.specs.Inside.Handing.{Hands, PassesRemoved};
+ghost use Rattle.schnellru.specs.Inside.Passing.{Passes, PassesRemoved};
 
 use crate::map::LruMap;
 use crate::map::leave::take_out;
@@ -35,7 +35,7 @@ impl<K: Eq + Hash, V, L: Limiter<K, V>, S: KeyHasher<K>> LruMap<K, V, L, S> {
             MayTakeRejected L.rules F.FnMut (replacement L.rules L.offers I.names pair key value (contents self.old))
             sink.old }
         requires found { place_in (I.names key) self.old ≡ Some b }
-        ensures handed { Hands F.FnMut sink.old sink.new (λ before after. IsOffered (noting L.rules)
+        ensures passed { Passes F.FnMut sink.old sink.new (λ before after. IsOffered (noting L.rules)
             (noting_offers L.offers) I.names key value (noted before self.old) result (noted after self.new)) }
         ensures kept { result.0 ≡ true → sink.new ≡ sink.old }
     {
@@ -63,11 +63,11 @@ pub(super) fn offer<K: Eq + Hash, V, I: LookupKey<K>, L: Insertion<K, V, I>, F: 
     ensures replaced { result.0 ≡ true → (pair : K × V) → entry_at entries.old.slots b ≡ Some pair →
         IsReplaced (L.offers.on_replace limiter.old (length entries.old.order) pair.0 key pair.1 value) b entries.old
         entries.new limiter.new }
-    ensures given_up { result.0 ≡ false → (pair : K × V) → entry_at entries.old.slots b ≡ Some pair →
+    ensures removed { result.0 ≡ false → (pair : K × V) → entry_at entries.old.slots b ≡ Some pair →
         IsRemoved L.rules (L.offers.on_replace limiter.old (length entries.old.order) pair.0 key pair.1 value) b
         entries.old entries.new limiter.new }
     ensures kept { result.0 ≡ true → sink.new ≡ sink.old }
-    ensures handed { result.0 ≡ false → (pair : K × V) → entry_at entries.old.slots b ≡ Some pair →
+    ensures passed { result.0 ≡ false → (pair : K × V) → entry_at entries.old.slots b ≡ Some pair →
         PassesRemoved F.FnMut L.rules
         (L.offers.on_replace limiter.old (length entries.old.order) pair.0 key pair.1 value) sink.old sink.new }
     ensures linked { IsLinked entries.new }

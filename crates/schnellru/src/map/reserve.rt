@@ -57,7 +57,7 @@ impl<K: Eq + Hash, V, L: Limiter<K, V>, S: KeyHasher<K>> LruMap<K, V, L, S> {
 
     // Makes room in a larger table.
     fn reserve_larger(&mut self, n: usize) -> Result<(), ReserveError>
-        requires lacks { NeedsGrowthFor n self.old }
+        requires needs_growth { NeedsGrowthFor n self.old }
         requires half { full_capacity (buckets self.old) / 2 < length self.old.pairs + n }
         ensures step { Reserve L.rules n self.old result self.new }
         ensures map { IsMap K.eq self.new }

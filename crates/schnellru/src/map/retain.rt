@@ -53,8 +53,8 @@ impl<K: Eq + Hash, V, L: Limiter<K, V>, S: KeyHasher<K>> LruMap<K, V, L, S> {
         requires keep { F.IsAlwaysCallable keep }
         requires callable { MayTakeEach L.rules G.FnMut self.old.pairs sink.old }
         ensures step { Retains F.FnMut L.rules keep self.old self.new }
-        ensures handed { (handed : List (K × V)) × CalledWith G.FnMut sink.old handed sink.new
-            × RetainPasses L.rules F.FnMut keep self.old handed self.new }
+        ensures passed { (passed : List (K × V)) × CalledWith G.FnMut sink.old passed sink.new
+            × RetainPasses L.rules F.FnMut keep self.old passed self.new }
         ensures callable { G.IsAlwaysCallable sink.old → G.IsAlwaysCallable sink.new }
         ensures map { IsMap K.eq self.new }
     {

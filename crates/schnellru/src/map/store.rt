@@ -3,7 +3,7 @@
 ghost use Rattle.std.specs.Prelude.{◌≡◌, ℕ, ◌+◌, ◌-◌, ◌*◌, ◌/◌, ◌^◌, ◌<◌, ◌≤◌, [], ◌∷◌, length, true, None, Some};
 ghost use Rattle.std.specs.Prelude.{Ok, OnOk, OnErr, IfErr, IsOk};
 ghost use Rattle.group_table.specs.Sizes.{IsPowerFromFour, full_capacity};
-ghost use Rattle.group_table.specs.Change.{HasNoPlace, count_up};
+ghost use Rattle.group_table.specs.Change.{count_up};
 ghost use Rattle.lru_model.specs.Lists.{lookup_entry};
 ghost use Rattle.lru_model.specs.Sizes.{usage};
 ghost use Rattle.lru_model.specs.State.{buckets, room, IsAhead};
@@ -11,7 +11,7 @@ ghost use Rattle.lru_model.specs.Place.{Place, Evicts, IsPlacedInTable, IsPlaced
 ghost use Rattle.lru_model.specs.Place.{IsOutgrown, outcome_of, unstored};
 ghost use Rattle.lru_model.specs.Callbacks.{noting, noted};
 ghost use Rattle.lru_model.specs.MayTake.{MayTakeEach};
-ghost use Rattle.schnellru.specs.Inside.Handing.{Hands};
+ghost use Rattle.schnellru.specs.Inside.Passing.{Passes};
 
 use crate::map::LruMap;
 use crate::map::leave::notify;
@@ -49,7 +49,6 @@ impl<K: Eq + Hash, V, L: Limiter<K, V>, S: KeyHasher<K>> LruMap<K, V, L, S> {
         ensures within { OnOk result (length self.old.pairs < full_capacity (buckets self.old)) }
         ensures returned { IfErr result (λ back. back ≡ pair) }
         ensures unchanged { OnErr result (self.new ≡ self.old) }
-        ensures no_place { OnErr result (HasNoPlace self.old.table.marks hash) }
         ensures no_bucket { OnErr result (HasNoBucket hash self.old) }
     {
         self.entries.try_place(hash, pair)?;
@@ -68,7 +67,7 @@ impl<K: Eq + Hash, V, L: Limiter<K, V>, S: KeyHasher<K>> LruMap<K, V, L, S> {
         requires hash { hash ≡ S.hash_of self.old.hasher pair.0 }
         requires absent { lookup_entry (K.eq pair.0) self.old.pairs ≡ None }
         requires no_bucket { HasNoBucket hash self.old }
-        ensures handed { Hands F.FnMut sink.old sink.new (λ before after. Place (noting L.rules)
+        ensures passed { Passes F.FnMut sink.old sink.new (λ before after. Place (noting L.rules)
             S.hash_of pair (noted before self.old) (outcome_of result) (noted after self.new)) }
         ensures callable { result ≡ Ok true → MayTakeEach L.rules F.FnMut self.new.pairs sink.new }
     {
@@ -91,7 +90,7 @@ impl<K: Eq + Hash, V, L: Limiter<K, V>, S: KeyHasher<K>> LruMap<K, V, L, S> {
         requires hash { hash ≡ S.hash_of self.old.hasher pair.0 }
         requires absent { lookup_entry (K.eq pair.0) self.old.pairs ≡ None }
         requires outgrown { IsOutgrown hash self.old }
-        ensures handed { Hands F.FnMut sink.old sink.new (λ before after. Place (noting L.rules)
+        ensures passed { Passes F.FnMut sink.old sink.new (λ before after. Place (noting L.rules)
             S.hash_of pair (noted before self.old) (outcome_of result) (noted after self.new)) }
         ensures callable { result ≡ Ok true → MayTakeEach L.rules F.FnMut self.new.pairs sink.new }
     {
@@ -118,7 +117,7 @@ impl<K: Eq + Hash, V, L: Limiter<K, V>, S: KeyHasher<K>> LruMap<K, V, L, S> {
         requires hash { hash ≡ S.hash_of self.old.hasher pair.0 }
         requires absent { lookup_entry (K.eq pair.0) self.old.pairs ≡ None }
         requires outgrown { IsOutgrown hash self.old }
-        ensures handed { Hands F.FnMut sink.old sink.new (λ before after. Evicts (noting L.rules) hash pair
+        ensures passed { Passes F.FnMut sink.old sink.new (λ before after. Evicts (noting L.rules) hash pair
             (noted before self.old) (noted before self.old) (outcome_of result) (noted after self.new)) }
         ensures callable { result ≡ Ok true → MayTakeEach L.rules F.FnMut self.new.pairs sink.new }
     {
@@ -141,7 +140,7 @@ impl<K: Eq + Hash, V, L: Limiter<K, V>, S: KeyHasher<K>> LruMap<K, V, L, S> {
         requires absent { lookup_entry (K.eq pair.0) self.old.pairs ≡ None }
         requires some { 0 < length self.old.pairs }
         requires outgrown { IsOutgrown hash self.old }
-        ensures handed { Hands F.FnMut sink.old sink.new (λ before after. Evicts (noting L.rules) hash pair
+        ensures passed { Passes F.FnMut sink.old sink.new (λ before after. Evicts (noting L.rules) hash pair
             (noted before self.old) (noted before self.old) (outcome_of result) (noted after self.new)) }
         ensures callable { result ≡ Ok true → MayTakeEach L.rules F.FnMut self.new.pairs sink.new }
     {
@@ -178,7 +177,7 @@ impl<K: Eq + Hash, V, L: Limiter<K, V>, S: KeyHasher<K>> LruMap<K, V, L, S> {
         requires usable { (bytes : ℕ) × (usage self.old.entry_bytes count ≡ Some bytes) }
         requires half { 2 * length self.old.pairs ≤ full_capacity count }
         requires paid { IsAhead (length self.old.pairs) self.old.counts }
-        ensures handed { Hands F.FnMut sink.old sink.new (λ before after. IsPlacedByMove (noting L.rules) pair count
+        ensures passed { Passes F.FnMut sink.old sink.new (λ before after. IsPlacedByMove (noting L.rules) pair count
             (noted before self.old) (outcome_of result) (noted after self.new)) }
         ensures succeeds { self.old.pairs ≡ [] → count ≡ buckets self.old → IsOk result }
         ensures callable { result ≡ Ok true → MayTakeEach L.rules F.FnMut self.new.pairs sink.new }
@@ -199,7 +198,7 @@ impl<K: Eq + Hash, V, L: Limiter<K, V>, S: KeyHasher<K>> LruMap<K, V, L, S> {
     // Notifies the limiter of a pair that was not stored, and passes what it left of the pair to the callback.
     fn pass_unstored<F: FnMut(K, V)>(&mut self, pair: (K, V), sink: &mut F)
         requires callable { MayTakeEach L.rules F.FnMut (pair ∷ []) sink.old }
-        ensures handed { Hands F.FnMut sink.old sink.new (λ before after. noted after self.new ≡ unstored
+        ensures passed { Passes F.FnMut sink.old sink.new (λ before after. noted after self.new ≡ unstored
             (noting L.rules) pair (noted before self.old)) }
     {
         let (key, value) = notify(&mut self.limiter, pair);

@@ -70,8 +70,8 @@ impl<K: Eq + Hash, V, L: Limiter<K, V>, S: KeyHasher<K>> LruMap<K, V, L, S> {
         requires callable { MayTakeEach L.rules F.FnMut self.old.pairs sink.old }
         ensures step { Trims L.rules self.old self.new }
         ensures within { IsWithin L.rules (contents self.new) }
-        ensures handed { (handed : List (K × V)) × CalledWith F.FnMut sink.old handed sink.new
-            × TrimPasses L.rules self.old handed self.new }
+        ensures passed { (passed : List (K × V)) × CalledWith F.FnMut sink.old passed sink.new
+            × TrimPasses L.rules self.old passed self.new }
         ensures callable { F.IsAlwaysCallable sink.old → F.IsAlwaysCallable sink.new }
         ensures map { IsMap K.eq self.new }
     {
@@ -97,8 +97,8 @@ impl<K: Eq + Hash, V, L: Limiter<K, V>, S: KeyHasher<K>> LruMap<K, V, L, S> {
         ensures limiter { result ≡ self.old.limiter }
         ensures step { Trims L.rules (record self.old { limiter = limiter }) self.new }
         ensures within { IsWithin L.rules (contents self.new) }
-        ensures handed { (handed : List (K × V)) × CalledWith F.FnMut sink.old handed sink.new
-            × TrimPasses L.rules (record self.old { limiter = limiter }) handed self.new }
+        ensures passed { (passed : List (K × V)) × CalledWith F.FnMut sink.old passed sink.new
+            × TrimPasses L.rules (record self.old { limiter = limiter }) passed self.new }
         ensures callable { F.IsAlwaysCallable sink.old → F.IsAlwaysCallable sink.new }
         ensures map { IsMap K.eq self.new }
     {

@@ -1,7 +1,7 @@
 //! Replacing a value, with the entry in its place.
 ghost use Rattle.std.specs.Prelude.{List};
 ghost use Rattle.lru_model.specs.Callbacks.{noting, noting_offers, noted, CalledWith};
-ghost use Rattle.schnellru.specs.Inside.Handing.{Hands};
+ghost use Rattle.schnellru.specs.Inside.Passing.{Passes};
 ghost use Rattle.lru_model.specs.MayTake.{MayTakeReplaced};
 ghost use Rattle.lru_model.specs.State.{IsMap, contents};
 ghost use Rattle.lru_model.specs.Updates.{Update, UpdatePasses};
@@ -58,8 +58,8 @@ impl<K: Eq + Hash, V, L: Limiter<K, V>, S: KeyHasher<K>> LruMap<K, V, L, S> {
         L: Insertion<K, V, I>,
         requires callable { MayTakeReplaced L.rules F.FnMut L.offers I.names key value (contents self.old) sink.old }
         ensures step { Update L.rules L.offers I.names key value self.old result self.new }
-        ensures handed { (handed : List (K × V)) × CalledWith F.FnMut sink.old handed sink.new
-            × UpdatePasses L.rules L.offers I.names key value self.old result handed self.new }
+        ensures passed { (passed : List (K × V)) × CalledWith F.FnMut sink.old passed sink.new
+            × UpdatePasses L.rules L.offers I.names key value self.old result passed self.new }
         ensures callable { F.IsAlwaysCallable sink.old → F.IsAlwaysCallable sink.new }
         ensures map { IsMap K.eq self.new }
     {
@@ -79,7 +79,7 @@ impl<K: Eq + Hash, V, L: Limiter<K, V>, S: KeyHasher<K>> LruMap<K, V, L, S> {
     where
         L: Insertion<K, V, I>,
         requires callable { MayTakeReplaced L.rules F.FnMut L.offers I.names key value (contents self.old) sink.old }
-        ensures handed { Hands F.FnMut sink.old sink.new (λ before after. Update (noting L.rules)
+        ensures passed { Passes F.FnMut sink.old sink.new (λ before after. Update (noting L.rules)
             (noting_offers L.offers) I.names key value (noted before self.old) result (noted after self.new)) }
     {
         let b = match self.find(&key) {

@@ -6,7 +6,7 @@ use native.Mathlib.Decide.{dec_lt}
 use Rattle.group_table.specs.Control.{buckets_of}
 use Rattle.group_table.proofs.control.set_both.Goals as goal
 
--- the place of the repetition, or that of the byte itself, which is written again
+-- the place of the repetition, or the place of the byte itself, which is written again
 written_again : (control : List ℕ) (n b byte : ℕ) → length control ≡ n + 16 → b < n
     → set (set control b byte) ((b + (n - 16)) % n + 16) byte ≡ set (set control b byte) (b + max 16 n) byte
 written_again control n b byte long bound = elim (dec_lt (b + (n - 16)) n) [

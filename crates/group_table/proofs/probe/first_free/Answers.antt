@@ -29,7 +29,7 @@ module _ (control : List ℕ) (hash : ℕ) (probe : Probe) (at : IsProbe (bucket
             (subst (λ s. (k : _) → k < lane → IsTrue (full_at control ((s + k) % n))) at.start here.first.full_before);
       }
 
-  -- and without one, those of this group are full too
+  -- and without one, the buckets of this group are full, too
   full_after : ((lane : ℕ) → lane < 16 → IsTrue (full_at control ((probe.start + lane) % n)))
       → (before : ℕ) → before < passed_by probe + 16 → IsTrue (full_at control (probed n hash before))
   full_after none = up_to_lane n hash (passed_by probe) at.whole (λ b. IsTrue (full_at control b)) 16 (omega arith)

@@ -2,9 +2,9 @@ use Rattle.std.proofs.Common.{rules, sym, ◌∙◌, Ok, Err}
 use Rattle.lru_c.proofs.calls.insert.Goals as goal
 
 pub returns-in-Ok : goal.returns-in-Ok
-returns-in-Ok c = let (handed, evicted, step) = c.in-Ok.ensures.handed in record {
+returns-in-Ok c = let (passed, evicted, step) = c.in-Ok.ensures.passed in record {
   result = Ok c.in-Ok.inserted.kept;
-  handed = handed;
+  passed = passed;
   step = step;
   evicted = search (rules, evicted);
   untouched = search rules;
@@ -13,12 +13,12 @@ returns-in-Ok c = let (handed, evicted, step) = c.in-Ok.ensures.handed in record
 }
 
 pub returns-in-Err : goal.returns-in-Err
-returns-in-Err c = let (handed, evicted, step) = c.in-Err.ensures.handed in record {
+returns-in-Err c = let (passed, evicted, step) = c.in-Err.ensures.passed in record {
   result = Err c.in-Err.field-0;
-  handed = handed;
+  passed = passed;
   step = step;
   evicted = search (rules, evicted);
   untouched = search rules;
-  replaced = c.as_inserted-in-Err.ensures.replaced ∙ sym c.in-Err.ensures.lacks;
+  replaced = c.as_inserted-in-Err.ensures.replaced ∙ sym c.in-Err.ensures.out_of_memory;
   code = search rules;
 }

@@ -24,8 +24,8 @@ returns-clause-known g c =
     let old = c.args.map.now in
     let new = c.insert.new.self in
     let insert = c.insert.ensures in
-    let gives_up = c.inserts_give_up_the_oldest.ensures key value old c.insert.result new insert.step in
+    let evicts = c.inserts_evict_the_oldest.ensures key value old c.insert.result new insert.step in
     let only = inserted-only c.requires.keeps _ eq key old new c.insert.result insert.says insert.stores in
-    inserted-all (λ p. IsAnswer eq post p.0 p.1) (eq key) old.pairs new.pairs gives_up c.requires.known
+    inserted-all (λ p. IsAnswer eq post p.0 p.1) (eq key) old.pairs new.pairs evicts c.requires.known
     (λ p named found. inserted_answer eq g.met.K.Eq.laws post key p.0 value p.1 c.function-value.ensures named
     (only p.1 found))

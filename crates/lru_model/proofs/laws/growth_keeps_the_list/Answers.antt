@@ -1,5 +1,5 @@
 use Rattle.std.proofs.Common.{refl}
-use Rattle.lru_model.proofs.Theorems.RefusedGrowth.{grown_keeps, rehashed_keeps, keeps_or_refused, place_lacks_keeps}
+use Rattle.lru_model.proofs.Theorems.RefusedGrowth.{grown_keeps, rehashed_keeps, keeps_or_refused, place_runs_out_keeps}
 use Rattle.lru_model.proofs.laws.growth_keeps_the_list.Goals as goal
 
 pub returns-clause-grown : goal.returns-clause-grown
@@ -12,4 +12,4 @@ pub returns-clause-otherwise : goal.returns-clause-otherwise
 returns-clause-otherwise g c = λ pair old new step. keeps_or_refused _ _ pair old new step
 
 pub returns-clause-without_memory : goal.returns-clause-without_memory
-returns-clause-without_memory g c = λ pair old new step. place_lacks_keeps _ _ pair old _ new refl step
+returns-clause-without_memory g c = λ pair old new step. place_runs_out_keeps _ _ pair old _ new refl step

@@ -13,8 +13,8 @@ returns-then-rejects-clause-inserts g c =
     (sym c.rejects.ensures ∙ c.if-rejects.true) in
     not_admitted new map.limiter (g.met.L.Budgeted.laws.refuses map.limiter _ c.args.key c.args.value refused) refl refl
 
-pub returns-then-rejects-clause-handed : goal.returns-then-rejects-clause-handed
-returns-then-rejects-clause-handed g c =
+pub returns-then-rejects-clause-passed : goal.returns-then-rejects-clause-passed
+returns-then-rejects-clause-passed g c =
     let map = c.args.map.now in
     let (refused, new) = is-rejected g.L.Budgeted.accepts_new g.K.PartialEq.eq c.args.key c.args.value map
     (sym c.rejects.ensures ∙ c.if-rejects.true) in (

@@ -9,9 +9,9 @@ returns g c = record {
   shown = λ told.
       let old = c.args.map.now in
       let key = c.args.key in
-      let (handed, takes, hands) = c.insert_with.ensures.handed in
-      let law = c.nothing_is_lost.ensures.stored key c.args.value old handed c.insert_with.new.self in
-      let (pair, stored, all) = law (plain-changes_none _ _) (rw told at hands) in
+      let (passed, takes, passes) = c.insert_with.ensures.passed in
+      let law = c.nothing_is_lost.ensures.stored key c.args.value old passed c.insert_with.new.self in
+      let (pair, stored, all) = law (plain-changes_none _ _) (rw told at passes) in
       let is = stored-came _ _ nat_eq key c.args.value old pair (eqb-true key) stored in
-      (handed, takes, all ∙ ap (λ p. p ∷ without (nat_eq key) old.pairs) is);
+      (passed, takes, all ∙ ap (λ p. p ∷ without (nat_eq key) old.pairs) is);
 }

@@ -58,8 +58,8 @@ empty_bucket-requires-clause-full g c =
 pub invariant_of-self : goal.invariant_of-self
 invariant_of-self g c =
     let there = rw (← c.self.view_is) at c.requires in
-    let told = rw (buckets_are _ _ c.self.invariant.0.laid_out) at c.has_empty_neighbours-gives_room.ensures in
-    let r = removed _ _ _ c.self.invariant.0 c.args.b there c.has_empty_neighbours-gives_room.result told in
+    let emptied = rw (buckets_are _ _ c.self.invariant.0.laid_out) at c.has_empty_neighbours-gives_room.ensures in
+    let r = removed _ _ _ c.self.invariant.0 c.args.b there c.has_empty_neighbours-gives_room.result emptied in
     rw (c.empty_bucket.ensures.control, c.empty_bucket.ensures.entries, c.emptied_byte-byte.ensures)
     (r.is_valid, omega (arith, r.count, c.self.invariant.1))
 
@@ -72,16 +72,16 @@ returns-clause-entry g c =
 pub returns-clause-removed : goal.returns-clause-removed
 returns-clause-removed g c =
     let there = rw (← c.self.view_is) at c.requires in
-    let told = rw (buckets_are _ _ c.self.invariant.0.laid_out) at c.has_empty_neighbours-gives_room.ensures in
-    let r = removed _ _ _ c.self.invariant.0 c.args.b there c.has_empty_neighbours-gives_room.result told in
+    let emptied = rw (buckets_are _ _ c.self.invariant.0.laid_out) at c.has_empty_neighbours-gives_room.ensures in
+    let r = removed _ _ _ c.self.invariant.0 c.args.b there c.has_empty_neighbours-gives_room.result emptied in
     rw (← c.self.view_is, c.empty_bucket.ensures.control, c.empty_bucket.ensures.entries, c.emptied_byte-byte.ensures)
     r.removes
 
 pub returns-clause-room : goal.returns-clause-room
 returns-clause-room g c =
     let there = rw (← c.self.view_is) at c.requires in
-    let told = rw (buckets_are _ _ c.self.invariant.0.laid_out) at c.has_empty_neighbours-gives_room.ensures in
-    let r = removed _ _ _ c.self.invariant.0 c.args.b there c.has_empty_neighbours-gives_room.result told in
+    let emptied = rw (buckets_are _ _ c.self.invariant.0.laid_out) at c.has_empty_neighbours-gives_room.ensures in
+    let r = removed _ _ _ c.self.invariant.0 c.args.b there c.has_empty_neighbours-gives_room.result emptied in
     rw (← c.self.view_is, c.empty_bucket.ensures.control, c.empty_bucket.ensures.entries, c.emptied_byte-byte.ensures)
     (room-removed _ _ _ c.self.invariant.0 c.args.b there _ _ r)
 
@@ -95,7 +95,7 @@ returns-clause-fits g c hash_of fits =
 pub returns-clause-table : goal.returns-clause-table
 returns-clause-table g c =
     let there = rw (← c.self.view_is) at c.requires in
-    let told = rw (buckets_are _ _ c.self.invariant.0.laid_out) at c.has_empty_neighbours-gives_room.ensures in
-    let r = removed _ _ _ c.self.invariant.0 c.args.b there c.has_empty_neighbours-gives_room.result told in
+    let emptied = rw (buckets_are _ _ c.self.invariant.0.laid_out) at c.has_empty_neighbours-gives_room.ensures in
+    let r = removed _ _ _ c.self.invariant.0 c.args.b there c.has_empty_neighbours-gives_room.result emptied in
     rw (c.empty_bucket.ensures.control, c.empty_bucket.ensures.entries, c.emptied_byte-byte.ensures)
     (IsTable-by _ _ _ r.is_valid)

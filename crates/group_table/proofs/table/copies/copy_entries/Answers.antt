@@ -24,8 +24,8 @@ entries-init g c =
       others = λ k p. none k;
     }
 
-pub drop_first-requires-clause-told : goal.drop_first-requires-clause-told
-drop_first-requires-clause-told g c = λ b p.
+pub drop_first-requires-clause-agrees : goal.drop_first-requires-clause-agrees
+drop_first-requires-clause-agrees g c = λ b p.
     let l = c.entries.invariant in
     copy_agrees g.F.Fn c.args.f.now _ _ _ (l.copied b p)
     (c.requires.laid_out.agrees b (omega (arith, p, l.within)))

@@ -7,7 +7,7 @@ use Rattle.group_table.proofs.HalfwayLemmas.{stood_there, IsInTurn-taken}
 use Rattle.group_table.proofs.HalfwayLemmas.{IsValid-last, none_deleted_last, Moves-last, hashes_last}
 use Rattle.group_table.proofs.TurnLemmas.{now_length, some_free, put_into, IsInTurn-next}
 use Rattle.group_table.proofs.TurnLemmas.{IsHalfway-stays}
-use Rattle.group_table.proofs.WaitLemmas.{told_before, stays_past, stays_taken, stays_tagged, stays_put, none_waits}
+use Rattle.group_table.proofs.WaitLemmas.{agrees_before, stays_past, stays_taken, stays_tagged, stays_put, none_waits}
 use Rattle.group_table.proofs.table.in_place.place_again.Goals.{
   then-byte-lt-DELETED-via-then-byte-lt-DELETED,
   then-byte-lt-DELETED-via-else-byte-lt-DELETED+then-byte-ge-DELETED,
@@ -45,7 +45,7 @@ loop-b-preserved-then-byte-lt-DELETED g c =
             rw (← w.byte-else-byte-lt-DELETED.ensures) w.if-byte-ge-DELETED.true in
             IsHalfway-none g.N.LinkType.number g.N.LinkType.MAX _ whole _ _ _ c.loop-b.b l.half
             (none_by _ _
-            (told_before whole _ _ _ l.stays _ c.requires.before c.loop-b.b (omega arith) within free) none)
+            (agrees_before whole _ _ _ l.stays _ c.requires.before c.loop-b.b (omega arith) within free) none)
       ];
       stays = stays_past whole _ _ c.loop-b.b l.stays;
     }
@@ -53,9 +53,9 @@ loop-b-preserved-then-byte-lt-DELETED g c =
 pub get-requires : goal.get-requires
 get-requires g c =
     let free : 128 ≤ get_or c.loop-b.control c.loop-b.b 0 = rw (← c.byte.ensures) c.if-byte-lt-DELETED.false in
-    let told = told_before c.args.entries.now _ _ _ c.loop-b.invariant.stays _ c.requires.before c.loop-b.b
+    let agrees = agrees_before c.args.entries.now _ _ _ c.loop-b.invariant.stays _ c.requires.before c.loop-b.b
     (omega arith) (omega arith) free in
-    some_by _ _ told (rw (← c.byte-else-byte-lt-DELETED.ensures) c.if-byte-ge-DELETED.false)
+    some_by _ _ agrees (rw (← c.byte-else-byte-lt-DELETED.ensures) c.if-byte-ge-DELETED.false)
 
 pub loop-b-preserved-then-is_read_first : goal.loop-b-preserved-then-is_read_first
 loop-b-preserved-then-is_read_first g c =
@@ -111,8 +111,8 @@ from_usize-requires-in-Some g c =
     let put = put_into c.args.entries.now _ turn.1 turn.0 c.requires.within c.first_free-place.ensures in
     omega (arith, put.in_whole, c.requires.below)
 
-pub put-next-requires-clause-told : goal.put-next-requires-clause-told
-put-next-requires-clause-told g c =
+pub put-next-requires-clause-agrees : goal.put-next-requires-clause-agrees
+put-next-requires-clause-agrees g c =
     let l = c.turns in
     let turn = rw c.in-Some.is at l.invariant.turn in
     let whole = c.args.entries.now in
@@ -124,7 +124,7 @@ put-next-requires-clause-told g c =
           rw (w.byte-is, none) (inr refl)
       | else-place-b w ↦
           rw (w.byte-is, w.byte-byte.ensures)
-          (told_before whole _ _ _ l.invariant.stays _ c.requires.before c.first_free-place.result (omega arith)
+          (agrees_before whole _ _ _ l.invariant.stays _ c.requires.before c.first_free-place.result (omega arith)
           put.in_whole put.reached.1)
     ]
 

@@ -14,7 +14,7 @@ returns-then-weight_of-limit c = too_heavy (search rules) refl c.remove.result c
 -- an insert of a key that is there, or with growth left, finds the memory that it asks for
 no_lack : {k v : Bytes} {ready new : BytesMap} (key : List ℕ) → k.items ≡ key → FindsMemory key ready
     → IsOutOfMemory bytes_rules bytes_offers same_bytes hash_of_bytes k v ready new → ⊥
-no_lack {k} {v} {ready} {new} key is finds (new_key, inl lacks) = lacks.0
+no_lack {k} {v} {ready} {new} key is finds (new_key, inl out_of_memory) = out_of_memory.0
 no_lack {k} {v} {ready} {new} key is finds (new_key, inr short) =
     let absent = ap is_some (lookup-entry (same_bytes k) ready.pairs ∙ ap (option_map (λ p. p.1)) new_key) in
     let some_room = finds (subst (λ bytes. is_some (lookup (λ (y : Bytes). bytes_eq bytes y.items) ready.pairs) ≡ false)
@@ -23,7 +23,7 @@ no_lack {k} {v} {ready} {new} key is finds (new_key, inr short) =
 
 pub unreachable-requires : goal.unreachable-requires
 unreachable-requires c =
-    no_lack c.args.key.now (search rules) (c.get_ready_for.ensures.finds (search rules)) c.in-Err.ensures.lacks
+    no_lack c.args.key.now (search rules) (c.get_ready_for.ensures.finds (search rules)) c.in-Err.ensures.out_of_memory
 
 pub returns-in-Ok-true : goal.returns-in-Ok-true
 returns-in-Ok-true c =

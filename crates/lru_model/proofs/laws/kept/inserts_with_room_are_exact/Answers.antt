@@ -1,5 +1,5 @@
 use Rattle.lru_model.proofs.Theorems.GrantedGrowth.{insert_with_room}
-use Rattle.lru_model.proofs.Theorems.RoomyInserts.{is_added, hands_nothing}
+use Rattle.lru_model.proofs.Theorems.RoomyInserts.{is_added, passes_nothing}
 use Rattle.lru_model.proofs.laws.kept.inserts_with_room_are_exact.Goals as goal
 
 pub returns-clause-list : goal.returns-clause-list
@@ -11,7 +11,7 @@ returns-clause-added g c = λ key value pair old result new some absent accepts 
     is_added g.L.Limiter.rules g.L.Insertion.offers g.I.LookupKey.names key value pair old result new accepts absent
     some step
 
-pub returns-clause-handed : goal.returns-clause-handed
-returns-clause-handed g c = λ key value pair old result handed new some absent accepts step.
-    hands_nothing g.L.Limiter.rules g.L.Insertion.offers g.I.LookupKey.names key value pair old result new handed
+pub returns-clause-passed : goal.returns-clause-passed
+returns-clause-passed g c = λ key value pair old result passed new some absent accepts step.
+    passes_nothing g.L.Limiter.rules g.L.Insertion.offers g.I.LookupKey.names key value pair old result new passed
     accepts absent some step

@@ -8,4 +8,4 @@ returns-in_err-write_insert g c =
     rw (p.1, p.2) (failed_front _ _ _ _ _ c.in_err-write_insert.ensures)
 
 pub returns : goal.returns
-returns g c = writes_after _ _ _ _ _ _ c.in_ok-write_insert.ensures c.write_handed.ensures
+returns g c = writes_after _ _ _ _ _ _ c.in_ok-write_insert.ensures c.write_passed.ensures

@@ -5,7 +5,7 @@ use Rattle.lru_replay.proofs.lines.put.write_put.Goals as goal
 pub returns-in-Ok : goal.returns-in-Ok
 returns-in-Ok g c cost = (
   given c.in-Ok.done c.in-Ok.out.items,
-  inl (_, _, c.in-Ok.ensures.handed, refl),
+  inl (_, _, c.in-Ok.ensures.passed, refl),
   rw (← c.as_slice.ensures.value) c.write_given.ensures,
 )
 

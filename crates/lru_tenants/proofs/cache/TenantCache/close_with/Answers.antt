@@ -1,6 +1,6 @@
 use Rattle.std.proofs.Common.{arith, Some, None, Ok, Err, [], sym, refl, ◌∙◌, ap}
 use Rattle.std.specs.Option.{option_map, unwrap_or}
-use Rattle.lru_tenants.specs.TenantRuns.{Closes, CloseHands, PassesOn}
+use Rattle.lru_tenants.specs.TenantRuns.{Closes, ClosePasses, PassesOn}
 use Rattle.lru_tenants.specs.declared.error.TenantError.TheVariants.{NotOpen}
 use Rattle.lru_tenants.proofs.Changes.{on-removed}
 use Rattle.lru_tenants.proofs.Kept.{kept-removed-by, own-within, sum-removed}
@@ -72,25 +72,25 @@ returns-clause-closes g c =
     Closes _ (Some c.in-Some.map)
     (sym c.in-Some.ensures.value) c.remove.ensures.updates (ap Ok c.empty.ensures.count, refl))
 
-pub returns-in_default-clause-handed : goal.returns-in_default-clause-handed
-returns-in_default-clause-handed g c =
+pub returns-in_default-clause-passed : goal.returns-in_default-clause-passed
+returns-in_default-clause-passed g c =
     rw (← c.self.view_is) (
       [],
       refl,
       on-removed g.N.PartialEq.eq c.args.name.now
           c.self.inside.hasher c.self.inside.entry_bytes c.self.inside.total_limit c.self.inside.tenants
-          c.remove.new.self (PassesOn CloseHands) [] None
+          c.remove.new.self (PassesOn ClosePasses) [] None
           (sym c.remove.ensures.value ∙ c.in_default.is) c.remove.ensures.updates (refl, refl),
     )
 
-pub returns-clause-handed : goal.returns-clause-handed
-returns-clause-handed g c =
+pub returns-clause-passed : goal.returns-clause-passed
+returns-clause-passed g c =
     rw (← c.self.view_is) (
       _,
-      c.empty.ensures.handed,
+      c.empty.ensures.passed,
       on-removed g.N.PartialEq.eq
           c.args.name.now c.self.inside.hasher c.self.inside.entry_bytes c.self.inside.total_limit
           c.self.inside.tenants c.remove.new.self
-          (PassesOn CloseHands) _ (Some c.in-Some.map) (sym c.in-Some.ensures.value) c.remove.ensures.updates
+          (PassesOn ClosePasses) _ (Some c.in-Some.map) (sym c.in-Some.ensures.value) c.remove.ensures.updates
           (refl, refl),
     )

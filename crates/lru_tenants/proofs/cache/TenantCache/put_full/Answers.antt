@@ -3,7 +3,7 @@ use Rattle.std.specs.Prelude.{IfSome}
 use Rattle.lru_model.specs.Inserts.{kept_of}
 use Rattle.lru_tenants.specs.Cache.{tenant}
 use Rattle.lru_tenants.specs.PutFulls.{rejects}
-use Rattle.lru_tenants.specs.TenantRuns.{put_answer, Puts, PutHands, PassesOn}
+use Rattle.lru_tenants.specs.TenantRuns.{put_answer, Puts, PutPasses, PassesOn}
 use Rattle.lru_tenants.proofs.Changes.{cache_of, on-same, on-written, tenant-written}
 use Rattle.lru_tenants.proofs.PutFulls.{kept-answer}
 use Rattle.lru_tenants.proofs.Kept.{kept-written, same-sum}
@@ -42,28 +42,28 @@ returns-clause-puts g c = let u = c.insert_full.new.map in
       refl,
     ))
 
-pub returns-clause-handed : goal.returns-clause-handed
-returns-clause-handed g c = let u = c.insert_full.new.map in
-    let (handed, takes, hands) = c.insert_full.ensures.handed in
+pub returns-clause-passed : goal.returns-clause-passed
+returns-clause-passed g c = let u = c.insert_full.new.map in
+    let (passed, takes, passes) = c.insert_full.ensures.passed in
     rw (← c.self.view_is) (
-      handed,
+      passed,
       takes,
       on-written g.N.PartialEq.eq c.args.name.now
           c.self.inside.hasher c.self.inside.entry_bytes c.self.inside.total_limit c.self.inside.tenants
           (c.get_mut.follows.lender u) c.in-Some.own.now u
           (sym c.in-Some.ensures.value) (c.get_mut.follows.holds u)
-          (PassesOn (PutHands g.L.Limiter.rules g.L.Insertion.offers g.L.Budgeted.budget_of g.K.PartialEq.eq
-          g.S.KeyHasher.hash_of c.args.key c.args.value)) handed
-          (record { left = u; result = kept_of c.insert_full.result; inserts = hands; is = refl }),
+          (PassesOn (PutPasses g.L.Limiter.rules g.L.Insertion.offers g.L.Budgeted.budget_of g.K.PartialEq.eq
+          g.S.KeyHasher.hash_of c.args.key c.args.value)) passed
+          (record { left = u; result = kept_of c.insert_full.result; inserts = passes; is = refl }),
     )
 
-pub returns-in_default-clause-handed : goal.returns-in_default-clause-handed
-returns-in_default-clause-handed g c =
+pub returns-in_default-clause-passed : goal.returns-in_default-clause-passed
+returns-in_default-clause-passed g c =
     rw (c.get_mut.follows.holds-at-none, ← c.self.view_is) (
       [],
       refl,
       on-same c.args.name.now (PassesOn
-          (PutHands g.L.Limiter.rules g.L.Insertion.offers g.L.Budgeted.budget_of g.K.PartialEq.eq
+          (PutPasses g.L.Limiter.rules g.L.Insertion.offers g.L.Budgeted.budget_of g.K.PartialEq.eq
           g.S.KeyHasher.hash_of c.args.key c.args.value)) []
           g.met.N.Eq.laws (cache_of c.self.inside.tenants c.self.inside.hasher c.self.inside.entry_bytes
           c.self.inside.total_limit) None

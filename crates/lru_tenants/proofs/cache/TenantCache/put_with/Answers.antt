@@ -1,5 +1,5 @@
 use Rattle.std.proofs.Common.{[], None, sym, refl}
-use Rattle.lru_tenants.specs.TenantRuns.{Puts, PutHands, PassesOn}
+use Rattle.lru_tenants.specs.TenantRuns.{Puts, PutPasses, PassesOn}
 use Rattle.lru_tenants.proofs.Changes.{cache_of, on-same, on-written}
 use Rattle.lru_tenants.proofs.Kept.{kept-written, same-sum}
 use Rattle.lru_tenants.proofs.cache.TenantCache.put_with.Goals as goal
@@ -37,28 +37,28 @@ returns-clause-puts g c = let u = c.insert.new.map in
       refl,
     ))
 
-pub returns-clause-handed : goal.returns-clause-handed
-returns-clause-handed g c = let u = c.insert.new.map in
-    let (handed, takes, hands) = c.insert.ensures.handed in
+pub returns-clause-passed : goal.returns-clause-passed
+returns-clause-passed g c = let u = c.insert.new.map in
+    let (passed, takes, passes) = c.insert.ensures.passed in
     rw (← c.self.view_is) (
-      handed,
+      passed,
       takes,
       on-written g.N.PartialEq.eq c.args.name.now
           c.self.inside.hasher c.self.inside.entry_bytes c.self.inside.total_limit c.self.inside.tenants
           (c.get_mut.follows.lender u) c.in-Some.own.now u
           (sym c.in-Some.ensures.value) (c.get_mut.follows.holds u)
-          (PassesOn (PutHands g.L.Limiter.rules g.L.Insertion.offers g.L.Budgeted.budget_of g.K.PartialEq.eq
-          g.S.KeyHasher.hash_of c.args.key c.args.value)) handed
-          (record { left = u; result = c.insert.result; inserts = hands; is = refl }),
+          (PassesOn (PutPasses g.L.Limiter.rules g.L.Insertion.offers g.L.Budgeted.budget_of g.K.PartialEq.eq
+          g.S.KeyHasher.hash_of c.args.key c.args.value)) passed
+          (record { left = u; result = c.insert.result; inserts = passes; is = refl }),
     )
 
-pub returns-in_default-clause-handed : goal.returns-in_default-clause-handed
-returns-in_default-clause-handed g c =
+pub returns-in_default-clause-passed : goal.returns-in_default-clause-passed
+returns-in_default-clause-passed g c =
     rw (c.get_mut.follows.holds-at-none, ← c.self.view_is) (
       [],
       refl,
       on-same c.args.name.now (PassesOn
-          (PutHands g.L.Limiter.rules g.L.Insertion.offers g.L.Budgeted.budget_of g.K.PartialEq.eq
+          (PutPasses g.L.Limiter.rules g.L.Insertion.offers g.L.Budgeted.budget_of g.K.PartialEq.eq
           g.S.KeyHasher.hash_of c.args.key c.args.value)) []
           g.met.N.Eq.laws (cache_of c.self.inside.tenants c.self.inside.hasher c.self.inside.entry_bytes
           c.self.inside.total_limit) None

@@ -1,7 +1,7 @@
 use Rattle.std.proofs.Common.{◌+◌, ◌-◌, [], None, Some, Err, Ok, arith, sym, refl, ◌∙◌, ap, subst}
 use Rattle.std.proofs.lemmas.Map.Steps.{set_value_same}
 use Rattle.lru_tenants.specs.Cache.{IsTenant, is_above}
-use Rattle.lru_tenants.specs.TenantRuns.{SetsBudget, BudgetHands, PassesOn}
+use Rattle.lru_tenants.specs.TenantRuns.{SetsBudget, BudgetPasses, PassesOn}
 use Rattle.lru_tenants.specs.declared.error.TenantError.TheVariants.{OverTotal}
 use Rattle.lru_tenants.proofs.Changes.{cache_of, found-all, on-same, on-written}
 use Rattle.lru_tenants.proofs.Kept.{kept-rebudgeted, kept-written, own-within, sum-fits, sum-with, sum-written}
@@ -50,8 +50,8 @@ returns-then-is_above-clause-sets g c = let own = c.in-Some.own.now in
     (subst (λ b. SetsBudget g.L.Limiter.rules (g.L.Budgeted.rebudgeted c.args.budget) b (Some own) (Err OverTotal)
     (Some own)) (sym over) (refl, refl)))
 
-pub returns-then-is_above-clause-handed : goal.returns-then-is_above-clause-handed
-returns-then-is_above-clause-handed g c = let own = c.in-Some.own.now in
+pub returns-then-is_above-clause-passed : goal.returns-then-is_above-clause-passed
+returns-then-is_above-clause-passed g c = let own = c.in-Some.own.now in
     let over = ap (is_above c.self.inside.total_limit)
     (sym (sum-with c.self.inside.entry_bytes c.self.inside.tenants c.self.invariant
     (g.N.PartialEq.eq c.args.name.now) c.in-Some.own.now
@@ -65,8 +65,8 @@ returns-then-is_above-clause-handed g c = let own = c.in-Some.own.now in
           c.self.inside.total_limit
           c.self.inside.tenants (c.get_mut.follows.lender own) c.in-Some.own.now own (sym c.in-Some.ensures.value)
           (c.get_mut.follows.holds own)
-          (PassesOn (BudgetHands g.L.Limiter.rules (g.L.Budgeted.rebudgeted c.args.budget) _)) []
-          (subst (λ b. PassesOn (BudgetHands g.L.Limiter.rules (g.L.Budgeted.rebudgeted c.args.budget) b) (Some own)
+          (PassesOn (BudgetPasses g.L.Limiter.rules (g.L.Budgeted.rebudgeted c.args.budget) _)) []
+          (subst (λ b. PassesOn (BudgetPasses g.L.Limiter.rules (g.L.Budgeted.rebudgeted c.args.budget) b) (Some own)
           [] (Some own)) (sym over) (refl, refl)),
     )
 
@@ -116,9 +116,9 @@ returns-clause-sets g c = let u = c.set_budget.new.map in
     (Ok tt) (Some u)) (sym over)
     (u, c.set_budget.ensures.trims, refl, refl)))
 
-pub returns-clause-handed : goal.returns-clause-handed
-returns-clause-handed g c = let u = c.set_budget.new.map in
-    let (handed, takes, hands) = c.set_budget.ensures.handed in
+pub returns-clause-passed : goal.returns-clause-passed
+returns-clause-passed g c = let u = c.set_budget.new.map in
+    let (passed, takes, passes) = c.set_budget.ensures.passed in
     let over = ap (is_above c.self.inside.total_limit)
     (sym (sum-with c.self.inside.entry_bytes c.self.inside.tenants c.self.invariant
     (g.N.PartialEq.eq c.args.name.now) c.in-Some.own.now
@@ -126,23 +126,23 @@ returns-clause-handed g c = let u = c.set_budget.new.map in
     (c.budget.ensures ∙ ap g.L.Budgeted.budget_of c.limiter.ensures))) ∙ sym c.is_above.ensures ∙
     c.if-is_above.false in
     rw (← c.self.view_is) (
-      handed,
+      passed,
       takes,
       on-written g.N.PartialEq.eq c.args.name.now c.self.inside.hasher c.self.inside.entry_bytes
           c.self.inside.total_limit
           c.self.inside.tenants (c.get_mut.follows.lender u) c.in-Some.own.now u (sym c.in-Some.ensures.value)
           (c.get_mut.follows.holds u)
-          (PassesOn (BudgetHands g.L.Limiter.rules (g.L.Budgeted.rebudgeted c.args.budget) _)) handed
-          (subst (λ b. PassesOn (BudgetHands g.L.Limiter.rules (g.L.Budgeted.rebudgeted c.args.budget) b)
-          (Some c.in-Some.own.now) handed (Some u)) (sym over) (u, hands, refl)),
+          (PassesOn (BudgetPasses g.L.Limiter.rules (g.L.Budgeted.rebudgeted c.args.budget) _)) passed
+          (subst (λ b. PassesOn (BudgetPasses g.L.Limiter.rules (g.L.Budgeted.rebudgeted c.args.budget) b)
+          (Some c.in-Some.own.now) passed (Some u)) (sym over) (u, passes, refl)),
     )
 
-pub returns-in_default-clause-handed : goal.returns-in_default-clause-handed
-returns-in_default-clause-handed g c =
+pub returns-in_default-clause-passed : goal.returns-in_default-clause-passed
+returns-in_default-clause-passed g c =
     rw (c.get_mut.follows.holds-at-none, ← c.self.view_is) (
       [],
       refl,
-      on-same c.args.name.now (PassesOn (BudgetHands g.L.Limiter.rules (g.L.Budgeted.rebudgeted c.args.budget) _)) []
+      on-same c.args.name.now (PassesOn (BudgetPasses g.L.Limiter.rules (g.L.Budgeted.rebudgeted c.args.budget) _)) []
           g.met.N.Eq.laws (cache_of c.self.inside.tenants c.self.inside.hasher c.self.inside.entry_bytes
           c.self.inside.total_limit) None
           (sym c.in_default.ensures.value) (refl, refl),

@@ -9,7 +9,7 @@ bounds-0 g c =
     let added = adds g.L.Admission.terms g.L.Limiter.rules g.L.Insertion.offers g.K.PartialEq.eq g.met.L.Admission.laws
     c.args.key c.args.value c.args.self.now _ c.insert_new.new.self c.requires.storable c.requires.absent
     c.requires.room
-    (plain_insert (c.insert_new.ensures.handed _ [] refl).2) in
+    (plain_insert (c.insert_new.ensures.passed _ [] refl).2) in
     let e = sym c.in-Err.is ∙ added.answer in absurd cc
 
 pub unreachable-requires-in-None : goal.unreachable-requires-in-None
@@ -17,12 +17,12 @@ unreachable-requires-in-None g c =
     let added = adds g.L.Admission.terms g.L.Limiter.rules g.L.Insertion.offers g.K.PartialEq.eq g.met.L.Admission.laws
     c.args.key c.args.value c.args.self.now _ c.insert_new.new.self c.requires.storable c.requires.absent
     c.requires.room
-    (plain_insert (c.insert_new.ensures.handed _ [] refl).2) in
+    (plain_insert (c.insert_new.ensures.passed _ [] refl).2) in
     let e = sym c.in-Err.is ∙ added.answer in cc
 
 pub returns : goal.returns
 returns g c =
-    let step = plain_insert (c.insert_new.ensures.handed _ [] refl).2 in
+    let step = plain_insert (c.insert_new.ensures.passed _ [] refl).2 in
     let added = adds g.L.Admission.terms g.L.Limiter.rules g.L.Insertion.offers g.K.PartialEq.eq g.met.L.Admission.laws
     c.args.key c.args.value c.args.self.now _ c.insert_new.new.self c.requires.storable c.requires.absent
     c.requires.room

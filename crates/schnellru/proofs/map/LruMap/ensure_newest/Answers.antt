@@ -1,7 +1,7 @@
 use Rattle.std.proofs.Common.{subst}
 use Rattle.lru_model.specs.State.{IsMap}
-use Rattle.lru_model.proofs.Theorems.GetOrInserts.{makes_says, makes_lacks}
-use Rattle.lru_model.proofs.Theorems.LackOfMemory.{on_err}
+use Rattle.lru_model.proofs.Theorems.GetOrInserts.{makes_says, newest_out_of_memory}
+use Rattle.lru_model.proofs.Theorems.OutOfMemory.{on_err}
 use Rattle.schnellru.proofs.map.LruMap.ensure_newest.Goals as goal
 
 pub returns-clause-says : goal.returns-clause-says
@@ -10,5 +10,5 @@ returns-clause-says g c =
     (IsMap g.K.PartialEq.eq) c.self.view_is c.self.invariant.map in
     makes_says g.met.I.LookupKey.laws g.met.L.Insertion.laws old.distinct c.make_newest-answer.ensures
 
-pub returns-clause-lacks : goal.returns-clause-lacks
-returns-clause-lacks g c = on_err _ (λ failed. makes_lacks failed c.make_newest-answer.ensures)
+pub returns-clause-out_of_memory : goal.returns-clause-out_of_memory
+returns-clause-out_of_memory g c = on_err _ (λ failed. newest_out_of_memory failed c.make_newest-answer.ensures)

@@ -12,7 +12,7 @@ evictions-init g c = record {
   some = c.requires.some;
   over = c.requires.over;
   callable = c.requires.callable;
-  handed = λ first before taken. (before, taken, (leaves_self (noted before c.args.self.now), refl));
+  passed = λ first before taken. (before, taken, (leaves_self (noted before c.args.self.now), refl));
 }
 
 pub sink-requires : goal.sink-requires
@@ -35,32 +35,32 @@ evictions-preserved g c =
       over = sym c.is_over_the_limit.ensures ∙ c.if-not-is_over_the_limit.false;
       callable = rest_callable rules g.F.FnMut st u pair c.take_oldest-key.ensures.step c.evictions.sink
           c.sink.new.self c.sink.ensures i.callable;
-      handed = trims_more rules g.F.FnMut c.args.self.now c.args.sink.now st u c.evictions.sink c.sink.new.self pair
-          i.some i.over c.take_oldest-key.ensures.step c.sink.ensures i.handed;
+      passed = trims_more rules g.F.FnMut c.args.self.now c.args.sink.now st u c.evictions.sink c.sink.new.self pair
+          i.some i.over c.take_oldest-key.ensures.step c.sink.ensures i.passed;
     }
 
-pub returns-then-not-is_over_the_limit-clause-handed : goal.returns-then-not-is_over_the_limit-clause-handed
-returns-then-not-is_over_the_limit-clause-handed g c =
+pub returns-then-not-is_over_the_limit-clause-passed : goal.returns-then-not-is_over_the_limit-clause-passed
+returns-then-not-is_over_the_limit-clause-passed g c =
     let i = c.evictions.invariant in let rules = g.L.Limiter.rules in
     let st = c.evictions.self in let u = c.take_oldest-key.new.self in let pair = c.take_oldest-key.result in
     let within = sym c.is_over_the_limit.ensures ∙ c.if-not-is_over_the_limit.true in
     λ first before taken.
     let (after, had, trimmed) = trims_more rules g.F.FnMut c.args.self.now c.args.sink.now st u c.evictions.sink
-    c.sink.new.self pair i.some i.over c.take_oldest-key.ensures.step c.sink.ensures i.handed first before taken in (
+    c.sink.new.self pair i.some i.over c.take_oldest-key.ensures.step c.sink.ensures i.passed first before taken in (
       after,
       had,
       subst (λ left. Leaves (noted before c.args.self.now) left (noted after u))
           (sym (trimmed.1 ∙ trim-within (noting rules) (contents (noted after u)) within)) trimmed.0,
     )
 
-pub returns-then-is_empty-clause-handed : goal.returns-then-is_empty-clause-handed
-returns-then-is_empty-clause-handed g c =
+pub returns-then-is_empty-clause-passed : goal.returns-then-is_empty-clause-passed
+returns-then-is_empty-clause-passed g c =
     let i = c.evictions.invariant in let rules = g.L.Limiter.rules in
     let st = c.evictions.self in let u = c.take_oldest-key.new.self in let pair = c.take_oldest-key.result in
     let none = empty-length u.pairs (sym c.is_empty.ensures ∙ c.if-is_empty.true) in
     λ first before taken.
     let (after, had, trimmed) = trims_more rules g.F.FnMut c.args.self.now c.args.sink.now st u c.evictions.sink
-    c.sink.new.self pair i.some i.over c.take_oldest-key.ensures.step c.sink.ensures i.handed first before taken in (
+    c.sink.new.self pair i.some i.over c.take_oldest-key.ensures.step c.sink.ensures i.passed first before taken in (
       after,
       had,
       subst (λ left. Leaves (noted before c.args.self.now) left (noted after u))

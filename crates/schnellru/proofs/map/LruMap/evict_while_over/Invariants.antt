@@ -10,7 +10,7 @@ invariant-evictions g l = record {
   some : 0 < length l.self.pairs;
   over : g.L.Limiter.rules.is_over_the_limit l.self.limiter (length l.self.pairs) ≡ true;
   callable : MayTakeEach g.L.Limiter.rules g.F.FnMut l.self.pairs l.sink;
-  handed : IsTrimmedTo g.L.Limiter.rules g.F.FnMut l.fn.self l.fn.sink l.self l.sink;
+  passed : IsTrimmedTo g.L.Limiter.rules g.F.FnMut l.fn.self l.fn.sink l.self l.sink;
 }
 
 abbrev pub decreases-evictions : goal.decreases-evictions

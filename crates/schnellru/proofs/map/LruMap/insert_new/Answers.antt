@@ -30,13 +30,13 @@ insert_pair-requires-clause-absent g c =
 
 pub returns-in-Ok-Some : goal.returns-in-Ok-Some
 returns-in-Ok-Some g c = record {
-  handed =
+  passed =
       let m = c.self.inside in let len = c.len.ensures.len ∙ sym (pairs-length m.entries c.self.invariant.linked) in
       let absent = rw (← c.self.view_is) at c.requires.absent in
       let given = subst (λ n. g.L.Insertion.offers.on_insert m.limiter n c.args.key c.args.value c.on_insert.new.self
       (Some c.in-Ok-Some.pair)) len (rw c.in-Ok-Some.field-0-is at c.in-Ok-Some.ensures.offered) in
       λ first before taken.
-      let (after, had, step) = c.insert_pair.ensures.handed first before taken in (
+      let (after, had, step) = c.insert_pair.ensures.passed first before taken in (
         after,
         had,
         rw (← c.self.view_is) (admitted absent (c.on_insert.new.self, before) c.in-Ok-Some.pair (given, refl) step),
@@ -45,7 +45,7 @@ returns-in-Ok-Some g c = record {
 
 pub returns-in-Ok-None : goal.returns-in-Ok-None
 returns-in-Ok-None g c = record {
-  handed =
+  passed =
       let m = c.self.inside in let len = c.len.ensures.len ∙ sym (pairs-length m.entries c.self.invariant.linked) in
       let absent = rw (← c.self.view_is) at c.requires.absent in
       let given = subst (λ n. g.L.Insertion.offers.on_insert m.limiter n c.args.key c.args.value c.on_insert.new.self
@@ -59,17 +59,17 @@ returns-in-Ok-None g c = record {
 
 pub returns-in-Err : goal.returns-in-Err
 returns-in-Err g c = record {
-  handed =
+  passed =
       let m = c.self.inside in
       let rest = fields_of m (g.L.LinkType.LinkType.number g.L.LinkType.LinkType.MAX) in
       let len = c.len.ensures.len ∙ sym (pairs-length m.entries c.self.invariant.linked) in
       let absent = rw (← c.self.view_is) at c.requires.absent in
-      let lacks = subst (λ n. g.L.Insertion.offers.may_lack m.limiter n c.args.key c.args.value) len
-      c.in-Err.ensures.lacks in
+      let out_of_memory = subst (λ n. g.L.Insertion.offers.may_run_out m.limiter n c.args.key c.args.value) len
+      c.in-Err.ensures.out_of_memory in
       λ first before taken. (
         before,
         taken,
-        rw (← c.self.view_is) (no_memory_to_admit absent lacks refl
+        rw (← c.self.view_is) (no_memory_to_admit absent out_of_memory refl
             (ap (λ l. noted before (state_of m.entries (record rest { limiter = l }))) c.in-Err.ensures.unchanged)),
       );
 }

@@ -9,9 +9,9 @@ use Rattle.lru_model.proofs.Theorems.Fronts.{replaced_named}
 use Rattle.lru_model.specs.MayTake.{MayTakeEach}
 use Rattle.schnellru.proofs.map.LruMap.insert_or_replace.Goals as goal
 
-pub returns-then-not-accepted-clause-handed : goal.returns-then-not-accepted-clause-handed
-returns-then-not-accepted-clause-handed g c = λ first before taken.
-    let (after, more, offer) = c.offer_at-accepted.ensures.handed first before taken in (
+pub returns-then-not-accepted-clause-passed : goal.returns-then-not-accepted-clause-passed
+returns-then-not-accepted-clause-passed g c = λ first before taken.
+    let (after, more, offer) = c.offer_at-accepted.ensures.passed first before taken in (
       after,
       more,
       not_replaced offer.pair offer.there (offer.taken ∙ c.if-not-accepted.true) refl
@@ -20,32 +20,32 @@ returns-then-not-accepted-clause-handed g c = λ first before taken.
 
 pub returns-then-not-accepted-clause-unkept : goal.returns-then-not-accepted-clause-unkept
 returns-then-not-accepted-clause-unkept g c =
-    offered_unkept (c.offer_at-accepted.ensures.handed c.args.sink.now [] refl).2
+    offered_unkept (c.offer_at-accepted.ensures.passed c.args.sink.now [] refl).2
 
 pub promote_at-requires : goal.promote_at-requires
 promote_at-requires g c = subst (λ places. Contains places c.in-Some.b)
-    (sym ((c.offer_at-accepted.ensures.handed c.args.sink.now [] refl).2.place c.if-not-accepted.false))
+    (sym ((c.offer_at-accepted.ensures.passed c.args.sink.now [] refl).2.place c.if-not-accepted.false))
     c.in-Some.ensures.there
 
 pub evict_over_limit-kept-requires-clause-some : goal.evict_over_limit-kept-requires-clause-some
 evict_over_limit-kept-requires-clause-some g c =
     let yes = c.if-not-accepted.false in let names = g.I.LookupKey.names c.args.key in
-    let offer = (c.offer_at-accepted.ensures.handed c.args.sink.now [] refl).2 in
+    let offer = (c.offer_at-accepted.ensures.passed c.args.sink.now [] refl).2 in
     let named = replaced_named g.L.Limiter.rules g.L.Insertion.offers g.I.LookupKey.names g.met.I.LookupKey.laws
     g.met.L.Insertion.laws c.args.key c.args.value c.args.self.now offer.pair offer.there in
     offered_some offer yes named (noted _ c.promote_at.new.self) (ap (noted _) (c.promote_at.ensures.promoted names
     (g.met.I.LookupKey.laws.one c.args.key) (offered_place offer yes named c.in-Some.b c.in-Some.ensures.found)))
 
-pub returns-else-not-accepted-clause-handed : goal.returns-else-not-accepted-clause-handed
-returns-else-not-accepted-clause-handed g c = λ first before taken.
+pub returns-else-not-accepted-clause-passed : goal.returns-else-not-accepted-clause-passed
+returns-else-not-accepted-clause-passed g c = λ first before taken.
     let yes = c.if-not-accepted.false in let names = g.I.LookupKey.names c.args.key in let one =
     g.met.I.LookupKey.laws.one c.args.key in
-    let (between, more, offer) = c.offer_at-accepted.ensures.handed first before taken in
+    let (between, more, offer) = c.offer_at-accepted.ensures.passed first before taken in
     let named = replaced_named g.L.Limiter.rules g.L.Insertion.offers g.I.LookupKey.names g.met.I.LookupKey.laws
     g.met.L.Insertion.laws c.args.key c.args.value c.args.self.now offer.pair offer.there in
     let is = c.promote_at.ensures.promoted names one
     (offered_place offer yes named c.in-Some.b c.in-Some.ensures.found) in
-    let (after, had, trimmed) = c.evict_over_limit-kept.ensures.handed first between more in (
+    let (after, had, trimmed) = c.evict_over_limit-kept.ensures.passed first between more in (
       after,
       had,
       replaced offer.pair offer.there (offer.taken ∙ yes) (ap Ok c.evict_over_limit-kept.ensures.left)
@@ -57,7 +57,7 @@ returns-else-not-accepted-clause-handed g c = λ first before taken.
 
 pub returns-else-not-accepted-clause-unkept : goal.returns-else-not-accepted-clause-unkept
 returns-else-not-accepted-clause-unkept g c =
-    offered_unkept (c.offer_at-accepted.ensures.handed c.args.sink.now [] refl).2
+    offered_unkept (c.offer_at-accepted.ensures.passed c.args.sink.now [] refl).2
 
 pub offer_at-accepted-requires-clause-callable : goal.offer_at-accepted-requires-clause-callable
 offer_at-accepted-requires-clause-callable g c = c.requires.callable.replaced.rejected
@@ -65,7 +65,7 @@ offer_at-accepted-requires-clause-callable g c = c.requires.callable.replaced.re
 pub evict_over_limit-kept-requires-clause-callable : goal.evict_over_limit-kept-requires-clause-callable
 evict_over_limit-kept-requires-clause-callable g c =
     let yes = c.if-not-accepted.false in let names = g.I.LookupKey.names c.args.key in
-    let offer = (c.offer_at-accepted.ensures.handed c.args.sink.now [] refl).2 in
+    let offer = (c.offer_at-accepted.ensures.passed c.args.sink.now [] refl).2 in
     let named = replaced_named g.L.Limiter.rules g.L.Insertion.offers g.I.LookupKey.names g.met.I.LookupKey.laws
     g.met.L.Insertion.laws c.args.key c.args.value c.args.self.now offer.pair offer.there in
     let is = offered_front offer yes named (noted _ c.promote_at.new.self) (ap (noted _) (c.promote_at.ensures.promoted

@@ -11,45 +11,45 @@ use Rattle.schnellru.proofs.map.LruMap.insert_pair.Goals as goal
 pub insert_without_growth-requires-clause-hash : goal.insert_without_growth-requires-clause-hash
 insert_without_growth-requires-clause-hash g c =
     (stays_new g.L.Limiter.rules g.S.KeyHasher.hash_of g.K.PartialEq.eq c.args.hash c.args.pair c.args.self.now
-    c.make_room.new.self _ (c.make_room.ensures.handed c.args.sink.now [] refl).2 c.requires.hash
+    c.make_room.new.self _ (c.make_room.ensures.passed c.args.sink.now [] refl).2 c.requires.hash
     c.requires.absent).hash
 
 pub insert_without_growth-requires-clause-absent : goal.insert_without_growth-requires-clause-absent
 insert_without_growth-requires-clause-absent g c =
     (stays_new g.L.Limiter.rules g.S.KeyHasher.hash_of g.K.PartialEq.eq c.args.hash c.args.pair c.args.self.now
-    c.make_room.new.self _ (c.make_room.ensures.handed c.args.sink.now [] refl).2 c.requires.hash
+    c.make_room.new.self _ (c.make_room.ensures.passed c.args.sink.now [] refl).2 c.requires.hash
     c.requires.absent).absent
 
 pub store_in_room-requires-clause-hash : goal.store_in_room-requires-clause-hash
 store_in_room-requires-clause-hash g c =
     (stays_new g.L.Limiter.rules g.S.KeyHasher.hash_of g.K.PartialEq.eq c.args.hash c.args.pair c.args.self.now
-    c.make_room.new.self _ (c.make_room.ensures.handed c.args.sink.now [] refl).2 c.requires.hash
+    c.make_room.new.self _ (c.make_room.ensures.passed c.args.sink.now [] refl).2 c.requires.hash
     c.requires.absent).hash
 
 pub store_in_room-requires-clause-absent : goal.store_in_room-requires-clause-absent
 store_in_room-requires-clause-absent g c =
     (stays_new g.L.Limiter.rules g.S.KeyHasher.hash_of g.K.PartialEq.eq c.args.hash c.args.pair c.args.self.now
-    c.make_room.new.self _ (c.make_room.ensures.handed c.args.sink.now [] refl).2 c.requires.hash
+    c.make_room.new.self _ (c.make_room.ensures.passed c.args.sink.now [] refl).2 c.requires.hash
     c.requires.absent).absent
 
 pub returns-then-growth_left-eq0 : goal.returns-then-growth_left-eq0
 returns-then-growth_left-eq0 g c = record {
-  handed =
+  passed =
       λ first before taken.
-      let (mid, had, way) = c.make_room.ensures.handed first before taken in
-      let (after, has, step) = c.insert_without_growth.ensures.handed first mid had in
+      let (mid, had, way) = c.make_room.ensures.passed first before taken in
+      let (after, has, step) = c.insert_without_growth.ensures.passed first mid had in
       (after, has, (noted mid c.make_room.new.self, way, step));
 }
 
 pub returns : goal.returns
 returns g c = record {
-  handed =
+  passed =
       let ready = c.make_room.new.self in let stored = c.store_in_room.ensures in let new = c.store_in_room.new.self in
       λ first before taken.
-      let (mid, had, way) = c.make_room.ensures.handed first before taken in
-      let (after, in_all, trimmed) = c.evict_over_limit.ensures.handed first mid had in
+      let (mid, had, way) = c.make_room.ensures.passed first before taken in
+      let (after, in_all, trimmed) = c.evict_over_limit.ensures.passed first mid had in
       let is = (stays_new g.L.Limiter.rules g.S.KeyHasher.hash_of g.K.PartialEq.eq c.args.hash c.args.pair
-      c.args.self.now ready _ (c.make_room.ensures.handed c.args.sink.now [] refl).2 c.requires.hash
+      c.args.self.now ready _ (c.make_room.ensures.passed c.args.sink.now [] refl).2 c.requires.hash
       c.requires.absent).hash in
       let put = in_bucket stored.within (inl (omega (arith, c.growth_left.ensures, c.if-growth_left-eq0.false)))
       (subst (λ h. FillsBucket h ready.table new.table) is

@@ -21,10 +21,10 @@ insert_without_bucket-requires-in-Err-clause-no_bucket g c =
 
 pub returns-in-Ok : goal.returns-in-Ok
 returns-in-Ok g c = record {
-  handed =
+  passed =
       let old = c.args.self.now in let new = c.store_in_bucket.new.self in let stored = c.in-Ok.ensures in
       λ first before taken.
-      let (after, in_all, trimmed) = c.evict_over_limit.ensures.handed first before taken in (
+      let (after, in_all, trimmed) = c.evict_over_limit.ensures.passed first before taken in (
         after,
         in_all,
         (
@@ -41,9 +41,9 @@ returns-in-Ok g c = record {
 
 pub returns-in-Err : goal.returns-in-Err
 returns-in-Err g c = record {
-  handed =
+  passed =
       λ first before taken.
-      let (after, has, step) = c.insert_without_bucket-in-Err.ensures.handed first before taken in
+      let (after, has, step) = c.insert_without_bucket-in-Err.ensures.passed first before taken in
       (after, has, rw (← c.in-Err.ensures.returned, ← c.in-Err.ensures.unchanged) step);
 }
 

@@ -18,4 +18,4 @@ returns-in-Some g c =
 pub returns-in-None : goal.returns-in-None
 returns-in-None g c = inserted
     (no_named_value (g.I.LookupKey.names c.args.key) c.args.self.now.pairs c.in-None.ensures.none)
-    c.make.result c.make.ensures (plain_insert (c.insert_new.ensures.handed _ [] refl).2)
+    c.make.result c.make.ensures (plain_insert (c.insert_new.ensures.passed _ [] refl).2)

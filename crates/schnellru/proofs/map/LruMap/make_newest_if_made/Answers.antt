@@ -24,11 +24,11 @@ returns-in-Err g c = failed
 pub returns-in-Ok-insert_new : goal.returns-in-Ok-insert_new
 returns-in-Ok-insert_new g c = as_made c.insert_new.result (inserted
     (no_named_value (g.I.LookupKey.names c.args.key) c.args.self.now.pairs c.in-None.ensures.none)
-    c.in-Ok.value c.in-Ok.ensures (plain_insert (c.insert_new.ensures.handed _ [] refl).2))
+    c.in-Ok.value c.in-Ok.ensures (plain_insert (c.insert_new.ensures.passed _ [] refl).2))
     (ap or_memory (sym c.in-Ok-insert_new.is))
 
 pub returns-in-Err-insert_new : goal.returns-in-Err-insert_new
 returns-in-Err-insert_new g c = as_made c.insert_new.result (inserted
     (no_named_value (g.I.LookupKey.names c.args.key) c.args.self.now.pairs c.in-None.ensures.none)
-    c.in-Ok.value c.in-Ok.ensures (plain_insert (c.insert_new.ensures.handed _ [] refl).2))
+    c.in-Ok.value c.in-Ok.ensures (plain_insert (c.insert_new.ensures.passed _ [] refl).2))
     (ap or_memory (sym c.in-Err-insert_new.is))

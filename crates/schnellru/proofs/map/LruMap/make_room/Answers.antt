@@ -6,8 +6,8 @@ use Rattle.lru_model.proofs.States.CallablePairs.{oldest_callable, rest_callable
 use Rattle.schnellru.proofs.Maps.NotedStates.{takes_more, noted_pop, make_room-over}
 use Rattle.schnellru.proofs.map.LruMap.make_room.Goals as goal
 
-pub returns-then-is_over_the_limit-clause-handed : goal.returns-then-is_over_the_limit-clause-handed
-returns-then-is_over_the_limit-clause-handed g c =
+pub returns-then-is_over_the_limit-clause-passed : goal.returns-then-is_over_the_limit-clause-passed
+returns-then-is_over_the_limit-clause-passed g c =
     let m = c.self.inside in let rules = g.L.Limiter.rules in let st = c.args.self.now in
     let u = c.take_oldest-key.new.self in let pair = c.take_oldest-key.result in
     let over : rules.is_over_the_limit st.limiter (length st.pairs + 1) ≡ true = rw (← c.self.view_is)

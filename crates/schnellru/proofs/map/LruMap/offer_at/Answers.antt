@@ -1,5 +1,5 @@
 use Rattle.std.proofs.Common.{◌≡◌, ℕ, length, sym, ◌∙◌, subst, true}
-use Rattle.schnellru.specs.Inside.Handing.{PassesRemoved}
+use Rattle.schnellru.specs.Inside.Passing.{PassesRemoved}
 use Rattle.schnellru.specs.Inside.Holds.{state_of}
 use Rattle.schnellru.specs.Inside.OrderedTable.{pairs_of}
 use Rattle.schnellru.specs.Inside.Steps.{IsReplaced, IsRemoved}
@@ -7,7 +7,7 @@ use Rattle.lru_model.specs.Inserts.{unkept_of}
 use Rattle.schnellru.specs.Inside.Fields.{fields_of}
 use Rattle.schnellru.proofs.Maps.NotedStates.{noted_offer}
 use Rattle.schnellru.proofs.OrderedTables.BucketPairs.{pairs-length, pair_found}
-use Rattle.schnellru.proofs.OrderedTables.Replacements.{replaced_leaves, given_up_leaves, offered_holds}
+use Rattle.schnellru.proofs.OrderedTables.Replacements.{replaced_leaves, removed_leaves, offered_holds}
 use Rattle.schnellru.proofs.OrderedTables.Searches.{pair_of_place}
 use Rattle.std.proofs.lemmas.Option.{same_Some}
 use Rattle.lru_model.specs.MayTake.{MayTakeRejected}
@@ -30,14 +30,14 @@ invariant_of-self g c =
     let by = g.L.Insertion.offers.on_replace m.limiter (length t.order) was.0 c.args.key was.1 c.args.value in
     offered_holds by t u b l holds.linked c.offer.ensures.linked was at names laws one
     holds.map.distinct named _ g.L.Limiter.rules c.offer.result.0 (λ e. c.offer.ensures.replaced e was at)
-    (λ e. c.offer.ensures.given_up e was at) g.S.KeyHasher.hash_of
+    (λ e. c.offer.ensures.removed e was at) g.S.KeyHasher.hash_of
     (one was.0 by.key named ∙ g.met.L.Insertion.laws.keeps_key m.limiter (length t.order) was.0 c.args.key was.1
     c.args.value named)
     holds
     (c.offer.ensures.fits (g.S.KeyHasher.hash_of m.hasher) (g.met.S.KeyHasher.respects_eq m.hasher) holds.fits)
 
-pub returns-clause-handed : goal.returns-clause-handed
-returns-clause-handed g c =
+pub returns-clause-passed : goal.returns-clause-passed
+returns-clause-passed g c =
     let m = c.self.inside in let t = m.entries in let u = c.offer.new.entries in let l = c.offer.new.limiter in
     let holds = c.self.invariant in let b = c.args.b in let laws = g.met.K.Eq.laws in let e = c.offer.ensures in
     let names = g.I.LookupKey.names c.args.key in let one = g.met.I.LookupKey.laws.one c.args.key in
@@ -58,14 +58,14 @@ returns-clause-handed g c =
           holds.map.distinct
           named rest (subst (λ n. IsReplaced (by n) b t u l) same (e.replaced yes was at));
       place = λ yes. (e.replaced yes was at).order;
-      rejected = λ no. given_up_leaves replacement t u b l holds.linked e.linked was at names laws one
+      rejected = λ no. removed_leaves replacement t u b l holds.linked e.linked was at names laws one
           holds.map.distinct
           named rest g.L.Limiter.rules (subst (λ n. IsRemoved g.L.Limiter.rules (by n) b t u l) same
-          (e.given_up no was at));
+          (e.removed no was at));
     })
     e.kept
     (λ no. subst (λ n. PassesRemoved g.F.FnMut g.L.Limiter.rules (by n) c.args.sink.now c.offer.new.sink) same
-    (e.handed no was at)))
+    (e.passed no was at)))
 
 pub offer-requires-clause-callable : goal.offer-requires-clause-callable
 offer-requires-clause-callable g c = λ pair at.

@@ -16,7 +16,7 @@ returns g c =
     let rest = fields_of m (g.L.LinkType.LinkType.number g.L.LinkType.LinkType.MAX) in
     let left = c.notify-key.result in
     record {
-      handed = λ first before taken. (
+      passed = λ first before taken. (
         before ++ left ∷ [],
         takes_more g.F.FnMut first before c.args.sink.now left c.sink.new.self taken c.sink.ensures,
         rw (← c.self.view_is) (noted_unstored g.L.Limiter.rules before (state_of m.entries rest) _ c.args.pair left

@@ -43,25 +43,25 @@ pairs-preserved g c =
           c.take_oldest-key.ensures.step c.sink.new.self c.sink.ensures;
     }
 
-pub returns-clause-handed : goal.returns-clause-handed
-returns-clause-handed g c =
+pub returns-clause-passed : goal.returns-clause-passed
+returns-clause-passed g c =
     let asked = subst (λ left. IsRetainedTo g.L.Limiter.rules g.F.FnMut g.G.FnMut c.args.self.now c.args.keep
     c.args.sink.now left c.pairs.self c.pairs.keep c.pairs.sink) (omega (arith, c.pairs-test.false))
     c.pairs.invariant.asked in (
-      asked.handed,
+      asked.passed,
       asked.takes,
       retains_all g.L.Limiter.rules g.F.FnMut g.G.FnMut c.args.self.now c.args.keep c.args.sink.now c.pairs.self
           c.pairs.keep c.pairs.sink asked,
     )
 
 pub returns-clause-step : goal.returns-clause-step
-returns-clause-step g c = let (handed, taken, step) = returns-clause-handed g c in
-    plain_retains g.L.Limiter.rules g.F.FnMut c.args.keep handed c.args.self.now c.pairs.self step
+returns-clause-step g c = let (passed, taken, step) = returns-clause-passed g c in
+    plain_retains g.L.Limiter.rules g.F.FnMut c.args.keep passed c.args.self.now c.pairs.self step
 
 pub sink-requires : goal.sink-requires
 sink-requires g c = oldest_callable g.L.Limiter.rules g.G.FnMut c.pairs.self c.take_oldest-key.new.self
     c.take_oldest-key.result c.take_oldest-key.ensures.step c.pairs.sink c.pairs.invariant.callable
 
 pub returns-clause-callable : goal.returns-clause-callable
-returns-clause-callable g c = let (handed, taken, step) = returns-clause-handed g c in
-    takes_always g.G.FnMut handed c.args.sink.now c.pairs.sink taken
+returns-clause-callable g c = let (passed, taken, step) = returns-clause-passed g c in
+    takes_always g.G.FnMut passed c.args.sink.now c.pairs.sink taken

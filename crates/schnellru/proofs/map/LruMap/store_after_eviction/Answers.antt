@@ -3,14 +3,14 @@ use Rattle.std.proofs.Common.{arith}
 use Rattle.group_table.specs.Sizes.{full_capacity}
 use Rattle.lru_model.specs.Lists.{lookup_entry}
 use Rattle.lru_model.specs.State.{buckets, room}
-use Rattle.lru_model.specs.Place.{IsFullWithPairs}
+use Rattle.lru_model.specs.Place.{HasPairsButNoGrowth}
 use Rattle.lru_model.specs.MayTake.{MayTakeEach}
 use Rattle.lru_model.specs.Callbacks.{noting, noted}
 use Rattle.lru_model.proofs.TableSizes.Growth.{full_capacity-some}
 use Rattle.lru_model.proofs.States.CallablePairs.{oldest_callable_with, rest_callable_with}
 use Rattle.lru_model.proofs.States.LeavingPairs.{leaves_self, leaves_more}
 use Rattle.schnellru.proofs.Maps.NotedStates.{takes_more, noted_placed, noted_pop}
-use Rattle.lru_model.proofs.States.Placements.{one_more, one_fewer, left_absent, finds, rehashes_then, no_place_bucket}
+use Rattle.lru_model.proofs.States.Placements.{one_more, one_fewer, left_absent, finds, rehashes_then}
 use Rattle.lru_model.proofs.States.Placements.{power_with_pairs}
 use Rattle.schnellru.proofs.map.LruMap.store_after_eviction.Goals as goal
 
@@ -44,8 +44,8 @@ store_in_bucket-requires-clause-absent g c =
     i.n i.gone i.stuck c.take_oldest-key.ensures.step.state
     (g.K.PartialEq.eq c.args.pair.0) c.requires.absent)
 
-pub returns-then-len-half-clause-handed : goal.returns-then-len-half-clause-handed
-returns-then-len-half-clause-handed g c =
+pub returns-then-len-half-clause-passed : goal.returns-then-len-half-clause-passed
+returns-then-len-half-clause-passed g c =
     let i = c.evictions.invariant in
     let rules = g.L.Limiter.rules in let old = c.args.self.now in let st = c.evictions.self in
     let u = c.take_oldest-key.new.self in let pair = c.take_oldest-key.result in
@@ -55,9 +55,9 @@ returns-then-len-half-clause-handed g c =
     (arith, takes, c.len.ensures.len, c.if-len-half.true) in
     let sized = c.bucket_count-buckets.ensures.map.sized in
     λ first before taken.
-    let (mid, had, gone) = i.handed first before taken in
+    let (mid, had, gone) = i.passed first before taken in
     let more = mid ++ pair ∷ [] in
-    let (after, has, step) = c.store_after_move.ensures.handed first more
+    let (after, has, step) = c.store_after_move.ensures.passed first more
     (takes_more g.F.FnMut first mid c.evictions.sink pair c.sink.new.self had c.sink.ensures) in (
       after,
       has,
@@ -67,8 +67,8 @@ returns-then-len-half-clause-handed g c =
           (rw (i.same_pair, same) at step),
     )
 
-pub returns-in-Ok-clause-handed : goal.returns-in-Ok-clause-handed
-returns-in-Ok-clause-handed g c =
+pub returns-in-Ok-clause-passed : goal.returns-in-Ok-clause-passed
+returns-in-Ok-clause-passed g c =
     let i = c.evictions.invariant in
     let rules = g.L.Limiter.rules in let old = c.args.self.now in let st = c.evictions.self in
     let u = c.take_oldest-key.new.self in let pair = c.take_oldest-key.result in
@@ -79,7 +79,7 @@ returns-in-Ok-clause-handed g c =
     let sized = c.bucket_count-buckets.ensures.map.sized in
     let placed = rw i.same_pair at c.in-Ok.ensures.placed in
     λ first before taken.
-    let (mid, had, gone) = i.handed first before taken in
+    let (mid, had, gone) = i.passed first before taken in
     let more = mid ++ pair ∷ [] in (
       more,
       takes_more g.F.FnMut first mid c.evictions.sink pair c.sink.new.self had c.sink.ensures,
@@ -94,17 +94,16 @@ pub evictions-init : goal.evictions-init
 evictions-init g c =
     let old = c.args.self.now in
     let sized = c.bucket_count-buckets.ensures.map.sized in
-    let none = c.requires.outgrown.no_bucket in let free = none.first_empty c.requires.some in record {
+    record {
       callable = c.requires.callable;
       n = 0;
       gone = refl;
-      handed = λ first before taken. (before, taken, refl);
+      passed = λ first before taken. (before, taken, refl);
       leaves = leaves_self old;
       stuck = record {
         some = c.requires.some;
         half = omega (arith, c.requires.outgrown.above_half);
-        no_place = inr (none.no_room, free.0, free.1, free.2);
-        no_room = none.no_room;
+        no_bucket = c.requires.outgrown.no_bucket;
       };
       same_pair = refl;
     }
@@ -142,7 +141,7 @@ evictions-preserved g c =
     let rules = g.L.Limiter.rules in let old = c.args.self.now in let st = c.evictions.self in
     let u = c.take_oldest-key.new.self in let pair = c.take_oldest-key.result in
     let sized = c.bucket_count-buckets.ensures.map.sized in
-    let lacks : IsFullWithPairs old = (c.requires.some, c.requires.outgrown.no_bucket.no_room) in
+    let is_full : HasPairsButNoGrowth old = (c.requires.some, c.requires.outgrown.no_bucket.no_room) in
     let takes = c.full_capacity-half.ensures ∙ ap full_capacity c.bucket_count-buckets.ensures.count in
     let enough : full_capacity (buckets old) / 2 ≤ length u.pairs = omega
     (arith, takes, c.len.ensures.len, c.if-len-half.false) in
@@ -151,22 +150,21 @@ evictions-preserved g c =
           (rest_callable_with rules g.F.FnMut st u pair c.take_oldest-key.ensures.step c.evictions.pair c.evictions.sink
           c.sink.new.self c.sink.ensures i.callable);
       n = suc i.n;
-      gone = one_more rules c.args.hash c.args.pair old st u sized lacks i.n i.gone i.stuck
+      gone = one_more rules c.args.hash c.args.pair old st u sized is_full i.n i.gone i.stuck
           c.take_oldest-key.ensures.step.state;
-      handed = λ first before taken.
-          let (mid, had, gone) = i.handed first before taken in (
+      passed = λ first before taken.
+          let (mid, had, gone) = i.passed first before taken in (
             mid ++ pair ∷ [],
             takes_more g.F.FnMut first mid c.evictions.sink pair c.sink.new.self had c.sink.ensures,
             one_more (noting rules) c.args.hash c.args.pair (noted before old) (noted mid st)
-                (noted (mid ++ pair ∷ []) u) sized lacks i.n gone i.stuck
+                (noted (mid ++ pair ∷ []) u) sized is_full i.n gone i.stuck
                 (noted_pop rules mid st u pair c.take_oldest-key.ensures.step),
           );
       leaves = leaves_more rules i.n old st u i.leaves c.take_oldest-key.ensures.step.state;
       stuck = record {
         some = omega (arith, enough, full_capacity-some (buckets old) (power_with_pairs old sized c.requires.some));
         half = enough;
-        no_place = c.in-Err.ensures.no_place;
-        no_room = (no_place_bucket u c.len.ensures.map.sized c.args.hash c.in-Err.ensures.no_place).no_room;
+        no_bucket = c.in-Err.ensures.no_bucket;
       };
       same_pair = c.in-Err.ensures.returned ∙ i.same_pair;
     })

@@ -3,12 +3,12 @@ use Rattle.lru_model.specs.State.{IsSized}
 use Rattle.schnellru.specs.Inside.Holds.{state_of}
 use Rattle.lru_model.specs.Callbacks.{noting, noted}
 use Rattle.schnellru.specs.Inside.Fields.{fields_of}
-use Rattle.lru_model.proofs.States.Placements.{grown_place, denied_place, untold_place}
+use Rattle.lru_model.proofs.States.Placements.{grown_place, denied_place, no_target_place}
 use Rattle.lru_model.specs.MayTake.{MayTakeEach}
 use Rattle.schnellru.proofs.map.LruMap.store_after_growth.Goals as goal
 
-pub returns-then-on_grow-clause-handed : goal.returns-then-on_grow-clause-handed
-returns-then-on_grow-clause-handed g c =
+pub returns-then-on_grow-clause-passed : goal.returns-then-on_grow-clause-passed
+returns-then-on_grow-clause-passed g c =
     let m = c.self.inside in
     let rest = fields_of m (g.L.LinkType.LinkType.number g.L.LinkType.LinkType.MAX) in
     let old = state_of m.entries rest in
@@ -16,7 +16,7 @@ returns-then-on_grow-clause-handed g c =
     let next = rw (← c.self.view_is) at (sym c.in-Some.ensures.next) in
     let hash = rw (← c.self.view_is) at c.requires.hash in
     λ first before taken.
-    let (after, had, step) = c.store_after_move.ensures.handed first before taken in (
+    let (after, had, step) = c.store_after_move.ensures.passed first before taken in (
       after,
       had,
       rw (← c.self.view_is) (grown_place (noting g.L.Limiter.rules) _ c.args.pair (noted before old)
@@ -25,8 +25,8 @@ returns-then-on_grow-clause-handed g c =
           (ap (λ s. (s, before)) c.on_grow.ensures.limiter) (sym c.on_grow.ensures.allowed ∙ c.if-on_grow.true) step),
     )
 
-pub returns-else-on_grow-clause-handed : goal.returns-else-on_grow-clause-handed
-returns-else-on_grow-clause-handed g c =
+pub returns-else-on_grow-clause-passed : goal.returns-else-on_grow-clause-passed
+returns-else-on_grow-clause-passed g c =
     let m = c.self.inside in
     let rest = fields_of m (g.L.LinkType.LinkType.number g.L.LinkType.LinkType.MAX) in
     let old = state_of m.entries rest in
@@ -34,7 +34,7 @@ returns-else-on_grow-clause-handed g c =
     let next = rw (← c.self.view_is) at (sym c.in-Some.ensures.next) in
     let hash = rw (← c.self.view_is) at c.requires.hash in
     λ first before taken.
-    let (after, had, step) = c.store_without_growth.ensures.handed first before taken in (
+    let (after, had, step) = c.store_without_growth.ensures.passed first before taken in (
       after,
       had,
       rw (← c.self.view_is) (denied_place (noting g.L.Limiter.rules) _ c.args.pair (noted before old)
@@ -43,15 +43,15 @@ returns-else-on_grow-clause-handed g c =
           (ap (λ s. (s, before)) c.on_grow.ensures.limiter) (sym c.on_grow.ensures.allowed ∙ c.if-on_grow.false) step),
     )
 
-pub returns-in-None-clause-handed : goal.returns-in-None-clause-handed
-returns-in-None-clause-handed g c =
+pub returns-in-None-clause-passed : goal.returns-in-None-clause-passed
+returns-in-None-clause-passed g c =
     let old = c.args.self.now in
     let sized = subst IsSized c.self.view_is c.self.invariant.map.sized in
     λ first before taken.
-    let (after, had, step) = c.store_without_growth-in-None.ensures.handed first before taken in (
+    let (after, had, step) = c.store_without_growth-in-None.ensures.passed first before taken in (
       after,
       had,
-      untold_place (noting g.L.Limiter.rules) _ c.args.pair (noted before old)
+      no_target_place (noting g.L.Limiter.rules) _ c.args.pair (noted before old)
           (noted after c.store_without_growth-in-None.new.self) sized c.args.hash
           c.requires.hash c.requires.outgrown _ (sym c.in-None.ensures.next) step,
     )

@@ -19,17 +19,17 @@ store_in_room-requires-clause-room g c =
       full_capacity-some c.args.count c.requires.count,
     )
 
-pub returns-in-Ok-clause-handed : goal.returns-in-Ok-clause-handed
-returns-in-Ok-clause-handed g c =
+pub returns-in-Ok-clause-passed : goal.returns-in-Ok-clause-passed
+returns-in-Ok-clause-passed g c =
     let old = c.args.self.now in let new = c.store_in_room.new.self in
     let placed : IsPlaced c.args.pair c.args.count (full_capacity c.args.count - length old.pairs - 1)
     (length old.pairs) old new = search rules in
     λ first before taken. (before, taken, noted_placed before c.args.pair c.args.count _ _ old new placed)
 
-pub returns-in-Err-clause-handed : goal.returns-in-Err-clause-handed
-returns-in-Err-clause-handed g c =
+pub returns-in-Err-clause-passed : goal.returns-in-Err-clause-passed
+returns-in-Err-clause-passed g c =
     λ first before taken.
-    let (after, had, away) = c.pass_unstored.ensures.handed first before taken in (
+    let (after, had, away) = c.pass_unstored.ensures.passed first before taken in (
       after,
       had,
       away ∙ ap (λ st. unstored (noting g.L.Limiter.rules) c.args.pair (noted before st))

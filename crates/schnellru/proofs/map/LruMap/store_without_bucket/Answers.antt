@@ -33,15 +33,15 @@ store_after_growth-requires-clause-outgrown g c =
       begun = begun table.map.sized.table.count;
     }
 
-pub returns-then-len-full_capacity-clause-handed : goal.returns-then-len-full_capacity-clause-handed
-returns-then-len-full_capacity-clause-handed g c =
+pub returns-then-len-full_capacity-clause-passed : goal.returns-then-len-full_capacity-clause-passed
+returns-then-len-full_capacity-clause-passed g c =
     let e = c.store_after_move.ensures in let old = c.args.self.now in let table = c.bucket_count-buckets.ensures in
     let takes = c.full_capacity.ensures ∙ ap full_capacity table.count in
     let fewer : length old.pairs < full_capacity (buckets old) / 2 = omega
     (arith, takes, c.if-len-full_capacity.true, c.len.ensures.len) in
     let none = subst (λ h. HasNoBucket h old) c.requires.hash c.requires.no_bucket in
     λ first before taken.
-    let (after, had, step) = e.handed first before taken in (
+    let (after, had, step) = e.passed first before taken in (
       after,
       had,
       rehash_place (noting g.L.Limiter.rules) _ c.args.pair (noted before old)

@@ -10,10 +10,10 @@ use Rattle.lru_model.proofs.Theorems.PlainInserts.{plain_trims}
 use Rattle.schnellru.proofs.map.LruMap.trim_with.Goals.{then-not-is_empty, else-not-is_empty}
 use Rattle.schnellru.proofs.map.LruMap.trim_with.Goals as goal
 
-pub returns-clause-handed : goal.returns-clause-handed
-returns-clause-handed g c = let st = c.args.self.now in let rules = g.L.Limiter.rules in
+pub returns-clause-passed : goal.returns-clause-passed
+returns-clause-passed g c = let st = c.args.self.now in let rules = g.L.Limiter.rules in
     elim c.if-not-is_empty.branch [
-      | then-not-is_empty w ↦ rw (w.self-is, w.sink-is) (w.evict_over_limit.ensures.handed c.args.sink.now [] refl)
+      | then-not-is_empty w ↦ rw (w.self-is, w.sink-is) (w.evict_over_limit.ensures.passed c.args.sink.now [] refl)
       | else-not-is_empty w ↦ rw (w.self-is, w.sink-is) (
         [],
         refl,
@@ -25,8 +25,8 @@ returns-clause-handed g c = let st = c.args.self.now in let rules = g.L.Limiter.
     ]
 
 pub returns-clause-step : goal.returns-clause-step
-returns-clause-step g c = let (handed, taken, step) = returns-clause-handed g c in
-    plain_trims g.L.Limiter.rules [] handed c.args.self.now c.if-not-is_empty.self step
+returns-clause-step g c = let (passed, taken, step) = returns-clause-passed g c in
+    plain_trims g.L.Limiter.rules [] passed c.args.self.now c.if-not-is_empty.self step
 
 pub returns-clause-within : goal.returns-clause-within
 returns-clause-within g c = let rules = g.L.Limiter.rules in
@@ -34,5 +34,5 @@ returns-clause-within g c = let rules = g.L.Limiter.rules in
     (trim_ends rules (contents c.args.self.now))
 
 pub returns-clause-callable : goal.returns-clause-callable
-returns-clause-callable g c = let (handed, taken, step) = returns-clause-handed g c in
-    takes_always g.F.FnMut handed c.args.sink.now c.if-not-is_empty.sink taken
+returns-clause-callable g c = let (passed, taken, step) = returns-clause-passed g c in
+    takes_always g.F.FnMut passed c.args.sink.now c.if-not-is_empty.sink taken

@@ -30,19 +30,19 @@ pub returns-in-Ok-clause-step : goal.returns-in-Ok-clause-step
 returns-in-Ok-clause-step g c =
     let st = c.args.self.now in let table = c.bucket_count-buckets.ensures in
     let takes = c.full_capacity.ensures ∙ ap full_capacity table.count in let len = c.len.ensures.len in
-    let lacks : NeedsGrowthFor c.args.n st =
+    let needs_growth : NeedsGrowthFor c.args.n st =
     (omega (arith, c.growth_left.ensures.room, c.if-n-growth_left.false), omega (arith, c.in-Some.ensures.0, len)) in
     let same = stays c.args.n st table.map.sized (omega (arith, c.if-n-growth_left.false))
     (omega (arith, c.if-full_capacity-pairs.false, takes, c.in-Some.ensures.1, len)) in
-    rehashed lacks same refl (rw table.count at c.in-Ok.ensures.moved)
+    rehashed needs_growth same refl (rw table.count at c.in-Ok.ensures.moved)
 
 pub returns-in-Err-clause-step : goal.returns-in-Err-clause-step
 returns-in-Err-clause-step g c =
     let st = c.args.self.now in let table = c.bucket_count-buckets.ensures in
     let takes = c.full_capacity.ensures ∙ ap full_capacity table.count in let len = c.len.ensures.len in
-    let lacks : NeedsGrowthFor c.args.n st =
+    let needs_growth : NeedsGrowthFor c.args.n st =
     (omega (arith, c.growth_left.ensures.room, c.if-n-growth_left.false), omega (arith, c.in-Some.ensures.0, len)) in
     let same = stays c.args.n st table.map.sized (omega (arith, c.if-n-growth_left.false))
     (omega (arith, c.if-full_capacity-pairs.false, takes, c.in-Some.ensures.1, len)) in
     let some = some_there st.pairs (λ none. false≢true (c.in-Err.ensures.succeeds none table.count)) in
-    unchanged (no_memory_to_rehash lacks same some refl) c.in-Err.ensures.unchanged
+    unchanged (no_memory_to_rehash needs_growth same some refl) c.in-Err.ensures.unchanged

@@ -14,9 +14,9 @@ use Rattle.schnellru.proofs.map.LruMap.update_entry.Goals as goal
 
 pub returns-then-not-accepted : goal.returns-then-not-accepted
 returns-then-not-accepted g c = record {
-  handed =
+  passed =
       λ first before taken. let e = c.if-not-accepted.true in
-      let (after, more, offer) = c.offer_at-accepted.ensures.handed first before taken in (
+      let (after, more, offer) = c.offer_at-accepted.ensures.passed first before taken in (
         after,
         more,
         rejected offer.pair offer.there (offer.taken ∙ e) (ap Rejected (offered_new offer e)) (offer.rejected e),
@@ -25,14 +25,14 @@ returns-then-not-accepted g c = record {
 
 pub evict_over_limit-requires-clause-some : goal.evict_over_limit-requires-clause-some
 evict_over_limit-requires-clause-some g c =
-    offered_any (c.offer_at-accepted.ensures.handed c.args.sink.now [] refl).2 c.if-not-accepted.false
+    offered_any (c.offer_at-accepted.ensures.passed c.args.sink.now [] refl).2 c.if-not-accepted.false
 
 pub returns : goal.returns
 returns g c = record {
-  handed =
+  passed =
       λ first before taken. let e = c.if-not-accepted.false in
-      let (between, more, offer) = c.offer_at-accepted.ensures.handed first before taken in
-      let (after, had, trimmed) = c.evict_over_limit.ensures.handed first between more in (
+      let (between, more, offer) = c.offer_at-accepted.ensures.passed first before taken in
+      let (after, had, trimmed) = c.evict_over_limit.ensures.passed first between more in (
         after,
         had,
         updated offer.pair offer.there (offer.taken ∙ e) (ap Replaced (offered_old offer e))
@@ -48,7 +48,7 @@ offer_at-accepted-requires-clause-callable g c = c.requires.callable.rejected
 pub evict_over_limit-requires-clause-callable : goal.evict_over_limit-requires-clause-callable
 evict_over_limit-requires-clause-callable g c = let yes = c.if-not-accepted.false in
     let old = c.args.self.now in let names = g.I.LookupKey.names c.args.key in
-    let offer = (c.offer_at-accepted.ensures.handed c.args.sink.now [] refl).2 in
+    let offer = (c.offer_at-accepted.ensures.passed c.args.sink.now [] refl).2 in
     let new = with_new_value g.L.Limiter.rules g.L.Insertion.offers g.I.LookupKey.names offer.pair c.args.key
     c.args.value (contents old) in
     let may = c.requires.callable.accepted offer.pair offer.there (offer.taken ∙ yes) in

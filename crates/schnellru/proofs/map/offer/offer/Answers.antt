@@ -2,14 +2,14 @@ use Rattle.std.proofs.Common.{◌≡◌, ℕ, true, ap, sym, ◌∙◌, subst, [
 use Rattle.std.specs.Fn.{Called}
 use Rattle.std.proofs.lemmas.Option.{same_Some}
 use Rattle.schnellru.specs.Inside.Steps.{IsRemoved}
-use Rattle.schnellru.specs.Inside.Handing.{PassesRemoved}
-use Rattle.schnellru.proofs.OrderedTables.Replacements.{gives_up, left_as_told}
+use Rattle.schnellru.specs.Inside.Passing.{PassesRemoved}
+use Rattle.schnellru.proofs.OrderedTables.Replacements.{is_removed, left_as_notified}
 use Rattle.lru_model.specs.MayTake.{MayTakeRejected}
 use Rattle.lru_model.proofs.States.CallablePairs.{here, one_callable}
 use Rattle.schnellru.proofs.map.offer.offer.Goals as goal
 
-pub returns-else-taken-clause-given_up : goal.returns-else-taken-clause-given_up
-returns-else-taken-clause-given_up g c = λ refusal pair there.
+pub returns-else-taken-clause-removed : goal.returns-else-taken-clause-removed
+returns-else-taken-clause-removed g c = λ refusal pair there.
     let k = c.pair_mut-pair.result.now.key in let v = c.pair_mut-pair.result.now.value in
     let notified = c.on_replace-taken.ensures in let old = c.args.entries.now in
     let same = same_Some (k, v) pair (sym c.pair_mut-pair.ensures.pair ∙ there) in
@@ -21,7 +21,7 @@ returns-else-taken-clause-given_up g c = λ refusal pair there.
     (g.L.Insertion.offers.on_replace c.args.limiter.now c.len-length.result p.0 c.args.key p.1 c.args.value) c.args.b
     old c.take_out-key.new.entries c.take_out-key.new.limiter)
     same
-    (gives_up g.L.Limiter.rules _ old c.take_out-key.new.entries c.args.b (k, v) c.pair_mut-pair.ensures.pair
+    (is_removed g.L.Limiter.rules _ old c.take_out-key.new.entries c.args.b (k, v) c.pair_mut-pair.ensures.pair
     c.on_replace-taken.new.old_key c.on_replace-taken.new.old_value notified.old_key notified.old_value
     c.on_replace-taken.new.self notified.limiter c.take_out-key.result c.take_out-key.new.limiter
     c.take_out-key.ensures.taken))
@@ -37,14 +37,14 @@ returns-else-taken-clause-fits g c = λ hash_of alike fit.
     (c.pair_mut-pair.ensures.fits hash_of fit (c.on_replace-taken.new.old_key, c.on_replace-taken.new.old_value)
     (ap hash_of c.on_replace-taken.ensures.old_key ∙ sym (alike k _ equal)))
 
-pub returns-else-taken-clause-handed : goal.returns-else-taken-clause-handed
-returns-else-taken-clause-handed g c = λ refusal pair there.
+pub returns-else-taken-clause-passed : goal.returns-else-taken-clause-passed
+returns-else-taken-clause-passed g c = λ refusal pair there.
     let k = c.pair_mut-pair.result.now.key in let v = c.pair_mut-pair.result.now.value in
     let notified = c.on_replace-taken.ensures in let old = c.args.entries.now in let rules = g.L.Limiter.rules in
     let by = λ (n : ℕ) (p : g.row.K.Denot × g.row.V.Denot). g.L.Insertion.offers.on_replace c.args.limiter.now n p.0
     c.args.key p.1 c.args.value in
     let same = same_Some (k, v) pair (sym c.pair_mut-pair.ensures.pair ∙ there) in
-    let left = left_as_told rules (by c.len-length.result (k, v)) old c.take_out-key.new.entries c.args.b (k, v)
+    let left = left_as_notified rules (by c.len-length.result (k, v)) old c.take_out-key.new.entries c.args.b (k, v)
     c.pair_mut-pair.ensures.pair c.on_replace-taken.new.old_key c.on_replace-taken.new.old_value notified.old_key
     notified.old_value c.on_replace-taken.new.self notified.limiter c.take_out-key.result c.take_out-key.new.limiter
     c.take_out-key.ensures.taken in
@@ -58,7 +58,7 @@ sink-requires g c =
     let notified = c.on_replace-taken.ensures in let old = c.args.entries.now in let rules = g.L.Limiter.rules in
     let by = λ (n : ℕ). g.L.Insertion.offers.on_replace c.args.limiter.now n k c.args.key v c.args.value in
     let replaced = by c.len-length.result in
-    let left = left_as_told rules replaced old c.take_out-key.new.entries c.args.b (k, v)
+    let left = left_as_notified rules replaced old c.take_out-key.new.entries c.args.b (k, v)
     c.pair_mut-pair.ensures.pair c.on_replace-taken.new.old_key c.on_replace-taken.new.old_value notified.old_key
     notified.old_value c.on_replace-taken.new.self notified.limiter c.take_out-key.result c.take_out-key.new.limiter
     c.take_out-key.ensures.taken in

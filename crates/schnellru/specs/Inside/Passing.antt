@@ -7,8 +7,8 @@ use Rattle.lru_model.specs.Callbacks.{CalledWith}
 module _ {K V F : Type 0} (closure : Mut F (K × (V × Unit {0})) (Unit {0})) where
   -- The callback is f before this part of the call, and g after it. `step` relates the list of all pairs that were
   -- passed before to the list after.
-  abbrev pub Hands : F → F → (List (K × V) → List (K × V) → Type 0) → Type 0
-  Hands f g step = (first : F) (before : List (K × V)) → CalledWith closure first before f → (after : List (K × V))
+  abbrev pub Passes : F → F → (List (K × V) → List (K × V) → Type 0) → Type 0
+  Passes f g step = (first : F) (before : List (K × V)) → CalledWith closure first before f → (after : List (K × V))
       × CalledWith closure first after g × step before after
 
   -- if a replacement is rejected, the callback gets what the limiter leaves of the pair

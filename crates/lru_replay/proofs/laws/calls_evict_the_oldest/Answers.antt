@@ -1,10 +1,10 @@
 use Rattle.lru_replay.proofs.OldestGone.{call_among, summing_among, run_among}
-use Rattle.lru_replay.proofs.laws.calls_give_up_the_oldest.Goals as goal
+use Rattle.lru_replay.proofs.laws.calls_evict_the_oldest.Goals as goal
 
 pub returns : goal.returns
 returns g c = record {
-  oldest = λ test old new calls replies run among. c.runs_give_up_the_oldest.ensures.oldest test old new
+  oldest = λ test old new calls replies run among. c.runs_evict_the_oldest.ensures.oldest test old new
       (run_among _ _ _ _ test _ (call_among _ _ _ _ test) old calls replies new run among);
-  summing = λ cost account test old new calls replies run among. c.runs_give_up_the_oldest.ensures.oldest test old new
+  summing = λ cost account test old new calls replies run among. c.runs_evict_the_oldest.ensures.oldest test old new
       (run_among _ _ _ _ test _ (summing_among _ _ _ _ test cost account) old calls replies new run among);
 }

@@ -81,7 +81,7 @@ module _ {K V S H : Type 0} (rules : Rules K V S) where
   gone_keeps : (hash n : ℕ) (old new : State K V (S × List (K × V)) H) → OldestEvicted (noting rules) hash n old new
       → in_map new ≡ in_map old
   gone_keeps hash zero old new h = ap in_map h
-  gone_keeps hash (suc n) old new (before, gone, no_place, leaves) =
+  gone_keeps hash (suc n) old new (before, gone, no_bucket, leaves) =
       left_is before new (pop (noting rules) (contents before)) leaves ∙ pop_keeps rules (contents before)
       ∙ gone_keeps hash n old before gone
 
@@ -147,7 +147,7 @@ module _ {K V S H I : Type 0} (rules : Rules K V S) (offers : Offers K V S I) (n
         one_noted rules old.limiter.1 (notified.key, notified.value),
         length-without (names i) old.pairs,
       )
-  insert_adds old new (no_memory_to_admit absent lacks r e) = omega (arith, ap in_map e)
+  insert_adds old new (no_memory_to_admit absent out_of_memory r e) = omega (arith, ap in_map e)
   insert_adds old new (not_admitted absent s given r e) = omega (
     arith,
     ap in_map e,
@@ -159,7 +159,7 @@ module _ {K V S H I : Type 0} (rules : Rules K V S) (offers : Offers K V S I) (n
     ap (λ list. length list) given.1,
   )
 
-  pub few_handed : (old : State K V S H) (handed : List (K × V)) (new : State K V S H)
-      → InsertPasses rules offers names hash_of i v old result handed new
-      → length handed + length new.pairs ≤ length old.pairs + 1
-  few_handed old handed new step = omega (arith, insert_adds (noted [] old) (noted handed new) step)
+  pub few_passed : (old : State K V S H) (passed : List (K × V)) (new : State K V S H)
+      → InsertPasses rules offers names hash_of i v old result passed new
+      → length passed + length new.pairs ≤ length old.pairs + 1
+  few_passed old passed new step = omega (arith, insert_adds (noted [] old) (noted passed new) step)

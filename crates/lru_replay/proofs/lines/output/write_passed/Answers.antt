@@ -5,7 +5,7 @@ use Rattle.std.specs.Io.KnownBytes.{Appends}
 use Rattle.std.proofs.KnownBytes.{Appends-trans}
 use Rattle.lru_replay.specs.Output.{rest_text}
 use Rattle.lru_replay.proofs.WrittenTexts.{failed}
-use Rattle.lru_replay.proofs.lines.output.write_handed.Goals as goal
+use Rattle.lru_replay.proofs.lines.output.write_passed.Goals as goal
 
 pub returns-in_err-write_bytes : goal.returns-in_err-write_bytes
 returns-in_err-write_bytes g c =

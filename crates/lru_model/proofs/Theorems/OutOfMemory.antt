@@ -29,15 +29,15 @@ module _ {K V S H : Type 0} (rules : Rules K V S) (hash_of : H → K → ℕ) (p
   abbrev pub LacksTable : Type 0
   LacksTable = (room old ≡ 0) × ((buckets old ≡ 0) ⊎ (0 < length old.pairs))
 
-  pub place_lacks : (new : State K V S H) (outcome : Outcome) → outcome ≡ no_memory
+  pub place_runs_out : (new : State K V S H) (outcome : Outcome) → outcome ≡ no_memory
       → Place rules hash_of pair old outcome new → LacksTable
-  place_lacks new outcome q (in_bucket l f s o n) = placed-not_no_memory (sym o ∙ q)
-  place_lacks new outcome q (rehashed b l some m) = (b.no_room, inr (some q))
-  place_lacks new outcome q (grown b count bytes t g m) = (b.no_bucket.no_room, b.begun)
-  place_lacks new outcome q (not_grown b mid c (nothing_to_evict e o n)) = refused-not_no_memory (sym o ∙ q)
-  place_lacks new outcome q (not_grown b mid c (finds_bucket n pos one half left gone fills o p)) =
+  place_runs_out new outcome q (in_bucket l f s o n) = placed-not_no_memory (sym o ∙ q)
+  place_runs_out new outcome q (rehashed b l some m) = (b.no_room, inr (some q))
+  place_runs_out new outcome q (grown b count bytes t g m) = (b.no_bucket.no_room, b.begun)
+  place_runs_out new outcome q (not_grown b mid c (nothing_to_evict e o n)) = refused-not_no_memory (sym o ∙ q)
+  place_runs_out new outcome q (not_grown b mid c (finds_bucket n pos one half left gone fills o p)) =
       placed-not_no_memory (sym o ∙ q)
-  place_lacks new outcome q (not_grown b mid c (rehashes some n pos one half left gone m)) =
+  place_runs_out new outcome q (not_grown b mid c (rehashes some n pos one half left gone m)) =
       (b.no_bucket.no_room, inr some)
 
 module _ {K V S H I : Type 0} {rules : Rules K V S} {offers : Offers K V S I} {names : I → K → Bool}
@@ -70,7 +70,7 @@ module _ {K V S H I : Type 0} {rules : Rules K V S} {offers : Offers K V S I} {n
           → Settles rules outcome landed result new → NeedsMemory rules offers names hash_of i v old
       go placed p t = ok-not_err result (rw t.0 refl) h
       go refused p t = ok-not_err result (rw t.0 refl) h
-      go no_memory p t = short (place_lacks rules hash_of pair ready landed no_memory refl p)
+      go no_memory p t = short (place_runs_out rules hash_of pair ready landed no_memory refl p)
 
   -- It leaves a front part of the pairs.
   pub err_keeps : IsErr result → Insert rules offers names hash_of i v old result new → IsFront new.pairs old.pairs
