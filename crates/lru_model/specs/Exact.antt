@@ -11,28 +11,24 @@ use Rattle.lru_model.specs.State.{State, buckets, room, Contents, contents, pops
 use Rattle.lru_model.specs.Place.{table_for}
 use Rattle.lru_model.specs.Inserts.{make_room, replacement, with_replaced, with_removed, MayGive}
 
--- what an insertion into the table comes to: whether the pair is stored (`there`), and the pairs and the limiter then
-pub record Landing (K V S : Type 0) : Type 0 where
-  pub there : Bool
-  pub left : Contents K V S
-
--- what an insert comes to: whether it returns true (`flag`), and the pairs and the limiter that it leaves
+-- how an insert ends, or its insertion into the table: whether the pair is in the map, and the pairs and the limiter
+-- that are left
 pub record Ending (K V S : Type 0) : Type 0 where
-  pub flag : Bool
+  pub there : Bool
   pub left : Contents K V S
 
 module _ {K V S : Type 0} (rules : Rules K V S) (pair : K × V) where
   -- the pair is stored, as the newest
-  abbrev pub lands : Contents K V S → Landing K V S
+  abbrev pub lands : Contents K V S → Ending K V S
   lands c = record { there = true; left = record { pairs = pair ∷ c.pairs; limiter = c.limiter } }
 
   -- the pair is not stored, and the limiter is notified of it
-  abbrev pub not_landed : Contents K V S → Landing K V S
+  abbrev pub not_landed : Contents K V S → Ending K V S
   not_landed c = let s = (rules.on_removed c.limiter pair.0 pair.1).limiter in
       record { there = false; left = record { pairs = c.pairs; limiter = s } }
 
   -- The oldest pair is evicted, and the new pair is stored. If there is no pair to evict, the new pair is not stored.
-  abbrev pub evicts : Contents K V S → Landing K V S
+  abbrev pub evicts : Contents K V S → Ending K V S
   evicts c = if is_empty c.pairs then not_landed c else lands (pops rules 1 c)
 
   -- the contents after the limiter was queried for a table of n bytes (`on_grow`)
@@ -41,7 +37,7 @@ module _ {K V S : Type 0} (rules : Rules K V S) (pair : K × V) where
 
   -- The limiter is queried for a larger table, if there is one. If it permits the table, the pair is stored. If it
   -- refuses the table, or there is none, the oldest pair is evicted for the new one.
-  abbrev pub grows : Target → Contents K V S → Landing K V S
+  abbrev pub grows : Target → Contents K V S → Ending K V S
   grows no_table c = evicts c
   grows same_table c = evicts c
   grows (new_table count bytes) c =
@@ -49,7 +45,7 @@ module _ {K V S : Type 0} (rules : Rules K V S) (pair : K × V) where
 
   -- what an insertion of the pair does, unless it runs out of memory, in a table of `count` buckets, up to 16, with
   -- `spare` growth left
-  abbrev pub landing : ℕ → ℕ → ℕ → ℕ → Contents K V S → Landing K V S
+  abbrev pub landing : ℕ → ℕ → ℕ → ℕ → Contents K V S → Ending K V S
   landing count spare entry_bytes max c =
       if nat_lt 0 spare then lands c
       else (if nat_le (length c.pairs + 1) (full_capacity count / 2) then lands c
@@ -58,35 +54,35 @@ module _ {K V S : Type 0} (rules : Rules K V S) (pair : K × V) where
 module _ {K V S : Type 0} (rules : Rules K V S) where
   -- The same in the table of the map `st`, whose contents are c after some pairs were evicted or removed. Each of these
   -- has given back one of the growth left, as it does up to 16 buckets.
-  abbrev pub lands_in : {H : Type 0} → State K V S H → K × V → Contents K V S → Landing K V S
+  abbrev pub lands_in : {H : Type 0} → State K V S H → K × V → Contents K V S → Ending K V S
   lands_in st pair c =
       landing rules pair (buckets st) (room st + length st.pairs - length c.pairs) st.entry_bytes st.max c
 
   -- how an insert ends that evicts the oldest pairs while the limiter is over its limit, and returns whether a pair is
   -- left
   abbrev pub trimmed : Contents K V S → Ending K V S
-  trimmed c = record { flag = not (is_empty (trim rules c).pairs); left = trim rules c }
+  trimmed c = record { there = not (is_empty (trim rules c).pairs); left = trim rules c }
 
   -- how an insert ends after its insertion into the table
-  abbrev pub settled : Landing K V S → Ending K V S
-  settled l = if l.there then trimmed l.left else record { flag = false; left = l.left }
+  abbrev pub settled : Ending K V S → Ending K V S
+  settled l = if l.there then trimmed l.left else l
 
--- the insert returns `Ok` with this flag, and leaves these contents
+-- the insert returns whether the pair is in the map, and leaves these contents
 abbrev pub IsEnding : {K V S : Type 0} → Ending K V S → Result Bool AllocError → Contents K V S → Type 0
-IsEnding e result new = (result ≡ Ok e.flag) × (new ≡ e.left)
+IsEnding e result new = (result ≡ Ok e.there) × (new ≡ e.left)
 
 -- How an insert ends if a pair that the limiter returned is stored as `land` says.
 module _ {K V S I : Type 0} (rules : Rules K V S) (offers : Offers K V S I) (names : I → K → Bool)
-    (land : K × V → Contents K V S → Landing K V S) (i : I) (v : V) (old : Contents K V S) where
+    (land : K × V → Contents K V S → Ending K V S) (i : I) (v : V) (old : Contents K V S) where
   -- if the key is there, in this pair
   abbrev pub ending_there : K × V → Ending K V S
   ending_there pair = if (replacement rules offers names pair i v old).taken
       then trimmed rules (with_replaced rules offers names pair i v old)
-      else record { flag = false; left = with_removed rules offers names pair i v old }
+      else record { there = false; left = with_removed rules offers names pair i v old }
 
   -- if the key is new, `on_insert` of the limiter returned this pair or none, and the limiter is s then
   abbrev pub ending_new : S → Option (K × V) → Ending K V S
-  ending_new s None = record { flag = false; left = record { pairs = old.pairs; limiter = s } }
+  ending_new s None = record { there = false; left = record { pairs = old.pairs; limiter = s } }
   ending_new s (Some pair) =
       settled rules (land pair (make_room rules (record { pairs = old.pairs; limiter = s })))
 

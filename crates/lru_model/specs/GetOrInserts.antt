@@ -33,8 +33,7 @@ module _ {K V S H E : Type 0} where
   -- If the result is true, the pair of the key is the newest. If it is false or an error, the key is not there.
   abbrev pub SaysNewest : (K → Bool) → Result Bool E → State K V S H → Type 0
   SaysNewest names (Ok true) new = IsNewest names new.pairs
-  SaysNewest names (Ok false) new = lookup_entry names new.pairs ≡ None
-  SaysNewest names (Err e) new = lookup_entry names new.pairs ≡ None
+  SaysNewest names result new = lookup_entry names new.pairs ≡ None
 
 module _ {K V S H I : Type 0} (rules : Rules K V S) (offers : Offers K V S I) (names : I → K → Bool)
     (hash_of : H → K → ℕ) where

@@ -74,8 +74,7 @@ module _ {K V S H : Type 0} (rules : Rules K V S) where
   abbrev pub SaysWhether : (K → Bool) → Result Bool AllocError → State K V S H → Type 0
   SaysWhether names (Ok true) new =
       IsNewest names new.pairs × (rules.is_over_the_limit new.limiter (length new.pairs) ≡ false)
-  SaysWhether names (Ok false) new = lookup_entry names new.pairs ≡ None
-  SaysWhether names (Err e) new = lookup_entry names new.pairs ≡ None
+  SaysWhether names result new = lookup_entry names new.pairs ≡ None
 
 module _ {K V S H I : Type 0} (rules : Rules K V S) (offers : Offers K V S I) (names : I → K → Bool) where
   -- the pair that an insert stores: the old pair of the key, with what the replacement left of the new value, or the

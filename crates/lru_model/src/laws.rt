@@ -19,7 +19,7 @@ ghost use Rattle.lru_model.specs.declared.results.ReserveError.{ReserveError};
 ghost use Rattle.lru_model.specs.Callbacks.{InsertPasses};
 ghost use Rattle.lru_model.specs.Inserts.{Insert, replacement, IsOutOfMemory};
 ghost use Rattle.lru_model.specs.Exact.{IsDetermined, NeverRunsOut, EndsExactly, EndsIfLanded, InsertsInList};
-ghost use Rattle.lru_model.specs.Exact.{Landing, EndsAlike, LookAlike, AlwaysGrants, HasTables};
+ghost use Rattle.lru_model.specs.Exact.{Ending, EndsAlike, LookAlike, AlwaysGrants, HasTables};
 ghost use Rattle.lru_model.specs.Theorems.{PaysForMoves, CountsPlacings, Stores, KeepsValues, IsRefusedGrowth};
 ghost use Rattle.lru_model.specs.Theorems.{UsesAtMost, EvictsOldest, IsSummed, SaysWhether};
 
@@ -146,7 +146,7 @@ pub fn small_inserts_are_exact<
         buckets old ≤ 16 → IsOk result →
         Insert L.rules L.offers I.names S.hash_of key value old result new →
         EndsExactly L.rules L.offers I.names key value old result new }
-    ensures alike { (land : K × V → Contents K V L → Landing K V L) (key : I) (value : V) (old : Contents K V L)
+    ensures alike { (land : K × V → Contents K V L → Ending K V L) (key : I) (value : V) (old : Contents K V L)
         (result other : Result Bool AllocError) (new others : Contents K V L) → IsDetermined L.offers →
         EndsIfLanded L.rules L.offers I.names land key value old result new →
         EndsIfLanded L.rules L.offers I.names land key value old other others →

@@ -20,13 +20,13 @@ use Rattle.lru_model.specs.Inserts.{with_replaced, Settles}
 use Rattle.lru_model.proofs.States.LeavingPairs.{oldest_leaves}
 use Rattle.lru_model.proofs.States.Outcomes.{ok-not_err}
 use Rattle.lru_model.proofs.Theorems.Moves.{left_are}
-use Rattle.lru_model.specs.Exact.{Landing, Ending, lands, evicts, grows, landing, trimmed, settled, lands_in}
+use Rattle.lru_model.specs.Exact.{Ending, lands, evicts, grows, landing, trimmed, settled, lands_in}
 use Rattle.lru_model.specs.Exact.{ending_there, ending_new, IsEnding, EndsBy, EndsIfLanded, EndsExactly, EndsAlike}
 use Rattle.lru_model.specs.Exact.{IsDetermined}
 
 module _ {K V S H : Type 0} (rules : Rules K V S) (pair : K × V) where
   -- The pair, the pairs and the limiter are as the list says, if memory does not run out.
-  abbrev pub LandsAs : Landing K V S → Outcome → State K V S H → Type 0
+  abbrev pub LandsAs : Ending K V S → Outcome → State K V S H → Type 0
   LandsAs l placed new = l ≡ record { there = true; left = contents new }
   LandsAs l refused new = l ≡ record { there = false; left = contents new }
   LandsAs l no_memory new = Unit {0}
@@ -44,7 +44,7 @@ module _ {K V S H : Type 0} (rules : Rules K V S) (pair : K × V) where
 
 module _ {K V S H : Type 0} (rules : Rules K V S) (hash_of : H → K → ℕ) (pair : K × V) (old : State K V S H)
     (small : buckets old ≤ 16) where
-  abbrev pub here : Landing K V S
+  abbrev pub here : Ending K V S
   here = landing rules pair (buckets old) (room old) old.entry_bytes old.max (contents old)
 
   roomy_lands : (new : State K V S H) → FillsBucket (hash_of old.hasher pair.0) old.table new.table
@@ -128,7 +128,7 @@ module _ {K V S H : Type 0} (rules : Rules K V S) where
     left_are mid (trim rules c) new l,
   )
 
-  settled_ends : (l : Landing K V S) (pair : K × V) (outcome : Outcome) (landed : State K V S H)
+  settled_ends : (l : Ending K V S) (pair : K × V) (outcome : Outcome) (landed : State K V S H)
       (result : Result Bool AllocError) (new : State K V S H) → IsOk result → LandsAs rules pair l outcome landed
       → Settles rules outcome landed result new → IsEnding (settled rules l) result (contents new)
   settled_ends l pair placed landed result new ok h s = rw h (trimmed_ends landed (contents landed) result new s.0 s.1)
@@ -155,7 +155,7 @@ module _ {K V S H I : Type 0} {rules : Rules K V S} {offers : Offers K V S I} {n
       )
 
 module _ {K V S I : Type 0} (rules : Rules K V S) (offers : Offers K V S I) (names : I → K → Bool)
-    (land : K × V → Contents K V S → Landing K V S) (i : I) (v : V) (old : Contents K V S)
+    (land : K × V → Contents K V S → Ending K V S) (i : I) (v : V) (old : Contents K V S)
     (determined : IsDetermined offers) (result other : Result Bool AllocError) (new others : Contents K V S) where
   alike : (e : Ending K V S) → IsEnding e result new → IsEnding e other others → EndsAlike result other new others
   alike e h k = record { answers = h.0 ∙ sym k.0; contents = h.1 ∙ sym k.1 }
