@@ -1,5 +1,5 @@
 -- What an insertion and a removal make of the buckets, seen by their numbers and as bucket states.
-use Rattle.std.proofs.Common.{◌≡◌, ◌≢◌, ℕ, ◌+◌, ◌<◌, cond, List, [], ◌∷◌, length, set, None, Some, inl, inr, refl, ap}
+use Rattle.std.proofs.Common.{◌≡◌, ◌≢◌, ℕ, ◌+◌, ◌<◌, cond, List, [], ◌∷◌, length, set, None, inl, inr, refl, ap}
 use Rattle.std.proofs.Common.{sym, ◌∙◌, arith, length-set}
 use Rattle.group_table.specs.Bucket.{Bucket, Slot, Tagged, empty, deleted, full, bucket_at, is_full, IsFull, entry_at}
 use Rattle.group_table.specs.Bucket.{entry_of, entry_count, mark_of, marks_of}
@@ -14,11 +14,6 @@ module _ {T : Type 0} (old new : Table T) (hash : ℕ) (entry : T) (b : ℕ) (pl
   placed_free = sym (is_full-marks_of old.slots b)
 
   module _ (within : b < length old.slots) where
-    pub entry_at-placed : entry_at new.slots b ≡ Some entry
-    entry_at-placed =
-        ap entry_of (ap (λ xs. bucket_at xs b) places.slots
-        ∙ bucket_at-set_same old.slots b b (full (record { tag = hash_tag hash; entry = entry })) refl within)
-
     pub entry_count-places : entry_count new.slots ≡ entry_count old.slots + 1
     entry_count-places =
         let none : ◌≡◌ {A = ℕ} (cond (is_full (bucket_at old.slots b)) 1 0) 0 =

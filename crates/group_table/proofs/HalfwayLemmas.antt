@@ -12,7 +12,7 @@ use Rattle.group_table.specs.Control.{buckets_of}
 use Rattle.group_table.specs.Layout.{slots_of, IsValid}
 use Rattle.group_table.specs.Moves.{place_at}
 use Rattle.group_table.specs.Relocation.{Moves, KeepsHashes}
-use Rattle.group_table.specs.InPlace.{IsSettled, IsWaiting, IsHalfway, IsInTurn}
+use Rattle.group_table.proofs.InPlace.{IsSettled, IsWaiting, IsHalfway, IsInTurn}
 use Rattle.group_table.proofs.BucketLemmas.{empty_not_deleted, deleted_count-none, used_count-split}
 use Rattle.group_table.proofs.ControlLemmas.{buckets_are}
 use Rattle.group_table.proofs.CopyLemmas.{copy_at}

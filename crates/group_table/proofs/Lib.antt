@@ -30,6 +30,7 @@ pub mod MoveLemmas
 pub mod RelocationLemmas
 pub mod PlaceCounts
 pub mod FreeBytes
+pub mod InPlace
 pub mod HalfwayLemmas
 pub mod TurnLemmas
 pub mod WaitLemmas

@@ -7,9 +7,9 @@ use native.Mathlib.Decide.{dec_lt}
 use Rattle.group_table.specs.Sizes.{IsPowerFromFour}
 use Rattle.group_table.specs.Lanes.{IsRepeated, IsMaskAt, HasLane}
 use Rattle.group_table.specs.Neighbours.{HasEmptyNeighbours, IsHemmedIn}
-use Rattle.group_table.specs.Group.{IsEmptyAt, IsRunBefore, IsRunFrom}
+use Rattle.group_table.specs.Group.{IsEmptyAt}
 use Rattle.group_table.proofs.Circle.{distance, same_place}
-use Rattle.group_table.proofs.RunLemmas.{run_tells}
+use Rattle.group_table.proofs.RunLemmas.{IsRunBefore, IsRunFrom, run_tells}
 use Rattle.group_table.proofs.LaneLemmas.{all_real, lane_byte, byte_between}
 
 module _ (control : List ℕ) (n : ℕ) (power : IsPowerFromFour n) (repeated : IsRepeated control n) (b : ℕ)

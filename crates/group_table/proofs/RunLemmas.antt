@@ -1,12 +1,27 @@
 -- Two runs of used buckets round a bucket decide whether every 16 neighbours contain an empty one.
 use Rattle.std.proofs.Common.{◌≡◌, ◌≢◌, ℕ, ◌+◌, ◌-◌, ◌%◌, ◌<◌, ◌≤◌, List, get_or, refl, ap, sym, ◌∙◌, arith, nat_lt}
 use Rattle.std.proofs.Common.{MatchBool}
+use Rattle.std.specs.Prelude.{slice_index}
 use Rattle.std.proofs.Math.Nat.{mod-add-mod, mod-lt, mod-eq_of_lt}
 use Rattle.std.proofs.lemmas.Bool.{lt-ltb, le-ltb}
 use native.Mathlib.Decide.{dec_lt}
 use Rattle.group_table.specs.Neighbours.{HasEmptyNeighbours, IsHemmedIn}
-use Rattle.group_table.specs.Group.{IsEmptyAt, IsRunBefore, IsRunFrom}
+use Rattle.group_table.specs.Bytes.{empty_byte}
+use Rattle.group_table.specs.Group.{IsEmptyAt}
 use Rattle.group_table.proofs.Circle.{distance}
+
+-- `run` used buckets are directly before this one: 16, or all up to an empty one
+pub record IsRunBefore (control : List ℕ) (buckets b run : ℕ) : Type 0 where
+  pub bound : run ≤ 16
+  pub used : (x steps : ℕ) → x < buckets → 0 < steps → steps ≤ run → (x + steps) % buckets ≡ b
+      → slice_index control x ≢ empty_byte
+  pub ends : run < 16 → (x : ℕ) → x < buckets → (x + (run + 1)) % buckets ≡ b → slice_index control x ≡ empty_byte
+
+-- `run` used buckets begin with this one: 16, or all up to an empty one
+pub record IsRunFrom (control : List ℕ) (buckets b run : ℕ) : Type 0 where
+  pub bound : run ≤ 16
+  pub used : (steps : ℕ) → steps < run → slice_index control ((b + steps) % buckets) ≢ empty_byte
+  pub ends : run < 16 → slice_index control ((b + run) % buckets) ≡ empty_byte
 
 module _ (control : List ℕ) (n b before after : ℕ) (pos : 0 < n) (bound : b < n)
     (runs_before : IsRunBefore control n b before) (runs_from : IsRunFrom control n b after) where

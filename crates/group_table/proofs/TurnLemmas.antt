@@ -14,7 +14,7 @@ use Rattle.group_table.specs.Group.{full_at}
 use Rattle.group_table.specs.Layout.{slots_of, written}
 use Rattle.group_table.specs.Moves.{place_at, Joins}
 use Rattle.group_table.specs.Relocation.{Moves}
-use Rattle.group_table.specs.InPlace.{IsSettled, IsWaiting, IsHalfway, IsInTurn}
+use Rattle.group_table.proofs.InPlace.{IsSettled, IsWaiting, IsHalfway, IsInTurn}
 use Rattle.group_table.proofs.ControlLemmas.{buckets_are}
 use Rattle.group_table.proofs.LayoutLemmas.{length-laid_out, length-marks_by, entries_within}
 use Rattle.group_table.proofs.PlaceLemmas.{IsFreeFor, some_free_byte}

@@ -4,7 +4,7 @@ use Rattle.std.proofs.Common.{◌∙◌, arith, inl, inr, get_or-set_same, get_o
 use Rattle.std.proofs.lemmas.Bool.{cases_eq}
 use Rattle.group_table.specs.Layout.{Agrees, IsLaidOut, written}
 use Rattle.group_table.specs.Moves.{place_at}
-use Rattle.group_table.specs.InPlace.{IsHalfway, StaysWhereFree}
+use Rattle.group_table.proofs.InPlace.{IsHalfway, StaysWhereFree}
 use Rattle.group_table.proofs.LayoutLemmas.{none_by}
 
 module _ {T : Type 0} (whole now : List (Option T)) (control : List ℕ) (passed : ℕ)

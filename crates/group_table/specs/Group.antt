@@ -76,16 +76,3 @@ IsEmptyAt control b = slice_index control b ≡ empty_byte
 pub record IsFreeLane (control : List ℕ) (buckets start b : ℕ) : Type 0 where
   pub first : IsFirst (full_at control) (λ lane. (start + lane) % buckets) b
   pub in_group : first.step < 16
-
--- `run` used buckets are directly before this one: 16, or all up to an empty one
-pub record IsRunBefore (control : List ℕ) (buckets b run : ℕ) : Type 0 where
-  pub bound : run ≤ 16
-  pub used : (x steps : ℕ) → x < buckets → 0 < steps → steps ≤ run → (x + steps) % buckets ≡ b
-      → slice_index control x ≢ empty_byte
-  pub ends : run < 16 → (x : ℕ) → x < buckets → (x + (run + 1)) % buckets ≡ b → slice_index control x ≡ empty_byte
-
--- `run` used buckets begin with this one: 16, or all up to an empty one
-pub record IsRunFrom (control : List ℕ) (buckets b run : ℕ) : Type 0 where
-  pub bound : run ≤ 16
-  pub used : (steps : ℕ) → steps < run → slice_index control ((b + steps) % buckets) ≢ empty_byte
-  pub ends : run < 16 → slice_index control ((b + run) % buckets) ≡ empty_byte

@@ -9,7 +9,6 @@ pub mod Search
 pub mod Change
 pub mod Relocation
 pub mod Moves
-pub mod InPlace
 pub mod Copies
 pub mod Lends
 pub mod Layout

@@ -30,14 +30,6 @@ module _ {X : Type 0} where
       let one : length (y ∷ z ∷ zs) - 1 ≡ suc (length (z ∷ zs) - 1) = omega arith in
       ap (λ l. y ∷ l) (without_last-take (z ∷ zs)) ∙ ap (λ k. take k (y ∷ z ∷ zs)) (sym one)
 
-  -- the numbers after a use of a page that is there
-  pub used_there : (capacity n : ℕ) (xs new : List (ℕ × X)) → keys_of new ≡ n ∷ keys_of (without (nat_eq n) xs)
-      → length new ≤ capacity → keys_of new ≡ take capacity (n ∷ keys_of (without (nat_eq n) xs))
-  used_there capacity n xs new is within =
-      let few : length (n ∷ keys_of (without (nat_eq n) xs)) ≤ capacity =
-      omega (arith, ap length is, length-keys_of new, within) in
-      is ∙ sym (take_all capacity (n ∷ keys_of (without (nat_eq n) xs)) few)
-
   -- and of one that comes
   pub used_new : (capacity n : ℕ) (v : X) (xs left new : List (ℕ × X)) → lookup (nat_eq n) xs ≡ None → 0 < capacity
       → left ≡ take (capacity - 1) xs → new ≡ (n, v) ∷ left

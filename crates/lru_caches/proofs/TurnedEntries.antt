@@ -17,9 +17,6 @@ module _ {X : Type 0} where
   pub reverse-cons : (x : X) (xs : List X) → reverse (x ∷ xs) ≡ reverse xs ++ x ∷ []
   reverse-cons x xs = reverse-append (x ∷ []) xs
 
-  pub reverse-push : (xs : List X) (x : X) → reverse (xs ++ x ∷ []) ≡ x ∷ reverse xs
-  reverse-push xs x = reverse-append xs (x ∷ [])
-
   -- so it is at the ends
   last-push : (xs : List X) (x : X) → last (xs ++ x ∷ []) ≡ Some x
   last-push [] x = refl

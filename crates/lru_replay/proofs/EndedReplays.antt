@@ -22,7 +22,7 @@ use Rattle.lru_replay.specs.Output.{Begins, Fails, no_limiter_text}
 use Rattle.lru_replay.specs.Replay.{IsTextUnder, IsReplay, NamesNoLimit, IsOutput, SoFar}
 use Rattle.lru_replay.specs.Replay.{WritesCut, WritesCutSoFar, Replays}
 use Rattle.lru_limits.specs.Limiters.{length_rules, length_offers, memory_rules, no_rules, all_offers}
-use Rattle.lru_replay.specs.Limits.{cost_rules, cost_offers, no_cost, cost_reported, AlwaysOffers}
+use Rattle.lru_replay.specs.Limits.{cost_rules, cost_offers, no_cost, cost_reported}
 use Rattle.lru_replay.specs.Maps.{Map, empty}
 use Rattle.lru_model.specs.Sizes.{default_entry_bytes, max_of_32_bits, max_of_64_bits}
 use Rattle.lru_replay.specs.LineRuns.{IsTextOf, Answers}
@@ -30,7 +30,7 @@ use Rattle.lru_replay.proofs.LineLists.{lines_of-fed, lines_of-last, lines_at_en
 use Rattle.lru_replay.proofs.LineRuns.{some_line_run, line_run_sized, line_run-append}
 use Rattle.lru_replay.proofs.ByteLists.{Consumes_end}
 use Rattle.lru_model.proofs.CallerLemmas.{empty_is_sound}
-use Rattle.lru_replay.proofs.AlwaysOffers.{length_always, cost_always, all_always}
+use Rattle.lru_replay.proofs.AlwaysOffers.{AlwaysOffers, length_always, cost_always, all_always}
 use Rattle.lru_replay.proofs.SpelledLines.{limit_or}
 
 -- what is said of the lines after the first, said of all lines

@@ -6,7 +6,7 @@ use Rattle.lru_limits.specs.Rules.{Rules, Offers}
 use Rattle.lru_model.specs.State.{IsSized}
 use Rattle.lru_replay.specs.declared.lines.command.Command.{Command}
 use Rattle.lru_replay.specs.Grammar.{SpellsCommand}
-use Rattle.lru_replay.specs.Limits.{AlwaysOffers}
+use Rattle.lru_replay.proofs.AlwaysOffers.{AlwaysOffers}
 use Rattle.lru_replay.specs.Lines.{fed}
 use Rattle.lru_replay.specs.Maps.{Map}
 use Rattle.lru_replay.specs.Output.{reply_text, bad_text}

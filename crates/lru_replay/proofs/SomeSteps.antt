@@ -15,7 +15,7 @@ use Rattle.lru_replay.specs.declared.lines.command.Command.{Command}
 use Rattle.lru_replay.specs.declared.lines.command.Command.TheVariants as commands
 use Rattle.lru_replay.specs.declared.lines.figures.Figures.{Figures}
 use Rattle.lru_replay.specs.Commands.{call_of}
-use Rattle.lru_replay.specs.Limits.{AlwaysOffers}
+use Rattle.lru_replay.proofs.AlwaysOffers.{AlwaysOffers}
 use Rattle.lru_replay.specs.LineRuns.{AnswersCommand}
 use Rattle.lru_replay.specs.Maps.{Map, hash_of}
 use Rattle.lru_replay.specs.Replies.{Reply, flag, updated, value, pair, listed, reserved, shrunk, stats, done}

@@ -16,12 +16,6 @@ cost_offers = charges (λ value. value)
 abbrev pub cost_reported : Budget → Option ℕ
 cost_reported b = Some b.cost
 
-module _ {S : Type 0} where
-  -- no cost is kept
-  abbrev pub no_cost : S → Option ℕ
-  no_cost s = None
-
-  -- the limiter has an answer to each pair that is offered
-  abbrev pub AlwaysOffers : Offers ℕ ℕ S ℕ → Type 0
-  AlwaysOffers offers = (s : S) (count key value : ℕ) → (t : S) × (given : Option (ℕ × ℕ))
-      × offers.on_insert s count key value t given
+-- no cost is kept
+abbrev pub no_cost : {S : Type 0} → S → Option ℕ
+no_cost s = None

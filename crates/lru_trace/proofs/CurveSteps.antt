@@ -50,14 +50,6 @@ first_length key xs e =
     let same = ap length (without_none key xs (position_none key xs e)) in
     omega (arith, same)
 
-pub sum_more : (n : ℕ) (xs : List ℕ) → sum (take n (xs ++ 0 ∷ [])) ≡ sum (take n xs)
-sum_more zero xs = refl
-sum_more (suc zero) [] = refl
-sum_more (suc (suc n)) [] = refl
-sum_more (suc n) (x ∷ xs) =
-    sum_by-cons (λ y. y) x (take n (xs ++ 0 ∷ [])) ∙ ap (λ m. x + m) (sum_more n xs)
-    ∙ sym (sum_by-cons (λ y. y) x (take n xs))
-
 pub entry_few : (xs : List ℕ) (i : ℕ) → get_or xs i 0 ≤ sum xs
 entry_few [] i = omega arith
 entry_few (x ∷ xs) zero = let a = sum_by-cons (λ y. y) x xs in omega (arith, a)

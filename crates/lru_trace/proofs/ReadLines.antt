@@ -112,15 +112,6 @@ abbrev pub Reads : Option (List ℕ) → Option (List ℕ) → Counted → Count
 Reads None left first now malformed = Unit {0}
 Reads (Some input) left first now malformed = ReadsFrom input left first now malformed
 
-pub reads_none : (all : Option (List ℕ)) (first : Counted) → Reads all all first first 0
-reads_none None first = tt
-reads_none (Some input) first = record {
-  rest = input;
-  known = refl;
-  lines = omega arith;
-  trace = λ before of. (before, of, refl);
-}
-
 module _ (all left next : Option (List ℕ)) (first now : Counted) (malformed : ℕ) (bytes : List ℕ)
     (is : IfSome left (λ rest. bytes ≡ take_through 10 rest))
     (on : IfSome left (λ rest. next ≡ Some (drop_through 10 rest))) where

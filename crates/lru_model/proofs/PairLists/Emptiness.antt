@@ -11,10 +11,6 @@ module _ {X : Type 0} where
   some-length [] e = absurd cc
   some-length (x ∷ xs) e = omega arith
 
-  pub is_empty-none : (xs : List X) → length xs ≡ 0 → is_empty xs ≡ true
-  is_empty-none [] h = refl
-  is_empty-none (x ∷ xs) h = absurd (omega (arith, h))
-
   pub is_empty-some : (xs : List X) → 0 < length xs → is_empty xs ≡ false
   is_empty-some [] h = absurd (omega arith)
   is_empty-some (x ∷ xs) h = refl
@@ -27,12 +23,6 @@ module _ {X : Type 0} where
       go : (y : X) (ys : List X) → (z : X) × (last (y ∷ ys) ≡ Some z) × (0 < length (y ∷ ys))
       go y [] = (y, refl, omega arith)
       go y (z ∷ zs) = let on = go z zs in (on.0, on.1, omega arith)
-
--- a list that is not empty has a last
-pub some_last : {X : Type 0} (xs : List X) → 0 < length xs → last xs ≡ None → ⊥
-some_last [] some none = absurd (omega (arith, some))
-some_last (x ∷ []) some none = absurd (grind (arith, none))
-some_last (x ∷ y ∷ ys) some none = some_last (y ∷ ys) (omega arith) none
 
 pub last-length : {X : Type 0} (xs : List X) (x : X) → last xs ≡ Some x → 0 < length xs
 last-length [] x e = absurd (grind (arith, e))

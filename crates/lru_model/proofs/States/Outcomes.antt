@@ -28,10 +28,6 @@ pub on_ok : {T E P Q : Type 0} (result : Result T E) → (P → Q) → OnOk resu
 on_ok (Ok v) more h = more h
 on_ok (Err e) more h = h
 
-pub if_err : {T E P Q : Type 0} (result : Result T E) → (P → Q) → OnErr result P → OnErr result Q
-if_err (Ok v) more h = h
-if_err (Err e) more h = more h
-
 -- what holds anyway holds at an error
 pub on_err : {T E P : Type 0} (result : Result T E) → P → OnErr result P
 on_err (Ok v) h = tt

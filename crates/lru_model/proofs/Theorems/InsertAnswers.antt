@@ -2,7 +2,7 @@
 use Rattle.std.proofs.Common.{None, ◌≡◌, ℕ, zero, suc, ◌⊎◌, inl, inr, Bool, true, false, cond, not, List, [], ◌∷◌}
 use Rattle.std.proofs.Common.{length, Result, Ok, Err, refl, sym, ap, ◌∙◌, subst, arith}
 use Rattle.std.proofs.lemmas.Bool.{false≢true, true≢false, not-true}
-use Rattle.std.specs.Prelude.{IsErr, Some, IfSome, option_map}
+use Rattle.std.specs.Prelude.{IsErr, Some, IfSome}
 use Rattle.std.specs.declared.alloc.AllocError.{AllocError}
 use Rattle.std.proofs.lemmas.List.{nil_from_length}
 use Rattle.lru_model.proofs.PairLists.Emptiness.{empty-length}
@@ -13,7 +13,7 @@ use Rattle.lru_model.specs.State.{State, Contents, contents, IsWithin, Leaves, p
 use Rattle.lru_model.specs.Place.{Place, Outcome, placed, refused, no_memory}
 use Rattle.lru_model.specs.Inserts.{Insert, replaced, not_replaced, no_memory_to_admit, not_admitted, admitted}
 use Rattle.lru_model.specs.Inserts.{replacement}
-use Rattle.lru_model.specs.Inserts.{with_replaced, unkept_of, Settles}
+use Rattle.lru_model.specs.Inserts.{with_replaced, Settles}
 use Rattle.lru_model.specs.Theorems.{IsNewest, SaysWhether, Stores, left, given, KeepsValues}
 use Rattle.lru_model.proofs.States.LeavingPairs.{length-without_last}
 use Rattle.lru_model.proofs.States.Outcomes.{ok-not_err, same_kept}
@@ -188,13 +188,3 @@ module _ {K V S H I : Type 0} (rules : Rules K V S) (offers : Offers K V S I) (n
       value pair (left was found y is) = ap (λ p. p.1) is
           ∙ keeps.replaced old.limiter (length old.pairs) was.0 i was.1 v
       value pair (given a s n) = keeps.given old.limiter (length old.pairs) i v s pair.0 pair.1 n
-
--- of a key that is there, the value that a pair does not have after an offer is the one that the map does not have
-pub unkept_is : {K V S I : Type 0} (offers : Offers K V S I) (s : S) (i : I) (v : V) (names : K → Bool)
-    (pairs : List (K × V)) {n : ℕ} {unkept : V} (was : K × V) → lookup_entry names pairs ≡ Some was → n ≡ length pairs
-    → unkept ≡ unkept_of (offers.on_replace s n was.0 i was.1 v)
-    → Some unkept ≡ option_map (λ p. unkept_of (offers.on_replace s (length pairs) p.0 i p.1 v))
-    (lookup_entry names pairs)
-unkept_is offers s i v names pairs was there same e =
-    ap Some (e ∙ ap (λ m. unkept_of (offers.on_replace s m was.0 i was.1 v)) same)
-    ∙ ap (option_map (λ p. unkept_of (offers.on_replace s (length pairs) p.0 i p.1 v))) (sym there)

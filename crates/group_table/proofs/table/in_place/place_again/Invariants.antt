@@ -1,7 +1,7 @@
 use Rattle.std.proofs.Common.{◌≡◌, ℕ, ◌+◌, Some}
 use Rattle.group_table.specs.Moves.{place_at}
 use Rattle.group_table.specs.Relocation.{GivesHashes}
-use Rattle.group_table.specs.InPlace.{IsHalfway, IsInTurn, StaysWhereFree}
+use Rattle.group_table.proofs.InPlace.{IsHalfway, IsInTurn, StaysWhereFree}
 use Rattle.group_table.proofs.FreeBytes.{free_bytes}
 use Rattle.group_table.proofs.table.in_place.place_again.Given as goal
 

@@ -1,4 +1,4 @@
--- Entries are rehashed within the table. No public clause cites this module.
+-- What holds while entries are rehashed within the table.
 use Rattle.std.specs.Prelude.{◌≡◌, ℕ, ◌<◌, ◌≤◌, ◌⊎◌, List, length, count_by, slice_set, slice_index, Option, Some, None}
 use Rattle.std.specs.Prelude.{is_some}
 use Rattle.group_table.specs.Bucket.{is_deleted}
