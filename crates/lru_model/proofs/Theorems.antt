@@ -25,11 +25,12 @@ pub mod Runs
 pub mod AddedPairs
 pub mod AdmittedPairs
 pub mod OtherPairs
+pub mod StepTotals
 pub mod RunLimits
 pub mod SmallTables
 pub mod SmallCalls
 pub mod Reservations
 pub mod GetOrInserts
 pub mod KeySearches
-pub mod CostLimits
+pub mod BudgetLimits
 pub mod NewestInserts

@@ -46,10 +46,10 @@ module _ {N K V L S : Type 0} where
         same other false e = refl
 
   -- so it does if the table of tenants has another map at its name, or none
-  pub leaves-updated : (eq : N → N → Bool) (name : N) (left : Option (State K V L S)) (hasher : S)
-      (entry_bytes : ℕ) (limit : Option ℕ) (old new : HashMap N (State K V L S) S) → UpdatesBy eq (eq name) old new left
+  pub leaves-updated : (eq : N → N → Bool) (name : N) (left : Option (State K V L S)) {hasher : S}
+      {entry_bytes : ℕ} {limit : Option ℕ} (old new : HashMap N (State K V L S) S) → UpdatesBy eq (eq name) old new left
       → Leaves eq name left (cache_of old hasher entry_bytes limit) (cache_of new hasher entry_bytes limit)
-  leaves-updated eq name left hasher entry_bytes limit old new updates =
+  leaves-updated eq name left old new updates =
       record { tenants = updates.0; hasher = refl; entry_bytes = refl; total_limit = refl }
 
 -- what holds of each value holds of each after a removal
@@ -110,7 +110,7 @@ module _ {N K V L S : Type 0} (names : N → N → Bool) where
   tenant-written laws name old new was left there writes = (writes.3 (ap is_some there)).0 name
       ∙ ap (λ b. cond b (Some left) (get_by (names name) old)) (laws.refl name)
 
-  module _ (name : N) (hasher : S) (entry_bytes : ℕ) (limit : Option ℕ) (old new : HashMap N (State K V L S) S) where
+  module _ (name : N) {hasher : S} {entry_bytes : ℕ} {limit : Option ℕ} (old new : HashMap N (State K V L S) S) where
     pub on-written : (was left : State K V L S) → get_by (names name) old ≡ Some was
         → WritesThrough names (names name) old left new → {R : Type 0}
         (Does : Option (State K V L S) → R → Option (State K V L S) → Type 0) (answer : R)
@@ -120,7 +120,7 @@ module _ {N K V L S : Type 0} (names : N → N → Bool) where
         on-from name Does answer (cache_of old hasher entry_bytes limit) (cache_of new hasher entry_bytes limit)
         (Some was)
         (Some left) there does
-        (leaves-updated names name (Some left) hasher entry_bytes limit old new (writes.3 (ap is_some there)))
+        (leaves-updated names name (Some left) old new (writes.3 (ap is_some there)))
 
     pub on-removed : {R : Type 0} (Does : Option (State K V L S) → R → Option (State K V L S) → Type 0) (answer : R)
         (was : Option (State K V L S)) → get_by (names name) old ≡ was → UpdatesBy names (names name) old new None
@@ -129,4 +129,4 @@ module _ {N K V L S : Type 0} (names : N → N → Bool) where
     on-removed Does answer was is updates does =
         on-from name Does answer (cache_of old hasher entry_bytes limit) (cache_of new hasher entry_bytes limit) was
         None is does
-        (leaves-updated names name None hasher entry_bytes limit old new updates)
+        (leaves-updated names name None old new updates)

@@ -1,4 +1,3 @@
-pub mod BudgetSteps
 pub mod Changes
 pub mod Kept
 pub mod Pops

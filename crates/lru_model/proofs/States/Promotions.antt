@@ -1,5 +1,5 @@
 -- A pair comes first, or last, or has another value: what holds of a map goes on to hold.
-use Rattle.std.proofs.Common.{◌≡◌, ℕ, Bool, List, [], ◌∷◌, length, Option, refl, sym, subst, ◌∙◌, arith}
+use Rattle.std.proofs.Common.{◌≡◌, ℕ, Bool, List, [], length, Option, refl, sym, subst, ◌∙◌}
 use Rattle.std.specs.Cmp.{IsEquivalence}
 use Rattle.std.specs.List.{IsDistinct}
 use Rattle.std.proofs.lemmas.Map.{length-set_value, keys-set_value}
@@ -8,13 +8,9 @@ use Rattle.lru_model.specs.Lists.{front, back}
 use Rattle.lru_model.specs.State.{State, IsSound, IsSized, IsMap}
 use Rattle.lru_model.specs.Calls.{Get, found, absent, promoted, demoted, written}
 use Rattle.lru_model.proofs.PairLists.DistinctKeys.{distinct_first}
-use Rattle.lru_model.proofs.Theorems.Sums.{total, total-front, total-back}
+use Rattle.lru_model.proofs.Theorems.Sums.{total-one, total-front, total-back}
 
 module _ {K V : Type 0} (names : K → Bool) where
-  total-one : (xs : List (K × V)) → total (λ _. 1) xs ≡ length xs
-  total-one [] = refl
-  total-one (x ∷ xs) = omega (arith, total-one xs)
-
   pub length-front_pairs : (xs : List (K × V)) → length (front names xs) ≡ length xs
   length-front_pairs xs = sym (total-one (front names xs)) ∙ total-front (λ _. 1) names xs ∙ total-one xs
 

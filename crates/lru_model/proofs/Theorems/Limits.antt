@@ -1,11 +1,9 @@
 -- An insert stays within a limit by length, and within one by memory usage.
 use Rattle.std.proofs.Common.{◌≡◌, ℕ, suc, ◌+◌, ◌≤◌, ◌⊎◌, inl, inr, Bool, true, false, cond, List, [], ◌∷◌, length}
 use Rattle.std.proofs.Common.{Option, Some, None, Result, refl, sym, ap, ◌∙◌, subst, arith}
-use Rattle.std.proofs.lemmas.Bool.Decides.{nat_tests}
 use Rattle.std.specs.declared.alloc.AllocError.{AllocError}
 use Rattle.lru_limits.specs.Rules.{Rules, Offers}
 use Rattle.lru_limits.specs.Stores.{plain, offers_if}
-use Rattle.lru_limits.specs.Limiters.{length_rules, length_offers}
 use Rattle.lru_model.specs.Sizes.{usage}
 use Rattle.lru_model.specs.Lists.{last, lookup_entry, without, set_entry}
 use Rattle.lru_model.specs.State.{State, buckets, contents, IsWithin, notified_of}
@@ -19,9 +17,8 @@ use Rattle.lru_model.proofs.PairLists.SetEntries.{length-set_entry}
 use Rattle.lru_model.proofs.TableSizes.Budgets.{usage_fewer}
 use Rattle.lru_model.proofs.Theorems.Moves.{KeepsOffers, left_are}
 use Rattle.lru_model.proofs.Theorems.TableGrowth.{Tables, IsNextCount}
-use Rattle.lru_model.proofs.Theorems.Ways.{insert_changes}
 use Rattle.lru_model.proofs.Theorems.Fronts.{front_make_room, front_trim, length-front}
-use Rattle.lru_model.proofs.Theorems.Sums.{total, total-least, split-least, split_named}
+use Rattle.lru_model.proofs.Theorems.Sums.{total, total-one, total-least, split-least, split_named}
 use Rattle.lru_model.proofs.Theorems.InsertAnswers.{trim_ends, Comes, place_comes}
 
 module _ {K V : Type 0} (names : K → Bool) where
@@ -136,13 +133,8 @@ length-update {names = names} {i} {old = old} result (rejected pair found y r l)
     omega (arith, ap (λ st. length st.pairs) l.is, length-without (names i) old.pairs)
 length-update result (not_there a r e) = omega (arith, ap (λ st. length st.pairs) e)
 
--- the number of pairs is a total
-length-total : {X : Type 0} (xs : List X) → total (λ _. 1) xs ≡ length xs
-length-total [] = refl
-length-total (x ∷ xs) = omega (arith, length-total xs)
-
 -- if the limiter is not over with at most its number of pairs, no more are left
-length_at_most : {K V H : Type 0} (rules : Rules K V ℕ) (old new : State K V ℕ H)
+pub length_at_most : {K V H : Type 0} (rules : Rules K V ℕ) (old new : State K V ℕ H)
     → ((n : ℕ) → rules.is_over_the_limit old.limiter n ≡ false → n ≤ old.limiter) → new.limiter ≡ old.limiter
     → IsWithin rules (contents new) ⊎ (total (λ _. 1) new.pairs ≤ total (λ _. 1) old.pairs)
     → length old.pairs ≤ old.limiter
@@ -151,7 +143,7 @@ length_at_most rules old new within same (inl (inl e)) few = omega (arith, ap le
 length_at_most rules old new within same (inl (inr e)) few = within (length new.pairs)
     (ap (λ s. rules.is_over_the_limit s (length new.pairs)) (sym same) ∙ e)
 length_at_most rules old new within same (inr e) few =
-    omega (arith, e, few, length-total old.pairs, length-total new.pairs)
+    omega (arith, e, few, total-one old.pairs, total-one new.pairs)
 
 -- if it grants no more bytes than its number, a table uses no more
 pub uses_at_most : {K V H : Type 0} (rules : Rules K V ℕ) (P : ℕ → Type 0) (more anew : ℕ) (old new : State K V ℕ H)
@@ -174,12 +166,3 @@ uses_at_most rules P more anew old new within same t uses = go t.count
       within p.bytes (ap (λ s. (rules.on_grow s p.bytes).allowed) (sym (same p.limiter p.holds))
           ∙ p.granted),
     )
-
--- a limit by length
-pub by_length_stays : {K V H : Type 0} (names : K → K → Bool) (hash_of : H → K → ℕ) (k : K) (v : V)
-    (old : State K V ℕ H) (result : Result Bool AllocError) (new : State K V ℕ H) →
-    Insert length_rules length_offers names hash_of k v old result new → length old.pairs ≤ old.limiter
-    → length new.pairs ≤ old.limiter
-by_length_stays names hash_of k v old result new step few =
-    length_at_most length_rules old new (λ n e. grind (arith, nat_tests))
-    (insert_changes keeps_limiter k v old result new step).moves (insert_within (λ _. 1) step) few

@@ -17,7 +17,7 @@ use Rattle.lru_model.specs.Runs.{Run, ends, goes_on}
 use Rattle.lru_model.specs.Retains.{retained}
 use Rattle.lru_model.specs.State.{State, contents}
 use Rattle.lru_model.specs.Theorems.{EvictsOldest, behind, with_none, without_one, others}
-use Rattle.lru_model.proofs.Theorems.AddedPairs.{reserve_stays}
+use Rattle.lru_model.proofs.Theorems.Reservations.{reserved_list}
 use Rattle.lru_model.proofs.Theorems.Fronts.{insert_evicts, front_same, front_self, front_trans, front_trim}
 use Rattle.lru_model.proofs.Theorems.Fronts.{front_without_last}
 use Rattle.lru_model.proofs.Theorems.Fronts.{found_named, replaced_named}
@@ -145,7 +145,7 @@ module _ {K V S H I : Type 0} {rules : Rules K V S} {offers : Offers K V S I} {n
       subst (λ xs. IsFront (others test xs) (others test old.pairs)) (sym (ap (λ st. st.pairs) e))
       (others test old.pairs, refl)
   step_keeps_newest old new (calls (reserves n result h)) among =
-      others_same test new.pairs old.pairs (reserve_stays rules n old new result h)
+      others_same test new.pairs old.pairs (reserved_list rules n old result new h).0
   step_keeps_newest old new (calls (shrinks result h)) among =
       others_same test new.pairs old.pairs (shrunk_list old result new h).0
   step_keeps_newest old new (calls (trims h)) among =

@@ -1,5 +1,5 @@
 -- What a retain leaves of the pairs.
-use Rattle.std.proofs.Common.{◌≡◌, ℕ, ◌≤◌, Bool, true, false, List, [], ◌∷◌, ◌++◌, length, subst, arith}
+use Rattle.std.proofs.Common.{◌≡◌, ℕ, ◌≤◌, Bool, true, false, List, [], ◌∷◌, ◌++◌, subst, arith}
 use Rattle.std.proofs.lemmas.List.{append_assoc}
 use Rattle.std.specs.Prelude.{map}
 use Rattle.lru_limits.specs.Rules.{Rules}
@@ -9,14 +9,7 @@ use Rattle.lru_model.proofs.Theorems.Moves.{Keeps}
 use Rattle.lru_model.proofs.Theorems.Sums.{total}
 
 module _ {K V S : Type 0} (rules : Rules K V S) where
-  -- no more pairs than were asked
-  pub length-retained : (asked : List ((K × V) × Bool)) (s : S)
-      → length (retained rules asked s).pairs ≤ length (map (λ one. one.0) asked)
-  length-retained [] s = omega arith
-  length-retained ((pair, true) ∷ older) s = omega (arith, length-retained older s)
-  length-retained ((pair, false) ∷ older) s = omega (arith, length-retained older s)
-
-  -- and no greater total
+  -- no greater total than was asked
   pub total-retained : (f : K × V → ℕ) (asked : List ((K × V) × Bool)) (s : S)
       → total f (retained rules asked s).pairs ≤ total f (map (λ one. one.0) asked)
   total-retained f [] s = omega arith

@@ -4,21 +4,13 @@ use Rattle.std.proofs.lemmas.Map.{length-set_value}
 use Rattle.std.proofs.lemmas.Bool.Decides.{nat_tests}
 use Rattle.lru_limits.specs.Rules.{Rules, Offers}
 use Rattle.lru_limits.specs.Limiters.{length_rules, length_offers, memory_rules, all_offers}
-use Rattle.lru_model.specs.State.{State, contents}
-use Rattle.lru_model.specs.GetOrInserts.{got, inserted}
-use Rattle.lru_model.specs.Runs.{Step, inserts, makes_newest, updates, gets, demotes, removes, pops_oldest}
-use Rattle.lru_model.specs.Runs.{pops_newest, drains, clears}
-use Rattle.lru_model.specs.Runs.{reserves, shrinks, trims, retains, StepOrWrite, Run, ends, goes_on}
+use Rattle.lru_model.specs.State.{State}
+use Rattle.lru_model.specs.Runs.{Step}
+use Rattle.lru_model.specs.Runs.{StepOrWrite, Run, ends, goes_on}
 use Rattle.lru_model.specs.Theorems.{UsesAtMost}
-use Rattle.lru_model.proofs.States.LeavingPairs.{length-without_first, length-without_last}
-use Rattle.lru_model.proofs.States.Promotions.{length-front_pairs, length-back_pairs}
-use Rattle.lru_model.proofs.Theorems.Fronts.{front_trim, length-front}
-use Rattle.lru_model.proofs.Theorems.Limits.{keeps_limiter, uses_at_most, length-without, length-update}
-use Rattle.lru_model.proofs.Theorems.Limits.{by_length_stays}
-use Rattle.lru_model.proofs.Theorems.Reservations.{reserved_list}
+use Rattle.lru_model.proofs.Theorems.Limits.{keeps_limiter, length_at_most, uses_at_most}
+use Rattle.lru_model.proofs.Theorems.StepTotals.{step_total}
 use Rattle.lru_model.proofs.Theorems.Runs.{step_changes}
-use Rattle.lru_model.proofs.Theorems.RetainedPairs.{length-retained}
-use Rattle.lru_model.proofs.Theorems.Shrinks.{shrunk_list}
 
 module _ {K V S H : Type 0} (rules : Rules K V S) (offers : Offers K V S K) (names : K → K → Bool)
     (hash_of : H → K → ℕ) where
@@ -41,43 +33,10 @@ run_keeps_limiter rules offers names hash_of keeps new old (goes_on mid (inr (te
 
 module _ {K V H : Type 0} (names : K → K → Bool) (hash_of : H → K → ℕ) where
   -- a limit by length
-  module _ (old new : State K V ℕ H) where
-    fewer : length new.pairs ≤ length old.pairs → length old.pairs ≤ old.limiter → length new.pairs ≤ old.limiter
-    fewer h few = omega (arith, h, few)
-
-    pub step_stays_short : Step length_rules length_offers names hash_of old new
-        → length old.pairs ≤ old.limiter → length new.pairs ≤ old.limiter
-    step_stays_short (inserts k v result h) = by_length_stays names hash_of k v old result new h
-    step_stays_short (makes_newest v k result (got w e r step)) = fewer
-        (omega (arith, ap (λ st. length st.pairs) step, length-front_pairs (names k) old.pairs))
-    step_stays_short (makes_newest v k result (inserted e w m step)) =
-        by_length_stays names hash_of k w old result new step
-    step_stays_short (updates k v result h) = fewer (length-update result h)
-    step_stays_short (gets named e) = fewer
-        (omega (arith, ap (λ st. length st.pairs) e, length-front_pairs named old.pairs))
-    step_stays_short (demotes named e) = fewer
-        (omega (arith, ap (λ st. length st.pairs) e, length-back_pairs named old.pairs))
-    step_stays_short (removes test result h) = fewer
-        (omega (arith, ap (λ st. length st.pairs) h.state.is, length-without test old.pairs))
-    step_stays_short (pops_oldest result h) = fewer
-        (omega (arith, ap (λ st. length st.pairs) h.state.is, length-without_last old.pairs))
-    step_stays_short (pops_newest result h) = fewer
-        (omega (arith, ap (λ st. length st.pairs) h.state.is, length-without_first old.pairs))
-    step_stays_short (drains newest oldest result h) = fewer (omega (arith, ap (λ st. length st.pairs) h.state.2))
-    step_stays_short (clears e) = fewer (omega (arith, ap (λ st. length st.pairs) e))
-    step_stays_short (reserves n result h) = fewer (omega (arith, ap length (reserved_list _ n old result new h).0))
-    step_stays_short (shrinks result h) = fewer (omega (arith, ap length (shrunk_list old result new h).0))
-    step_stays_short (trims h) = fewer (omega (
-      arith,
-      ap (λ st. length st.pairs) h.is,
-      length-front _ old.pairs (front_trim length_rules (contents old)),
-    ))
-    step_stays_short (retains asked each h) = fewer (omega (
-      arith,
-      ap (λ st. length st.pairs) h.is,
-      length-retained length_rules asked old.limiter,
-      ap length each,
-    ))
+  pub step_stays_short : (old new : State K V ℕ H) → Step length_rules length_offers names hash_of old new
+      → length old.pairs ≤ old.limiter → length new.pairs ≤ old.limiter
+  step_stays_short old new step = length_at_most length_rules old new (λ n e. grind (arith, nat_tests))
+      (step_changes keeps_limiter old new step).2.moves (step_total (λ _. 1) step)
 
   pub run_stays_short : (new old : State K V ℕ H)
       → Run (StepOrWrite length_rules length_offers names hash_of) new old

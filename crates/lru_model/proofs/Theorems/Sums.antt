@@ -55,6 +55,11 @@ module _ {X : Type 0} (f : X → ℕ) where
   pub split_between : (newer older : List X) (x : X) → IsSplit (newer ++ x ∷ older) (Some x) (newer ++ older)
   split_between newer older x = omega (arith, total-append newer (x ∷ older), total-append newer older)
 
+-- the number of elements is a total
+pub total-one : {X : Type 0} (xs : List X) → total (λ _. 1) xs ≡ length xs
+total-one [] = refl
+total-one (x ∷ xs) = omega (arith, total-one xs)
+
 module _ {K V : Type 0} (cost : K × V → ℕ) (names : K → Bool) where
   pub split_named : (xs : List (K × V)) → IsSplit cost xs (lookup_entry names xs) (without names xs)
   split_named [] = refl

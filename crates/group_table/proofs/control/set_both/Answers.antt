@@ -34,3 +34,6 @@ pub returns : goal.returns
 returns c =
     written_at c.args.bytes.now (c.args.last + 1) c.args.b c.sixteen_before.result c.args.byte c.requires.last
     c.requires.circle.long c.requires.within c.sixteen_before.ensures.value
+
+pub sixteen_before-requires-clause-power : goal.sixteen_before-requires-clause-power
+sixteen_before-requires-clause-power c = rw c.requires.last c.requires.circle.power

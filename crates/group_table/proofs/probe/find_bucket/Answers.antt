@@ -1,5 +1,5 @@
 use Rattle.group_table.proofs.LayoutLemmas.{length-laid_out}
-use Rattle.group_table.proofs.FindLemmas.{GoesPast-none, Finds-here, FindsNone-here, GoesPast-here}
+use Rattle.group_table.proofs.FindLemmas.{GoesPast-none, group_starts, Finds-here, FindsNone-here, GoesPast-here}
 use Rattle.group_table.proofs.probe.find_bucket.Goals as goal
 
 pub returns-in-Accepted-clause-found : goal.returns-in-Accepted-clause-found
@@ -28,6 +28,11 @@ groups-init g c =
       within = rw (length-laid_out _ _ c.requires.laid_out) at past.within;
       past = past;
     }
+
+pub search_group-requires-in-groups-clause-start : goal.search_group-requires-in-groups-clause-start
+search_group-requires-in-groups-clause-start g c =
+    group_starts g.F.FnMut _ _ c.requires.laid_out c.requires.some_empty _ _
+    (c.go_on.ensures.at c.args.hash c.groups.invariant.at)
 
 pub returns-in-Accepted-search_group-clause-found : goal.returns-in-Accepted-search_group-clause-found
 returns-in-Accepted-search_group-clause-found g c =

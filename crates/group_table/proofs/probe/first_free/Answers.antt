@@ -48,6 +48,9 @@ groups-init c = record {
       (λ before below. absurd (omega (arith, below, c.of-probe.ensures.none_passed))) c.in_default.ensures.none;
 }
 
+pub go_on-requires-clause-fits : goal.go_on-requires-clause-fits
+go_on-requires-clause-fits c = omega (arith, c.of-probe.ensures.circle.fits, c.of-probe.ensures.circle.long)
+
 pub returns-in-Some-free_in_group : goal.returns-in-Some-free_in_group
 returns-in-Some-free_in_group c =
     let l = c.groups in

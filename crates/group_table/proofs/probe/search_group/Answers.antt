@@ -29,6 +29,9 @@ returns-then-f-clause-asked g c =
     here c.get.result.now slot _
     (Answers-from_call g.F.FnMut _ c.get.result.now slot refl c.f.ensures c.if-f.true)
 
+pub wrap-b-requires : goal.wrap-b-requires
+wrap-b-requires g c = omega (arith, buckets_are _ _ c.requires.laid_out, c.requires.start)
+
 pub get-requires : goal.get-requires
 get-requires g c =
     let l = c.lanes.invariant.asked in

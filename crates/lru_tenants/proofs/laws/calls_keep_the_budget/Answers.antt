@@ -1,4 +1,4 @@
-use Rattle.lru_tenants.proofs.BudgetSteps.{step_budget, step_keeps_total}
+use Rattle.lru_model.proofs.Theorems.BudgetLimits.{step_budget, step_keeps_total}
 use Rattle.lru_tenants.proofs.laws.calls_keep_the_budget.Goals as goal
 
 pub returns-clause-budget : goal.returns-clause-budget

@@ -1,5 +1,5 @@
 use Rattle.std.proofs.Common.{arith}
-use Rattle.lru_tenants.proofs.BudgetSteps.{made-step}
+use Rattle.lru_model.proofs.Theorems.BudgetLimits.{made-step}
 use Rattle.lru_tenants.proofs.tenant.get_or_insert.Goals as goal
 
 pub returns-clause-budget : goal.returns-clause-budget

@@ -7,7 +7,7 @@ use Rattle.group_table.proofs.LayoutLemmas.{length-laid_out, entries_within}
 use Rattle.group_table.proofs.TableLemmas.{IsTable-by, room_by}
 use Rattle.group_table.proofs.WriteLemmas.{slots_of-written}
 use Rattle.group_table.proofs.FitsLemmas.{Fits-placed}
-use Rattle.group_table.proofs.PlaceLemmas.{free_within, free_spends, IsValid-placed, entry_count-placed}
+use Rattle.group_table.proofs.PlaceLemmas.{free_within, free_none, free_spends, IsValid-placed, entry_count-placed}
 use Rattle.group_table.proofs.PlaceLemmas.{room-placed}
 use Rattle.group_table.proofs.table.Table.fill_free.Goals as goal
 
@@ -27,6 +27,11 @@ pub fill_bucket-requires-clause-bucket : goal.fill_bucket-requires-clause-bucket
 fill_bucket-requires-clause-bucket g c =
     let bucket = rw (← c.self.view_is) at c.requires.bucket in let first = rw (← c.self.view_is) at c.requires.first in
     free_within c.self.invariant.0 _ bucket first.free_there
+
+pub fill_bucket-requires-clause-free_there : goal.fill_bucket-requires-clause-free_there
+fill_bucket-requires-clause-free_there g c =
+    let bucket = rw (← c.self.view_is) at c.requires.bucket in let first = rw (← c.self.view_is) at c.requires.first in
+    free_none c.self.invariant.0 _ bucket first.free_there
 
 pub overflow_sub-self : goal.overflow_sub-self
 overflow_sub-self g c = omega (

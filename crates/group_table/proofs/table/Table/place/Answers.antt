@@ -50,3 +50,13 @@ fill_free-requires-clause-spent g c =
     let spends = place_spends valid _ _ some c.first_free-b.ensures c.byte.ensures c.room_taken-spent.ensures
     (omega (arith, one, room, room_by _ _ _ valid)) in
     rw (← c.self.view_is) (sym (room_spent valid c.first_free-b.result spends))
+
+pub fill_free-requires-clause-within : goal.fill_free-requires-clause-within
+fill_free-requires-clause-within g c =
+    let valid = c.self.invariant.0 in
+    let some = some_buckets valid (rw (← c.self.view_is) at c.requires) in
+    omega (
+      arith,
+      c.requires,
+      spends_one valid _ _ some c.first_free-b.ensures c.byte.ensures c.room_taken-spent.ensures,
+    )

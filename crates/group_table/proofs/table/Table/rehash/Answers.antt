@@ -18,6 +18,12 @@ returns-then-self-eq0-clause-room g c =
     let room = room-fresh g.row.T.Denot (length c.args.self.now.slots) in
     rw c.empty_buckets.ensures.slots (omega (arith, room, none))
 
+pub returns-in_err-links-clause-table : goal.returns-in_err-links-clause-table
+returns-in_err-links-clause-table g c = rw (← c.self.view_is) (IsTable-by _ _ _ c.self.invariant.0)
+
+pub returns-in_err-fresh-clause-table : goal.returns-in_err-fresh-clause-table
+returns-in_err-fresh-clause-table g c = rw (← c.self.view_is) (IsTable-by _ _ _ c.self.invariant.0)
+
 pub place_again-requires-clause-within : goal.place_again-requires-clause-within
 place_again-requires-clause-within g c =
     let valid = c.self.invariant.0 in

@@ -6,7 +6,7 @@ use Rattle.group_table.specs.Relocation.{KeepsHashes, GivesHashes}
 use Rattle.group_table.proofs.LayoutLemmas.{length-laid_out}
 use Rattle.group_table.proofs.SizeLemmas.{full_capacity-small}
 use Rattle.group_table.proofs.TableLemmas.{IsTable-by}
-use Rattle.group_table.proofs.FreshLemmas.{room-fresh}
+use Rattle.group_table.proofs.FreshLemmas.{Fits-fresh, room-fresh}
 use Rattle.group_table.proofs.RelocationLemmas.{room-none_deleted, entry_count-laid_out, entries_are}
 use Rattle.group_table.proofs.table.Table.relocate.Goals as goal
 
@@ -20,6 +20,15 @@ returns-then-self-eq0-clause-room g c =
     let none : entry_count c.args.self.now.slots ≡ 0 = rw (← c.self.view_is) (omega (arith, c.self.invariant.1)) in
     let room = room-fresh g.row.T.Denot c.args.buckets in
     rw is (omega (arith, room, none))
+
+pub returns-then-self-eq0-clause-hashes : goal.returns-then-self-eq0-clause-hashes
+returns-then-self-eq0-clause-hashes g c hash_at gives moved_hash_of moved =
+    let is : c.replace.new.dest.slots ≡ replicate c.args.buckets empty =
+    ap (λ t. t.slots) c.replace.ensures.after ∙ ap (λ v. v.slots) c.fresh.view_is ∙ c.in_ok-fresh.ensures.slots in
+    rw is (Fits-fresh g.row.T.Denot c.args.buckets moved_hash_of)
+
+pub returns-in-Err-clause-table : goal.returns-in-Err-clause-table
+returns-in-Err-clause-table g c = rw (← c.self.view_is) (IsTable-by _ _ _ c.self.invariant.0)
 
 -- entries need buckets
 pub returns-in-Err-clause-succeeds : goal.returns-in-Err-clause-succeeds

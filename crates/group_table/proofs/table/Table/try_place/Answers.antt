@@ -3,7 +3,7 @@ use Rattle.group_table.specs.Sizes.{full_capacity}
 use Rattle.group_table.proofs.LayoutLemmas.{length-laid_out}
 use Rattle.group_table.proofs.TableLemmas.{IsTable-by, room_by}
 use Rattle.group_table.proofs.PlaceLemmas.{some_free_byte, has_buckets, place_first, place_within}
-use Rattle.group_table.proofs.PlaceLemmas.{place_byte, no_place_left, place_spends, room_spent}
+use Rattle.group_table.proofs.PlaceLemmas.{place_byte, no_place_left, place_spends, MayFill-from, room_spent}
 use Rattle.group_table.proofs.ControlLemmas.{buckets_are}
 use Rattle.group_table.proofs.table.Table.try_place.Goals as goal
 
@@ -64,3 +64,11 @@ pub fill_free-requires-clause-within : goal.fill_free-requires-clause-within
 fill_free-requires-clause-within g c =
     let valid = c.self.invariant.0 in
     rw (← c.self.view_is) (omega (arith, room_by _ _ _ valid))
+
+pub returns-clause-may_fill : goal.returns-clause-may_fill
+returns-clause-may_fill g c =
+    let some = has_buckets c.is_without_buckets.ensures c.if-is_without_buckets.false in
+    let valid = c.self.invariant.0 in
+    let spends = place_spends valid _ _ some c.first_free-b.ensures c.byte.ensures c.room_taken-spent.ensures
+    (omega arith) in
+    rw (← c.self.view_is) (MayFill-from valid c.first_free-b.result spends)

@@ -1,9 +1,11 @@
-use Rattle.lru_model.proofs.Theorems.CostLimits.{run_within_cost, keeps_limit}
+use Rattle.lru_limits.specs.Budget.{weighs-sums}
+use Rattle.lru_limits.specs.Budgeted.{weighs-budgeted}
+use Rattle.lru_model.proofs.Theorems.BudgetLimits.{keeps_budget, run_keeps_total}
 use Rattle.lru_model.proofs.Theorems.Runs.{run_keeps}
 use Rattle.lru_model.proofs.laws.runs.runs_keep_the_weight.Goals as goal
 
 pub returns : goal.returns
 returns g c = record {
-  cost = λ old new run was within. run_within_cost _ _ _ new old run was within;
-  limit = λ old new run. run_keeps (keeps_limit _) new old run;
+  cost = λ old new run was within. run_keeps_total (weighs-budgeted _) (weighs-sums _) _ _ new old run was within;
+  limit = λ old new run. run_keeps (keeps_budget (weighs-budgeted _)) new old run;
 }

@@ -61,13 +61,13 @@ returns-clause-total g c = rw (← c.self.view_is) (omega (
 pub returns-in_default-clause-closes : goal.returns-in_default-clause-closes
 returns-in_default-clause-closes g c =
     rw (← c.self.view_is) (on-removed g.N.PartialEq.eq c.args.name.now
-    c.self.inside.hasher c.self.inside.entry_bytes c.self.inside.total_limit c.self.inside.tenants c.remove.new.self
+    c.self.inside.tenants c.remove.new.self
     Closes (Err NotOpen) None
     (sym c.remove.ensures.value ∙ c.in_default.is) c.remove.ensures.updates (refl, refl))
 
 pub returns-clause-closes : goal.returns-clause-closes
 returns-clause-closes g c =
     rw (← c.self.view_is) (on-removed g.N.PartialEq.eq c.args.name.now
-    c.self.inside.hasher c.self.inside.entry_bytes c.self.inside.total_limit c.self.inside.tenants c.remove.new.self
+    c.self.inside.tenants c.remove.new.self
     Closes _ (Some c.in-Some.map)
     (sym c.in-Some.ensures.value) c.remove.ensures.updates (ap Ok c.len.ensures.len, refl))

@@ -61,14 +61,14 @@ returns-clause-total g c = rw (← c.self.view_is) (omega (
 pub returns-in_default-clause-closes : goal.returns-in_default-clause-closes
 returns-in_default-clause-closes g c =
     rw (← c.self.view_is) (on-removed g.N.PartialEq.eq c.args.name.now
-    c.self.inside.hasher c.self.inside.entry_bytes c.self.inside.total_limit c.self.inside.tenants c.remove.new.self
+    c.self.inside.tenants c.remove.new.self
     Closes (Err NotOpen) None
     (sym c.remove.ensures.value ∙ c.in_default.is) c.remove.ensures.updates (refl, refl))
 
 pub returns-clause-closes : goal.returns-clause-closes
 returns-clause-closes g c =
     rw (← c.self.view_is) (on-removed g.N.PartialEq.eq c.args.name.now
-    c.self.inside.hasher c.self.inside.entry_bytes c.self.inside.total_limit c.self.inside.tenants c.remove.new.self
+    c.self.inside.tenants c.remove.new.self
     Closes _ (Some c.in-Some.map)
     (sym c.in-Some.ensures.value) c.remove.ensures.updates (ap Ok c.empty.ensures.count, refl))
 
@@ -78,7 +78,7 @@ returns-in_default-clause-passed g c =
       [],
       refl,
       on-removed g.N.PartialEq.eq c.args.name.now
-          c.self.inside.hasher c.self.inside.entry_bytes c.self.inside.total_limit c.self.inside.tenants
+          c.self.inside.tenants
           c.remove.new.self (PassesOn ClosePasses) [] None
           (sym c.remove.ensures.value ∙ c.in_default.is) c.remove.ensures.updates (refl, refl),
     )
@@ -89,8 +89,7 @@ returns-clause-passed g c =
       _,
       c.empty.ensures.passed,
       on-removed g.N.PartialEq.eq
-          c.args.name.now c.self.inside.hasher c.self.inside.entry_bytes c.self.inside.total_limit
-          c.self.inside.tenants c.remove.new.self
+          c.args.name.now c.self.inside.tenants c.remove.new.self
           (PassesOn ClosePasses) _ (Some c.in-Some.map) (sym c.in-Some.ensures.value) c.remove.ensures.updates
           (refl, refl),
     )

@@ -5,7 +5,7 @@ use Rattle.lru_model.proofs.CallerLemmas.{read_back, promoted-absent}
 use Rattle.lru_tenants.specs.Cache.{IsTenant}
 use Rattle.lru_tenants.specs.TenantRuns.{got, Gets}
 use Rattle.lru_tenants.specs.declared.error.TenantError.TheVariants.{NotOpen}
-use Rattle.lru_tenants.proofs.Changes.{cache_of, found-all, leaves-updated, on-same}
+use Rattle.lru_tenants.proofs.Changes.{found-all, leaves-updated, on-same}
 use Rattle.lru_tenants.proofs.Gets.{promoted_is_tenant, gets-open}
 use Rattle.lru_tenants.proofs.Kept.{kept-written}
 use Rattle.lru_tenants.proofs.cache.TenantCache.get.Goals as goal
@@ -53,8 +53,7 @@ returns-in-Some-get g c =
         (
           Some left,
           gets,
-          leaves-updated g.N.PartialEq.eq c.args.name.now (Some left) c.self.inside.hasher c.self.inside.entry_bytes
-              c.self.inside.total_limit c.self.inside.tenants
+          leaves-updated g.N.PartialEq.eq c.args.name.now (Some left) c.self.inside.tenants
               (c.get_mut.follows.lender left) (writes.3 (ap is_some there)),
         ),
       ),
@@ -78,8 +77,7 @@ returns-in-None g c =
         (
           Some left,
           gets,
-          leaves-updated g.N.PartialEq.eq c.args.name.now (Some left) c.self.inside.hasher c.self.inside.entry_bytes
-              c.self.inside.total_limit c.self.inside.tenants
+          leaves-updated g.N.PartialEq.eq c.args.name.now (Some left) c.self.inside.tenants
               (c.get_mut.follows.lender left) (writes.3 (ap is_some there)),
         ),
       ),
@@ -95,8 +93,7 @@ returns-in_default g c =
         refl,
         λ _. tt,
         on-same c.args.name.now (Gets names) (Err NotOpen) g.met.N.Eq.laws
-            (cache_of c.self.inside.tenants c.self.inside.hasher c.self.inside.entry_bytes c.self.inside.total_limit)
-            None none (refl, refl),
+            _ None none (refl, refl),
       ),
       record { leaves = tt; value = sym (ap (got names) none) },
     )

@@ -2,7 +2,7 @@ use Rattle.std.proofs.Common.{◌≡◌, true, false, None, Ok, Err, sym, refl, 
 use Rattle.lru_tenants.specs.GetOrPuts.{GetsOrPuts, newest_answer}
 use Rattle.lru_tenants.specs.Lending.{read}
 use Rattle.lru_tenants.specs.declared.error.TenantError.TheVariants.{NotOpen, Memory}
-use Rattle.lru_tenants.proofs.Changes.{cache_of, on-same, on-written}
+use Rattle.lru_tenants.proofs.Changes.{on-same, on-written}
 use Rattle.lru_tenants.proofs.Kept.{kept-written}
 use Rattle.lru_tenants.proofs.cache.TenantCache.get_or_put.Goals as goal
 
@@ -15,8 +15,7 @@ returns-in_default g c =
         on-same c.args.name.now (GetsOrPuts g.L.Limiter.rules g.L.Insertion.offers g.L.Budgeted.budget_of
             g.K.PartialEq.eq g.S.KeyHasher.hash_of (g.F.FnOnce.post c.args.make tt) c.args.key) (Err NotOpen)
             g.met.N.Eq.laws
-            (cache_of c.self.inside.tenants c.self.inside.hasher c.self.inside.entry_bytes c.self.inside.total_limit)
-            None
+            _ None
             (sym c.in_default.ensures.value) (refl, refl),
       ),
       record { leaves = tt },
@@ -35,9 +34,7 @@ returns-in_default-get_or_insert g c = let u = c.get_or_insert.new.map in
       (
         refl,
         λ _. tt,
-        on-written g.N.PartialEq.eq c.args.name.now c.self.inside.hasher c.self.inside.entry_bytes
-            c.self.inside.total_limit
-            c.self.inside.tenants (c.get_mut.follows.lender u) c.in-Some.own.now u (sym c.in-Some.ensures.value)
+        on-written g.N.PartialEq.eq c.args.name.now c.self.inside.tenants (c.get_mut.follows.lender u) c.in-Some.own.now u (sym c.in-Some.ensures.value)
             (c.get_mut.follows.holds u) (GetsOrPuts g.L.Limiter.rules g.L.Insertion.offers g.L.Budgeted.budget_of
             g.K.PartialEq.eq g.S.KeyHasher.hash_of (g.F.FnOnce.post c.args.make tt) c.args.key) (Err Memory) (
               u,
@@ -66,9 +63,7 @@ returns-then-not-there g c = let u = c.get_or_insert.new.map in
       (
         refl,
         λ _. tt,
-        on-written g.N.PartialEq.eq c.args.name.now c.self.inside.hasher c.self.inside.entry_bytes
-            c.self.inside.total_limit
-            c.self.inside.tenants (c.get_mut.follows.lender u) c.in-Some.own.now u (sym c.in-Some.ensures.value)
+        on-written g.N.PartialEq.eq c.args.name.now c.self.inside.tenants (c.get_mut.follows.lender u) c.in-Some.own.now u (sym c.in-Some.ensures.value)
             (c.get_mut.follows.holds u) (GetsOrPuts g.L.Limiter.rules g.L.Insertion.offers g.L.Budgeted.budget_of
             g.K.PartialEq.eq g.S.KeyHasher.hash_of (g.F.FnOnce.post c.args.make tt) c.args.key) (Ok None) (
               u,
@@ -98,9 +93,7 @@ returns g c = let u = c.get_or_insert.new.map in
       (
         refl,
         λ _. tt,
-        on-written g.N.PartialEq.eq c.args.name.now c.self.inside.hasher c.self.inside.entry_bytes
-            c.self.inside.total_limit
-            c.self.inside.tenants (c.get_mut.follows.lender u) c.in-Some.own.now u (sym c.in-Some.ensures.value)
+        on-written g.N.PartialEq.eq c.args.name.now c.self.inside.tenants (c.get_mut.follows.lender u) c.in-Some.own.now u (sym c.in-Some.ensures.value)
             (c.get_mut.follows.holds u) (GetsOrPuts g.L.Limiter.rules g.L.Insertion.offers g.L.Budgeted.budget_of
             g.K.PartialEq.eq g.S.KeyHasher.hash_of (g.F.FnOnce.post c.args.make tt) c.args.key)
             (read (Ok c.newest.result)) (

@@ -1,4 +1,4 @@
-use Rattle.std.proofs.Common.{◌+◌, inl, inr, Some, None, Ok, Err, arith, sym, refl, ◌∙◌, ap, subst}
+use Rattle.std.proofs.Common.{rules, ◌+◌, inl, inr, Some, None, Ok, Err, arith, sym, refl, ◌∙◌, ap, subst}
 use Rattle.std.proofs.lemmas.Map.Entries.{sum_by_puts_entry}
 use Rattle.lru_tenants.proofs.TotalCosts.{opened}
 use Rattle.lru_tenants.specs.Cache.{tenant, fresh, is_above}
@@ -52,33 +52,6 @@ invariant_of-self g c =
     (sym (ap (λ map. g.L.Budgeted.budget_of map.limiter) c.fresh-map.ensures.map ∙
     g.met.L.Budgeted.laws.made_budget c.args.budget))) (sym c.is_above.ensures ∙ c.if-is_above.false)
 
-pub returns-in-Ok-clause-tenants : goal.returns-in-Ok-clause-tenants
-returns-in-Ok-clause-tenants g c = (invariant_of-self g c).tenants
-
-pub returns-in-Ok-clause-opens : goal.returns-in-Ok-clause-opens
-returns-in-Ok-clause-opens g c =
-    let cache = cache_of c.self.inside.tenants c.self.inside.hasher c.self.inside.entry_bytes
-    c.self.inside.total_limit in
-    let absent = absent-from (tenant (g.N.PartialEq.eq c.args.name) cache)
-    (sym c.contains_key.ensures ∙ c.if-contains_key.false) in
-    let over = ap (is_above c.self.inside.total_limit)
-    (sym (sum-more c.self.inside.entry_bytes c.self.inside.tenants c.self.invariant (g.N.PartialEq.eq c.args.name)
-    absent c.args.budget))
-    ∙ sym c.is_above.ensures ∙ c.if-is_above.false in
-    let is = c.fresh-map.ensures.map ∙ ap
-    (λ k. fresh g.L.Budgeted.made (g.L.LinkType.LinkType.number g.L.LinkType.LinkType.MAX) k c.args.budget)
-    (sym c.self.view_is) in
-    rw (← c.self.view_is) (on-from c.args.name
-    (Opens _ (fresh g.L.Budgeted.made (g.L.LinkType.LinkType.number g.L.LinkType.LinkType.MAX) cache
-    c.args.budget)) (Ok tt) cache
-    (cache_of c.insert.new.self c.self.inside.hasher c.self.inside.entry_bytes c.self.inside.total_limit) None
-    (Some c.fresh-map.result)
-    absent (subst (λ b. Opens b (fresh g.L.Budgeted.made (g.L.LinkType.LinkType.number g.L.LinkType.LinkType.MAX)
-    cache c.args.budget) None (Ok tt) (Some c.fresh-map.result)) (sym over) (inl (refl, ap Some is)))
-    (leaves-updated g.N.PartialEq.eq c.args.name (Some c.fresh-map.result) c.self.inside.hasher
-    c.self.inside.entry_bytes c.self.inside.total_limit
-    c.self.inside.tenants c.insert.new.self c.in-Ok.ensures.updates))
-
 pub invariant_of-self-in-Err : goal.invariant_of-self-in-Err
 invariant_of-self-in-Err g c = record {
   tenants = rw (c.in-Err.ensures.err) c.self.invariant.tenants;
@@ -87,8 +60,8 @@ invariant_of-self-in-Err g c = record {
   within = c.self.invariant.within;
 }
 
-pub returns-clause-opens : goal.returns-clause-opens
-returns-clause-opens g c =
+pub returns-in-Ok : goal.returns-in-Ok
+returns-in-Ok g c =
     let cache = cache_of c.self.inside.tenants c.self.inside.hasher c.self.inside.entry_bytes
     c.self.inside.total_limit in
     let absent = absent-from (tenant (g.N.PartialEq.eq c.args.name) cache)
@@ -97,29 +70,42 @@ returns-clause-opens g c =
     (sym (sum-more c.self.inside.entry_bytes c.self.inside.tenants c.self.invariant (g.N.PartialEq.eq c.args.name)
     absent c.args.budget))
     ∙ sym c.is_above.ensures ∙ c.if-is_above.false in
-    rw (c.in-Err.ensures.err, ← c.self.view_is)
-    (on-same c.args.name (Opens _ (fresh g.L.Budgeted.made
-    (g.L.LinkType.LinkType.number g.L.LinkType.LinkType.MAX) cache c.args.budget)) (Err Memory)
-    g.met.N.Eq.laws cache None absent
-    (subst (λ b. Opens b (fresh g.L.Budgeted.made (g.L.LinkType.LinkType.number g.L.LinkType.LinkType.MAX) cache
-    c.args.budget) None (Err Memory) None) (sym over) (inr (refl, refl))))
+    let made = fresh g.L.Budgeted.made (g.L.LinkType.LinkType.number g.L.LinkType.LinkType.MAX) cache c.args.budget in
+    let is = c.fresh-map.ensures.map ∙ ap
+    (λ k. fresh g.L.Budgeted.made (g.L.LinkType.LinkType.number g.L.LinkType.LinkType.MAX) k c.args.budget)
+    (sym c.self.view_is) in
+    let budget = ap (λ map. g.L.Budgeted.budget_of map.limiter) c.fresh-map.ensures.map
+    ∙ g.met.L.Budgeted.laws.made_budget c.args.budget in
+    rw (← c.self.view_is) (record {
+      opens = on-from c.args.name (Opens _ made) (Ok tt) cache
+          (cache_of c.insert.new.self c.self.inside.hasher c.self.inside.entry_bytes c.self.inside.total_limit) None
+          (Some c.fresh-map.result) absent
+          (subst (λ b. Opens b made None (Ok tt) (Some c.fresh-map.result)) (sym over) (inl (refl, ap Some is)))
+          (leaves-updated g.N.PartialEq.eq c.args.name (Some c.fresh-map.result) c.self.inside.tenants c.insert.new.self
+          c.in-Ok.ensures.updates);
+      total = λ ok. opened _ _ _ _ _ _ (c.in-Ok.ensures.old ∙ absent)
+          (sum_by_puts_entry (λ map. g.L.Budgeted.budget_of map.limiter) g.N.PartialEq.eq c.self.inside.tenants
+          c.insert.new.self c.args.name c.fresh-map.result c.in-Ok.field-0 c.in-Ok.ensures.old
+          c.in-Ok.ensures.entries) budget;
+      unchanged = search rules;
+      tenants = (invariant_of-self g c).tenants;
+    })
 
-pub returns-clause-tenants : goal.returns-clause-tenants
-returns-clause-tenants g c = rw (c.in-Err.ensures.err) c.self.invariant.tenants
-
-pub returns-clause-unchanged : goal.returns-clause-unchanged
-returns-clause-unchanged g c = rw (c.in-Err.ensures.err, ← c.self.view_is) refl
-
-pub returns-in-Ok-clause-total : goal.returns-in-Ok-clause-total
-returns-in-Ok-clause-total g c =
+pub returns : goal.returns
+returns g c =
     let cache = cache_of c.self.inside.tenants c.self.inside.hasher c.self.inside.entry_bytes
     c.self.inside.total_limit in
     let absent = absent-from (tenant (g.N.PartialEq.eq c.args.name) cache)
     (sym c.contains_key.ensures ∙ c.if-contains_key.false) in
-    let none = c.in-Ok.ensures.old ∙ absent in
-    let sum = sum_by_puts_entry (λ map. g.L.Budgeted.budget_of map.limiter) g.N.PartialEq.eq c.self.inside.tenants
-    c.insert.new.self
-    c.args.name c.fresh-map.result c.in-Ok.field-0 c.in-Ok.ensures.old c.in-Ok.ensures.entries in
-    rw (← c.self.view_is) (λ ok. opened _ _ _ _ _ _ none sum
-    (ap (λ map. g.L.Budgeted.budget_of map.limiter) c.fresh-map.ensures.map ∙ g.met.L.Budgeted.laws.made_budget
-    c.args.budget))
+    let over = ap (is_above c.self.inside.total_limit)
+    (sym (sum-more c.self.inside.entry_bytes c.self.inside.tenants c.self.invariant (g.N.PartialEq.eq c.args.name)
+    absent c.args.budget))
+    ∙ sym c.is_above.ensures ∙ c.if-is_above.false in
+    let made = fresh g.L.Budgeted.made (g.L.LinkType.LinkType.number g.L.LinkType.LinkType.MAX) cache c.args.budget in
+    rw (c.in-Err.ensures.err, ← c.self.view_is) (record {
+      opens = on-same c.args.name (Opens _ made) (Err Memory) g.met.N.Eq.laws cache None absent
+          (subst (λ b. Opens b made None (Err Memory) None) (sym over) (inr (refl, refl)));
+      total = search rules;
+      unchanged = refl;
+      tenants = c.self.invariant.tenants;
+    })

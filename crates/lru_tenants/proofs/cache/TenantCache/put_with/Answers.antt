@@ -1,6 +1,6 @@
 use Rattle.std.proofs.Common.{[], None, sym, refl}
 use Rattle.lru_tenants.specs.TenantRuns.{Puts, PutPasses, PassesOn}
-use Rattle.lru_tenants.proofs.Changes.{cache_of, on-same, on-written}
+use Rattle.lru_tenants.proofs.Changes.{on-same, on-written}
 use Rattle.lru_tenants.proofs.Kept.{kept-written, same-sum}
 use Rattle.lru_tenants.proofs.cache.TenantCache.put_with.Goals as goal
 
@@ -22,7 +22,7 @@ returns-clause-total g c = let u = c.insert.new.map in
 pub returns-clause-puts : goal.returns-clause-puts
 returns-clause-puts g c = let u = c.insert.new.map in
     rw (← c.self.view_is) (on-written g.N.PartialEq.eq c.args.name.now
-    c.self.inside.hasher c.self.inside.entry_bytes c.self.inside.total_limit c.self.inside.tenants
+    c.self.inside.tenants
     (c.get_mut.follows.lender u) c.in-Some.own.now u
     (sym c.in-Some.ensures.value) (c.get_mut.follows.holds u)
     (Puts g.L.Limiter.rules g.L.Insertion.offers g.L.Budgeted.budget_of g.K.PartialEq.eq g.S.KeyHasher.hash_of
@@ -44,7 +44,7 @@ returns-clause-passed g c = let u = c.insert.new.map in
       passed,
       takes,
       on-written g.N.PartialEq.eq c.args.name.now
-          c.self.inside.hasher c.self.inside.entry_bytes c.self.inside.total_limit c.self.inside.tenants
+          c.self.inside.tenants
           (c.get_mut.follows.lender u) c.in-Some.own.now u
           (sym c.in-Some.ensures.value) (c.get_mut.follows.holds u)
           (PassesOn (PutPasses g.L.Limiter.rules g.L.Insertion.offers g.L.Budgeted.budget_of g.K.PartialEq.eq
@@ -60,7 +60,6 @@ returns-in_default-clause-passed g c =
       on-same c.args.name.now (PassesOn
           (PutPasses g.L.Limiter.rules g.L.Insertion.offers g.L.Budgeted.budget_of g.K.PartialEq.eq
           g.S.KeyHasher.hash_of c.args.key c.args.value)) []
-          g.met.N.Eq.laws (cache_of c.self.inside.tenants c.self.inside.hasher c.self.inside.entry_bytes
-          c.self.inside.total_limit) None
+          g.met.N.Eq.laws _ None
           (sym c.in_default.ensures.value) (refl, refl),
     )

@@ -1,9 +1,9 @@
-use Rattle.std.proofs.Common.{◌+◌, ◌-◌, [], None, Some, Err, Ok, arith, sym, refl, ◌∙◌, ap, subst}
+use Rattle.std.proofs.Common.{rules, ◌+◌, ◌-◌, [], None, Some, Err, Ok, arith, sym, refl, ◌∙◌, ap, subst}
 use Rattle.std.proofs.lemmas.Map.Steps.{set_value_same}
 use Rattle.lru_tenants.specs.Cache.{IsTenant, is_above}
 use Rattle.lru_tenants.specs.TenantRuns.{SetsBudget, BudgetPasses, PassesOn}
 use Rattle.lru_tenants.specs.declared.error.TenantError.TheVariants.{OverTotal}
-use Rattle.lru_tenants.proofs.Changes.{cache_of, found-all, on-same, on-written}
+use Rattle.lru_tenants.proofs.Changes.{found-all, on-same, on-written}
 use Rattle.lru_tenants.proofs.Kept.{kept-rebudgeted, kept-written, own-within, sum-fits, sum-with, sum-written}
 use Rattle.lru_tenants.proofs.cache.TenantCache.set_budget_with.Goals as goal
 
@@ -31,56 +31,38 @@ invariant_of-self-then-is_above g c = let own = c.in-Some.own.now in
     (g.N.PartialEq.eq c.args.name.now) c.self.inside.tenants own (sym c.in-Some.ensures.value)
     c.self.invariant.tenants) refl
 
-pub returns-then-is_above-clause-tenants : goal.returns-then-is_above-clause-tenants
-returns-then-is_above-clause-tenants g c = (invariant_of-self-then-is_above g c).tenants
-
-pub returns-then-is_above-clause-sets : goal.returns-then-is_above-clause-sets
-returns-then-is_above-clause-sets g c = let own = c.in-Some.own.now in
+pub returns-then-is_above : goal.returns-then-is_above
+returns-then-is_above g c = let own = c.in-Some.own.now in
+    let there = sym c.in-Some.ensures.value in
+    let writes = c.get_mut.follows.holds own in
     let over = ap (is_above c.self.inside.total_limit)
     (sym (sum-with c.self.inside.entry_bytes c.self.inside.tenants c.self.invariant
-    (g.N.PartialEq.eq c.args.name.now) c.in-Some.own.now
-    (sym c.in-Some.ensures.value) c.budget.result c.args.budget
+    (g.N.PartialEq.eq c.args.name.now) own there c.budget.result c.args.budget
     (c.budget.ensures ∙ ap g.L.Budgeted.budget_of c.limiter.ensures))) ∙ sym c.is_above.ensures ∙
     c.if-is_above.true in
-    rw (← c.self.view_is) (on-written g.N.PartialEq.eq c.args.name.now c.self.inside.hasher c.self.inside.entry_bytes
-    c.self.inside.total_limit
-    c.self.inside.tenants (c.get_mut.follows.lender own) c.in-Some.own.now own (sym c.in-Some.ensures.value)
-    (c.get_mut.follows.holds own)
-    (SetsBudget g.L.Limiter.rules (g.L.Budgeted.rebudgeted c.args.budget) _) (Err OverTotal)
-    (subst (λ b. SetsBudget g.L.Limiter.rules (g.L.Budgeted.rebudgeted c.args.budget) b (Some own) (Err OverTotal)
-    (Some own)) (sym over) (refl, refl)))
-
-pub returns-then-is_above-clause-passed : goal.returns-then-is_above-clause-passed
-returns-then-is_above-clause-passed g c = let own = c.in-Some.own.now in
-    let over = ap (is_above c.self.inside.total_limit)
-    (sym (sum-with c.self.inside.entry_bytes c.self.inside.tenants c.self.invariant
-    (g.N.PartialEq.eq c.args.name.now) c.in-Some.own.now
-    (sym c.in-Some.ensures.value) c.budget.result c.args.budget
-    (c.budget.ensures ∙ ap g.L.Budgeted.budget_of c.limiter.ensures))) ∙ sym c.is_above.ensures ∙
-    c.if-is_above.true in
-    rw (← c.self.view_is) (
-      [],
-      refl,
-      on-written g.N.PartialEq.eq c.args.name.now c.self.inside.hasher c.self.inside.entry_bytes
-          c.self.inside.total_limit
-          c.self.inside.tenants (c.get_mut.follows.lender own) c.in-Some.own.now own (sym c.in-Some.ensures.value)
-          (c.get_mut.follows.holds own)
-          (PassesOn (BudgetPasses g.L.Limiter.rules (g.L.Budgeted.rebudgeted c.args.budget) _)) []
-          (subst (λ b. PassesOn (BudgetPasses g.L.Limiter.rules (g.L.Budgeted.rebudgeted c.args.budget) b) (Some own)
-          [] (Some own)) (sym over) (refl, refl)),
-    )
-
-pub returns-then-is_above-clause-unchanged : goal.returns-then-is_above-clause-unchanged
-returns-then-is_above-clause-unchanged g c = let own = c.in-Some.own.now in
-    let same = (c.get_mut.follows.holds own).0
-    ∙ set_value_same (g.N.PartialEq.eq c.args.name.now) c.self.inside.tenants.entries own
-    (sym c.in-Some.ensures.value) in
-    rw (← c.self.view_is) (ap (λ entries. record {
-      tenants = entries;
-      hasher = c.self.inside.hasher;
-      entry_bytes = c.self.inside.entry_bytes;
-      total_limit = c.self.inside.total_limit;
-    }) same)
+    rw (← c.self.view_is) (record {
+      sets = on-written g.N.PartialEq.eq c.args.name.now c.self.inside.tenants (c.get_mut.follows.lender own) own own
+          there writes (SetsBudget g.L.Limiter.rules (g.L.Budgeted.rebudgeted c.args.budget) _) (Err OverTotal)
+          (subst (λ b. SetsBudget g.L.Limiter.rules (g.L.Budgeted.rebudgeted c.args.budget) b (Some own)
+          (Err OverTotal) (Some own)) (sym over) (refl, refl));
+      total = search rules;
+      unchanged = ap (λ entries. record {
+        tenants = entries;
+        hasher = c.self.inside.hasher;
+        entry_bytes = c.self.inside.entry_bytes;
+        total_limit = c.self.inside.total_limit;
+      }) (writes.0 ∙ set_value_same (g.N.PartialEq.eq c.args.name.now) c.self.inside.tenants.entries own there);
+      passed = (
+        [],
+        refl,
+        on-written g.N.PartialEq.eq c.args.name.now c.self.inside.tenants (c.get_mut.follows.lender own) own own
+            there writes (PassesOn (BudgetPasses g.L.Limiter.rules (g.L.Budgeted.rebudgeted c.args.budget) _)) []
+            (subst (λ b. PassesOn (BudgetPasses g.L.Limiter.rules (g.L.Budgeted.rebudgeted c.args.budget) b)
+            (Some own) [] (Some own)) (sym over) (refl, refl)),
+      );
+      callable = search rules;
+      tenants = (invariant_of-self-then-is_above g c).tenants;
+    })
 
 pub invariant_of-self-2 : goal.invariant_of-self-2
 invariant_of-self-2 g c = let u = c.set_budget.new.map in
@@ -96,46 +78,43 @@ invariant_of-self-2 g c = let u = c.set_budget.new.map in
     ))
     (sym c.is_above.ensures ∙ c.if-is_above.false)
 
-pub returns-clause-tenants : goal.returns-clause-tenants
-returns-clause-tenants g c = (invariant_of-self-2 g c).tenants
-
-pub returns-clause-sets : goal.returns-clause-sets
-returns-clause-sets g c = let u = c.set_budget.new.map in
-    let over = ap (is_above c.self.inside.total_limit)
-    (sym (sum-with c.self.inside.entry_bytes c.self.inside.tenants c.self.invariant
-    (g.N.PartialEq.eq c.args.name.now) c.in-Some.own.now
-    (sym c.in-Some.ensures.value) c.budget.result c.args.budget
-    (c.budget.ensures ∙ ap g.L.Budgeted.budget_of c.limiter.ensures))) ∙ sym c.is_above.ensures ∙
-    c.if-is_above.false in
-    rw (← c.self.view_is) (on-written g.N.PartialEq.eq c.args.name.now c.self.inside.hasher c.self.inside.entry_bytes
-    c.self.inside.total_limit
-    c.self.inside.tenants (c.get_mut.follows.lender u) c.in-Some.own.now u (sym c.in-Some.ensures.value)
-    (c.get_mut.follows.holds u)
-    (SetsBudget g.L.Limiter.rules (g.L.Budgeted.rebudgeted c.args.budget) _) (Ok tt)
-    (subst (λ b. SetsBudget g.L.Limiter.rules (g.L.Budgeted.rebudgeted c.args.budget) b (Some c.in-Some.own.now)
-    (Ok tt) (Some u)) (sym over)
-    (u, c.set_budget.ensures.trims, refl, refl)))
-
-pub returns-clause-passed : goal.returns-clause-passed
-returns-clause-passed g c = let u = c.set_budget.new.map in
+pub returns : goal.returns
+returns g c = let u = c.set_budget.new.map in
+    let own = c.in-Some.own.now in
+    let there = sym c.in-Some.ensures.value in
+    let writes = c.get_mut.follows.holds u in
+    let budget = c.budget.ensures ∙ ap g.L.Budgeted.budget_of c.limiter.ensures in
     let (passed, takes, passes) = c.set_budget.ensures.passed in
-    let over = ap (is_above c.self.inside.total_limit)
-    (sym (sum-with c.self.inside.entry_bytes c.self.inside.tenants c.self.invariant
-    (g.N.PartialEq.eq c.args.name.now) c.in-Some.own.now
-    (sym c.in-Some.ensures.value) c.budget.result c.args.budget
-    (c.budget.ensures ∙ ap g.L.Budgeted.budget_of c.limiter.ensures))) ∙ sym c.is_above.ensures ∙
-    c.if-is_above.false in
-    rw (← c.self.view_is) (
-      passed,
-      takes,
-      on-written g.N.PartialEq.eq c.args.name.now c.self.inside.hasher c.self.inside.entry_bytes
-          c.self.inside.total_limit
-          c.self.inside.tenants (c.get_mut.follows.lender u) c.in-Some.own.now u (sym c.in-Some.ensures.value)
-          (c.get_mut.follows.holds u)
-          (PassesOn (BudgetPasses g.L.Limiter.rules (g.L.Budgeted.rebudgeted c.args.budget) _)) passed
-          (subst (λ b. PassesOn (BudgetPasses g.L.Limiter.rules (g.L.Budgeted.rebudgeted c.args.budget) b)
-          (Some c.in-Some.own.now) passed (Some u)) (sym over) (u, passes, refl)),
-    )
+    let with = sum-with c.self.inside.entry_bytes c.self.inside.tenants c.self.invariant
+    (g.N.PartialEq.eq c.args.name.now) own there c.budget.result c.args.budget budget in
+    let over = ap (is_above c.self.inside.total_limit) (sym with) ∙ sym c.is_above.ensures ∙ c.if-is_above.false in
+    rw (← c.self.view_is) (record {
+      sets = on-written g.N.PartialEq.eq c.args.name.now c.self.inside.tenants (c.get_mut.follows.lender u) own u
+          there writes (SetsBudget g.L.Limiter.rules (g.L.Budgeted.rebudgeted c.args.budget) _) (Ok tt)
+          (subst (λ b. SetsBudget g.L.Limiter.rules (g.L.Budgeted.rebudgeted c.args.budget) b (Some own) (Ok tt)
+          (Some u)) (sym over) (u, c.set_budget.ensures.trims, refl, refl));
+      total = λ ok. omega (
+        arith,
+        budget,
+        sum-written g.N.PartialEq.eq c.self.inside.tenants (c.get_mut.follows.lender u) c.self.invariant
+            c.args.name.now own u there writes,
+        with,
+        c.set_budget.ensures.budget,
+        own-within c.self.inside.entry_bytes c.self.inside.tenants c.self.invariant (g.N.PartialEq.eq c.args.name.now)
+            own there,
+      );
+      unchanged = search rules;
+      passed = (
+        passed,
+        takes,
+        on-written g.N.PartialEq.eq c.args.name.now c.self.inside.tenants (c.get_mut.follows.lender u) own u there
+            writes (PassesOn (BudgetPasses g.L.Limiter.rules (g.L.Budgeted.rebudgeted c.args.budget) _)) passed
+            (subst (λ b. PassesOn (BudgetPasses g.L.Limiter.rules (g.L.Budgeted.rebudgeted c.args.budget) b)
+            (Some own) passed (Some u)) (sym over) (u, passes, refl)),
+      );
+      callable = search rules;
+      tenants = (invariant_of-self-2 g c).tenants;
+    })
 
 pub returns-in_default-clause-passed : goal.returns-in_default-clause-passed
 returns-in_default-clause-passed g c =
@@ -143,25 +122,6 @@ returns-in_default-clause-passed g c =
       [],
       refl,
       on-same c.args.name.now (PassesOn (BudgetPasses g.L.Limiter.rules (g.L.Budgeted.rebudgeted c.args.budget) _)) []
-          g.met.N.Eq.laws (cache_of c.self.inside.tenants c.self.inside.hasher c.self.inside.entry_bytes
-          c.self.inside.total_limit) None
+          g.met.N.Eq.laws _ None
           (sym c.in_default.ensures.value) (refl, refl),
     )
-
-pub returns-clause-total : goal.returns-clause-total
-returns-clause-total g c = let u = c.set_budget.new.map in
-    let same = sum-written g.N.PartialEq.eq c.self.inside.tenants (c.get_mut.follows.lender u) c.self.invariant
-    c.args.name.now
-    c.in-Some.own.now u (sym c.in-Some.ensures.value) (c.get_mut.follows.holds u) in
-    rw (← c.self.view_is) (λ ok. omega (
-      arith,
-      c.budget.ensures ∙ ap g.L.Budgeted.budget_of c.limiter.ensures,
-      same,
-      sum-with c.self.inside.entry_bytes c.self.inside.tenants c.self.invariant (g.N.PartialEq.eq c.args.name.now)
-          c.in-Some.own.now
-          (sym c.in-Some.ensures.value) c.budget.result c.args.budget
-          (c.budget.ensures ∙ ap g.L.Budgeted.budget_of c.limiter.ensures),
-      c.set_budget.ensures.budget,
-      own-within c.self.inside.entry_bytes c.self.inside.tenants c.self.invariant (g.N.PartialEq.eq c.args.name.now)
-          c.in-Some.own.now (sym c.in-Some.ensures.value),
-    ))

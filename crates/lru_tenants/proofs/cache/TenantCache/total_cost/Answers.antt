@@ -1,4 +1,4 @@
-use Rattle.std.proofs.Common.{arith, ◌≤◌, sym, ap, ◌∙◌, subst, sum_by}
+use Rattle.std.proofs.Common.{arith, sym, ap, ◌∙◌, sum_by}
 use Rattle.std.specs.HashMap.{values}
 use Rattle.std.specs.Map.Iter.{deref}
 use Rattle.std.proofs.lemmas.Iterator.Consumers.{YieldsList-from_rest, YieldsList-end}
@@ -6,32 +6,8 @@ use Rattle.lru_tenants.proofs.Kept.{not-above, within-less}
 use Rattle.lru_tenants.proofs.TotalCosts.{mapped, costs-within}
 use Rattle.lru_tenants.proofs.cache.TenantCache.total_cost.Goals as goal
 
-pub returns-clause-total : goal.returns-clause-total
-returns-clause-total g c =
-    let road = YieldsList-from_rest {shows = deref} {s = c.into_iter-map-iterator.result} (values c.self.inside.tenants)
-    (c.into_iter-map-iterator.ensures.into_iter_gives ∙ c.values-map-items.ensures.rest) in
-    let all = (YieldsList-end road c.loop-map.yielded c.loop-map.map-iterator c.loop-map.yielded_by c.next.result
-    c.next.new.self c.in-None.is c.next.ensures.steps).0 in
-    let total = c.loop-map.invariant.total
-    ∙ sym (mapped (λ map. g.L.Summing.account map.limiter) deref c.loop-map.yielded)
-    ∙ ap (sum_by (λ map. g.L.Summing.account map.limiter)) all in
-    rw (← c.self.view_is) total
-
-pub returns-clause-within : goal.returns-clause-within
-returns-clause-within g c =
-    let road = YieldsList-from_rest {shows = deref} {s = c.into_iter-map-iterator.result} (values c.self.inside.tenants)
-    (c.into_iter-map-iterator.ensures.into_iter_gives ∙ c.values-map-items.ensures.rest) in
-    let all = (YieldsList-end road c.loop-map.yielded c.loop-map.map-iterator c.loop-map.yielded_by c.next.result
-    c.next.new.self c.in-None.is c.next.ensures.steps).0 in
-    let total = c.loop-map.invariant.total
-    ∙ sym (mapped (λ map. g.L.Summing.account map.limiter) deref c.loop-map.yielded)
-    ∙ ap (sum_by (λ map. g.L.Summing.account map.limiter)) all in
-    rw (← c.self.view_is) (subst (λ n. n ≤ sum_by (λ map. g.L.Budgeted.budget_of map.limiter)
-    (values c.self.inside.tenants)) (sym total)
-    (costs-within (values c.self.inside.tenants) c.self.invariant.tenants))
-
-pub returns-clause-limit : goal.returns-clause-limit
-returns-clause-limit g c =
+pub returns : goal.returns
+returns g c =
     let road = YieldsList-from_rest {shows = deref} {s = c.into_iter-map-iterator.result} (values c.self.inside.tenants)
     (c.into_iter-map-iterator.ensures.into_iter_gives ∙ c.values-map-items.ensures.rest) in
     let all = (YieldsList-end road c.loop-map.yielded c.loop-map.map-iterator c.loop-map.yielded_by c.next.result
@@ -40,6 +16,10 @@ returns-clause-limit g c =
     ∙ sym (mapped (λ map. g.L.Summing.account map.limiter) deref c.loop-map.yielded)
     ∙ ap (sum_by (λ map. g.L.Summing.account map.limiter)) all in
     let most = costs-within (values c.self.inside.tenants) c.self.invariant.tenants in
-    rw (← c.self.view_is) (within-less c.self.inside.total_limit c.self.inside.budgets _
-    (not-above c.self.inside.total_limit c.self.inside.budgets c.self.invariant.within)
-    (omega (arith, total, c.self.invariant.sum, most)))
+    rw (← c.self.view_is) (record {
+      total = total;
+      within = omega (arith, total, most);
+      limit = within-less c.self.inside.total_limit c.self.inside.budgets _
+          (not-above c.self.inside.total_limit c.self.inside.budgets c.self.invariant.within)
+          (omega (arith, total, c.self.invariant.sum, most));
+    })

@@ -1,6 +1,6 @@
--- A limit by a budget, whatever the limiter: each call of a map keeps it.
-use Rattle.std.proofs.Common.{◌≡◌, ℕ, ◌≤◌, Bool, false, List, [], ◌∷◌, Option, Some, None, Result, refl, sym}
-use Rattle.std.proofs.Common.{ap, ◌∙◌, arith, ◌⊎◌, inl, inr}
+-- A limit by a budget, as `ByCost` and `ByWeight` have: each call of a map keeps it, and so does a run of calls.
+use Rattle.std.proofs.Common.{◌≡◌, ℕ, ◌≤◌, Bool, false, Option, Some, None, Result, refl, sym}
+use Rattle.std.proofs.Common.{ap, ◌∙◌, subst, arith, ◌⊎◌, inl, inr}
 use Rattle.std.proofs.lemmas.Bool.Decides.{nat_tests}
 use Rattle.std.specs.Prelude.{nat_lt}
 use Rattle.std.specs.declared.alloc.AllocError.{AllocError}
@@ -8,21 +8,15 @@ use Rattle.lru_limits.specs.Rules.{Rules, Offers}
 use Rattle.lru_limits.specs.Laws.{IsAccount}
 use Rattle.lru_limits.specs.Budgeted.{IsBudgeted}
 use Rattle.lru_model.specs.GetOrInserts.{MakesNewest, got, inserted}
-use Rattle.lru_model.specs.Lists.{last, without_first, without_last, lookup_entry}
+use Rattle.lru_model.specs.Lists.{last, lookup_entry}
 use Rattle.lru_model.specs.State.{State, contents, IsWithin, notified_of}
-use Rattle.lru_model.specs.Runs.{Step, inserts, makes_newest, updates, gets, demotes, removes, pops_oldest}
-use Rattle.lru_model.specs.Runs.{pops_newest, drains, clears}
-use Rattle.lru_model.specs.Runs.{reserves, shrinks, trims, retains}
+use Rattle.lru_model.specs.Runs.{Step, makes_newest}
+use Rattle.lru_model.specs.Runs.{Run, ends, goes_on}
 use Rattle.lru_model.specs.Theorems.{IsSummed}
-use Rattle.lru_model.proofs.Theorems.Fronts.{front_trim}
-use Rattle.lru_model.proofs.Theorems.Limits.{insert_within, update_within, total-without}
 use Rattle.lru_model.proofs.Theorems.Moves.{KeepsOffers}
-use Rattle.lru_model.proofs.Theorems.Reservations.{reserved_list}
 use Rattle.lru_model.proofs.Theorems.Runs.{step_changes, step_summed}
-use Rattle.lru_model.proofs.Theorems.RetainedPairs.{total-retained}
-use Rattle.lru_model.proofs.Theorems.Shrinks.{shrunk_list}
-use Rattle.lru_model.proofs.Theorems.Sums.{total, total-is, total-front, total-back, total-least, split-least}
-use Rattle.lru_model.proofs.Theorems.Sums.{split_last}
+use Rattle.lru_model.proofs.Theorems.StepTotals.{step_total}
+use Rattle.lru_model.proofs.Theorems.Sums.{total, total-is}
 
 module _ {K V S : Type 0} {rules : Rules K V S} {offers : Offers K V S K} {account budget : S → ℕ}
     {accepts : S → K → V → Bool} {made : ℕ → S} {rebudgeted : ℕ → S → S}
@@ -62,11 +56,11 @@ module _ {K V S : Type 0} {rules : Rules K V S} {offers : Offers K V S K} {accou
 
   module _ {H : Type 0} {cost : K → V → ℕ} (sums : IsAccount rules offers cost account) (names : K → K → Bool)
       (hash_of : H → K → ℕ) where
+    abbrev pair_cost : K × V → ℕ
+    pair_cost p = cost p.0 p.1
+
     module _ (old new : State K V S H) (was : IsSummed cost account old) (is : IsSummed cost account new)
         (same : budget new.limiter ≡ budget old.limiter) (within : account old.limiter ≤ budget old.limiter) where
-      abbrev pair_cost : K × V → ℕ
-      pair_cost p = cost p.0 p.1
-
       abbrev Within : Type 0
       Within = account new.limiter ≤ budget new.limiter
 
@@ -79,50 +73,6 @@ module _ {K V S : Type 0} {rules : Rules K V S} {offers : Offers K V S K} {accou
       ended (inl (inr e)) = not_over new.limiter _ e
       ended (inr h) = less h
 
-      step_within : Step rules offers names hash_of old new → Within
-      step_within (inserts k v result h) = ended (insert_within pair_cost h)
-      step_within (makes_newest v k result (got w e r step)) = less
-          (omega (arith, ap (λ st. total pair_cost st.pairs) step, total-front pair_cost (names k) old.pairs))
-      step_within (makes_newest v k result (inserted e w m step)) = ended (insert_within pair_cost step)
-      step_within (updates k v result h) = ended (update_within pair_cost result h)
-      step_within (gets named e) = less
-          (omega (arith, ap (λ st. total pair_cost st.pairs) e, total-front pair_cost named old.pairs))
-      step_within (demotes named e) = less
-          (omega (arith, ap (λ st. total pair_cost st.pairs) e, total-back pair_cost named old.pairs))
-      step_within (removes test result h) = less
-          (omega (arith, ap (λ st. total pair_cost st.pairs) h.state.is, total-without pair_cost test old.pairs))
-      step_within (pops_oldest result h) = less
-          (omega (
-            arith,
-            ap (λ st. total pair_cost st.pairs) h.state.is,
-            split-least pair_cost old.pairs (last old.pairs) (without_last old.pairs) (split_last pair_cost old.pairs),
-          ))
-      step_within (pops_newest result h) = less
-          (omega (arith, ap (λ st. total pair_cost st.pairs) h.state.is, fewer old.pairs))
-        where
-          fewer : (xs : List (K × V)) → total pair_cost (without_first xs) ≤ total pair_cost xs
-          fewer [] = omega arith
-          fewer (x ∷ xs) = omega arith
-      step_within (drains newest oldest result h) = less
-          (omega (arith, ap (λ st. total pair_cost st.pairs) h.state.2))
-      step_within (clears e) = less (omega (arith, ap (λ st. total pair_cost st.pairs) e))
-      step_within (reserves n result h) = less
-          (omega (arith, ap (total pair_cost) (reserved_list _ n old result new h).0))
-      step_within (shrinks result h) = less (omega (arith, ap (total pair_cost) (shrunk_list old result new h).0))
-      step_within (trims h) = less
-          (omega (
-            arith,
-            ap (λ st. total pair_cost st.pairs) h.is,
-            total-least pair_cost _ old.pairs (front_trim rules (contents old)),
-          ))
-      step_within (retains asked each h) = less
-          (omega (
-            arith,
-            ap (λ st. total pair_cost st.pairs) h.is,
-            total-retained rules pair_cost asked old.limiter,
-            ap (total pair_cost) each,
-          ))
-
     pub step_budget : (old new : State K V S H) → Step rules offers names hash_of old new
         → budget new.limiter ≡ budget old.limiter
     step_budget old new s = (step_changes keeps_budget old new s).2.moves
@@ -131,7 +81,15 @@ module _ {K V S : Type 0} {rules : Rules K V S} {offers : Offers K V S K} {accou
         → IsSummed cost account old → account old.limiter ≤ budget old.limiter
         → account new.limiter ≤ budget new.limiter
     step_keeps_total old new s was within =
-        step_within old new was (step_summed sums old new s was) (step_budget old new s) within s
+        ended old new was (step_summed sums old new s was) (step_budget old new s) within (step_total pair_cost s)
+
+    pub run_keeps_total : (new old : State K V S H) → Run (Step rules offers names hash_of) new old
+        → IsSummed cost account old → account old.limiter ≤ budget old.limiter
+        → account new.limiter ≤ budget old.limiter
+    run_keeps_total new old ends was within = within
+    run_keeps_total new old (goes_on mid s sized r) was within =
+        subst (λ n. account new.limiter ≤ n) (step_budget old mid s)
+        (run_keeps_total new mid r (step_summed sums old mid s was) (step_keeps_total old mid s was within))
 
 -- a get that inserts is a step
 pub made-step : {K V S H : Type 0} {rules : Rules K V S} {offers : Offers K V S K} {names : K → K → Bool}
