@@ -47,7 +47,8 @@ module _ {K V : Type 0} (weight : K → V → ℕ) where
 
   abbrev pub weighs : Offers K V Budget K
   weighs = record {
-    on_insert = λ b n k v t given. ReturnsPairIf (can_add b.limit b.cost (weight k v)) (charged b (weight k v)) k v t given;
+    on_insert = λ b n k v t given.
+        ReturnsPairIf (can_add b.limit b.cost (weight k v)) (charged b (weight k v)) k v t given;
     may_run_out = λ b n k v. ⊥;
     on_replace = λ b n k i v w. exchanged b k v w (weight k v) (weight k w);
   }

@@ -1,8 +1,8 @@
 -- Words for limiters that store a pair as it came.
 --     plain over grants                    the rules of a limiter that never changes
 --     rules_at of to rules                 the rules of a limiter that contains another: of and to read and make it
---     offers_if admits                    its offers: an element is stored if admits says so, a new value always
---     ReturnsPairIf accepts s k v t given      the limiter stays s, which is t, and the pair is given exactly if accepted
+--     offers_if admits                     its offers: an element is stored if admits says so, a new value always
+--     ReturnsPairIf accepts s k v t given  the limiter stays s, which is t, and the pair is given exactly if accepted
 --     unmoved s k v                        a pair that left, and the limiter is now s
 --     answers s b                          the answer b on growth, and the limiter is now s
 --     replaces s k v w                     the new value is taken, and the limiter is now s

@@ -31,4 +31,5 @@ module _ {K V S H I E : Type 0} (rules : Rules K V S) (offers : Offers K V S I) 
       (result : Result Bool (GetOrInsertError E)) (new : State K V S H) : Type 0 where
     pub step : MakesNewestIfMade makes i old result new
     pub says : SaysNewest (names i) result new
-    pub out_of_memory : IsErrOf result Memory → IsOutOfMemoryFor rules offers names hash_of (λ v. makes (Ok v)) i old new
+    pub out_of_memory : IsErrOf result Memory
+        → IsOutOfMemoryFor rules offers names hash_of (λ v. makes (Ok v)) i old new

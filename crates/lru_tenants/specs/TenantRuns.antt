@@ -87,7 +87,8 @@ module _ {K V L S : Type 0} where
   Costs account (Some map) answer new = (answer ≡ Ok (account map.limiter)) × (new ≡ Some map)
 
   -- its limiter gets a budget, if the total limit lets it, and what is over it is passed on
-  abbrev pub BudgetPasses : Rules K V L → (L → L) → Bool → State K V L S → List (K × V) → Option (State K V L S) → Type 0
+  abbrev pub BudgetPasses : Rules K V L → (L → L) → Bool → State K V L S → List (K × V)
+      → Option (State K V L S) → Type 0
   BudgetPasses rules rebudgeted true old passed new = (passed ≡ []) × (new ≡ Some old)
   BudgetPasses rules rebudgeted false old passed new = (left : State K V L S)
       × TrimPasses rules (with_limiter (rebudgeted old.limiter) old) passed left × (new ≡ Some left)

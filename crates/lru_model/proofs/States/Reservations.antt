@@ -13,7 +13,8 @@ some_there [] some = absurd (some refl)
 some_there (x ∷ xs) some = omega arith
 
 -- the limiter was asked for a larger table
-module _ {K V S H : Type 0} (rules : Rules K V S) (n : ℕ) (old new : State K V S H) (needs_growth : NeedsGrowthFor n old)
+module _ {K V S H : Type 0} (rules : Rules K V S) (n : ℕ) (old new : State K V S H)
+    (needs_growth : NeedsGrowthFor n old)
     (count bytes : ℕ) (is : table_for n old ≡ new_table count bytes)
     (s : S) (queried : s ≡ (rules.on_grow old.limiter bytes).limiter) where
   pub is_reserved : (rules.on_grow old.limiter bytes).allowed ≡ true → MovesTo count (record old { limiter = s }) new

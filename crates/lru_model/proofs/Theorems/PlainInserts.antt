@@ -169,7 +169,7 @@ module _ {K V S H I : Type 0} {rules : Rules K V S} {offers : Offers K V S I} {n
       replaced pair there taken r (plain_leaves old new _ _ (plain_trim rules _) leaves)
   plain_insert_of old new (not_replaced pair there untaken r leaves) =
       not_replaced pair there untaken r (plain_leaves old new _ _ refl leaves)
-  plain_insert_of old new (no_memory_to_admit absent out_of_memory r e) = no_memory_to_admit absent out_of_memory r (ap plain e)
+  plain_insert_of old new (no_memory_to_admit absent runs_out r e) = no_memory_to_admit absent runs_out r (ap plain e)
   plain_insert_of old new (not_admitted absent s given r e) = not_admitted absent s.0 given.0 r (ap plain e)
   plain_insert_of old new (admitted absent s pair given places) =
       admitted absent s.0 pair given.0 (plain_places rules hash_of pair _ result new places)

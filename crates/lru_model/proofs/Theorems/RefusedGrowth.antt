@@ -63,7 +63,8 @@ module _ {K V S H : Type 0} (rules : Rules K V S) (hash_of : H → K → ℕ) (p
       ∙ ap (λ st. length st.pairs - n) (known_is rules old mid c)
 
   -- growth is refused, n of the oldest are evicted, and the pair is stored with the others
-  eviction_keeps_half : HasPairsButNoGrowth old → full_capacity (buckets old) / 2 < length old.pairs + 1 → (mid : State K V S H)
+  eviction_keeps_half : HasPairsButNoGrowth old → full_capacity (buckets old) / 2 < length old.pairs + 1
+      → (mid : State K V S H)
       → CannotGrow rules old mid → (n : ℕ) → (buckets old ≤ 16 → n ≡ 1)
       → (left : State K V S H) → OldestEvicted rules (hash_of old.hasher pair.0) n mid left → (new : State K V S H)
       → (length left.pairs ≡ length old.pairs - n → full_capacity (buckets old) / 2 ≤ suc (length left.pairs))

@@ -64,7 +64,8 @@ module _ {K V S H : Type 0} (rules : Rules K V S) (n : ℕ) (runs_out : Bool) wh
   reserve_to no_table sh = (Err TooLarge, sh)
   reserve_to same_table sh = cond runs_out (Err Memory, sh) (Ok tt, moved_to sh.count sh)
   reserve_to (new_table count bytes) sh = let g = rules.on_grow sh.bare.limiter bytes in
-      cond g.allowed (cond runs_out (Err Memory, relimited g.limiter sh) (Ok tt, moved_to count (relimited g.limiter sh)))
+      cond g.allowed
+      (cond runs_out (Err Memory, relimited g.limiter sh) (Ok tt, moved_to count (relimited g.limiter sh)))
       (Err Refused, relimited g.limiter sh)
 
   -- what a reservation returns and makes of a shape, if memory runs out or not

@@ -291,7 +291,8 @@ module _ {K V S H I : Type 0} (rules : Rules K V S) (offers : Offers K V S I) (n
     Ends runs_out sh ended = EndsBy runs_out sh (lookup_entry (names i) sh.bare.pairs) ended
 
     ends_alike : IsDetermined offers → (runs_out : Bool) (sh : Shape K V S H) (o : Option (K × V))
-        (ended other : Option Bool × Shape K V S H) → EndsBy runs_out sh o ended → EndsBy runs_out sh o other → ended ≡ other
+        (ended other : Option Bool × Shape K V S H) → EndsBy runs_out sh o ended → EndsBy runs_out sh o other
+        → ended ≡ other
     ends_alike determined runs_out sh (Some pair) ended other h k = sym h ∙ k
     ends_alike determined runs_out sh None ended other h k =
         let d = determined sh.bare.limiter (length sh.bare.pairs) i v h.0 k.0 h.1 k.1 h.2 k.2 in

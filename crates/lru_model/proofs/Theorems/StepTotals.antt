@@ -21,8 +21,8 @@ module _ {K V S H I : Type 0} (f : K × V → ℕ) {rules : Rules K V S} {offers
     {hash_of : H → K → ℕ} {old new : State K V S H} where
   -- a call that is no insert and no update leaves no greater total
   module _ {R : Type 0}
-      (inserted_so : (k : I) (v : V) (result : Result Bool AllocError) → Insert rules offers names hash_of k v old result
-      new → R)
+      (inserted_so : (k : I) (v : V) (result : Result Bool AllocError)
+      → Insert rules offers names hash_of k v old result new → R)
       (updated_so : (k : I) (v : V) (result : Updated V) → Update rules offers names k v old result new → R)
       (less : total f new.pairs ≤ total f old.pairs → R) where
     pub step_ends : Step rules offers names hash_of old new → R

@@ -139,8 +139,8 @@ impl<
             budgets L.budget_of self.new ≡ budgets_with L.budget_of (N.eq name.now) budget self.old }
         ensures unchanged { OnErr result (self.new ≡ self.old) }
         ensures passed { (passed : List (K × V)) × CalledWith F.FnMut sink.old passed sink.new × On N.eq name.now
-            (PassesOn (BudgetPasses L.rules (L.rebudgeted budget) (is_over L.budget_of (N.eq name.now) budget self.old)))
-            self.old passed self.new }
+            (PassesOn (BudgetPasses L.rules (L.rebudgeted budget)
+            (is_over L.budget_of (N.eq name.now) budget self.old))) self.old passed self.new }
         ensures callable { F.IsAlwaysCallable sink.new }
         ensures tenants { AreTenants K.eq L.cost_of L.account L.budget_of self.new }
     {

@@ -201,8 +201,9 @@ impl<K: Eq + Hash + Drop, V: Drop, L: Limiter<K, V>, S: KeyHasher<K>> LruMap<K, 
         ensures step { MakesNewestIfMade L.rules L.offers I.names S.hash_of
             (F.post make) key self.old result self.new }
         ensures says { SaysNewest (I.names key) result self.new }
-        ensures out_of_memory { IsErrOf result GetOrInsertError.Memory → IsOutOfMemoryFor L.rules L.offers I.names S.hash_of
-            (λ value. F.post make (Ok value)) key self.old self.new }
+        ensures out_of_memory { IsErrOf result GetOrInsertError.Memory →
+            IsOutOfMemoryFor L.rules L.offers I.names S.hash_of (λ value. F.post make (Ok value)) key self.old
+            self.new }
         ensures map { IsMap K.eq self.new }
     {
         // Nothing at run time: it opens the map, whose invariant is the clause `map`.

@@ -6,6 +6,7 @@ use Rattle.lru_model.proofs.laws.runs.runs_keep_the_cost.Goals as goal
 
 pub returns : goal.returns
 returns g c = record {
-  cost = λ old new run was within. run_keeps_total (weighs-budgeted (λ _ v. g.V.Costed.cost v)) (weighs-sums (λ _ v. g.V.Costed.cost v)) _ _ new old run was within;
+  cost = λ old new run was within. run_keeps_total (weighs-budgeted (λ _ v. g.V.Costed.cost v))
+      (weighs-sums (λ _ v. g.V.Costed.cost v)) _ _ new old run was within;
   limit = λ old new run. run_keeps (keeps_budget (weighs-budgeted (λ _ v. g.V.Costed.cost v))) new old run;
 }

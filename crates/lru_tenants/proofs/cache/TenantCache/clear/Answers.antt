@@ -23,7 +23,7 @@ returns-clause-total g c = let u = c.clear.new.map in
 
 pub returns-clause-clears : goal.returns-clause-clears
 returns-clause-clears g c = let u = c.clear.new.map in
-    rw (← c.self.view_is) (on-written g.N.PartialEq.eq c.args.name.now c.self.inside.tenants (c.get_mut.follows.lender u) c.in-Some.own.now u
-    (sym c.in-Some.ensures.value) (c.get_mut.follows.holds u)
+    rw (← c.self.view_is) (on-written g.N.PartialEq.eq c.args.name.now c.self.inside.tenants
+    (c.get_mut.follows.lender u) c.in-Some.own.now u (sym c.in-Some.ensures.value) (c.get_mut.follows.holds u)
     (IfOpen (λ old done new. new ≡ cleared g.L.Limiter.rules old)) _
     (tt, u, c.clear.ensures.clears, refl, refl))

@@ -34,8 +34,9 @@ returns-in_default-get_or_insert g c = let u = c.get_or_insert.new.map in
       (
         refl,
         λ _. tt,
-        on-written g.N.PartialEq.eq c.args.name.now c.self.inside.tenants (c.get_mut.follows.lender u) c.in-Some.own.now u (sym c.in-Some.ensures.value)
-            (c.get_mut.follows.holds u) (GetsOrPuts g.L.Limiter.rules g.L.Insertion.offers g.L.Budgeted.budget_of
+        on-written g.N.PartialEq.eq c.args.name.now c.self.inside.tenants (c.get_mut.follows.lender u)
+            c.in-Some.own.now u (sym c.in-Some.ensures.value) (c.get_mut.follows.holds u)
+            (GetsOrPuts g.L.Limiter.rules g.L.Insertion.offers g.L.Budgeted.budget_of
             g.K.PartialEq.eq g.S.KeyHasher.hash_of (g.F.FnOnce.post c.args.make tt) c.args.key) (Err Memory) (
               u,
               record {
@@ -63,8 +64,9 @@ returns-then-not-there g c = let u = c.get_or_insert.new.map in
       (
         refl,
         λ _. tt,
-        on-written g.N.PartialEq.eq c.args.name.now c.self.inside.tenants (c.get_mut.follows.lender u) c.in-Some.own.now u (sym c.in-Some.ensures.value)
-            (c.get_mut.follows.holds u) (GetsOrPuts g.L.Limiter.rules g.L.Insertion.offers g.L.Budgeted.budget_of
+        on-written g.N.PartialEq.eq c.args.name.now c.self.inside.tenants (c.get_mut.follows.lender u)
+            c.in-Some.own.now u (sym c.in-Some.ensures.value) (c.get_mut.follows.holds u)
+            (GetsOrPuts g.L.Limiter.rules g.L.Insertion.offers g.L.Budgeted.budget_of
             g.K.PartialEq.eq g.S.KeyHasher.hash_of (g.F.FnOnce.post c.args.make tt) c.args.key) (Ok None) (
               u,
               record {
@@ -93,8 +95,9 @@ returns g c = let u = c.get_or_insert.new.map in
       (
         refl,
         λ _. tt,
-        on-written g.N.PartialEq.eq c.args.name.now c.self.inside.tenants (c.get_mut.follows.lender u) c.in-Some.own.now u (sym c.in-Some.ensures.value)
-            (c.get_mut.follows.holds u) (GetsOrPuts g.L.Limiter.rules g.L.Insertion.offers g.L.Budgeted.budget_of
+        on-written g.N.PartialEq.eq c.args.name.now c.self.inside.tenants (c.get_mut.follows.lender u)
+            c.in-Some.own.now u (sym c.in-Some.ensures.value) (c.get_mut.follows.holds u)
+            (GetsOrPuts g.L.Limiter.rules g.L.Insertion.offers g.L.Budgeted.budget_of
             g.K.PartialEq.eq g.S.KeyHasher.hash_of (g.F.FnOnce.post c.args.make tt) c.args.key)
             (read (Ok c.newest.result)) (
               u,

@@ -22,7 +22,7 @@ returns-clause-total g c = let u = c.remove.new.map in
 
 pub returns-clause-removes : goal.returns-clause-removes
 returns-clause-removes g c = let u = c.remove.new.map in
-    rw (← c.self.view_is) (on-written g.N.PartialEq.eq c.args.name.now c.self.inside.tenants (c.get_mut.follows.lender u) c.in-Some.own.now u
-    (sym c.in-Some.ensures.value) (c.get_mut.follows.holds u)
+    rw (← c.self.view_is) (on-written g.N.PartialEq.eq c.args.name.now c.self.inside.tenants
+    (c.get_mut.follows.lender u) c.in-Some.own.now u (sym c.in-Some.ensures.value) (c.get_mut.follows.holds u)
     (IfOpen (Remove g.L.Limiter.rules (g.Q.LookupKey.names c.args.key.now))) _
     (c.remove.result, u, c.remove.ensures.removes, refl, refl))

@@ -8,10 +8,16 @@ returns g c =
       (
         refl,
         λ w ok.
-            let (made, (says, same), value, is, map) = lent.holds w ok in
-            (made, rw (says, same) (record { step = e.step; says = e.says; out_of_memory = e.out_of_memory }), value, is, map),
+            let (made, (says, same), value, is, map) = lent.holds w ok in (
+              made,
+              rw (says, same) (record { step = e.step; says = e.says; out_of_memory = e.out_of_memory }),
+              value,
+              is,
+              map,
+            ),
         on_err_then c.lend_if_kept.result
-            (λ ((says, same), map). (rw (says, same) (record { step = e.step; says = e.says; out_of_memory = e.out_of_memory }), map))
+            (λ ((says, same), map).
+            (rw (says, same) (record { step = e.step; says = e.says; out_of_memory = e.out_of_memory }), map))
             lent.holds-at-none,
       ),
       record { writes_back = tt },
