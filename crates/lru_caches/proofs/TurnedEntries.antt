@@ -11,6 +11,7 @@ use Rattle.std.specs.Prelude.{is_some, if◌then◌else◌, option_to_list}
 use Rattle.std.specs.Map.{lookup, lookup_entry, set_value, keys_of}
 use Rattle.lru_caches.specs.Ordered.{put}
 use Rattle.lru_model.specs.Lists.{without, after, front, back, first, without_first, last, without_last}
+use Rattle.lru_model.proofs.PairLists.NamedPairs.{last_end, without_last_end}
 
 module _ {X : Type 0} where
   -- the first comes last, and the last first
@@ -18,23 +19,13 @@ module _ {X : Type 0} where
   reverse-cons x xs = reverse-append (x ∷ []) xs
 
   -- so it is at the ends
-  last-push : (xs : List X) (x : X) → last (xs ++ x ∷ []) ≡ Some x
-  last-push [] x = refl
-  last-push (y ∷ []) x = refl
-  last-push (y ∷ z ∷ zs) x = last-push (z ∷ zs) x
-
-  without_last-push : (xs : List X) (x : X) → without_last (xs ++ x ∷ []) ≡ xs
-  without_last-push [] x = refl
-  without_last-push (y ∷ []) x = refl
-  without_last-push (y ∷ z ∷ zs) x = ap (λ l. y ∷ l) (without_last-push (z ∷ zs) x)
-
   pub last-reverse : (xs : List X) → last (reverse xs) ≡ first xs
   last-reverse [] = refl
-  last-reverse (x ∷ xs) = ap last (reverse-cons x xs) ∙ last-push (reverse xs) x
+  last-reverse (x ∷ xs) = ap last (reverse-cons x xs) ∙ last_end (reverse xs) x
 
   pub without_last-reverse : (xs : List X) → without_last (reverse xs) ≡ reverse (without_first xs)
   without_last-reverse [] = refl
-  without_last-reverse (x ∷ xs) = ap without_last (reverse-cons x xs) ∙ without_last-push (reverse xs) x
+  without_last-reverse (x ∷ xs) = ap without_last (reverse-cons x xs) ∙ without_last_end (reverse xs) x
 
   pub first-reverse : (xs : List X) → first (reverse xs) ≡ last xs
   first-reverse xs = sym (last-reverse (reverse xs)) ∙ ap last (reverse-reverse xs)

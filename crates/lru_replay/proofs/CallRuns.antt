@@ -2,6 +2,7 @@
 use Rattle.std.proofs.Common.{◌≡◌, List, [], ◌∷◌, ◌++◌, length, refl, sym, ap, ◌∙◌, subst, arith}
 use Rattle.std.proofs.Common.{append_assoc}
 use Rattle.std.proofs.lemmas.List.{append-nil}
+use Rattle.std.proofs.lemmas.List.{nil_from_length}
 use Rattle.lru_replay.specs.declared.calls.call.Answer.{Answer}
 use Rattle.lru_replay.specs.declared.calls.call.Call.{Call}
 use Rattle.lru_replay.specs.CallRuns.{IsRun}
@@ -55,10 +56,6 @@ pub all_said-push : {K V : Type 0} (answers : List (Answer K V)) (answer : Answe
 all_said-push [] answer = refl
 all_said-push (a ∷ answers) answer = ap (λ l. said a ∷ l) (all_said-push answers answer)
 
-pub empty : {X : Type 0} (xs : List X) → length xs ≡ 0 → xs ≡ []
-empty [] e = refl
-empty (x ∷ xs) e = absurd (omega (arith, e))
-
 -- Calls that a loop carries out one after another: those that were carried out, the next one, and those that are left.
 pub next_items : {K V S : Type 0} (done : List (Call K V S)) {all left later : List (Call K V S)} {call : Call K V S}
     → left ≡ call ∷ later → done ++ left ≡ all → (done ++ call ∷ []) ++ later ≡ all
@@ -81,5 +78,5 @@ module _ {K V S A : Type 0} (IsStep : A → Call K V S → Reply K V → A → T
   pub whole_run : (all left : List (Call K V S)) (replies : List (Reply K V)) (new : A) → length left ≡ 0
       → done ++ left ≡ all → IsRun IsStep Holds old done replies new → IsRun IsStep Holds old all replies new
   whole_run all left replies new none items run =
-      let is = sym (append-nil done) ∙ ap (λ l. done ++ l) (sym (empty left none)) ∙ items in
+      let is = sym (append-nil done) ∙ ap (λ l. done ++ l) (sym (nil_from_length left none)) ∙ items in
       subst (λ calls. IsRun IsStep Holds old calls replies new) is run

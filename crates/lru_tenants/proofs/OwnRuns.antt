@@ -90,7 +90,3 @@ pub fresh-same : {N K V L S : Type 0} (made : ℕ → L) (max : ℕ) (old new : 
     new.entry_bytes ≡ old.entry_bytes
     → fresh made max new ≡ fresh made max old
 fresh-same made max old new hasher bytes = λ i budget. empty_map (made budget) (hasher i) (bytes i) max
-
-pub empty : {X : Type 0} (xs : List X) → length xs ≡ 0 → xs ≡ []
-empty [] e = refl
-empty (x ∷ xs) e = absurd (omega (arith, e))

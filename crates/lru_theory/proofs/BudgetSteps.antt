@@ -2,6 +2,7 @@
 use Rattle.std.proofs.Common.{◌≡◌, ℕ, ◌+◌, ◌-◌, ◌^◌, ◌≤◌, ◌<◌, Bool, true, false, cond, List, [], ◌∷◌, ◌++◌, map}
 use Rattle.std.proofs.Common.{reverse, Option, Some, None, Result, Ok, Err, refl, sym, ap, ◌∙◌, subst, arith}
 use Rattle.std.proofs.Common.{inl, inr}
+use Rattle.std.proofs.lemmas.Option.{same_Some}
 use Rattle.std.specs.Prelude.{MatchOption}
 use Rattle.std.specs.List.{AllByRecursion}
 use Rattle.std.specs.Set.{remove_key}
@@ -28,7 +29,7 @@ use Rattle.lru_theory.proofs.BudgetLists.{key_cost, pair_of, spending, holding, 
 use Rattle.lru_theory.proofs.BudgetLists.{without_is}
 use Rattle.lru_theory.proofs.BudgetLists.{none_removed, spent_without, fewer}
 use Rattle.lru_theory.proofs.ReferenceRuns.{reversed, head_of, tail_of}
-use Rattle.lru_theory.proofs.ReferenceSteps.{clash, some_same, nothing, ran_out, value_there}
+use Rattle.lru_theory.proofs.ReferenceSteps.{clash, nothing, ran_out, value_there}
 
 -- an offer that is accepted
 accepted : {K V S : Type 0} (accepts : Bool) (s more : S) (key : K) (v : V) (t : S) (given : Option (K × V))
@@ -176,14 +177,14 @@ module _ {K V : Type 0} (cost : V → ℕ) (value_of : K → V) (n : ℕ) (fits 
     call_holds (calls.Insert at v) key keys reply new (inl (Ok flag, h, is)) e found cheap few =
         insert_holds key keys flag new cheap few
         (subst (λ p. InsertsInList (by_cost cost) (charges cost) eq p.0 p.1 (held keys) (Ok flag) new)
-        (some_same (at, v) (pair key) e) h)
+        (same_Some (at, v) (pair key) e) h)
     call_holds (calls.Insert at v) key keys reply new (inl (Err x, h, is)) e found cheap few =
         absurd (ran_out (sym (ap want_of is) ∙ found))
     call_holds (calls.Insert at v) key keys reply new (inr (none, is, same)) e found cheap few = absurd none
     call_holds (calls.GetOrInsert at v) key keys reply new (inr (none, is, same)) e found cheap few = absurd none
     call_holds (calls.GetOrInsert at v) key keys reply new (inl h) e found cheap few =
         got (subst (λ p. ListCallStep (by_cost cost) (charges cost) eq hash_of (held keys) (calls.GetOrInsert p.0 p.1)
-        reply new) (some_same (at, v) (pair key) e) (inl h))
+        reply new) (same_Some (at, v) (pair key) e) (inl h))
       where
         made : (o : Option V) → lookup (eq key) (map pair keys) ≡ o
             → MatchOption o

@@ -1,6 +1,7 @@
 -- What one reference makes of a map with a maximum length. The only lemmas of this crate that know the calls of a run.
 use Rattle.std.proofs.Common.{◌≡◌, ℕ, zero, suc, ◌^◌, ◌<◌, Bool, true, false, cond, List, [], ◌∷◌, take}
 use Rattle.std.proofs.Common.{Option, Some, None, Result, Ok, Err, refl, sym, ap, ◌∙◌, subst, arith, inl, inr}
+use Rattle.std.proofs.lemmas.Option.{same_Some}
 use Rattle.std.specs.Prelude.{option_map, unwrap_or, IsErr, ◌||◌}
 use Rattle.std.specs.declared.alloc.AllocError.{AllocError}
 use Rattle.std.specs.List.{list_any}
@@ -157,9 +158,6 @@ module _ {K V H : Type 0} (hash_of : H → K → ℕ) where
     insert_counts fits result ok (admitted none s pair gives (ready, way, (no_memory, landed, place, settles))) =
         clash (subst IsErr ok settles.0)
 
-pub some_same : {A : Type 0} (x y : A) → Some x ≡ Some y → x ≡ y
-some_same x y e = ap (λ o. unwrap_or o x) e
-
 pub nothing : {A : Type 0} {x : A} → None ≡ Some x → ⊥
 nothing e = cc
 
@@ -226,18 +224,18 @@ module _ {K V H : Type 0} {eq : K → K → Bool} {hash_of : H → K → ℕ} (e
       → CallStep length_rules length_offers eq hash_of old call reply new → referenced call ≡ Some key
       → want_of reply ≡ found_all → KeepsToLength old → IsSized new → Refers eq key old new
   call_refers (calls.Insert at v) key old reply new (inl (Ok flag, h, is)) e found keeps sized =
-      subst (λ k. Refers eq k old new) (some_same at key e)
+      subst (λ k. Refers eq k old new) (same_Some at key e)
       (insert_refers at v old flag new keeps sized (inserts at v (Ok flag) h) h)
   call_refers (calls.Insert at v) key old reply new (inl (Err x, h, is)) e found keeps sized =
       absurd (ran_out (sym (ap want_of is) ∙ found))
   call_refers (calls.Insert at v) key old reply new (inr (none, is, same)) e found keeps sized = absurd none
   call_refers (calls.GetOrInsert at v) key old reply new (inl (result, got w there r same, is)) e found keeps sized =
-      subst (λ k. Refers eq k old new) (some_same at key e)
+      subst (λ k. Refers eq k old new) (same_Some at key e)
       (got_refers at old new w keeps sized (makes_newest v at result (got w there r same)) there
       (ap (λ st. st.pairs) same) (ap (λ st. st.counts.placed) same))
   call_refers (calls.GetOrInsert at v) key old reply new (inl (Ok flag, inserted none w makes h, is)) e found keeps
       sized =
-      subst (λ k. Refers eq k old new) (some_same at key e)
+      subst (λ k. Refers eq k old new) (same_Some at key e)
       (insert_refers at w old flag new keeps sized (makes_newest v at (Ok flag) (inserted none w makes h)) h)
   call_refers (calls.GetOrInsert at v) key old reply new (inl (Err x, inserted none w makes h, is)) e found keeps
       sized =

@@ -1,5 +1,5 @@
 -- What one reference changes of a curve.
-use Rattle.std.proofs.Common.{◌≡◌, ℕ, zero, suc, ◌+◌, ◌≤◌, ◌<◌, Bool, true, false, cond, List, [], ◌∷◌, ◌++◌, length}
+use Rattle.std.proofs.Common.{◌≡◌, ℕ, zero, suc, ◌+◌, ◌≤◌, ◌<◌, Bool, true, false, cond, List, [], ◌∷◌, length}
 use Rattle.std.proofs.Common.{take}
 use Rattle.std.proofs.Common.{set, sum, get_or, Some, None, refl, sym, ap, ◌∙◌, arith}
 use Rattle.std.specs.Prelude.{nat_eq, nat_le, String}
@@ -15,7 +15,8 @@ use Rattle.recency.proofs.Lists.{is_in_recency, since_recency}
 use Rattle.lru_trace.specs.Counted.{Counted, IsOf, number_in}
 use Rattle.lru_trace.specs.Slots.{position}
 use Rattle.lru_trace.proofs.Logs.{without_none}
-use Rattle.lru_trace.proofs.Numbered.{named_on, counted, position_within, some_same}
+use Rattle.std.proofs.lemmas.Option.{same_Some}
+use Rattle.lru_trace.proofs.Numbered.{named_on, counted, position_within}
 
 -- a key is at a place of a list exactly if it is in the list
 pub position_some : (key d : ℕ) (xs : List ℕ) → position key xs ≡ Some d
@@ -24,7 +25,7 @@ position_some key d xs e = go (is_in nat_eq key xs) refl e
   where
     go : (b : Bool) → is_in nat_eq key xs ≡ b → cond b (Some (length (since nat_eq key xs))) None ≡ Some d
         → (is_in nat_eq key xs ≡ true) × (length (since nat_eq key xs) ≡ d)
-    go true is e = (is, some_same (length (since nat_eq key xs)) d e)
+    go true is e = (is, same_Some (length (since nat_eq key xs)) d e)
     go false is e = absurd cc
 
 pub position_none : (key : ℕ) (xs : List ℕ) → position key xs ≡ None → is_in nat_eq key xs ≡ false

@@ -2,7 +2,7 @@
 use Rattle.std.proofs.Common.{◌≡◌, ℕ, suc, ◌+◌, ◌≤◌, ◌<◌, Bool, true, false, cond, List, [], ◌∷◌, ◌++◌}
 use Rattle.std.proofs.Common.{length, get_or, set, take, drop, sum, Option, Some, None, refl, sym, ap, ◌∙◌, arith}
 use Rattle.std.proofs.Common.{inl, inr}
-use Rattle.std.specs.Prelude.{is_some, unwrap_or, nat_eq, ◌||◌, Vec}
+use Rattle.std.specs.Prelude.{is_some, nat_eq, ◌||◌, Vec}
 use Rattle.std.specs.Option.{option_to_list}
 use Rattle.std.specs.Set.{remove_key}
 use Rattle.std.proofs.lemmas.Bool.{cases_lt, cases_eq, cases_order, eq-eqb, eqb-true, or_parts}
@@ -12,11 +12,9 @@ use Rattle.std.proofs.lemmas.List.{take_more, length-take, get_or-take, length_p
 use Rattle.std.proofs.lemmas.List.{get_or-set_other, get_or_push, get_or_append_left, length-set}
 use Rattle.std.proofs.lemmas.List.Folds.{list_any-append}
 use Rattle.std.proofs.lemmas.List.Sums.{sum_by-cons}
+use Rattle.std.proofs.lemmas.Option.{same_Some}
 use Rattle.recency.specs.Recency.{is_in, since}
 use Rattle.lru_trace.specs.Slots.{position, newest, IsLog}
-
-some_same : {A : Type 0} (d x y : A) → Some x ≡ Some y → x ≡ y
-some_same d x y e = ap (λ o. unwrap_or o d) e
 
 clash : {b : Bool} {A : Type 0} → b ≡ false → b ≡ true → A
 clash e h = absurd cc
@@ -183,7 +181,7 @@ module _ {Z : Type 0} {levels : ℕ} {log : Vec (Option ℕ) Z} {slots : List (O
     not_behind : is_in nat_eq key behind ≡ false
     not_behind = newest_absent key (drop (slot + 1) log.items) (λ i e.
         let there = is.back key (slot + 1 + i) (sym (get_or-drop (slot + 1) log.items i None) ∙ e) in
-        let same = some_same 0 slot (slot + 1 + i) (sym at_slot ∙ there) in
+        let same = same_Some slot (slot + 1 + i) (sym at_slot ∙ there) in
         absurd (omega (arith, same)))
 
     whole : newest log.items ≡ behind ++ key ∷ newest (take slot log.items)
@@ -208,7 +206,7 @@ module _ {Z : Type 0} {levels : ℕ} {log : Vec (Option ℕ) Z} {slots : List (O
       | inr other ↦
           let there = is.found k s (sym (get_or-set_other slots key k None None other) ∙ e) in
           get_or-set_other log.items slot s None None (λ same.
-          other (some_same 0 k key (sym there ∙ ap (λ j. get_or log.items j None) same ∙ is.found key slot at_slot)))
+          other (same_Some k key (sym there ∙ ap (λ j. get_or log.items j None) same ∙ is.found key slot at_slot)))
           ∙ there
     ]
 
@@ -219,7 +217,7 @@ module _ {Z : Type 0} {levels : ℕ} {log : Vec (Option ℕ) Z} {slots : List (O
       | inr other ↦
           let there = is.back k s (sym (get_or-set_other log.items slot s None None other) ∙ e) in
           get_or-set_other slots key k None None (λ same.
-          other (some_same 0 s slot (sym there ∙ ap (λ j. get_or slots j None) same ∙ at_slot)))
+          other (same_Some s slot (sym there ∙ ap (λ j. get_or slots j None) same ∙ at_slot)))
           ∙ there
     ]
 
@@ -264,7 +262,7 @@ module _ {Z : Type 0} {levels : ℕ} {log : Vec (Option ℕ) Z} {slots : List (O
         None ≡ Some k
     added_found k s e = elim (cases_eq k key) [
       | inl same ↦
-          let here = some_same 0 (length log.items) s
+          let here = same_Some (length log.items) s
           (sym (get_or-set_at slots key k (Some (length log.items)) None same within) ∙ e) in
           at_end s (sym here) ∙ ap Some (sym same)
       | inr other ↦
@@ -276,7 +274,7 @@ module _ {Z : Type 0} {levels : ℕ} {log : Vec (Option ℕ) Z} {slots : List (O
         ≡ Some s
     added_back k s e = elim (cases_order s (length log.items)) [
       | inl here ↦
-          let same = some_same 0 k key (sym e ∙ at_end s here) in
+          let same = same_Some k key (sym e ∙ at_end s here) in
           get_or-set_at slots key k (Some (length log.items)) None same within ∙ ap Some (sym here)
       | inr (inl before) ↦
           let there = is.back k s (sym (get_or_append_left log.items (Some key ∷ []) None s before) ∙ e) in
@@ -307,7 +305,7 @@ module _ {Z : Type 0} {levels : ℕ} {log : Vec (Option ℕ) Z} {slots : List (O
       → is_in nat_eq key (newest (take slot log.items)) ≡ false
   absent_before key slot there = newest_absent key (take slot log.items) (λ i e.
       let low = taken_within slot log.items i key e in
-      let same = some_same 0 i slot (sym (is.back key i (sym (get_or-take slot log.items i None low) ∙ e)) ∙ is.back
+      let same = same_Some i slot (sym (is.back key i (sym (get_or-take slot log.items i None low) ∙ e)) ∙ is.back
       key slot there) in
       absurd (omega (arith, same, low)))
 

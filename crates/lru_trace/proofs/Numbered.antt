@@ -2,19 +2,17 @@
 use Rattle.std.proofs.Common.{◌≡◌, ℕ, zero, suc, ◌+◌, ◌≤◌, ◌<◌, Bool, true, false, cond, List, [], ◌∷◌, length, map}
 use Rattle.std.proofs.Common.{take, set, sum}
 use Rattle.std.proofs.Common.{get_or, Option, Some, None, refl, sym, ap, ◌∙◌, arith, inl, inr, ◌⊎◌}
-use Rattle.std.specs.Prelude.{unwrap_or, nat_eq, ◌||◌, nat_le, String}
+use Rattle.std.specs.Prelude.{nat_eq, ◌||◌, nat_le, String}
 use Rattle.std.specs.Set.{remove_key}
 use Rattle.std.specs.Str.{bytes_eq}
 use Rattle.std.specs.Map.{update}
 use Rattle.std.specs.Global.{Global}
 use Rattle.std.proofs.lemmas.Bool.{cases_lt, eq-eqb, eqb-true, le-leb, lt-leb}
 use Rattle.std.proofs.lemmas.List.Sums.{sum_by-cons}
+use Rattle.std.proofs.lemmas.Option.{same_Some}
 use Rattle.std.proofs.lemmas.Slice.Eq.{bytes_eq-Decides}
 use Rattle.recency.specs.Recency.{is_in, since, recency, distance, misses}
 use Rattle.lru_trace.specs.Counted.{AreNumbered, number_in}
-
-pub some_same : {A : Type 0} (x y : A) → Some x ≡ Some y → x ≡ y
-some_same x y e = ap (λ o. unwrap_or o x) e
 
 not_none : {A B : Type 0} (x : A) → None ≡ Some x → B
 not_none x e = absurd cc
@@ -62,7 +60,7 @@ module _ (number : List ℕ → Option ℕ)
           test : (t : Bool) → bytes_eq a b ≡ t → t ≡ false
           test false h = refl
           test true h =
-              let same : m ≡ n = some_same m n (sym d ∙ ap number ((bytes_eq-Decides a b).0 h) ∙ e) in
+              let same : m ≡ n = same_Some m n (sym d ∙ ap number ((bytes_eq-Decides a b).0 h) ∙ e) in
               sym (eq-eqb m n same) ∙ other
 
   is_in_named : (x : List ℕ) (n : ℕ) → number x ≡ Some n → (xs : List (List ℕ)) (ns : List ℕ) → Named number xs ns
@@ -166,7 +164,7 @@ module _ (old new : List (String Global × ℕ)) (key : List ℕ) (number : ℕ)
     where
       go : (b : Bool) → bytes_eq key x ≡ b → cond b (Some number) (number_in old x) ≡ Some n
           → ((key ≡ x) × (number ≡ n)) ⊎ (number_in old x ≡ Some n)
-      go true h e = inl ((bytes_eq-Decides key x).0 h, some_same number n e)
+      go true h e = inl ((bytes_eq-Decides key x).0 h, same_Some number n e)
       go false h e = inr e
 
   pub kept_more : number_in old key ≡ None → (x : List ℕ) (n : ℕ) → number_in old x ≡ Some n → number_in new x ≡ Some n

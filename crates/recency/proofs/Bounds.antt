@@ -11,10 +11,8 @@ use Rattle.std.specs.Prelude.{◌||◌}
 use Rattle.std.specs.Set.{remove_key}
 use Rattle.recency.specs.Recency.{IsExact, is_in, cached, faults}
 use Rattle.recency.specs.Policies.{Serves, finds, stores, replaces, Served, begins, goes_on}
+use Rattle.recency.proofs.Inclusions.{clash, without_missing}
 use Rattle.recency.proofs.Lists.{is_in_without}
-
-clash : {b : Bool} {A : Type 0} → b ≡ false → b ≡ true → A
-clash e h = absurd cc
 
 pub times_more : (c f : ℕ) → c * (f + 1) ≡ c * f + c
 times_more c f = grind arith
@@ -68,12 +66,6 @@ module _ {K : Type 0} (eq : K → K → Bool) where
   apart_taken zero xs h = tt
   apart_taken (suc n) [] h = tt
   apart_taken (suc n) (x ∷ xs) h = (missing_taken x n xs h.0, apart_taken n xs h.1)
-
-  without_missing : (key : K) (xs : List K) → is_in eq key xs ≡ false → remove_key (eq key) xs ≡ xs
-  without_missing key [] e = refl
-  without_missing key (x ∷ xs) e =
-      let parts = or_parts (eq key x) (is_in eq key xs) e in
-      rw parts.0 (ap (λ ys. x ∷ ys) (without_missing key xs parts.1))
 
   -- weights past the first k are 0
   potential_taken : (k : ℕ) (other xs : List K) → potential k other (take k xs) ≡ potential k other xs

@@ -54,7 +54,7 @@ module _ {X : Type 0} where
       go true ih = sub_less test xs ys h
       go false ih = skips y (remove_key test xs) (remove_key test ys) ih
 
-clash : {b : Bool} {A : Type 0} → b ≡ false → b ≡ true → A
+pub clash : {b : Bool} {A : Type 0} → b ≡ false → b ≡ true → A
 clash e h = absurd cc
 
 module _ {K : Type 0} (eq : K → K → Bool) where
@@ -72,7 +72,7 @@ module _ {K : Type 0} (eq : K → K → Bool) where
       go true ih = refl
       go false ih = ih
 
-  without_missing : (key : K) (xs : List K) → is_in eq key xs ≡ false → remove_key (eq key) xs ≡ xs
+  pub without_missing : (key : K) (xs : List K) → is_in eq key xs ≡ false → remove_key (eq key) xs ≡ xs
   without_missing key [] e = refl
   without_missing key (x ∷ xs) e =
       let parts = or_parts (eq key x) (is_in eq key xs) e in

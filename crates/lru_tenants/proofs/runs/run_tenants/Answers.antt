@@ -1,11 +1,12 @@
 use Rattle.std.proofs.Common.{cond, ◌≡◌, ◌++◌, ◌∷◌, [], arith, refl, sym, ap, ◌∙◌, subst, length, append_assoc}
+use Rattle.std.proofs.lemmas.List.{nil_from_length}
 use Rattle.std.specs.Vec.Iter.{into_iter_items}
 use Rattle.std.specs.Prelude.{IfSome}
 use Rattle.std.proofs.lemmas.List.{append-nil, length-append}
 use Rattle.std.proofs.lemmas.Map.Views.{IfSome-lookup_from_All}
 use Rattle.lru_tenants.specs.Cache.{tenant, fresh, IsTenant, On}
 use Rattle.lru_tenants.specs.TenantRuns.{named, TenantStep, KeptStep}
-use Rattle.lru_tenants.proofs.OwnRuns.{AreSteps, run-push, steps-push, own-run, fresh-same, empty}
+use Rattle.lru_tenants.proofs.OwnRuns.{AreSteps, run-push, steps-push, own-run, fresh-same}
 use Rattle.lru_tenants.proofs.runs.run_tenants.Goals as goal
 
 pub loop-call-init : goal.loop-call-init
@@ -79,7 +80,7 @@ returns-clause-own g c =
     let h = c.loop-call.invariant in
     let none : length (into_iter_items c.loop-call.call-iterator) ≡ 0 = sym h.left ∙ c.in-None.ensures.steps.0 in
     let all = sym (append-nil c.loop-call.yielded)
-    ∙ ap (λ l. c.loop-call.yielded ++ l) (sym (empty (into_iter_items c.loop-call.call-iterator) none)) ∙ h.items in
+    ∙ ap (λ l. c.loop-call.yielded ++ l) (sym (nil_from_length (into_iter_items c.loop-call.call-iterator) none)) ∙ h.items in
     let (dids, runs, steps) = h.run in
     let Does = KeptStep g.L.Limiter.rules g.L.Insertion.offers g.L.Summing.cost_of g.L.Summing.account
     g.L.Budgeted.budget_of g.K.PartialEq.eq g.S.KeyHasher.hash_of
