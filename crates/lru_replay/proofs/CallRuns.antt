@@ -1,8 +1,7 @@
 -- Runs of any steps, one after the other, and the answers of calls.
-use Rattle.std.proofs.Common.{◌≡◌, List, [], ◌∷◌, ◌++◌, length, refl, sym, ap, ◌∙◌, subst, arith}
+use Rattle.std.proofs.Common.{◌≡◌, List, [], ◌∷◌, ◌++◌, length, refl, sym, ap, ◌∙◌, subst}
 use Rattle.std.proofs.Common.{append_assoc}
-use Rattle.std.proofs.lemmas.List.{append-nil}
-use Rattle.std.proofs.lemmas.List.{nil_from_length}
+use Rattle.std.proofs.lemmas.List.{append-nil, nil_from_length}
 use Rattle.lru_replay.specs.declared.calls.call.Answer.{Answer}
 use Rattle.lru_replay.specs.declared.calls.call.Call.{Call}
 use Rattle.lru_replay.specs.CallRuns.{IsRun}

@@ -1,6 +1,6 @@
 -- A run of calls on a cache is a run of each tenant.
 use Rattle.std.proofs.Common.{◌≡◌, ℕ, Bool, true, false, cond, List, [], ◌∷◌, ◌++◌, Option, refl}
-use Rattle.std.proofs.Common.{length, arith, subst, ap, ◌∙◌, inl, inr}
+use Rattle.std.proofs.Common.{subst, ap, ◌∙◌, inl, inr}
 use Rattle.std.specs.Prelude.{⊤}
 use Rattle.lru_model.specs.State.{State, empty_map}
 use Rattle.std.specs.Cmp.{IsEquivalence}
