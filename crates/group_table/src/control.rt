@@ -1,7 +1,7 @@
 //! Control bytes: one for each bucket, and 16 more, which repeat the first buckets, so that a group is read in one
 //! piece.
 ghost use Rattle.std.specs.Prelude.{◌≡◌, ℕ, ◌+◌, ◌-◌, ◌%◌, ◌^◌, ◌<◌, ◌≤◌, [], length, max, replicate, slice_index};
-ghost use Rattle.std.specs.Prelude.{slice_set, if◌then◌else◌, nat_eq, ◌⊎◌, IfOk};
+ghost use Rattle.std.specs.Prelude.{slice_set, if◌then◌else◌, nat_eq, nat_lt, ◌⊎◌, IfOk};
 ghost use Rattle.group_table.specs.Sizes.{IsPowerFromFour};
 ghost use Rattle.group_table.specs.Probe.{hash_tag};
 ghost use Rattle.group_table.specs.Bytes.{empty_byte, deleted_byte, IsTag, IsFreeByte};
@@ -85,6 +85,15 @@ impl Control {
         ensures { result ≡ buckets_of self.now }
     {
         if self.is_empty() { 0 } else { self.last + 1 }
+    }
+
+    // Returns whether there is a bucket of this number.
+    #[inline]
+    pub(crate) fn has_bucket(&self, b: usize) -> bool
+        requires { 0 < buckets_of self.now }
+        ensures { result ≡ nat_lt b (buckets_of self.now) }
+    {
+        b <= self.last
     }
 
     // Returns the bucket at a position on the circle.

@@ -1,6 +1,6 @@
 //! Groups of sixteen control bytes, and masks of their lanes: bit i is lane i.
-ghost use Rattle.std.specs.Prelude.{◌≡◌, ◌≢◌, ◌≤◌, ◌<◌, ◌+◌, ◌-◌, ◌^◌, ◌↔◌, ℕ, nat_lt, length, slice_index};
-ghost use Rattle.std.specs.Int.Count.{count_leading_zeros, count_trailing_zeros};
+ghost use Rattle.std.specs.Prelude.{◌≡◌, ◌≢◌, ◌≤◌, ◌<◌, ◌+◌, ◌-◌, ◌^◌, ◌↔◌, ℕ, length, slice_index};
+ghost use Rattle.std.specs.Int.Count.{count_trailing_zeros};
 ghost use Rattle.group_table.specs.Bytes.{empty_byte, IsTag, IsFreeByte};
 ghost use Rattle.group_table.specs.Lanes.{IsMaskOf, IsMaskAt, HasLane, lowest};
 
@@ -134,17 +134,8 @@ pub(crate) fn without_lowest(mask: u16) -> u16
 
 // Returns the lanes before the lowest of a mask: all sixteen if it is empty.
 #[inline]
-fn lanes_below(mask: u16) -> u16
+pub(crate) fn lanes_below(mask: u16) -> u16
     ensures { result ≡ 2 ^ count_trailing_zeros 16 mask - 1 }
 {
     mask.wrapping_sub(1) & !mask
-}
-
-// Returns whether the lanes after the highest of one mask and those before the lowest of another are fewer than
-// sixteen. It compares the masks, which takes fewer instructions than two counts and their sum.
-#[inline]
-pub(crate) fn is_gap_below_sixteen(before: u16, after: u16) -> bool
-    ensures { result ≡ nat_lt (count_leading_zeros 16 before + count_trailing_zeros 16 after) 16 }
-{
-    before > lanes_below(after)
 }

@@ -7,7 +7,7 @@ ghost use Rattle.group_table.specs.Group.{IsEmptyAt};
 ghost use Rattle.group_table.specs.Lanes.{IsMaskAt};
 
 use crate::control::Control;
-use crate::group::is_gap_below_sixteen;
+use crate::group::lanes_below;
 
 // Returns the empty lanes of the group that ends directly before this bucket.
 #[inline]
@@ -38,5 +38,8 @@ pub(crate) fn has_empty_neighbours(control: &Control, b: usize) -> bool
     ensures { MatchBool result (HasEmptyNeighbours (IsEmptyAt control.now) (buckets_of control.now) b)
         (IsHemmedIn (IsEmptyAt control.now) (buckets_of control.now) b) }
 {
-    is_gap_below_sixteen(empty_before(control, b), empty_from(control, b))
+    // There is a gap below sixteen if the highest empty lane before this bucket is above the used lanes from it on. A
+    // comparison of the masks takes fewer instructions than two counts and their sum.
+    let used = lanes_below(empty_from(control, b));
+    empty_before(control, b) > used
 }

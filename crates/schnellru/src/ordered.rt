@@ -219,7 +219,8 @@ impl<K, V, N: LinkType> OrderedTable<K, V, N> {
         ensures placings { self.new.placings ≡ self.old.placings }
         ensures linked { IsLinked self.new }
     {
-        if self.chain.table.get(b).newer == N::MAX {
+        let newer = self.chain.table.get(b).newer;
+        if !self.chain.leads(newer) {
             return;
         }
         self.chain.unlink(b);
@@ -234,7 +235,8 @@ impl<K, V, N: LinkType> OrderedTable<K, V, N> {
         ensures placings { self.new.placings ≡ self.old.placings }
         ensures linked { IsLinked self.new }
     {
-        if self.chain.table.get(b).older == N::MAX {
+        let older = self.chain.table.get(b).older;
+        if !self.chain.leads(older) {
             return;
         }
         self.chain.unlink(b);
@@ -256,7 +258,7 @@ impl<K, V, N: LinkType> OrderedTable<K, V, N> {
         ensures linked { IsLinked self.new }
     {
         let Entry { newer, older, pair } = self.chain.table.take(b);
-        self.chain.close_gap(newer, link_or_max(older, last));
+        self.chain.close_gap(newer, older, last);
         (pair.key, pair.value)
     }
 }
@@ -361,13 +363,4 @@ fn bucket_of<N: LinkType>(link: N) -> Option<usize>
     } else {
         Some(link.into_usize())
     }
-}
-
-// Returns the link, which is `MAX` if `max`. If the compiler knows `max`, it drops the read of the link.
-#[inline(always)]
-fn link_or_max<N: LinkType>(link: N, max: bool) -> N
-    requires { IsTrue max → link ≡ N.MAX }
-    ensures { result ≡ link }
-{
-    if max { N::MAX } else { link }
 }

@@ -1,5 +1,5 @@
 //! The figures of a `Table`, and which buckets are full.
-ghost use Rattle.std.specs.Prelude.{◌≡◌, ◌↔◌, length, IsTrue};
+ghost use Rattle.std.specs.Prelude.{◌≡◌, ◌↔◌, ◌<◌, nat_lt, length, IsTrue};
 ghost use Rattle.std.specs.Mem.{type_size};
 ghost use prog.Memory.{capped};
 ghost use Rattle.group_table.specs.Bucket.{marks_of, IsFull, entry_count, room};
@@ -17,6 +17,20 @@ impl<T> Table<T> {
         ensures table { IsTable (marks_of self.now.slots) }
     {
         self.control.buckets()
+    }
+
+    /// Returns whether a table with buckets has a bucket of this number. It costs one comparison.
+    ///
+    /// ```
+    /// assert!(rt; table.has_bucket(7) && !table.has_bucket(8));
+    /// ```
+    #[inline]
+    pub fn has_bucket(&self, b: usize) -> bool
+        requires { 0 < length self.now.slots }
+        ensures value { result ≡ nat_lt b (length self.now.slots) }
+        ensures table { IsTable (marks_of self.now.slots) }
+    {
+        self.control.has_bucket(b)
     }
 
     /// Returns the number of entries.

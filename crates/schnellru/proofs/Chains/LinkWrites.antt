@@ -117,6 +117,16 @@ module _ {N : Type 0} {number : N → ℕ} {link : ℕ → N} {none : N} {eq : N
     leads_to_full slots reached (Some y) is_full = inr
         (rw (laws.number_of_link y (omega (arith, full_lt slots y (is_full y refl), reached))) (is_full y refl))
 
+    -- no entry is at the link to no bucket, so none changes
+    pub none_written : (slots : List (Slot (Entry K V N))) → length slots < number none → (to : N)
+        → SetsNewer number slots slots none to
+    none_written slots reached to = record {
+      pairs = refl;
+      there = λ full. absurd (omega (arith, full_lt slots (number none) full, reached));
+      others = λ b other. refl;
+      stays = λ b. refl;
+    }
+
     module _ {slots : List (Slot (Entry K V N))} {newest oldest : N} {order : List ℕ}
         (chain : IsChain number link none slots newest oldest order) where
       module _ (b : ℕ) (there : Contains order b) (entry : Entry K V N) (is : entry_at slots b ≡ Some entry) where
@@ -126,6 +136,15 @@ module _ {N : Type 0} {number : N → ℕ} {link : ℕ → N} {none : N} {eq : N
 
         pub older_link : entry.older ≡ link_to link none (bucket_after b order)
         older_link = same_Some _ _ (sym (ap (option_map (λ x. x.older)) is) ∙ chain.older b there)
+
+        -- each leads to no bucket or to a full one
+        pub newer_leads : (entry.newer ≡ none) ⊎ IsFull slots (number entry.newer)
+        newer_leads = rw newer_link (leads_to_full slots chain.reached (bucket_before b order)
+            (λ y e. chain.only y (before_in b y order chain.distinct e)))
+
+        pub older_leads : (entry.older ≡ none) ⊎ IsFull slots (number entry.older)
+        older_leads = rw older_link (leads_to_full slots chain.reached (bucket_after b order)
+            (λ y e. chain.only y (after_in b y order e)))
 
         -- to take it out of the chain, whether or not its entry leaves the table first
         gap : (new : List (Slot (Entry K V N))) → length new ≡ length slots
@@ -162,7 +181,7 @@ module _ {N : Type 0} {number : N → ℕ} {link : ℕ → N} {none : N} {eq : N
       older_to : older ≡ link_to link none (bucket_after b order)
       older_to = same_Some _ _ (sym gap.older_is ∙ gap.chain.older b gap.there)
 
-      gap_reached : length s0 < number none
+      pub gap_reached : length s0 < number none
       gap_reached = rw gap.same gap.chain.reached
 
       others_full : (x : ℕ) → Contains order x → x ≢ b → IsFull s0 x

@@ -1,5 +1,6 @@
 //! `Chain`: a table whose entries have links to their neighbours. Each change of the order changes a few entries.
 ghost use Rattle.std.specs.Prelude.{◌≡◌, ◌≢◌, ◌⊎◌, ◌<◌, ◌≤◌, ℕ, [], ◌∷◌, ◌++◌, List, Some, Contains, map, length};
+ghost use Rattle.std.specs.Prelude.{IsTrue, MatchBool};
 ghost use Rattle.group_table.specs.Bucket.{Slot, IsFull};
 ghost use Rattle.group_table.specs.Relocation.{Renumbers, moved_to};
 ghost use Rattle.schnellru.specs.Inside.OrderedTable.{without_bucket};
@@ -30,20 +31,39 @@ impl<K, V, N: LinkType> Chain<K, V, N> {
     {
         let entry = self.table.get(b);
         let (newer, older) = (entry.newer, entry.older);
-        self.close_gap(newer, older);
+        self.close_gap(newer, older, false);
     }
 
-    // Links the neighbours of a bucket with these links to each other. Its entry may be gone from the table already.
+    // Links the neighbours of a bucket with these links to each other. Its entry may be gone from the table already. If
+    // the bucket is known to be the oldest (`last`), its older link is not read.
     #[inline]
-    pub(crate) fn close_gap(&mut self, newer: N, older: N)
-        requires { (order : List ℕ) × (b : ℕ) × HasGap N.number N.link N.MAX self.old order b newer older }
+    pub(crate) fn close_gap(&mut self, newer: N, older: N, last: bool)
+        requires gap { (order : List ℕ) × (b : ℕ) × HasGap N.number N.link N.MAX self.old order b newer older }
+        requires last { IsTrue last → older ≡ N.MAX }
         ensures pairs { pair_slots self.new.table.slots ≡ pair_slots self.old.table.slots }
         ensures placings { self.new.table.placings ≡ self.old.table.placings }
         ensures chain { (order : List ℕ) (b : ℕ) → HasGap N.number N.link N.MAX self.old order b newer older →
             KeepsOrder N.number N.link N.MAX self.new (without_bucket b order) }
     {
-        self.set_older(newer, older);
-        self.set_newer(older, newer);
+        if last {
+            self.set_older(newer, N::MAX);
+            self.oldest = newer;
+        } else {
+            self.set_older(newer, older);
+            self.set_newer(older, newer);
+        }
+    }
+
+    // Returns whether a link leads to a bucket. It compares the link with the number of buckets, and not with `MAX`: that
+    // takes one instruction less.
+    #[inline]
+    pub(crate) fn leads(&self, link: N) -> bool
+        requires some { 0 < length self.now.table.slots }
+        requires reached { length self.now.table.slots < N.number N.MAX }
+        requires there { link ≡ N.MAX ⊎ IsFull self.now.table.slots (N.number link) }
+        ensures { MatchBool result (link ≢ N.MAX) (link ≡ N.MAX) }
+    {
+        self.table.has_bucket(link.into_usize())
     }
 
     // Puts a bucket that is in no chain in front of this chain, which is not empty.
@@ -101,6 +121,7 @@ impl<K, V, N: LinkType> Chain<K, V, N> {
     // Sets the newer link of the entry at a link, or the oldest end, if the link is `MAX`.
     #[inline]
     fn set_newer(&mut self, at: N, to: N)
+        requires some { 0 < length self.old.table.slots }
         requires reached { length self.old.table.slots < N.number N.MAX }
         requires there { at ≡ N.MAX ⊎ IsFull self.old.table.slots (N.number at) }
         ensures slots { SetsNewer N.number self.old.table.slots self.new.table.slots at to }
@@ -108,16 +129,17 @@ impl<K, V, N: LinkType> Chain<K, V, N> {
         ensures oldest { SetsEnd N.MAX self.old.oldest self.new.oldest at to }
         ensures placings { self.new.table.placings ≡ self.old.table.placings }
     {
-        if at == N::MAX {
-            self.oldest = to;
-        } else {
+        if self.leads(at) {
             write_newer(&mut self.table, at, to);
+        } else {
+            self.oldest = to;
         }
     }
 
     // Sets the older link of the entry at a link, or the newest end, if the link is `MAX`.
     #[inline]
     fn set_older(&mut self, at: N, to: N)
+        requires some { 0 < length self.old.table.slots }
         requires reached { length self.old.table.slots < N.number N.MAX }
         requires there { at ≡ N.MAX ⊎ IsFull self.old.table.slots (N.number at) }
         ensures slots { SetsOlder N.number self.old.table.slots self.new.table.slots at to }
@@ -125,10 +147,10 @@ impl<K, V, N: LinkType> Chain<K, V, N> {
         ensures oldest { self.new.oldest ≡ self.old.oldest }
         ensures placings { self.new.table.placings ≡ self.old.table.placings }
     {
-        if at == N::MAX {
-            self.newest = to;
-        } else {
+        if self.leads(at) {
             write_older(&mut self.table, at, to);
+        } else {
+            self.newest = to;
         }
     }
 

@@ -1,7 +1,8 @@
-use Rattle.std.proofs.Common.{refl}
+use Rattle.std.proofs.Common.{refl, ap, ◌∙◌, nat_lt}
 use Rattle.std.specs.Int.Count.{count_leading_zeros, count_trailing_zeros}
 use Rattle.std.proofs.lemmas.Nat.{leading_le, trailing_le}
 use Rattle.group_table.specs.Control.{buckets_of}
+use Rattle.group_table.proofs.Masks.{masks_meet}
 use Rattle.group_table.proofs.Masks.{none_in_lanes_above, lanes_above_end, none_in_lanes_below, lanes_below_end}
 use Rattle.group_table.proofs.RunLanes.{lanes_tell, run_before_lanes, run_before_small, run_from_lanes, run_from_small}
 use Rattle.group_table.proofs.neighbours.has_empty_neighbours.Goals as goal
@@ -18,7 +19,7 @@ returns c =
     let low = none_in_lanes_below after c.empty_from.type_inv in
     let few = leading_le 16 before in
     let few_from = trailing_le 16 after in
-    rw c.is_gap_below_sixteen.ensures
+    rw (ap (λ used. nat_lt used before) c.lanes_below-used.ensures ∙ masks_meet before _ c.empty_before.type_inv)
     (lanes_tell bytes n circle.power circle.repeated c.args.b c.requires.bucket
     (count_leading_zeros 16 before) (count_trailing_zeros 16 after)
     (run_before_lanes bytes n circle.power circle.repeated c.args.b c.requires.bucket before _ few _ refl

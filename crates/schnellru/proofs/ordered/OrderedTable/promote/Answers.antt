@@ -1,29 +1,35 @@
-use Rattle.std.proofs.Common.{refl, sym, ◌∙◌}
+use Rattle.std.proofs.Common.{refl, ◌∙◌}
 use Rattle.schnellru.proofs.Chains.Orders.{without_in}
 use Rattle.schnellru.proofs.OrderedTables.PairSlots.{same_marks}
 use Rattle.schnellru.proofs.Chains.WholeChains.{whole_order, IsWhole-shown, IsLinked-view, IsWhole-promoted}
-use Rattle.schnellru.proofs.Chains.LinkReads.{equal_links, unequal_links, full_entry, inside}
+use Rattle.schnellru.proofs.Chains.LinkReads.{full_entry, inside}
 use Rattle.schnellru.proofs.Chains.LinkReads.{newest_already, newest_left}
+use Rattle.schnellru.proofs.Chains.LinkWrites.{newer_leads}
 use Rattle.schnellru.proofs.ordered.OrderedTable.promote.Goals as goal
 
-pub returns-then-eq-clause-order : goal.returns-then-eq-clause-order
-returns-then-eq-clause-order g c =
+pub leads-requires-clause-there : goal.leads-requires-clause-there
+leads-requires-clause-there g c =
+    let there = inside g.met.N.LinkType.laws c.self.invariant c.args.b (rw (← c.self.view_is) at c.requires) in
+    newer_leads g.met.N.LinkType.laws c.self.invariant.chain c.args.b there _ c.get.ensures.entry
+
+pub returns-then-not-leads-clause-order : goal.returns-then-not-leads-clause-order
+returns-then-not-leads-clause-order g c =
     let full = rw (← c.self.view_is) at c.requires in
-    let none = equal_links g.met.N.LinkType.laws (sym c.eq.ensures ∙ c.if-eq.true) ∙ c.MAX.ensures in
+    let none = rw c.if-not-leads.true at c.leads.ensures in
     rw (← c.self.view_is) (newest_already g.met.N.LinkType.laws c.self.invariant c.args.b full c.get.result.now
     c.get.ensures.entry none)
 
-pub returns-then-eq-clause-linked : goal.returns-then-eq-clause-linked
-returns-then-eq-clause-linked g c = rw (← c.self.view_is)
+pub returns-then-not-leads-clause-linked : goal.returns-then-not-leads-clause-linked
+returns-then-not-leads-clause-linked g c = rw (← c.self.view_is)
     (IsLinked-view g.met.N.LinkType.laws c.self.invariant c.get.ensures.table)
 
 pub link_newest-requires-clause-some : goal.link_newest-requires-clause-some
 link_newest-requires-clause-some g c =
     let full = rw (← c.self.view_is) at c.requires in
     let there = inside g.met.N.LinkType.laws c.self.invariant c.args.b full in
-    let newer = unequal_links g.met.N.LinkType.laws (sym c.eq.ensures ∙ c.if-eq.false) in
+    let newer = rw c.if-not-leads.false at c.leads.ensures in
     newest_left g.met.N.LinkType.laws c.self.invariant c.args.b full c.get.result.now c.get.ensures.entry
-    (λ e. newer (e ∙ sym c.MAX.ensures)) (c.unlink.ensures.chain _ c.self.invariant.chain there)
+    newer (c.unlink.ensures.chain _ c.self.invariant.chain there)
 
 pub link_newest-requires-clause-chained : goal.link_newest-requires-clause-chained
 link_newest-requires-clause-chained g c =

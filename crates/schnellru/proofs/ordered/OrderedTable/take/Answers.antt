@@ -7,14 +7,13 @@ use Rattle.schnellru.proofs.Chains.WholeChains.{IsLinked-view}
 use Rattle.schnellru.proofs.Chains.LinkReads.{full_entry, inside, none_older}
 use Rattle.schnellru.proofs.ordered.OrderedTable.take.Goals as goal
 
-pub link_or_max-requires : goal.link_or_max-requires
-link_or_max-requires g c last = none_older g.met.N.LinkType.laws c.self.invariant c.args.b
+pub close_gap-requires-clause-last : goal.close_gap-requires-clause-last
+close_gap-requires-clause-last g c last = none_older g.met.N.LinkType.laws c.self.invariant c.args.b
     (rw (← c.self.view_is) at (c.requires.last last)) _ c.take-newer.ensures.entry
 
-pub close_gap-requires : goal.close_gap-requires
-close_gap-requires g c =
-    let there = inside g.met.N.LinkType.laws c.self.invariant c.args.b (rw (← c.self.view_is) at c.requires.full) in
-    rw c.link_or_max.ensures (
+pub close_gap-requires-clause-gap : goal.close_gap-requires-clause-gap
+close_gap-requires-clause-gap g c =
+    let there = inside g.met.N.LinkType.laws c.self.invariant c.args.b (rw (← c.self.view_is) at c.requires.full) in (
       _,
       c.args.b,
       IsGap-taken g.met.N.LinkType.laws c.self.invariant.chain c.args.b there _
@@ -29,7 +28,7 @@ invariant_of-self g c =
     c.take-newer.ensures.entry _ removed in
     taken_whole _ _ _ c.args.b removed c.close_gap.ensures.pairs laws c.self.invariant
     (full_entry laws c.self.invariant c.args.b shown)
-    (c.close_gap.ensures.chain _ c.args.b (rw c.link_or_max.ensures gap))
+    (c.close_gap.ensures.chain _ c.args.b gap)
 
 pub returns : goal.returns
 returns g c =
@@ -39,7 +38,7 @@ returns g c =
     let full = full_entry laws whole c.args.b shown in
     let gap = IsGap-taken laws whole.chain c.args.b (inside laws whole c.args.b shown) _ c.take-newer.ensures.entry _
     removed in
-    let chain = c.close_gap.ensures.chain _ c.args.b (rw c.link_or_max.ensures gap) in
+    let chain = c.close_gap.ensures.chain _ c.args.b gap in
     let same_placings = c.close_gap.ensures.placings ∙ c.take-newer.ensures.placings in
     rw (← c.self.view_is) (record {
       pair = entry_at-pair_slots _ c.args.b ∙ ap (option_map pair_of) c.take-newer.ensures.entry;

@@ -1,8 +1,8 @@
 use Rattle.schnellru.proofs.Chains.LinkWrites.{IsGap-full}
 use Rattle.schnellru.proofs.ordered.chain.Chain.unlink.Goals as goal
 
-pub close_gap-requires : goal.close_gap-requires
-close_gap-requires g c = (
+pub close_gap-requires-clause-gap : goal.close_gap-requires-clause-gap
+close_gap-requires-clause-gap g c = (
   _,
   c.args.b,
   IsGap-full g.met.N.LinkType.laws c.requires.1 c.args.b c.requires.2 _ c.get-entry.ensures.entry,
