@@ -139,7 +139,7 @@ impl<T> Table<T> {
         ensures none { IfNone result (FindsNone F.FnMut self.now.slots hash f) }
         ensures table { IsTable (marks_of self.now.slots) }
     {
-        if self.control.is_empty() {
+        if self.control.is_empty_at(hash) {
             return None;
         }
         find_bucket(&self.control, &self.entries, hash, f)
