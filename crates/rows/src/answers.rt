@@ -1,41 +1,17 @@
 //! The texts of the answers to calls, as the program would write them.
 use crate::text::Text;
-use lru_replay::{Answer, Call, run_calls, run_summing};
-use schnellru::{ByCost, Insertion, LruMap, MoveReport, ReserveError, Updated};
-use std::alloc::Global;
-use std::hash::BuildHasher;
-
-/// Carries out the calls on the map, and adds the texts of their answers.
-pub fn answer_calls<L: Insertion<u64, u64, u64> + Drop, S: BuildHasher>(
-    out: &mut Text,
-    alloc: Global,
-    map: &mut LruMap<u64, u64, L, S>,
-    calls: Vec<Call<u64, u64, L>>,
-) {
-    match run_calls(alloc, map, calls) {
-        Ok(answers) => write_answers(out, answers.as_slice()),
-        Err(_) => out.word("no memory"),
-    }
-}
-
-/// The same on a map whose sum no call may change.
-pub fn answer_summing_calls<S: BuildHasher>(
-    out: &mut Text,
-    alloc: Global,
-    map: &mut LruMap<u64, u64, ByCost, S>,
-    calls: Vec<Call<u64, u64, ByCost>>,
-) {
-    match run_summing(alloc, map, calls) {
-        Ok(answers) => write_answers(out, answers.as_slice()),
-        Err(_) => out.word("no memory"),
-    }
-}
+use lru_replay::Answer;
+use schnellru::{MoveReport, ReserveError, Updated};
+use std::alloc::AllocError;
 
 /// Adds the text of each answer, with a line feed after it.
-fn write_answers(out: &mut Text, answers: &[Answer<u64, u64>]) {
-    for answer in answers {
-        write_answer(out, answer);
-        out.word("\n");
+pub fn write_answers(out: &mut Text, answers: Result<Vec<Answer<u64, u64>>, AllocError>) {
+    match answers {
+        Ok(answers) => for answer in &answers {
+            write_answer(out, answer);
+            out.word("\n");
+        },
+        Err(_) => out.word("no memory"),
     }
 }
 

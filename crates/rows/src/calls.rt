@@ -1,80 +1,72 @@
 //! Calls on a map, as lines spell them.
-use crate::limiters::Spelled;
+use crate::limiters::{Numbered, number_of};
 use lru_replay::Call;
+use std::alloc::Global;
 
-/// The call that the line spells: any call of a run, by the names of the program's lines if it has them.
-pub fn call_of<L: Spelled>(line: &str) -> Option<Call<u64, u64, L>> {
+/// The calls that the lines spell, by the names of the program's lines if they have them. A line that spells no call
+/// asks for the figures, which is not what its row expects. Out of memory, a call is missing.
+pub fn calls_of<L: Numbered + Drop>(alloc: Global, lines: &str) -> Vec<Call<u64, u64, L>> {
+    let mut calls = Vec::new(alloc);
+    for line in lines.lines() {
+        let _ = calls.push(call_of(line));
+    }
+    calls
+}
+
+/// The number that a text spells.
+fn number(text: &str) -> u64 {
+    text.parse().unwrap_or(u64::MAX)
+}
+
+/// The call that the line spells.
+fn call_of<L: Numbered>(line: &str) -> Call<u64, u64, L> {
     let (word, rest) = line.split_once(' ').unwrap_or((line, ""));
     if word == "set" {
-        return match L::spelled(rest) {
-            Some(limiter) => Some(Call::SetLimiter(limiter)),
-            None => None,
-        };
+        return Call::SetLimiter(L::of(number_of(rest)));
     }
-    if rest.is_empty() {
-        return call_of_word(word);
-    }
-    match rest.parse() {
-        Ok(number) => call_of_number(word, number),
-        Err(_) => call_of_pair(word, rest),
+    match rest.split_once(' ') {
+        Some((first, second)) => call_of_pair(word, number(first), number(second)),
+        None => call_of_number(word, number(rest)),
     }
 }
 
-/// The call that a word and a number spell.
-fn call_of_number<L>(word: &str, number: u64) -> Option<Call<u64, u64, L>> {
+/// The call that a word and at most one number spell.
+fn call_of_number<L>(word: &str, number: u64) -> Call<u64, u64, L> {
     match word {
-        "get" => Some(Call::Get(number)),
-        "peek" => Some(Call::Peek(number)),
-        "contains" => Some(Call::Contains(number)),
-        "promote" => Some(Call::Promote(number)),
-        "demote" => Some(Call::Demote(number)),
-        "remove" => Some(Call::Remove(number)),
-        "remove-entry" => Some(Call::RemoveEntry(number)),
-        "reserve" => Some(Call::Reserve(number as usize)),
-        _ => None,
-    }
-}
-
-/// The call that one word spells.
-fn call_of_word<L>(word: &str) -> Option<Call<u64, u64, L>> {
-    match word {
-        "pop-oldest" => Some(Call::PopOldest),
-        "pop-newest" => Some(Call::PopNewest),
-        "peek-oldest" => Some(Call::PeekOldest),
-        "peek-newest" => Some(Call::PeekNewest),
-        "shrink" => Some(Call::Shrink),
-        "trim" => Some(Call::Trim),
-        "clear" => Some(Call::Clear),
-        "list" => Some(Call::List),
-        "stats" => Some(Call::Stats),
-        _ => None,
+        "get" => Call::Get(number),
+        "peek" => Call::Peek(number),
+        "contains" => Call::Contains(number),
+        "promote" => Call::Promote(number),
+        "demote" => Call::Demote(number),
+        "remove" => Call::Remove(number),
+        "remove-entry" => Call::RemoveEntry(number),
+        "reserve" => Call::Reserve(number as usize),
+        "pop-oldest" => Call::PopOldest,
+        "pop-newest" => Call::PopNewest,
+        "peek-oldest" => Call::PeekOldest,
+        "peek-newest" => Call::PeekNewest,
+        "shrink" => Call::Shrink,
+        "trim" => Call::Trim,
+        "clear" => Call::Clear,
+        "list" => Call::List,
+        _ => Call::Stats,
     }
 }
 
 /// The call that a word and two numbers spell.
-fn call_of_pair<L>(word: &str, numbers: &str) -> Option<Call<u64, u64, L>> {
-    let (first, second) = pair(numbers)?;
+fn call_of_pair<L>(word: &str, first: u64, second: u64) -> Call<u64, u64, L> {
     match word {
-        "insert" => Some(Call::Insert(first, second)),
-        "put" => Some(Call::InsertWith(first, second)),
-        "update" => Some(Call::Update(first, second)),
-        "get-or-insert" => Some(Call::GetOrInsert(first, second)),
-        "get-by-hash" => Some(Call::GetByHash(first, second)),
-        "peek-by-hash" => Some(Call::PeekByHash(first, second)),
-        "write" => Some(Call::Write(first, second)),
-        "drain" => Some(Call::Drain {
+        "insert" => Call::Insert(first, second),
+        "put" => Call::InsertWith(first, second),
+        "update" => Call::Update(first, second),
+        "get-or-insert" => Call::GetOrInsert(first, second),
+        "get-by-hash" => Call::GetByHash(first, second),
+        "peek-by-hash" => Call::PeekByHash(first, second),
+        "write" => Call::Write(first, second),
+        "drain" => Call::Drain {
             front: first as usize,
             back: second as usize,
-        }),
-        _ => None,
-    }
-}
-
-/// The two numbers that a text spells.
-fn pair(text: &str) -> Option<(u64, u64)> {
-    let (first, second) = text.split_once(' ')?;
-    match (first.parse(), second.parse()) {
-        (Ok(first), Ok(second)) => Some((first, second)),
-        _ => None,
+        },
+        _ => Call::Stats,
     }
 }

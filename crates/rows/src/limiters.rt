@@ -3,77 +3,72 @@ use schnellru::{ByCost, ByLength, ByMemoryUsage, LinkType, Storing, Unlimited, U
 use std::marker::PhantomData;
 use test_helpers::{Alternating, Blanking, LinkedBy};
 
-/// A limiter that words name.
-pub trait Spelled: Sized {
-    /// The limiter that the words name.
-    fn spelled(words: &str) -> Option<Self>;
+/// A limiter that a number makes, which `number_of` finds in its words.
+pub trait Numbered: Sized {
+    /// The limiter of the number.
+    fn of(number: u64) -> Self;
 }
 
-/// The number that stands after the word.
-fn number_after(words: &str, word: &str) -> Option<u64> {
-    match words.strip_prefix(word) {
-        Some(number) => number.parse().ok(),
-        None => None,
+/// The number of a limiter that words name: the one at their end, or one that stands for the words.
+pub fn number_of(words: &str) -> u64 {
+    match words {
+        "no growth at first" | "blank values" => 0,
+        "growth at first" | "blank pairs" => 1,
+        "over the limit" => 2,
+        _ => {
+            let (_, number) = words.rsplit_once(' ').unwrap_or(("", "0"));
+            number.parse().unwrap_or(0)
+        }
     }
 }
 
-impl Spelled for ByLength {
-    fn spelled(words: &str) -> Option<ByLength> {
-        let most = number_after(words, "length ")?;
-        Some(ByLength::new(u32::try_from(most).ok()?))
+impl Numbered for ByLength {
+    fn of(number: u64) -> ByLength {
+        ByLength::new(u32::try_from(number).unwrap_or(0))
     }
 }
 
-impl Spelled for ByMemoryUsage {
-    fn spelled(words: &str) -> Option<ByMemoryUsage> {
-        Some(ByMemoryUsage::new(number_after(words, "memory ")? as usize))
+impl Numbered for ByMemoryUsage {
+    fn of(number: u64) -> ByMemoryUsage {
+        ByMemoryUsage::new(number as usize)
     }
 }
 
-impl Spelled for ByCost {
-    fn spelled(words: &str) -> Option<ByCost> {
-        Some(ByCost::new(number_after(words, "cost ")?))
+impl Numbered for ByCost {
+    fn of(number: u64) -> ByCost {
+        ByCost::new(number)
     }
 }
 
-impl Spelled for Unlimited {
-    fn spelled(words: &str) -> Option<Unlimited> {
-        (words == "unlimited").then_some(Unlimited)
+impl Numbered for Unlimited {
+    fn of(_number: u64) -> Unlimited {
+        Unlimited
     }
 }
 
-impl Spelled for UnlimitedCompact {
-    fn spelled(words: &str) -> Option<UnlimitedCompact> {
-        (words == "compact").then_some(UnlimitedCompact)
+impl Numbered for UnlimitedCompact {
+    fn of(_number: u64) -> UnlimitedCompact {
+        UnlimitedCompact
     }
 }
 
-impl<N: LinkType> Spelled for Storing<LinkedBy<N>> {
-    fn spelled(words: &str) -> Option<Storing<LinkedBy<N>>> {
-        let max = N::MAX.into_usize() as u64;
-        (number_after(words, "links below ") == Some(max)).then_some(Storing(LinkedBy(PhantomData)))
+impl<N: LinkType> Numbered for Storing<LinkedBy<N>> {
+    fn of(_number: u64) -> Storing<LinkedBy<N>> {
+        Storing(LinkedBy(PhantomData))
     }
 }
 
-impl Spelled for Storing<Alternating> {
-    fn spelled(words: &str) -> Option<Storing<Alternating>> {
-        let (over, permits) = match words {
-            "no growth at first" => (false, false),
-            "growth at first" => (false, true),
-            "over the limit" => (true, true),
-            _ => return None,
-        };
-        Some(Storing(Alternating::new(over, permits)))
+impl Numbered for Storing<Alternating> {
+    fn of(number: u64) -> Storing<Alternating> {
+        Storing(Alternating::new(number == 2, number > 0))
     }
 }
 
-impl Spelled for Storing<Blanking> {
-    fn spelled(words: &str) -> Option<Storing<Blanking>> {
-        let keys = match words {
-            "blank values" => false,
-            "blank pairs" => true,
-            _ => return None,
-        };
-        Some(Storing(Blanking { keys, last: (0, 0) }))
+impl Numbered for Storing<Blanking> {
+    fn of(number: u64) -> Storing<Blanking> {
+        Storing(Blanking {
+            keys: number == 1,
+            last: (0, 0),
+        })
     }
 }

@@ -1,10 +1,9 @@
 //! Rows of program lines: each is replayed in one piece, in single bytes, and with each read and each write failing.
-use crate::report::agrees;
 use crate::row::Row;
 use crate::streams::{Failure, Narrow, Slow, front_lines};
 use lru_replay::{ReplayEnd, ReplayError, replay, status};
 use std::alloc::Global;
-use std::io::{self, BufReader, ErrorKind};
+use std::io::{BufReader, ErrorKind};
 
 /// The longest input whose reads and writes fail in turn.
 const LONGEST_CUT: usize = 2000;
@@ -21,25 +20,12 @@ fn error_at(at: usize) -> ErrorKind {
     }
 }
 
-/// Checks the row in every manner, prints the first difference, and returns whether there is none.
-pub fn holds(rt: &HostRuntime, file: &str, row: &Row) -> io::Result<bool> {
-    let alloc = rt.alloc();
-    let mut reader = row.input.as_slice();
-    let mut writer = Narrow::new(alloc, usize::MAX);
-    let status = status(&replay_all(alloc, &mut reader, &mut writer));
-    if !agrees(rt, file, row, writer.bytes.as_slice())? {
-        return Ok(false);
-    }
-    let name = row.name.as_str();
-    if status != row.status {
-        println!(rt; "{file}: row {name}: the status is {status}")?;
-        return Ok(false);
-    }
-    let Some((manner, at)) = first_fault(alloc, row) else {
-        return Ok(true);
-    };
-    println!(rt; "{file}: row {name}: differs with {manner}, at {at}")?;
-    Ok(false)
+/// Returns the answers to the lines.
+pub fn answers_of(alloc: Global, input: &[u8]) -> Vec<u8> {
+    let mut reader = input;
+    let mut text = Vec::new(alloc);
+    let _ = replay(alloc, &mut reader, &mut text);
+    text
 }
 
 /// Replays the lines of a slice.
@@ -56,28 +42,25 @@ fn replay_slowly(alloc: Global, slow: Slow, writer: &mut Narrow) -> Option<End> 
 }
 
 /// The first manner in which a replay of the row does not end as it should, with the number of the read or write.
-fn first_fault(alloc: Global, row: &Row) -> Option<(&'static str, usize)> {
+pub fn first_fault(alloc: Global, row: &Row) -> Option<(&'static str, usize)> {
     if !in_pieces(alloc, row) {
-        return Some(("single bytes", 0));
+        return Some(("single bytes, or by its status", 0));
     }
-    for at in 0..3 {
+    let longest = row.input.len().max(row.text.len());
+    // The last read that can fail is the one that meets the end of the input.
+    let tried = if row.input.len() > LONGEST_CUT {
+        2
+    } else {
+        longest
+    };
+    for at in 0..=tried {
         if !with_failing_flush(alloc, row, at) {
             return Some(("a failing flush", at));
         }
-    }
-    if row.input.len() > LONGEST_CUT {
-        return None;
-    }
-    for most in [1, 7] {
-        // The last read that can fail is the one that meets the end of the input.
-        for at in 0..=row.input.len().div_ceil(most.max(1)) {
-            if !with_failing_read(alloc, row, most, at) {
-                return Some(("a failing read", at));
-            }
+        if at <= row.input.len() && !with_failing_read(alloc, row, at) {
+            return Some(("a failing read", at));
         }
-    }
-    for at in 0..row.text.len() {
-        if !with_failing_write(alloc, row, at) {
+        if at < row.text.len() && !with_failing_write(alloc, row, at) {
             return Some(("a failing write", at));
         }
     }
@@ -105,14 +88,14 @@ fn with_failing_flush(alloc: Global, row: &Row, at: usize) -> bool {
     end == Err(ReplayError::Write) && writer.has(row.text.as_slice(), 1)
 }
 
-/// Whether the lines that were read whole are answered, if a read fails. If the first of them names no limiter, no
-/// later read is made.
-fn with_failing_read(alloc: Global, row: &Row, most: usize, at: usize) -> bool {
+/// Whether the lines that were read whole are answered, if a read of single bytes fails. If the first of them names no
+/// limiter, no later read is made.
+fn with_failing_read(alloc: Global, row: &Row, at: usize) -> bool {
     let input = row.input.as_slice();
-    let slow = Slow::new(input, most).failing(at, error_at(at));
+    let slow = Slow::new(input, 1).failing(at, error_at(at));
     let mut writer = Narrow::new(alloc, 100);
     let end = replay_slowly(alloc, slow, &mut writer);
-    let lines = count_lines(&input[..at.saturating_mul(most).min(input.len())]);
+    let lines = count_lines(&input[..at.min(input.len())]);
     if lines > 0 && row.status == 1 {
         return end == Some(Ok(ReplayEnd::NoLimiter)) && writer.has(row.text.as_slice(), 1);
     }

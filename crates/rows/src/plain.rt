@@ -1,6 +1,6 @@
 //! A plain list of pairs under a limit, which carries out calls as the documents of the map describe them.
 use crate::table::Table;
-use schnellru::Updated;
+use schnellru::{ReserveError, Updated};
 use std::alloc::Global;
 
 /// What limits the list.
@@ -231,5 +231,34 @@ impl Plain {
         }
         self.table.placed = self.table.placed.saturating_add(1);
         true
+    }
+
+    /// Makes room for n more pairs.
+    pub fn reserve(&mut self, n: u64) -> Result<(), ReserveError> {
+        let pairs = self.len().saturating_add(n);
+        match self.limit {
+            Limit::Memory(most, entry_bytes) => self.table.reserve(pairs, most, entry_bytes),
+            _ => Ok(()),
+        }
+    }
+
+    /// Moves the pairs into as few buckets as hold them.
+    pub fn shrink(&mut self) {
+        let len = self.len();
+        self.table.shrink(len);
+    }
+
+    /// Takes this many pairs from the newest end, then from the oldest, and drops the others.
+    pub fn drain(&mut self, front: u64, back: u64) {
+        self.left.clear();
+        self.pairs.reverse();
+        for _ in 0..front {
+            self.evict();
+        }
+        self.pairs.reverse();
+        for _ in 0..back {
+            self.evict();
+        }
+        self.clear();
     }
 }

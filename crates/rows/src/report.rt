@@ -1,17 +1,14 @@
 //! What is printed of a row that does not hold.
-use crate::row::Row;
 use std::io;
 
 /// Prints the first answer that is not the expected one, and returns whether there is none.
-pub fn agrees(rt: &HostRuntime, file: &str, row: &Row, got: &[u8]) -> io::Result<bool> {
-    let expected = row.text.as_slice();
+pub fn agrees(rt: &HostRuntime, name: &str, got: &[u8], expected: &[u8]) -> io::Result<bool> {
     if got == expected {
         return Ok(true);
     }
     let line = same_lines(got, expected);
     println!(rt;
-        "{file}: row {}: answer {} is \"{}\" in place of \"{}\"",
-        row.name.as_str(),
+        "row {name}: answer {} is \"{}\" in place of \"{}\"",
         line.saturating_add(1),
         line_at(got, line),
         line_at(expected, line)
@@ -26,17 +23,13 @@ fn same_lines(one: &[u8], other: &[u8]) -> usize {
         if a != b {
             return lines;
         }
-        if *a == b'\n' {
-            lines = lines.saturating_add(1);
-        }
+        lines = lines.saturating_add((*a == b'\n') as usize);
     }
     lines
 }
 
 /// The line of this number, counted from 0, if it is there and all is a text.
 fn line_at(text: &[u8], number: usize) -> &str {
-    match str::from_utf8(text) {
-        Ok(text) => text.lines().nth(number).unwrap_or(""),
-        Err(_) => "bytes that are no text",
-    }
+    let text = str::from_utf8(text).unwrap_or("bytes that are no text");
+    text.lines().nth(number).unwrap_or("")
 }

@@ -1,75 +1,91 @@
 //! Rows of a data file. `docs/ROWS.md` has their form.
 use crate::escapes::unescape;
-use std::alloc::{AllocError, Global};
-use std::io::{Error, ErrorKind};
+use std::alloc::Global;
+use std::fmt::Write;
 
-/// An input, and the answers and the exit status that it must give.
+/// An input, and the answers and the exit status that it must give. Out of memory, bytes are missing, and the row fails.
 #[derive(Drop)]
-pub struct Row {
+pub struct Row<'a> {
     /// What the row shows.
-    pub name: String,
+    pub name: &'a str,
     /// The lines that go in.
     pub input: Vec<u8>,
     /// The answer lines that must come out.
     pub text: Vec<u8>,
     /// The exit status.
     pub status: u8,
+    alloc: Global,
 }
 
-impl Row {
+impl<'a> Row<'a> {
     /// An empty row of this name.
-    pub fn new(alloc: Global, name: &str) -> Result<Row, AllocError> {
-        Ok(Row {
-            name: String::from_str(alloc, name)?,
+    pub fn new(alloc: Global, name: &'a str) -> Row<'a> {
+        Row {
+            name,
             input: Vec::new(alloc),
             text: Vec::new(alloc),
             status: 0,
-        })
+            alloc,
+        }
     }
 
-    /// Adds what a line of the file says. Returns `false` if the line is malformed or memory runs out.
-    pub fn add(&mut self, alloc: Global, line: &str) -> bool {
-        if let Some(rest) = line.strip_prefix("each ") {
-            return self.add_each(alloc, rest);
+    /// The row of these lines. A malformed one expects a text that no row has.
+    pub fn of(alloc: Global, lines: &'a str) -> Row<'a> {
+        let mut row = Row::new(alloc, "");
+        let mut is_good = true;
+        for line in lines.lines() {
+            if let Some(name) = line.strip_prefix("row ") {
+                row.name = name;
+            } else if !line.starts_with('#') {
+                is_good = row.add(line) && is_good;
+            }
         }
-        let Some(status) = line.strip_prefix("status ") else {
-            return self.add_line(line);
-        };
-        match status.parse() {
-            Ok(status) => {
-                self.status = status;
+        if !is_good {
+            row.text.clear();
+            unescape(&mut row.text, "the row is malformed");
+        }
+        row
+    }
+
+    /// Adds what a line of the file says. Returns `false` if the line is malformed.
+    fn add(&mut self, line: &str) -> bool {
+        if let Some(rest) = line.strip_prefix("each ") {
+            return self.add_each(rest);
+        }
+        match line.strip_prefix("status ") {
+            Some(status) => {
+                self.status = status.parse().unwrap_or(99);
                 true
             }
-            Err(_) => false,
+            None => self.add_line(line),
         }
     }
 
     /// Adds the line once for each number from the first to the last, up or down, with the number in place of `#`.
-    fn add_each(&mut self, alloc: Global, rest: &str) -> bool {
+    fn add_each(&mut self, rest: &str) -> bool {
         let (first, rest) = rest.split_once(' ').unwrap_or(("", ""));
         let (last, line) = rest.split_once(' ').unwrap_or(("", ""));
         let (Ok(first), Ok(last)) = (first.parse::<u64>(), last.parse::<u64>()) else {
             return false;
         };
-        let mut is_added = true;
+        let mut is_good = true;
         for step in 0..=first.abs_diff(last) {
             let number = if first <= last {
                 first.wrapping_add(step)
             } else {
                 first.wrapping_sub(step)
             };
-            is_added = is_added && self.add_numbered(alloc, line, number);
+            is_good = self.add_numbered(line, number) && is_good;
         }
-        is_added
+        is_good
     }
 
     /// Adds the line with the number in place of each `#`.
-    fn add_numbered(&mut self, alloc: Global, line: &str, number: u64) -> bool {
-        match format!(in alloc; "{number}") {
-            Ok(number) => match line.replace(alloc, "#", number.as_str()) {
-                Ok(line) => self.add_line(line.as_str()),
-                Err(_) => false,
-            },
+    fn add_numbered(&mut self, line: &str, number: u64) -> bool {
+        let mut digits = String::new(self.alloc);
+        let _ = write!(digits, "{number}");
+        match line.replace(self.alloc, "#", digits.as_str()) {
+            Ok(line) => self.add_line(line.as_str()),
             Err(_) => false,
         }
     }
@@ -79,21 +95,19 @@ impl Row {
         let Some((input, answer)) = line.split_once("-> ") else {
             return self.add_input(line);
         };
-        self.add_input(input.trim_end_matches(' '))
-            && unescape(&mut self.text, answer)
-            && self.text.push(b'\n').is_ok()
+        let is_good = self.add_input(input.trim_end_matches(' '))
+            && unescape(&mut self.text, answer);
+        let _ = self.text.push(b'\n');
+        is_good
     }
 
     /// Adds an input line. With `\c` at its end it has no line feed.
     fn add_input(&mut self, line: &str) -> bool {
-        match line.strip_suffix("\\c") {
-            Some(line) => unescape(&mut self.input, line),
-            None => unescape(&mut self.input, line) && self.input.push(b'\n').is_ok(),
+        if let Some(line) = line.strip_suffix("\\c") {
+            return unescape(&mut self.input, line);
         }
+        let is_good = unescape(&mut self.input, line);
+        let _ = self.input.push(b'\n');
+        is_good
     }
-}
-
-/// The error of a data file that does not have the form of rows, or for which there is not enough memory.
-pub fn malformed() -> Error {
-    Error::from(ErrorKind::InvalidData)
 }

@@ -84,14 +84,12 @@ impl Table {
         Ok(())
     }
 
-    /// Moves this many pairs into as few buckets as hold them, and returns whether that are fewer.
-    pub fn shrink(&mut self, len: u64) -> bool {
+    /// Moves this many pairs into as few buckets as hold them.
+    pub fn shrink(&mut self, len: u64) {
         let buckets = buckets_for(len);
-        if buckets >= self.buckets {
-            return false;
+        if buckets < self.buckets {
+            self.buckets = buckets;
+            self.shrunk = self.shrunk.saturating_add(len);
         }
-        self.buckets = buckets;
-        self.shrunk = self.shrunk.saturating_add(len);
-        true
     }
 }

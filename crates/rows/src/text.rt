@@ -18,6 +18,11 @@ impl Text {
         self.0.as_str()
     }
 
+    /// The bytes of the text.
+    pub fn into_bytes(self) -> Vec<u8> {
+        self.0.into_bytes()
+    }
+
     /// Adds a word.
     pub fn word(&mut self, word: &str) {
         let _ = self.0.push_str(word);

@@ -1,194 +1,265 @@
-//! Random calls, as lines of the program and as lists of calls, compared with a plain list of pairs.
-use crate::answers::{answer_calls, answer_summing_calls};
-use crate::expected::agrees;
+//! Rows of random calls, with the answers of a plain list of pairs.
+use crate::answers::{write_figures, write_reserved, write_updated};
 use crate::plain::{Limit, Plain};
-use crate::random::{Bounds, random_call};
 use crate::text::Text;
-use lru_replay::{Call, ReplayEnd, replay};
-use schnellru::{ByCost, ByLength, ByMemoryUsage, Insertion, LruMap, UnlimitedCompact};
+use schnellru::MoveReport;
 use std::alloc::Global;
-use std::io;
-use test_helpers::{Random, Sum};
+use test_helpers::Random;
 
-/// How many lines are tried under each limit.
-const LINES: usize = 400_000;
+/// A hash whose top 7 bits are those of no key.
+const OTHER_TAG: u64 = 1 << 57;
 
-/// How many calls are tried under each limit.
-const CALLS: usize = 200_000;
-
-/// Calls on a map under a limit.
+/// How random calls are chosen.
 #[derive(Clone, Copy)]
-struct Trial {
-    limit: Limit,
-    keys: u64,
-    values: u64,
+pub struct Bounds {
+    /// What limits the list.
+    pub limit: Limit,
+    /// Keys are below this.
+    pub keys: u64,
+    /// Values are below this.
+    pub values: u64,
 }
 
-const BY_LENGTH: Trial = Trial {
-    limit: Limit::Length(150),
-    keys: 400,
-    values: 1000,
-};
-
-const BY_MEMORY: Trial = Trial {
-    limit: Limit::Memory(288, 16),
-    keys: 40,
-    values: 1000,
-};
-
-const BY_COST: Trial = Trial {
-    limit: Limit::Cost(4000),
-    keys: 300,
-    values: 60,
-};
-
-const UNLIMITED: Trial = Trial {
-    limit: Limit::Unlimited,
-    keys: 4000,
-    values: 1000,
-};
-
-/// Tries random lines and random calls under each limit, and prints whether they agree with a plain list.
-pub fn run(rt: &HostRuntime) -> io::Result<()> {
-    try_lines(rt, "length 150", BY_LENGTH)?;
-    try_lines(rt, "memory 288 16", BY_MEMORY)?;
-    try_lines(rt, "cost 4000", BY_COST)?;
-    try_lines(rt, "compact", UNLIMITED)?;
-    try_calls(rt, "ByLength", ByLength::new(150), BY_LENGTH)?;
-    try_calls(rt, "ByMemoryUsage", ByMemoryUsage::new(288), BY_MEMORY)?;
-    try_calls(rt, "UnlimitedCompact", UnlimitedCompact, UNLIMITED)?;
-    try_summing_calls(rt)
+/// Random calls, and the answers that a plain list gives.
+#[derive(Drop)]
+pub struct Trial {
+    /// The lines of the calls.
+    pub input: Text,
+    /// The answers.
+    pub text: Text,
+    plain: Plain,
+    random: Random,
 }
 
-/// Adds the line of a call that has one.
-fn write_line<L>(out: &mut Text, call: &Call<u64, u64, L>) {
-    match call {
-        Call::Insert(key, value) => write_two(out, "insert ", *key, *value),
-        Call::InsertWith(key, value) => write_two(out, "put ", *key, *value),
-        Call::Update(key, value) => write_two(out, "update ", *key, *value),
-        Call::Get(key) => out.figure("get ", *key),
-        Call::Peek(key) => out.figure("peek ", *key),
-        Call::Remove(key) => out.figure("remove ", *key),
-        Call::RemoveEntry(key) => out.figure("remove-entry ", *key),
-        Call::Contains(key) => out.figure("contains ", *key),
-        Call::Promote(key) => out.figure("promote ", *key),
-        Call::Demote(key) => out.figure("demote ", *key),
-        Call::Reserve(n) => out.figure("reserve ", *n as u64),
-        Call::Drain { front, .. } => out.figure("drain ", *front as u64),
-        Call::PopOldest => out.word("pop-oldest"),
-        Call::PopNewest => out.word("pop-newest"),
-        Call::Shrink => out.word("shrink"),
-        Call::Clear => out.word("clear"),
-        Call::List => out.word("list"),
-        _ => out.word("stats"),
+/// The hash of a key that a row names `sum`: the sum of its bytes.
+fn sum_of_bytes(key: u64) -> u64 {
+    let mut sum = 0u64;
+    for byte in key.to_le_bytes() {
+        sum = sum.wrapping_add(byte as u64);
     }
-    out.word("\n");
-}
-
-/// Adds the line of a call of two numbers.
-fn write_two(out: &mut Text, word: &str, first: u64, second: u64) {
-    out.figure(word, first);
-    out.figure(" ", second);
-}
-
-/// Replays random lines under the limit that the first line names.
-fn try_lines(rt: &HostRuntime, first: &str, trial: Trial) -> io::Result<()> {
-    let alloc = rt.alloc();
-    let (mut input, mut expected) = (Text::new(alloc), Text::new(alloc));
-    write_lines(&mut input, &mut expected, alloc, first, trial);
-    let mut reader = input.as_str().as_bytes();
-    let mut writer = Vec::new(alloc);
-    if replay(alloc, &mut reader, &mut writer) != Ok(ReplayEnd::Done) {
-        expected.word("the replay is done\n");
-    }
-    let text = str::from_utf8(writer.as_slice()).unwrap_or("");
-    compare(rt, first, expected.as_str(), text)
-}
-
-/// Adds random lines to the input, and their expected answers.
-fn write_lines(input: &mut Text, expected: &mut Text, alloc: Global, first: &str, trial: Trial) {
-    let mut random = Random::new(1);
-    let mut plain = Plain::new(alloc, trial.limit);
-    input.word(first);
-    input.word("\n");
-    for _ in 0..LINES {
-        let call: Call<u64, u64, ()> = random_call(&mut random, trial.bounds(true));
-        write_line(input, &call);
-        plain.answer(&call, expected);
-        if let (Call::Stats, Limit::Cost(_)) = (&call, trial.limit) {
-            expected.figure(" cost ", plain.cost);
-        }
-        expected.word("\n");
-    }
+    sum
 }
 
 impl Trial {
-    fn bounds(&self, only_lines: bool) -> Bounds {
-        Bounds {
-            keys: self.keys,
-            values: self.values,
-            only_lines,
+    /// Random calls on the map or under the limit that the first line names.
+    pub fn new(alloc: Global, first: &str, bounds: Bounds, calls: u64) -> Trial {
+        let mut trial = Trial {
+            input: Text::new(alloc),
+            text: Text::new(alloc),
+            plain: Plain::new(alloc, bounds.limit),
+            random: Random::new(1),
+        };
+        trial.word(first);
+        let is_map = first.starts_with("map ");
+        for _ in 0..calls {
+            trial.add(bounds, is_map);
+            trial.text.word("\n");
+        }
+        trial
+    }
+
+    /// Adds the line of a call of one word.
+    fn word(&mut self, word: &str) {
+        self.input.word(word);
+        self.input.word("\n");
+    }
+
+    /// Adds the line of a call of one number.
+    fn one(&mut self, word: &str, number: u64) {
+        self.input.figure(word, number);
+        self.input.word("\n");
+    }
+
+    /// Adds the line of a call of two numbers.
+    fn two(&mut self, word: &str, first: u64, second: u64) {
+        self.input.figure(word, first);
+        self.one(" ", second);
+    }
+
+    /// Adds a random call. Half of all calls insert, and few take all pairs out, so that the map is mostly full.
+    fn add(&mut self, bounds: Bounds, is_map: bool) {
+        let (key, value) = (
+            self.random.below(bounds.keys),
+            self.random.below(bounds.values),
+        );
+        match self.random.below(4096) {
+            ..=3 => self.add_drain(key, value, is_map),
+            ..=447 => self.add_of_list(value),
+            ..=1279 => self.add_of_key(key, value),
+            ..=1727 => {
+                self.one("get ", key);
+                self.text.value(self.plain.get(key));
+            }
+            ..=2047 if is_map => self.add_other(key, value),
+            ..=3071 => {
+                self.two("put ", key, value);
+                self.plain.left.clear();
+                self.text.flag(self.plain.insert(key, value));
+                self.text.spaced(self.plain.left.as_slice());
+            }
+            _ => {
+                self.two("insert ", key, value);
+                self.text.flag(self.plain.insert(key, value));
+            }
         }
     }
-}
 
-/// Carries out random calls on a map with this limiter, as one list.
-fn try_calls<L: Insertion<u64, u64, u64> + Drop>(
-    rt: &HostRuntime,
-    name: &str,
-    limiter: L,
-    trial: Trial,
-) -> io::Result<()> {
-    let alloc = rt.alloc();
-    let (mut expected, mut text) = (Text::new(alloc), Text::new(alloc));
-    let calls = random_calls(&mut expected, alloc, trial);
-    let mut map = LruMap::with_hasher(alloc, limiter, Sum(0), 16);
-    answer_calls(&mut text, alloc, &mut map, calls);
-    compare(rt, name, expected.as_str(), text.as_str())
-}
-
-/// The same under a limit by cost, whose sum no call may change.
-fn try_summing_calls(rt: &HostRuntime) -> io::Result<()> {
-    let alloc = rt.alloc();
-    let (mut expected, mut text) = (Text::new(alloc), Text::new(alloc));
-    let calls = random_calls(&mut expected, alloc, BY_COST);
-    let mut map = LruMap::with_hasher(alloc, ByCost::new(4000), Sum(0), 16);
-    answer_summing_calls(&mut text, alloc, &mut map, calls);
-    compare(rt, "ByCost", expected.as_str(), text.as_str())
-}
-
-/// Random calls. Adds their expected answers.
-fn random_calls<L: Drop>(
-    expected: &mut Text,
-    alloc: Global,
-    trial: Trial,
-) -> Vec<Call<u64, u64, L>> {
-    let mut random = Random::new(2);
-    let mut plain = Plain::new(alloc, trial.limit);
-    let mut calls = Vec::new(alloc);
-    for _ in 0..CALLS {
-        let call = random_call(&mut random, trial.bounds(false));
-        plain.answer(&call, expected);
-        expected.word("\n");
-        // Out of memory, an answer is missing.
-        let _ = calls.push(call);
+    /// Adds a drain. The line of the program takes no pairs from the oldest end.
+    fn add_drain(&mut self, front: u64, back: u64, is_map: bool) {
+        if is_map {
+            self.two("drain ", front, back);
+        } else {
+            self.one("drain ", front);
+        }
+        self.plain.drain(front, if is_map { back } else { 0 });
+        self.text.pairs(self.plain.left.as_slice());
     }
-    calls
-}
 
-/// Prints the first answer that is not the expected one, or how many agree.
-fn compare(rt: &HostRuntime, name: &str, expected: &str, text: &str) -> io::Result<()> {
-    if expected.lines().count() != text.lines().count() {
-        return println!(rt; "{name}: the calls are not all answered");
-    }
-    let mut number = 0u64;
-    for (expected, answer) in expected.lines().zip(text.lines()) {
-        number = number.saturating_add(1);
-        if !agrees(expected, answer) {
-            return println!(rt;
-                "{name}: answer {number} is \"{answer}\" in place of \"{expected}\""
-            );
+    /// Adds a call on the list as a whole, or on an end of it.
+    fn add_of_list(&mut self, number: u64) {
+        match self.random.below(444) {
+            ..=1 => {
+                self.word("clear");
+                self.plain.clear();
+                self.text.word("ok");
+            }
+            ..=27 => self.add_list_or_stats(),
+            ..=59 => {
+                // Nobody knows whether a large table has buckets to spare, so either answer is read as "ok".
+                self.word("shrink");
+                self.plain.shrink();
+                self.text.word("ok");
+            }
+            ..=187 => {
+                self.one("reserve ", number % 100);
+                write_reserved(&mut self.text, self.plain.reserve(number % 100));
+            }
+            ..=315 => {
+                self.word("pop-oldest");
+                self.text.maybe_pair(self.plain.take(0));
+            }
+            _ => {
+                self.word("pop-newest");
+                self.text.maybe_pair(self.plain.pop_newest());
+            }
         }
     }
-    println!(rt; "{name}: {number} answers agree with a plain list")
+
+    /// Adds the figures, if the list determines them, or the pairs.
+    fn add_list_or_stats(&mut self) {
+        let Limit::Memory(_, entry_bytes) = self.plain.limit else {
+            self.word("list");
+            self.plain.pairs.reverse();
+            self.text.pairs(self.plain.pairs.as_slice());
+            self.plain.pairs.reverse();
+            return;
+        };
+        self.word("stats");
+        let table = self.plain.table;
+        let report = MoveReport {
+            moved: table.moved,
+            placed: table.placed,
+            shrunk: table.shrunk,
+        };
+        let figures = [self.plain.len(), table.capacity(), table.bytes(entry_bytes)];
+        write_figures(&mut self.text, figures, report);
+    }
+
+    /// Adds a call on a key that inserts nothing.
+    fn add_of_key(&mut self, key: u64, value: u64) {
+        match self.random.below(26) {
+            ..=12 => {
+                self.one("peek ", key);
+                self.text.value(self.plain.value(key));
+            }
+            13 => {
+                self.one("contains ", key);
+                self.text.flag(self.plain.value(key).is_some());
+            }
+            14 => {
+                self.one("promote ", key);
+                self.text.flag(self.plain.get(key).is_some());
+            }
+            15 => {
+                self.one("demote ", key);
+                self.text.flag(self.plain.demote(key));
+            }
+            16 => {
+                self.two("update ", key, value);
+                write_updated(&mut self.text, self.plain.update(key, value));
+            }
+            kind => self.add_removal(kind == 17, key),
+        }
+    }
+
+    /// Adds a removal of a key, which returns its pair or its value.
+    fn add_removal(&mut self, of_pair: bool, key: u64) {
+        self.one(if of_pair { "remove-entry " } else { "remove " }, key);
+        let value = self.plain.value(key);
+        let pair = self.plain.remove(key);
+        if of_pair {
+            self.text.maybe_pair(pair);
+        } else {
+            self.text.value(value);
+        }
+    }
+
+    /// Adds a call that has no line in the program.
+    fn add_other(&mut self, key: u64, value: u64) {
+        match self.random.below(9) {
+            0 => {
+                self.word("peek-oldest");
+                self.text.maybe_pair(self.plain.pairs.first().copied());
+            }
+            1 => {
+                self.word("peek-newest");
+                self.text.maybe_pair(self.plain.pairs.last().copied());
+            }
+            2 => self.add_write(key, value),
+            3 => {
+                self.word("trim");
+                self.text.word("ok");
+            }
+            4 => {
+                self.two("get-or-insert ", key, value);
+                if self.plain.value(key).is_none() {
+                    self.plain.insert(key, value);
+                }
+                self.text.value(self.plain.get(key));
+            }
+            kind => self.add_by_hash(kind, key),
+        }
+    }
+
+    /// Adds a search by the hash of a key, or by another hash.
+    fn add_by_hash(&mut self, kind: u64, key: u64) {
+        let hash = sum_of_bytes(key);
+        match kind {
+            5 => {
+                self.two("get-by-hash ", hash.wrapping_add(OTHER_TAG), key);
+                self.text.word("none");
+            }
+            6 => {
+                self.two("peek-by-hash ", hash.wrapping_add(OTHER_TAG), key);
+                self.text.word("none");
+            }
+            7 => {
+                self.two("get-by-hash ", hash, key);
+                self.text.value(self.plain.get(key));
+            }
+            _ => {
+                self.two("peek-by-hash ", hash, key);
+                self.text.value(self.plain.value(key));
+            }
+        }
+    }
+
+    /// Adds a write. A limit by cost refuses one that changes the sum.
+    fn add_write(&mut self, key: u64, value: u64) {
+        self.two("write ", key, value);
+        match (self.plain.limit, self.plain.value(key)) {
+            (Limit::Cost(_), Some(old)) if old != value => self.text.word("cost differs"),
+            _ => self.text.flag(self.plain.write(key, value)),
+        }
+    }
 }
