@@ -2,7 +2,7 @@
 use crate::disk::BLOCKS;
 use crate::page_calls::{Cache, cache_of, write};
 use lru_caches::{OrderedMap, Unclosed};
-use std::alloc::{AllocError, Global};
+use std::alloc::Global;
 use std::cell::Cell;
 use std::rc::Rc;
 use test_helpers::Hog;
@@ -34,8 +34,10 @@ fn finds_memory(alloc: Global, closes: bool) -> bool {
 
 /// Makes caches one after another, with memory for one. Each is closed, or its pages are discarded. Returns how many
 /// found memory for their pages.
-pub fn caches_that_find_memory(alloc: Global, closes: bool) -> Result<u64, AllocError> {
-    let mut hog = Hog::new(alloc, &[128, 20, 16])?;
+pub fn caches_that_find_memory(alloc: Global, closes: bool) -> u64 {
+    let Ok(mut hog) = Hog::new(alloc, &[128, 20, 16]) else {
+        return 0;
+    };
     for _ in 0..3u64 {
         hog.release();
     }
@@ -43,7 +45,7 @@ pub fn caches_that_find_memory(alloc: Global, closes: bool) -> Result<u64, Alloc
     for _ in 0..CACHES {
         count = count.saturating_add(finds_memory(alloc, closes) as u64);
     }
-    Ok(count)
+    count
 }
 
 type Held = OrderedMap<Rc<u64>, Rc<u64>>;
@@ -77,37 +79,44 @@ fn map_of_three(alloc: Global) -> Held {
     map
 }
 
-/// Inserts a key into an ordered map of three entries that finds no memory for a fourth. Returns how often the key is
-/// then held.
-pub fn references_after_a_refused_insert(alloc: Global) -> Result<usize, AllocError> {
-    let refused = Rc::new(alloc, 3u64)?;
+// Inserts a key into an ordered map of three entries that finds no memory for a fourth. Returns whether the map holds no
+// reference to the key then.
+fn is_freed_after_a_refused_insert(alloc: Global, refused: &Rc<u64>) -> bool {
     let mut map = map_of_three(alloc);
-    let is_expected = is_refused(alloc, &mut map, &refused);
+    let is_expected = is_refused(alloc, &mut map, refused);
     // If memory never ends, the key was inserted, and its removal drops it.
-    map.remove(&refused);
-    Ok(if is_expected {
-        Rc::strong_count(&refused)
-    } else {
-        0
-    })
+    map.remove(refused);
+    is_expected && Rc::strong_count(refused) == 1
 }
 
-/// Inserts a key twice, and another one, and removes them. Returns how often the key is held after the second insert,
-/// after the other key is rejected by a retain, after both are removed and inserted again, and after a clear. Out of
-/// memory, these numbers differ.
-pub fn references_after_removals(alloc: Global) -> Result<[usize; 4], AllocError> {
-    let key = Rc::new(alloc, 1u64)?;
-    let other = Rc::new(alloc, 2u64)?;
+// Inserts a key twice, and another one, and removes them. Returns how often the key is held after the second insert,
+// after the other key is rejected by a retain, after both are removed and inserted again, and after a clear.
+fn references_after_removals(alloc: Global, key: &Rc<u64>, other: &Rc<u64>) -> [usize; 4] {
     let mut map = OrderedMap::new(alloc);
-    insert(&mut map, &key, &key);
-    insert(&mut map, &key, &key);
-    let twice = Rc::strong_count(&key);
-    insert(&mut map, &other, &key);
+    insert(&mut map, key, key);
+    insert(&mut map, key, key);
+    let twice = Rc::strong_count(key);
+    insert(&mut map, other, key);
     map.retain(|kept, _| **kept == 1);
-    let retained = Rc::strong_count(&key);
-    map.remove(&key);
-    insert(&mut map, &key, &key);
-    let again = Rc::strong_count(&key);
+    let retained = Rc::strong_count(key);
+    map.remove(key);
+    insert(&mut map, key, key);
+    let again = Rc::strong_count(key);
     map.clear();
-    Ok([twice, retained, again, Rc::strong_count(&key)])
+    [twice, retained, again, Rc::strong_count(key)]
+}
+
+/// Returns how many of five counts of the references that an ordered map holds are right. Out of memory, none are.
+pub fn references(alloc: Global) -> u64 {
+    let (Ok(key), Ok(other)) = (Rc::new(alloc, 1u64), Rc::new(alloc, 4u64)) else {
+        return 0;
+    };
+    let mut right = is_freed_after_a_refused_insert(alloc, &other) as u64;
+    for (count, expected) in references_after_removals(alloc, &key, &other)
+        .iter()
+        .zip([3, 3, 3, 1])
+    {
+        right = right.saturating_add((*count == expected) as u64);
+    }
+    right
 }

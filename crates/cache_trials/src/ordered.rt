@@ -1,7 +1,7 @@
 //! An ordered map beside a plain list of entries, oldest first.
 use crate::CALLS;
 use lru_caches::OrderedMap;
-use std::alloc::{AllocError, Global};
+use std::alloc::Global;
 use test_helpers::Random;
 
 type Map = OrderedMap<u64, u64>;
@@ -106,17 +106,18 @@ fn are_same(map: &Map, list: &List) -> bool {
     entries.next().is_none() && map.len() == list.len()
 }
 
-/// Returns how many random calls agree, and leave the same entries.
-pub fn calls_that_agree(alloc: Global) -> Result<u64, AllocError> {
+/// Returns how many random calls agree, and leave the same entries. None do if a map of 100,000 keys finds no memory.
+pub fn calls_that_agree(alloc: Global) -> u64 {
     let mut map = OrderedMap::new(alloc);
     let (mut list, mut random, mut count) = (Vec::new(alloc), Random::new(2), 0u64);
     for _ in 0..CALLS {
         let right = calls_agree(&mut map, &mut list, &mut random) && are_same(&map, &list);
         count = count.saturating_add(right as u64);
     }
-    // An ordered map finds memory for many keys.
     for key in 0..100_000u64 {
-        map.insert(key, key)?;
+        if map.insert(key, key).is_err() {
+            count = 0;
+        }
     }
-    Ok(count)
+    count
 }

@@ -40,18 +40,18 @@ pub fn calls_that_agree(alloc: Global) -> u64 {
 }
 
 /// Writes three blocks through a cache of two pages, whose disk fails at the write-back that the third one needs.
-/// Returns what the cache shows at the three after the disk was repaired. Each block of the disk is 7.
-pub fn blocks_after_a_failed_write_back(alloc: Global) -> [u64; 3] {
+/// Returns at how many of the three the cache shows what it should, after the disk was repaired.
+pub fn blocks_after_a_failed_write_back(alloc: Global) -> u64 {
     let calls_left = Cell::new(0);
     let mut cache = cache_of(alloc, [7; BLOCKS], &calls_left, 2);
     let is_third_written = write(&mut cache, 0, 50)
         && write(&mut cache, 1, 51)
         && write(&mut cache, 2, 52);
     calls_left.set(u64::MAX);
-    let mut shown = [99; 3];
-    for (n, place) in shown.iter_mut().enumerate() {
-        *place = read(&mut cache, n as u64).unwrap_or(99);
+    let mut right = 0u64;
+    for (n, block) in [(0, 50), (1, 51), (2, 7)] {
+        right = right.saturating_add((read(&mut cache, n) == Some(block)) as u64);
     }
     cache.discard();
-    if is_third_written { [99; 3] } else { shown }
+    if is_third_written { 0 } else { right }
 }
