@@ -1,11 +1,13 @@
-//! Loops over the hasher, the table and the map that a Rust program times, each inside one call.
+//! Loops over the hasher, the table and the map that a Rust program times, each inside one call. If memory runs out, an
+//! entry is missing, and the result differs from the one of the other maps.
 #![tactic(auto)]
 
 mod loads;
+mod rounds;
 
 use group_table::{Table, buckets_for_capacity};
-use schnellru::{ByLength, LruMap, RandomState, UnlimitedCompact};
-use std::alloc::{AllocError, Global};
+use schnellru::{ByLength, LruMap, RandomState};
+use std::alloc::Global;
 use std::hash::{BuildHasher, Hasher};
 
 /// The hash of a number.
@@ -62,248 +64,65 @@ fn carry_out(table: &mut Table<(u64, u64)>, state: &RandomState, operation: u64,
     }
 }
 
-/// Carries out the operations on a table with growth left for `capacity` entries.
-fn run_on(alloc: Global, capacity: usize, operations: &[u64]) -> Result<u64, AllocError> {
+/// Returns the sum of the results of the operations on a table with growth left for `capacity` entries, or 0 if memory
+/// runs out.
+#[unsafe(no_mangle)]
+pub extern "C" fn rattle_table(alloc: Global, capacity: usize, operations: &[u64]) -> u64 {
     let Some(buckets) = buckets_for_capacity(capacity, 1 << 40) else {
-        return Ok(0);
+        return 0;
     };
     let state = RandomState::default();
-    let mut table = Table::with_buckets(alloc, buckets)?;
+    let Ok(mut table) = Table::with_buckets(alloc, buckets) else {
+        return 0;
+    };
     let mut sum = 0;
     for operation in operations {
         sum = carry_out(&mut table, &state, *operation, sum);
     }
-    Ok(sum)
-}
-
-/// Returns the sum of the results of the operations on a table, or 0 if memory runs out.
-#[unsafe(no_mangle)]
-pub extern "C" fn rattle_table(alloc: Global, capacity: usize, operations: &[u64]) -> u64 {
-    run_on(alloc, capacity, operations).unwrap_or(0)
-}
-
-/// Carries out an operation, which its two lowest bits name, on the key that the others are.
-#[inline]
-fn carry_out_on_map(
-    map: &mut LruMap<u64, u64>,
-    operation: u64,
-    sum: u64,
-) -> Result<u64, AllocError> {
-    let key = operation >> 2;
-    match operation & 3 {
-        0 | 1 => {
-            map.insert(key, operation)?;
-            Ok(sum)
-        }
-        2 => match map.get(&key) {
-            Some(value) => Ok(sum.wrapping_mul(31).wrapping_add(*value)),
-            None => Ok(sum),
-        },
-        _ => match map.peek(&key) {
-            Some(value) => Ok(sum ^ *value),
-            None => Ok(sum),
-        },
-    }
-}
-
-/// Carries out the operations on a map of at most `length` pairs.
-fn run_on_map(alloc: Global, length: u32, operations: &[u64]) -> Result<u64, AllocError> {
-    let mut map = LruMap::new(alloc, ByLength::new(length), [1, 2, 3, 4], 16);
-    let mut sum = 0;
-    for operation in operations {
-        sum = carry_out_on_map(&mut map, *operation, sum)?;
-    }
-    Ok(sum)
-}
-
-/// Returns the sum of the results of the operations on a map, or 0 if memory runs out.
-#[unsafe(no_mangle)]
-pub extern "C" fn rattle_map(alloc: Global, length: u32, operations: &[u64]) -> u64 {
-    run_on_map(alloc, length, operations).unwrap_or(0)
-}
-
-/// Inserts the keys below a count into a map without a limit.
-fn grow(alloc: Global, count: u64) -> Result<u64, AllocError> {
-    let mut map: LruMap<u64, u64, UnlimitedCompact> = LruMap::new(
-        alloc,
-        UnlimitedCompact,
-        [1, 2, 3, 4],
-        16,
-    );
-    for key in 0..count {
-        map.insert(key, key)?;
-    }
-    Ok(map.len() as u64)
-}
-
-/// Returns how many pairs a map without a limit has after `pairs` inserts, or 0 if memory runs out.
-#[unsafe(no_mangle)]
-pub extern "C" fn rattle_map_growth(alloc: Global, count: u64) -> u64 {
-    grow(alloc, count).unwrap_or(0)
-}
-
-type Free = LruMap<u64, u64, UnlimitedCompact>;
-
-/// A map without a limit, of the keys below a count.
-fn filled(alloc: Global, count: u64) -> Result<Free, AllocError> {
-    let mut map: Free = LruMap::new(alloc, UnlimitedCompact, [1, 2, 3, 4], 16);
-    for key in 0..count {
-        map.insert(key, key)?;
-    }
-    Ok(map)
-}
-
-/// Takes each pair out by its key and puts it back, in each of `rounds` rounds.
-fn remove_all(alloc: Global, count: u64, rounds: u64) -> Result<u64, AllocError> {
-    let mut map = filled(alloc, count)?;
-    let mut sum = 0u64;
-    for _ in 0..rounds {
-        for key in 0..count {
-            let value = map.remove(&key).unwrap_or(0);
-            sum = sum.wrapping_mul(31).wrapping_add(value);
-            map.insert(key, sum)?;
-        }
-    }
-    Ok(sum)
-}
-
-/// Returns a sum over the values that the removals took out, or 0 if memory runs out.
-#[unsafe(no_mangle)]
-pub extern "C" fn rattle_map_removals(alloc: Global, count: u64, rounds: u64) -> u64 {
-    remove_all(alloc, count, rounds).unwrap_or(0)
-}
-
-/// Takes the oldest pair out and puts it back, once for each pair, in each of `rounds` rounds.
-fn pop_all(alloc: Global, count: u64, rounds: u64) -> Result<u64, AllocError> {
-    let mut map = filled(alloc, count)?;
-    let mut sum = 0u64;
-    for _ in 0..rounds {
-        for _ in 0..count {
-            let (key, value) = map.pop_oldest().unwrap_or((0, 0));
-            sum = sum.wrapping_mul(31).wrapping_add(value);
-            map.insert(key, sum)?;
-        }
-    }
-    Ok(sum)
-}
-
-/// Returns a sum over the values that the pops took out, or 0 if memory runs out.
-#[unsafe(no_mangle)]
-pub extern "C" fn rattle_map_pops(alloc: Global, count: u64, rounds: u64) -> u64 {
-    pop_all(alloc, count, rounds).unwrap_or(0)
-}
-
-/// Walks over the pairs, newest first, in each of `rounds` rounds.
-fn walk_all(alloc: Global, count: u64, rounds: u64) -> Result<u64, AllocError> {
-    let map = filled(alloc, count)?;
-    let mut sum = 0u64;
-    for _ in 0..rounds {
-        for (_, value) in map.iter() {
-            sum = sum.wrapping_mul(31).wrapping_add(*value);
-        }
-    }
-    Ok(sum)
-}
-
-/// Returns a sum over the values of the walks, or 0 if memory runs out.
-#[unsafe(no_mangle)]
-pub extern "C" fn rattle_map_walks(alloc: Global, count: u64, rounds: u64) -> u64 {
-    walk_all(alloc, count, rounds).unwrap_or(0)
-}
-
-/// Copies a map and drains the copy, in each of `rounds` rounds.
-fn drain_all(alloc: Global, count: u64, rounds: u64) -> Result<u64, AllocError> {
-    let map = filled(alloc, count)?;
-    let mut sum = 0u64;
-    for _ in 0..rounds {
-        let mut copy = map.clone()?;
-        for (_, value) in copy.drain() {
-            sum = sum.wrapping_mul(31).wrapping_add(value);
-        }
-    }
-    Ok(sum)
-}
-
-/// Returns a sum over the values of the drained copies, or 0 if memory runs out.
-#[unsafe(no_mangle)]
-pub extern "C" fn rattle_map_copies(alloc: Global, count: u64, rounds: u64) -> u64 {
-    drain_all(alloc, count, rounds).unwrap_or(0)
-}
-
-/// Gets each key in a map of at most `length` pairs, or inserts it with itself as its value.
-fn get_or_insert_all(alloc: Global, length: u32, keys: &[u64]) -> Result<u64, AllocError> {
-    let mut map: LruMap<u64, u64> = LruMap::new(alloc, ByLength::new(length), [1, 2, 3, 4], 16);
-    let mut sum = 0u64;
-    for key in keys {
-        let key = *key;
-        if let Some(value) = map.get_or_insert(key, || key)? {
-            sum = sum.wrapping_mul(31).wrapping_add(*value);
-        }
-    }
-    Ok(sum)
-}
-
-/// Returns a sum over the values of the gets, or 0 if memory runs out.
-#[unsafe(no_mangle)]
-pub extern "C" fn rattle_map_gets(alloc: Global, length: u32, keys: &[u64]) -> u64 {
-    get_or_insert_all(alloc, length, keys).unwrap_or(0)
+    sum
 }
 
 /// Carries out a call of a load on a key: an insert, a get, a peek, a removal, or a get that inserts what is not there.
 #[inline]
-fn step_of_load(
-    map: &mut LruMap<u64, u64>,
-    kind: u8,
-    key: u64,
-    sum: u64,
-) -> Result<u64, AllocError> {
+fn step_of_load(map: &mut LruMap<u64, u64>, kind: u8, key: u64, sum: u64) -> u64 {
     match kind {
         0 => {
-            map.insert(key, key ^ 7)?;
-            Ok(sum)
+            let _ = map.insert(key, key ^ 7);
+            sum
         }
-        1 => Ok(
-            sum.wrapping_mul(31).wrapping_add(match map.get(&key) {
-                Some(value) => *value,
-                None => 1,
-            }),
-        ),
-        2 => Ok(
-            sum.wrapping_mul(31).wrapping_add(match map.peek(&key) {
-                Some(value) => *value,
-                None => 1,
-            }),
-        ),
-        3 => Ok(sum ^ map.remove(&key).unwrap_or(1)),
+        1 => sum.wrapping_mul(31).wrapping_add(match map.get(&key) {
+            Some(value) => *value,
+            None => 1,
+        }),
+        2 => sum.wrapping_mul(31).wrapping_add(match map.peek(&key) {
+            Some(value) => *value,
+            None => 1,
+        }),
+        3 => sum ^ map.remove(&key).unwrap_or(1),
         _ => {
             if let Some(value) = map.get(&key) {
-                return Ok(sum.wrapping_add(*value));
+                return sum.wrapping_add(*value);
             }
-            map.insert(key, key ^ 7)?;
-            Ok(sum)
+            let _ = map.insert(key, key ^ 7);
+            sum
         }
     }
 }
 
-/// Carries out a load on a map of at most `length` pairs, and walks over the pairs that are left.
-fn run_load(alloc: Global, length: u32, kinds: &[u8], keys: &[u64]) -> Result<u64, AllocError> {
+/// Carries out a load on a map of at most `length` entries, and walks over the entries that are left.
+#[unsafe(no_mangle)]
+pub extern "C" fn rattle_load(alloc: Global, length: u32, kinds: &[u8], keys: &[u64]) -> u64 {
     let mut map = LruMap::new(alloc, ByLength::new(length), [1, 2, 3, 4], 32);
     let mut sum = 0u64;
     if kinds.len() != keys.len() {
-        return Ok(sum);
+        return sum;
     }
     // One counter, as the loop over the crate is compiled to. A zip of the two slices would count twice here.
     for i in 0..kinds.len() {
-        sum = step_of_load(&mut map, kinds[i], keys[i], sum)?;
+        sum = step_of_load(&mut map, kinds[i], keys[i], sum);
     }
     for (key, value) in map.iter() {
         sum = sum.wrapping_mul(31).wrapping_add(*key ^ *value);
     }
-    Ok(sum)
-}
-
-/// Returns the sum of the results of a load, or 0 if memory runs out.
-#[unsafe(no_mangle)]
-pub extern "C" fn rattle_load(alloc: Global, length: u32, kinds: &[u8], keys: &[u64]) -> u64 {
-    run_load(alloc, length, kinds, keys).unwrap_or(0)
+    sum
 }
