@@ -19,12 +19,14 @@ pub fn text_of(block: &[u8]) -> &str {
     str::from_utf8(block).unwrap_or("?").trim_end()
 }
 
-/// Prints why a call failed.
-fn print_error(rt: &impl Print, error: PageError<FileError>) -> io::Result<()> {
-    match error {
-        PageError::Device(error) => println!(rt; "error: {error}"),
-        PageError::Memory => println!(rt; "error: no memory"),
-    }
+/// Prints the word if a call is done, and else why it failed.
+fn say(rt: &HostRuntime, done: Result<(), PageError<FileError>>, word: &str) -> io::Result<()> {
+    let text = match done {
+        Ok(()) => word,
+        Err(PageError::Memory) => "error: no memory",
+        Err(PageError::Device(error)) => return println!(rt; "error: {error}"),
+    };
+    println!(rt; "{text}")
 }
 
 impl Session {
@@ -45,34 +47,24 @@ impl Session {
         }
     }
 
-    fn read(&mut self, rt: &impl Print, n: u64) -> io::Result<()> {
+    fn read(&mut self, rt: &HostRuntime, n: u64) -> io::Result<()> {
         self.count(n);
         match self.cache.read(n) {
             Ok(block) => println!(rt; "{n}: {}", text_of(&block)),
-            Err(error) => print_error(rt, error),
+            Err(error) => say(rt, Err(error), ""),
         }
     }
 
-    fn write(&mut self, rt: &impl Print, n: u64, text: &str) -> io::Result<()> {
+    fn write(&mut self, n: u64, text: &str) -> Result<(), PageError<FileError>> {
         // The cache would accept a page that the device lacks, and keep it: no write of it could succeed.
         if n >= BLOCKS {
-            return print_error(rt, PageError::Device(FileError::NoBlock));
+            return Err(PageError::Device(FileError::NoBlock));
         }
         self.count(n);
-        match self.cache.write(n, block_of(text)) {
-            Ok(()) => println!(rt; "written"),
-            Err(error) => print_error(rt, error),
-        }
+        self.cache.write(n, block_of(text))
     }
 
-    fn flush(&mut self, rt: &impl Print) -> io::Result<()> {
-        match self.cache.flush() {
-            Ok(()) => println!(rt; "flushed"),
-            Err(error) => print_error(rt, error),
-        }
-    }
-
-    fn stats(&self, rt: &impl Print) -> io::Result<()> {
+    fn stats(&self, rt: &HostRuntime) -> io::Result<()> {
         let writes = self.cache.device().writes();
         println!(rt;
             "hits {}, misses {}, write-backs {writes}",
@@ -81,13 +73,13 @@ impl Session {
     }
 
     /// Does what a line asks for, and prints the answer.
-    pub fn answer(&mut self, rt: &impl Print, line: &str) -> io::Result<()> {
+    pub fn answer(&mut self, rt: &HostRuntime, line: &str) -> io::Result<()> {
         match command_of(line) {
             Some(Command::Read(n)) => self.read(rt, n),
-            Some(Command::Write(n, text)) => self.write(rt, n, text),
-            Some(Command::Flush) => self.flush(rt),
+            Some(Command::Write(n, text)) => say(rt, self.write(n, text), "written"),
+            Some(Command::Flush) => say(rt, self.cache.flush(), "flushed"),
             Some(Command::Stats) => self.stats(rt),
-            None => println!(rt; "no command"),
+            None => say(rt, Ok(()), "no command"),
         }
     }
 

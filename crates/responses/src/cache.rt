@@ -6,7 +6,7 @@ ghost use Rattle.responses.specs.LookUps.{LooksUp};
 
 use lru_tenants::{ByWeight, Costed, TenantCache, TenantError};
 use schnellru::RandomState;
-use std::alloc::{AllocError, Global};
+use std::alloc::Global;
 use std::collections::BTreeMap;
 
 /// What an entry costs beside the bytes of its path and of its response.
@@ -59,9 +59,18 @@ fn fresh_response(
     Ok(None)
 }
 
+/// Copies a text.
+fn owned(alloc: Global, text: &str) -> Result<String, TenantError> {
+    match String::from_str(alloc, text) {
+        Ok(text) => Ok(text),
+        Err(_) => Err(TenantError::Memory),
+    }
+}
+
 /// A cache of responses: a tenant for each host, and its counts.
 #[derive(Drop)]
 pub struct ResponseCache {
+    alloc: Global,
     entries: Responses,
     counts: BTreeMap<String, Counts>,
 }
@@ -69,6 +78,7 @@ pub struct ResponseCache {
 impl ResponseCache {
     pub fn new(alloc: Global) -> ResponseCache {
         ResponseCache {
+            alloc,
             entries: TenantCache::with_hasher(alloc, RandomState::with_seeds([1, 2, 3, 4]), 80),
             counts: BTreeMap::new(alloc),
         }
@@ -89,29 +99,21 @@ impl ResponseCache {
     }
 
     /// Opens a host that is not open.
-    fn open(
-        &mut self,
-        alloc: Global,
-        host: &str,
-        budget: u64,
-    ) -> Result<Result<(), TenantError>, AllocError> {
-        let name = String::from_str(alloc, host)?;
-        let counted = String::from_str(alloc, host)?;
-        if let Err(error) = self.entries.open(name, budget) {
-            return Ok(Err(error));
-        }
-        self.counts.insert(counted, Counts::default())?;
-        Ok(Ok(()))
+    fn open(&mut self, name: String, budget: u64) -> Result<(), TenantError> {
+        let counted = owned(self.alloc, name.as_str())?;
+        self.entries.open(name, budget)?;
+        // Out of memory, the host is open and its calls are not counted.
+        let _ = self.counts.insert(counted, Counts::default());
+        Ok(())
     }
 
     /// Sets the budget of a host, and opens it first if it is not open. Returns how many entries were evicted.
     pub fn set_host(
         &mut self,
-        alloc: Global,
         host: &str,
         budget: u64,
-    ) -> Result<Result<u64, TenantError>, AllocError> {
-        let name = String::from_str(alloc, host)?;
+    ) -> Result<(&'static str, u64), TenantError> {
+        let name = owned(self.alloc, host)?;
         let mut evicted = 0u64;
         let set = self.entries.set_budget_with(
             &name,
@@ -119,65 +121,52 @@ impl ResponseCache {
             &mut |_, _| evicted = evicted.saturating_add(1),
         );
         if set.is_err() {
-            return Ok(self.open(alloc, host, budget)?.map(|_| 0));
+            self.open(name, budget)?;
+            return Ok(("host opened", 0));
         }
         self.count(&name, 0, 0, evicted);
-        Ok(Ok(evicted))
+        Ok(("budget set", evicted))
     }
 
-    /// Stores a response. Returns whether it is there then, and how many entries were evicted.
+    /// Stores a response. Returns whether it is there then, in a word, and how many entries were evicted.
     pub fn put(
         &mut self,
-        alloc: Global,
         host: &str,
         path: &str,
         response: Response,
-    ) -> Result<Result<(bool, u64), TenantError>, AllocError> {
-        let name = String::from_str(alloc, host)?;
-        let path = String::from_str(alloc, path)?;
+    ) -> Result<(&'static str, u64), TenantError> {
+        let (name, path) = (owned(self.alloc, host)?, owned(self.alloc, path)?);
         let mut evicted = 0u64;
         let stored = self.entries.put_with(
             &name,
             path,
             response,
             &mut |_, _| evicted = evicted.saturating_add(1),
-        );
+        )?;
         self.count(&name, 0, 0, evicted);
-        Ok(stored.map(|stored| (stored, evicted)))
+        Ok((if stored { "stored" } else { "refused" }, evicted))
     }
 
     /// Returns the response of a host for a path, if there is one that is fresh, and counts the look-up.
     pub fn look_up(
         &mut self,
-        alloc: Global,
         host: &str,
         path: &str,
         now: u64,
-    ) -> Result<Result<Option<Response>, TenantError>, AllocError>
-        ensures fresh { IfOk result (λ found. IfOk found (λ found. IfSome found (λ response. now < response.expires))) }
+    ) -> Result<Option<Response>, TenantError>
+        ensures fresh { IfOk result (λ found. IfSome found (λ response. now < response.expires)) }
     {
-        let name = String::from_str(alloc, host)?;
-        let found = fresh_response(&mut self.entries, &name, path, now);
-        match found {
-            Ok(Some(_)) => self.count(&name, 1, 0, 0),
-            Ok(None) => self.count(&name, 0, 1, 0),
-            Err(_) => {}
-        }
+        let name = owned(self.alloc, host)?;
+        let found = fresh_response(&mut self.entries, &name, path, now)?;
+        let hits = found.is_some() as u64;
+        self.count(&name, hits, found.is_none() as u64, 0);
         Ok(found)
     }
 
     /// Removes the response of a host for a path. Returns whether there was one.
-    pub fn purge(
-        &mut self,
-        alloc: Global,
-        host: &str,
-        path: &str,
-    ) -> Result<Result<bool, TenantError>, AllocError> {
-        let name = String::from_str(alloc, host)?;
-        Ok(match self.entries.remove(&name, &path) {
-            Ok(removed) => Ok(removed.is_some()),
-            Err(error) => Err(error),
-        })
+    pub fn purge(&mut self, host: &str, path: &str) -> Result<bool, TenantError> {
+        let name = owned(self.alloc, host)?;
+        Ok(self.entries.remove(&name, &path)?.is_some())
     }
 
     /// Returns how many entries a host has, and what they cost together.

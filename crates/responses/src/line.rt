@@ -1,6 +1,5 @@
 //! The lines of the program.
 use crate::cache::Response;
-use std::alloc::{AllocError, Global};
 
 /// A line, with its words.
 pub enum Line<'a> {
@@ -12,32 +11,27 @@ pub enum Line<'a> {
     Stats,
 }
 
-/// Returns a number, if the word is one.
-fn number(word: &str) -> Option<u64> {
-    word.parse().ok()
-}
-
-/// Returns the line that these words spell, if they spell one.
-fn spelled<'a>(words: &[&'a str]) -> Option<Line<'a>> {
-    match words {
-        ["now", time] => Some(Line::Now(number(time)?)),
-        ["host", name, "budget", budget] => Some(Line::Host(*name, number(budget)?)),
-        ["put", name, path, bytes, expires] => {
-            let (bytes, expires) = (number(bytes)?, number(expires)?);
-            Some(Line::Put(*name, *path, Response { bytes, expires }))
+/// Returns the line that a text spells, if it spells one.
+pub fn parse(text: &str) -> Option<Line<'_>> {
+    let (word, rest) = text.split_once(' ').unwrap_or((text, ""));
+    let (name, rest) = rest.split_once(' ').unwrap_or((rest, ""));
+    match word {
+        "now" if rest.is_empty() => Some(Line::Now(name.parse().ok()?)),
+        "host" => Some(Line::Host(name, rest.strip_prefix("budget ")?.parse().ok()?)),
+        "put" => {
+            let (path, numbers) = rest.split_once(' ')?;
+            let (bytes, expires) = numbers.split_once(' ')?;
+            let (bytes, expires) = (bytes.parse().ok()?, expires.parse().ok()?);
+            Some(Line::Put(name, path, Response { bytes, expires }))
         }
-        ["get", name, path] => Some(Line::Get(*name, *path)),
-        ["purge", name, path] => Some(Line::Purge(*name, *path)),
-        ["stats"] => Some(Line::Stats),
+        "get" if is_word(rest) => Some(Line::Get(name, rest)),
+        "purge" if is_word(rest) => Some(Line::Purge(name, rest)),
+        "stats" if text == "stats" => Some(Line::Stats),
         _ => None,
     }
 }
 
-/// Returns the line that a text spells, if it spells one.
-pub fn parse(alloc: Global, text: &str) -> Result<Option<Line<'_>>, AllocError> {
-    let mut words = Vec::new(alloc);
-    for word in text.split(' ') {
-        words.push(word)?;
-    }
-    Ok(spelled(words.as_slice()))
+/// Whether a text is one word.
+fn is_word(text: &str) -> bool {
+    !text.is_empty() && !text.contains(' ')
 }

@@ -9,73 +9,43 @@ use line::Line;
 use lru_tenants::TenantError;
 use std::io::{self, BufRead, BufReader};
 
+/// Prints a line.
+fn say(rt: &HostRuntime, text: &str) -> io::Result<()> {
+    println!(rt; "{text}")
+}
+
 /// Prints why a call failed.
-fn print_error(rt: &impl Print, error: TenantError) -> io::Result<()> {
-    match error {
-        TenantError::NotOpen => println!(rt; "no host"),
-        other => println!(rt; "{other}"),
+fn say_error(rt: &HostRuntime, error: TenantError) -> io::Result<()> {
+    say(
+        rt,
+        match error {
+            TenantError::NotOpen => "no host",
+            TenantError::AlreadyOpen => "already open",
+            TenantError::Memory => "no memory",
+            TenantError::OverTotal => "over the total limit",
+        },
+    )
+}
+
+/// Prints what a call did, and how many entries were evicted.
+fn say_evicted(rt: &HostRuntime, done: Result<(&str, u64), TenantError>) -> io::Result<()> {
+    match done {
+        Ok((what, evicted)) => println!(rt; "{what}, {evicted} evicted"),
+        Err(error) => say_error(rt, error),
     }
 }
 
-/// Sets the budget of a host, and opens the host first if it is not open.
-fn host(
-    rt: &(impl Print + AllocGlobal),
-    cache: &mut ResponseCache,
-    name: &str,
-    budget: u64,
-) -> io::Result<()> {
-    match cache.set_host(rt.alloc(), name, budget)? {
-        Ok(evicted) => println!(rt; "budget {budget}, {evicted} evicted"),
-        Err(error) => print_error(rt, error),
-    }
-}
-
-/// Stores a response.
-fn put(
-    rt: &(impl Print + AllocGlobal),
-    cache: &mut ResponseCache,
-    name: &str,
-    path: &str,
-    response: Response,
-) -> io::Result<()> {
-    match cache.put(rt.alloc(), name, path, response)? {
-        Ok((true, evicted)) => println!(rt; "stored, {evicted} evicted"),
-        Ok((false, evicted)) => println!(rt; "refused, {evicted} evicted"),
-        Err(error) => print_error(rt, error),
-    }
-}
-
-/// Looks a response up.
-fn get(
-    rt: &(impl Print + AllocGlobal),
-    cache: &mut ResponseCache,
-    name: &str,
-    path: &str,
-    now: u64,
-) -> io::Result<()> {
-    match cache.look_up(rt.alloc(), name, path, now)? {
+/// Prints what a look-up found.
+fn say_found(rt: &HostRuntime, found: Result<Option<Response>, TenantError>) -> io::Result<()> {
+    match found {
         Ok(Some(response)) => println!(rt; "hit {} until {}", response.bytes, response.expires),
-        Ok(None) => println!(rt; "miss"),
-        Err(error) => print_error(rt, error),
-    }
-}
-
-/// Removes a response.
-fn purge(
-    rt: &(impl Print + AllocGlobal),
-    cache: &mut ResponseCache,
-    name: &str,
-    path: &str,
-) -> io::Result<()> {
-    match cache.purge(rt.alloc(), name, path)? {
-        Ok(true) => println!(rt; "purged"),
-        Ok(false) => println!(rt; "not there"),
-        Err(error) => print_error(rt, error),
+        Ok(None) => say(rt, "miss"),
+        Err(error) => say_error(rt, error),
     }
 }
 
 /// Prints the counts of each host.
-fn stats(rt: &(impl Print + AllocGlobal), cache: &ResponseCache) -> io::Result<()> {
+fn stats(rt: &HostRuntime, cache: &ResponseCache) -> io::Result<()> {
     for (name, counts) in cache.counts() {
         let (entries, cost) = cache.size(name);
         println!(rt;
@@ -86,21 +56,38 @@ fn stats(rt: &(impl Print + AllocGlobal), cache: &ResponseCache) -> io::Result<(
     Ok(())
 }
 
+/// Does what a line asks for at this time, and prints the answer.
+fn answer(
+    rt: &HostRuntime,
+    cache: &mut ResponseCache,
+    now: &mut u64,
+    line: Option<Line>,
+) -> io::Result<()> {
+    match line {
+        Some(Line::Now(time)) => {
+            *now = time;
+            Ok(())
+        }
+        Some(Line::Host(host, budget)) => say_evicted(rt, cache.set_host(host, budget)),
+        Some(Line::Put(host, path, response)) => say_evicted(rt, cache.put(host, path, response)),
+        Some(Line::Get(host, path)) => say_found(rt, cache.look_up(host, path, *now)),
+        Some(Line::Purge(host, path)) => match cache.purge(host, path) {
+            Ok(true) => say(rt, "purged"),
+            Ok(false) => say(rt, "not there"),
+            Err(error) => say_error(rt, error),
+        },
+        Some(Line::Stats) => stats(rt, cache),
+        None => say(rt, "what?"),
+    }
+}
+
 fn main(rt: HostRuntime) -> io::Result<()> {
     let alloc = rt.alloc();
     let mut cache = ResponseCache::new(alloc);
     let mut now = 0;
     for text in BufReader::new(alloc, rt.reader())?.lines(alloc) {
         let text = text?;
-        match line::parse(alloc, text.as_str())? {
-            Some(Line::Now(time)) => now = time,
-            Some(Line::Host(name, budget)) => host(&rt, &mut cache, name, budget)?,
-            Some(Line::Put(name, path, response)) => put(&rt, &mut cache, name, path, response)?,
-            Some(Line::Get(name, path)) => get(&rt, &mut cache, name, path, now)?,
-            Some(Line::Purge(name, path)) => purge(&rt, &mut cache, name, path)?,
-            Some(Line::Stats) => stats(&rt, &cache)?,
-            None => println!(rt; "what?")?,
-        }
+        answer(&rt, &mut cache, &mut now, line::parse(text.as_str()))?;
     }
     Ok(())
 }

@@ -3,7 +3,7 @@
 
 mod plain;
 
-use lru_tenants::{ByWeight, TenantCache, TenantError};
+use lru_tenants::{ByWeight, TenantCache};
 use plain::Plain;
 use schnellru::RandomState;
 use std::alloc::Global;
@@ -23,6 +23,15 @@ struct Call {
     number: u64,
 }
 
+// The numbers of some calls.
+const OPEN: u64 = 0;
+
+const CLOSE: u64 = 2;
+
+const GET: u64 = 7;
+
+const PUT: u64 = 10;
+
 fn random_call(random: &mut Random) -> Call {
     Call {
         kind: random.below(16),
@@ -32,128 +41,141 @@ fn random_call(random: &mut Random) -> Call {
     }
 }
 
-/// Returns a value as a number, and 0 if there is none.
-fn number_of(value: Option<u64>) -> u64 {
-    match value {
-        Some(value) => value.saturating_add(1),
-        None => 0,
-    }
-}
+/// What a call on a tenant that is not open says.
+const ERROR: u64 = u64::MAX;
+
+/// What a look-up of a key that is not there says.
+const ABSENT: u64 = 1000;
 
 /// Makes the call on the cache. Returns what it says, as a number.
-fn of_cache(cache: &mut Cache, call: Call) -> Result<u64, TenantError> {
+fn of_cache(cache: &mut Cache, call: Call) -> u64 {
     let (name, key, number) = (call.name, call.key, call.number);
     match call.kind {
-        ..=1 => {
-            cache.open(name, number)?;
-            Ok(0)
+        ..=1 => cache.open(name, number).is_ok() as u64,
+        CLOSE => cache.close(&name).unwrap_or(usize::MAX) as u64,
+        3 => cache.cost(&name).unwrap_or(ERROR),
+        4 => match cache.remove(&name, &key) {
+            Ok(value) => value.unwrap_or(ABSENT),
+            Err(_) => ERROR,
+        },
+        5 | 6 => {
+            if call.kind == 5 {
+                let _ = cache.set_budget(&name, number);
+            } else if number == 0 {
+                let _ = cache.clear(&name);
+            }
+            cache.entries(&name).unwrap_or(usize::MAX) as u64
         }
-        2 => Ok(cache.close(&name)? as u64),
-        3 => cache.cost(&name),
-        4 => Ok(number_of(cache.remove(&name, &key)?)),
-        5 => set_budget(cache, name, number),
-        6 if number == 0 => {
-            cache.clear(&name)?;
-            Ok(0)
-        }
-        6 => Ok(cache.entries(&name)? as u64),
-        7..=9 => Ok(number_of(cache.get(&name, &key)?.copied())),
-        _ => Ok(cache.put(&name, key, number)? as u64),
+        7..=9 => match cache.get(&name, &key) {
+            Ok(value) => value.copied().unwrap_or(ABSENT),
+            Err(_) => ERROR,
+        },
+        _ => match cache.put(&name, key, number) {
+            Ok(is_there) => is_there as u64,
+            Err(_) => ERROR,
+        },
     }
-}
-
-/// Sets the budget of a tenant. Returns how many entries were evicted.
-fn set_budget(cache: &mut Cache, name: u64, budget: u64) -> Result<u64, TenantError> {
-    let mut evicted = 0u64;
-    cache.set_budget_with(
-        &name,
-        budget,
-        &mut |_, _| evicted = evicted.saturating_add(1),
-    )?;
-    Ok(evicted)
 }
 
 /// Makes the call on a plain list of its own, if the tenant is open.
-fn of_plain(alloc: Global, place: &mut Option<Plain>, call: Call) -> Result<u64, TenantError> {
+fn of_plain(alloc: Global, place: &mut Option<Plain>, call: Call) -> u64 {
     let Some(plain) = place else {
         if call.kind > 1 {
-            return Err(TenantError::NotOpen);
+            return ERROR;
         }
         *place = Some(Plain::new(alloc, call.number));
-        return Ok(0);
+        return 1;
     };
     match call.kind {
-        ..=1 => Err(TenantError::AlreadyOpen),
-        2 => {
+        ..=1 => 0,
+        CLOSE => {
             let entries = plain.len();
             *place = None;
-            Ok(entries)
+            entries
         }
-        3 => Ok(plain.cost()),
-        4 => Ok(number_of(plain.take(call.key))),
-        5 => Ok(plain.set_budget(call.number)),
-        6 if call.number == 0 => {
-            plain.clear();
-            Ok(0)
+        3 => plain.cost(),
+        4 => plain.take(call.key).unwrap_or(ABSENT),
+        5 => plain.set_budget(call.number),
+        6 => {
+            if call.number == 0 {
+                plain.clear();
+            }
+            plain.len()
         }
-        6 => Ok(plain.len()),
-        7..=9 => Ok(number_of(plain.get(call.key))),
-        _ => Ok(plain.put(call.key, call.number) as u64),
+        7..=9 => plain.get(call.key).unwrap_or(ABSENT),
+        _ => plain.put(call.key, call.number) as u64,
     }
 }
 
-/// Makes random calls on the cache and on the lists. Returns how many answers differ.
-fn differing(alloc: Global, cache: &mut Cache, calls: u64) -> io::Result<u64> {
+/// Makes random calls on the cache and on the lists. Returns how many answers agree.
+fn agreeing(alloc: Global, cache: &mut Cache, calls: u64) -> u64 {
     let mut places: Vec<Option<Plain>> = Vec::new(alloc);
     for _ in 0..TENANTS {
-        places.push(None)?;
+        let _ = places.push(None);
     }
     let mut random = Random::new(1);
-    let mut differ = 0u64;
+    let mut agree = 0u64;
     for _ in 0..calls {
         let call = random_call(&mut random);
         if let Some(place) = places.get_mut(call.name as usize) {
             let same = of_cache(cache, call) == of_plain(alloc, place, call);
-            differ = differ.saturating_add(!same as u64);
+            agree = agree.saturating_add(same as u64);
         }
     }
-    Ok(differ)
+    agree
 }
 
 /// Opens this many tenants, and puts an entry into each. Returns how many of them have it afterwards.
-fn opened(cache: &mut Cache, tenants: u64) -> Result<u64, TenantError> {
+fn opened(cache: &mut Cache, tenants: u64) -> u64 {
     for name in 0..tenants {
-        cache.open(name, 10)?;
-        cache.put(&name, name % 7, 1)?;
+        let key = name % 7;
+        for (kind, number) in [(OPEN, 10), (PUT, 1)] {
+            of_cache(
+                cache,
+                Call {
+                    kind,
+                    name,
+                    key,
+                    number,
+                },
+            );
+        }
     }
     let mut right = 0u64;
     for name in 0..tenants {
-        let has = cache.get(&name, &(name % 7))? == Some(&1) && cache.close(&name)? == 1;
+        let (key, number) = (name % 7, 0);
+        let has = of_cache(
+            cache,
+            Call {
+                kind: GET,
+                name,
+                key,
+                number,
+            },
+        ) == 1
+            && of_cache(
+                cache,
+                Call {
+                    kind: CLOSE,
+                    name,
+                    key,
+                    number,
+                },
+            ) == 1;
         right = right.saturating_add(has as u64);
     }
-    Ok(right)
-}
-
-/// Makes a cache without tenants.
-fn empty_cache(alloc: Global) -> Cache {
-    TenantCache::with_hasher(alloc, RandomState::with_seeds([1, 2, 3, 4]), 48)
-}
-
-/// Prints how many random calls have another answer than on plain lists.
-fn try_calls(rt: &HostRuntime) -> io::Result<()> {
-    let mut cache = empty_cache(rt.alloc());
-    let differ = differing(rt.alloc(), &mut cache, 100_000)?;
-    println!(rt;
-        "{} tenants open, {differ} of 100000 answers differ",
-        cache.len()
-    )
+    right
 }
 
 fn main(rt: HostRuntime) -> io::Result<()> {
-    try_calls(&rt)?;
-    let mut cache = empty_cache(rt.alloc());
-    match opened(&mut cache, 100_000) {
-        Ok(right) => println!(rt; "{right} of 100000 tenants have their entry"),
-        Err(error) => println!(rt; "{error}"),
-    }
+    let alloc = rt.alloc();
+    let mut cache = TenantCache::with_hasher(alloc, RandomState::with_seeds([1, 2, 3, 4]), 48);
+    let agree = agreeing(alloc, &mut cache, 100_000);
+    println!(rt;
+        "{} tenants open, {agree} of 100000 answers agree",
+        cache.len()
+    )?;
+    let mut cache = TenantCache::with_hasher(alloc, RandomState::with_seeds([1, 2, 3, 4]), 48);
+    let right = opened(&mut cache, 100_000);
+    println!(rt; "{right} of 100000 tenants have their entry")
 }

@@ -35,16 +35,13 @@ impl Plain {
         sum
     }
 
-    /// Removes the oldest entries until the cost is within the budget. Returns how many.
-    fn trim(&mut self) -> u64 {
-        let mut evicted = 0u64;
+    /// Removes the oldest entries until the cost is within the budget.
+    fn trim(&mut self) {
         for _ in 0..self.entries.len() {
             if !self.entries.is_empty() && self.cost() > self.budget {
                 self.entries.remove(0);
-                evicted = evicted.saturating_add(1);
             }
         }
-        evicted
     }
 
     /// The place of a key, or the number of entries if it is not there.
@@ -86,10 +83,11 @@ impl Plain {
         true
     }
 
-    /// Sets the budget. Returns how many entries were evicted.
+    /// Sets the budget. Returns how many entries are left.
     pub fn set_budget(&mut self, budget: u64) -> u64 {
         self.budget = budget;
-        self.trim()
+        self.trim();
+        self.len()
     }
 
     pub fn clear(&mut self) {
