@@ -11,27 +11,40 @@ pub enum Line<'a> {
     Stats,
 }
 
-/// Returns the line that a text spells, if it spells one.
-pub fn parse(text: &str) -> Option<Line<'_>> {
-    let (word, rest) = text.split_once(' ').unwrap_or((text, ""));
-    let (name, rest) = rest.split_once(' ').unwrap_or((rest, ""));
-    match word {
-        "now" if rest.is_empty() => Some(Line::Now(name.parse().ok()?)),
-        "host" => Some(Line::Host(name, rest.strip_prefix("budget ")?.parse().ok()?)),
-        "put" => {
-            let (path, numbers) = rest.split_once(' ')?;
-            let (bytes, expires) = numbers.split_once(' ')?;
-            let (bytes, expires) = (bytes.parse().ok()?, expires.parse().ok()?);
-            Some(Line::Put(name, path, Response { bytes, expires }))
-        }
-        "get" if is_word(rest) => Some(Line::Get(name, rest)),
-        "purge" if is_word(rest) => Some(Line::Purge(name, rest)),
-        "stats" if text == "stats" => Some(Line::Stats),
+/// Returns a number, if the word is one.
+fn number(word: &str) -> Option<u64> {
+    word.parse().ok()
+}
+
+/// Returns the two words of a text, if it has two.
+fn two(text: &str) -> (&str, &str) {
+    text.split_once(' ').unwrap_or((text, ""))
+}
+
+/// Returns the response of these words.
+fn response(bytes: &str, expires: &str) -> Option<Response> {
+    match (number(bytes), number(expires)) {
+        (Some(bytes), Some(expires)) => Some(Response { bytes, expires }),
         _ => None,
     }
 }
 
-/// Whether a text is one word.
-fn is_word(text: &str) -> bool {
-    !text.is_empty() && !text.contains(' ')
+/// Returns the line that a text spells, if it spells one.
+pub fn parse(text: &str) -> Option<Line<'_>> {
+    let (word, rest) = two(text);
+    let (name, rest) = two(rest);
+    let (path, rest) = two(rest);
+    match word {
+        "now" if path.is_empty() => Some(Line::Now(number(name)?)),
+        "host" if path == "budget" => Some(Line::Host(name, number(rest)?)),
+        "put" => {
+            let (bytes, expires) = two(rest);
+            Some(Line::Put(name, path, response(bytes, expires)?))
+        }
+        "get" | "purge" if path.is_empty() || !rest.is_empty() => None,
+        "get" => Some(Line::Get(name, path)),
+        "purge" => Some(Line::Purge(name, path)),
+        "stats" if name.is_empty() => Some(Line::Stats),
+        _ => None,
+    }
 }
