@@ -106,17 +106,13 @@ fn references_after_removals(alloc: Global, key: &Rc<u64>, other: &Rc<u64>) -> [
     [twice, retained, again, Rc::strong_count(key)]
 }
 
-/// Returns how many of five counts of the references that an ordered map holds are right. Out of memory, none are.
+/// Returns how many of two lists of calls leave an ordered map with the references that it should hold. Out of memory,
+/// none do.
 pub fn references(alloc: Global) -> u64 {
     let (Ok(key), Ok(other)) = (Rc::new(alloc, 1u64), Rc::new(alloc, 4u64)) else {
         return 0;
     };
-    let mut right = is_freed_after_a_refused_insert(alloc, &other) as u64;
-    for (count, expected) in references_after_removals(alloc, &key, &other)
-        .iter()
-        .zip([3, 3, 3, 1])
-    {
-        right = right.saturating_add((*count == expected) as u64);
-    }
-    right
+    let is_freed = is_freed_after_a_refused_insert(alloc, &other);
+    let are_right = references_after_removals(alloc, &key, &other) == [3, 3, 3, 1];
+    (is_freed as u64).saturating_add(are_right as u64)
 }

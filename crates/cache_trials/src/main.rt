@@ -40,9 +40,9 @@ fn of_maps(alloc: Global) -> [Trial; 7] {
             CALLS,
         ),
         (
-            "counts of references that an ordered map holds",
+            "ordered maps that hold counted references",
             leaks::references(alloc),
-            5,
+            2,
         ),
         (
             "growths of an ordered map without memory",

@@ -1,5 +1,5 @@
 //! Caches that run out of memory at each request of a growth in turn.
-use crate::page_calls::{Cache, cache_of, ends_with, flush, read, write};
+use crate::page_calls::{Cache, cache_of, ends_with, flush, read, shows, write};
 use lru_caches::{Loader, Memo, OrderedMap, PageError};
 use schnellru::ByLength;
 use std::alloc::{AllocError, Global};
@@ -39,33 +39,45 @@ fn writes_fourth(cache: &mut Cache) -> Option<bool> {
 fn page_cache(alloc: Global, met: usize) -> bool {
     let calls_left = Cell::new(u64::MAX);
     let mut cache = cache_of(alloc, [10, 11, 12, 13, 14, 15, 16, 17], &calls_left, 8);
-    let mut right = write(&mut cache, 0, 0) && write(&mut cache, 1, 1) && write(&mut cache, 2, 2);
+    for n in 0..3u64 {
+        write(&mut cache, n, n);
+    }
     let hog = hog(alloc, &[256, 24, 16], met);
     let written = writes_fourth(&mut cache);
     let shown = read(&mut cache, 4);
-    right = right && is_expected(&hog, met, written == Some(true));
-    right = right && is_expected(&hog, met, shown == Some(14)) && written.is_some();
+    let is_written = written == Some(true);
+    let is_expected = written.is_some()
+        && is_expected(&hog, met, is_written)
+        && is_expected(&hog, met, shown == Some(14));
     drop(hog);
-    let third = if written == Some(true) { 3 } else { 13 };
-    right = right && read(&mut cache, 3) == Some(third) && flush(&mut cache);
-    ends_with(cache, &[0, 1, 2, third, 14, 15, 16, 17]) && right
+    let blocks = [0, 1, 2, if is_written { 3 } else { 13 }, 14, 15, 16, 17];
+    let right = shows(&mut cache, &blocks) && flush(&mut cache);
+    ends_with(cache, &blocks) && right && is_expected
+}
+
+// A number whose digits are the entries of a map, oldest first: one for each key, and two for each value.
+fn digits(map: &OrderedMap<u64, u64>) -> u64 {
+    let mut digits = 0u64;
+    for (key, value) in map.iter() {
+        digits = digits.wrapping_mul(10).wrapping_add(*key);
+        digits = digits.wrapping_mul(100).wrapping_add(*value);
+    }
+    digits
 }
 
 // An ordered map of three entries: if the fourth runs out of memory, the map is as before, and can still be written.
 fn ordered_map(alloc: Global, met: usize) -> bool {
     let mut map = OrderedMap::new(alloc);
-    let mut right = true;
     for n in 0..3u64 {
-        right = right && map.insert(n, n).is_ok();
+        let _ = map.insert(n, n);
     }
     let hog = hog(alloc, &[256, 24, 32], met);
     let is_inserted = map.insert(3, 3).is_ok();
-    let written = map.insert(1, 11);
-    right = right && is_expected(&hog, met, is_inserted) && written == Ok(Some(1));
+    let _ = map.insert(1, 11);
+    let is_expected = is_expected(&hog, met, is_inserted);
     drop(hog);
-    let newest = if is_inserted { 3 } else { 2 };
-    right = right && map.first() == Some((&0, &0)) && map.get(&1) == Some(&11);
-    right && map.last() == Some((&newest, &newest))
+    let entries = if is_inserted { 111_202_303 } else { 111_202 };
+    is_expected && digits(&map) == entries
 }
 
 /// Returns how many of a memo and a loader without memory return what they cannot store, and store it later.

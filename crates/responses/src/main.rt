@@ -7,7 +7,7 @@ mod line;
 use cache::{Response, ResponseCache};
 use line::Line;
 use lru_tenants::TenantError;
-use std::io::{self, BufRead, BufReader};
+use std::io;
 
 /// Prints a line.
 fn say(rt: &HostRuntime, text: &str) -> io::Result<()> {
@@ -85,7 +85,7 @@ fn main(rt: HostRuntime) -> io::Result<()> {
     let alloc = rt.alloc();
     let mut cache = ResponseCache::new(alloc);
     let mut now = 0;
-    for text in BufReader::new(alloc, rt.reader())?.lines(alloc) {
+    for text in rt.lines(alloc) {
         let text = text?;
         answer(&rt, &mut cache, &mut now, line::parse(text.as_str()))?;
     }
