@@ -125,43 +125,27 @@ fn agreeing(alloc: Global, cache: &mut Cache, calls: u64) -> u64 {
     agree
 }
 
+/// Makes a call on a tenant and a key that its name gives. Returns what it says.
+fn on_own_key(cache: &mut Cache, name: u64, kind: u64, number: u64) -> u64 {
+    let key = name % 7;
+    let call = Call {
+        kind,
+        name,
+        key,
+        number,
+    };
+    of_cache(cache, call)
+}
+
 /// Opens this many tenants, and puts an entry into each. Returns how many of them have it afterwards.
 fn opened(cache: &mut Cache, tenants: u64) -> u64 {
     for name in 0..tenants {
-        let key = name % 7;
-        for (kind, number) in [(OPEN, 10), (PUT, 1)] {
-            of_cache(
-                cache,
-                Call {
-                    kind,
-                    name,
-                    key,
-                    number,
-                },
-            );
-        }
+        on_own_key(cache, name, OPEN, 10);
+        on_own_key(cache, name, PUT, 1);
     }
     let mut right = 0u64;
     for name in 0..tenants {
-        let (key, number) = (name % 7, 0);
-        let has = of_cache(
-            cache,
-            Call {
-                kind: GET,
-                name,
-                key,
-                number,
-            },
-        ) == 1
-            && of_cache(
-                cache,
-                Call {
-                    kind: CLOSE,
-                    name,
-                    key,
-                    number,
-                },
-            ) == 1;
+        let has = on_own_key(cache, name, GET, 0) == 1 && on_own_key(cache, name, CLOSE, 0) == 1;
         right = right.saturating_add(has as u64);
     }
     right
