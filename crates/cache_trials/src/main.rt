@@ -26,79 +26,49 @@ type Trial = (&'static str, u64, u64);
 
 /// Tries memos, loaders and ordered maps.
 fn of_maps(alloc: Global) -> [Trial; 7] {
+    let numbers = recursion::tables_that_are_right(alloc);
+    let entries = ordered::calls_that_agree(alloc);
+    let references = leaks::references(alloc);
+    let growths = refusals::of_ordered_maps(alloc);
+    let refused = refusals::of_memos(alloc);
     [
         ("calls on a memo", memos::calls_that_agree(alloc), CALLS),
         ("calls on a loader", loaders::calls_that_agree(alloc), CALLS),
-        (
-            "Fibonacci numbers by memo tables",
-            recursion::tables_that_are_right(alloc),
-            4,
-        ),
-        (
-            "calls on an ordered map",
-            ordered::calls_that_agree(alloc),
-            CALLS,
-        ),
-        (
-            "ordered maps that hold counted references",
-            leaks::references(alloc),
-            2,
-        ),
-        (
-            "growths of an ordered map without memory",
-            refusals::of_ordered_maps(alloc),
-            4,
-        ),
-        (
-            "memos and loaders without memory",
-            refusals::of_memos(alloc),
-            2,
-        ),
+        ("Fibonacci numbers by memo tables", numbers, 4),
+        ("calls on an ordered map", entries, CALLS),
+        ("ordered maps that hold counted references", references, 2),
+        ("growths of an ordered map without memory", growths, 4),
+        ("memos and loaders without memory", refused, 2),
     ]
 }
 
 /// Tries page caches.
-fn of_pages(alloc: Global) -> [Trial; 9] {
+fn of_pages(alloc: Global) -> [Trial; 5] {
+    let calls = pages::calls_that_agree(alloc);
+    let copies = files::calls_that_agree_on_copies(alloc);
+    let hashes = files::calls_that_agree_on_hashes(alloc);
+    let blocks = pages::blocks_after_a_failed_write_back(alloc);
+    let growths = refusals::of_page_caches(alloc);
+    [
+        ("calls on a page cache", calls, CALLS),
+        ("calls on a file with copies", copies, CALLS),
+        ("calls on a file with hashes", hashes, CALLS),
+        ("blocks after a failed write-back", blocks, 3),
+        ("growths of a page cache without memory", growths, 4),
+    ]
+}
+
+/// Tries page caches on a disk that fails, and many of them in turn.
+fn of_runs(alloc: Global) -> [Trial; 4] {
     let (tried, once) = failures::runs_that_lose_nothing(alloc, false);
     let (tried_broken, broken) = failures::runs_that_lose_nothing(alloc, true);
+    let closed = leaks::caches_that_find_memory(alloc, true);
+    let discarded = leaks::caches_that_find_memory(alloc, false);
     [
-        (
-            "calls on a page cache",
-            pages::calls_that_agree(alloc),
-            CALLS,
-        ),
-        (
-            "calls on a file with copies",
-            files::calls_that_agree_on_copies(alloc),
-            CALLS,
-        ),
-        (
-            "calls on a file with hashes",
-            files::calls_that_agree_on_hashes(alloc),
-            CALLS,
-        ),
-        (
-            "blocks after a failed write-back",
-            pages::blocks_after_a_failed_write_back(alloc),
-            3,
-        ),
         ("runs with one failure", once, tried),
         ("runs on a disk that stays broken", broken, tried_broken),
-        (
-            "page caches that are closed in turn",
-            leaks::caches_that_find_memory(alloc, true),
-            CACHES,
-        ),
-        (
-            "page caches that are discarded in turn",
-            leaks::caches_that_find_memory(alloc, false),
-            CACHES,
-        ),
-        (
-            "growths of a page cache without memory",
-            refusals::of_page_caches(alloc),
-            4,
-        ),
+        ("page caches that are closed in turn", closed, CACHES),
+        ("page caches that are discarded in turn", discarded, CACHES),
     ]
 }
 
@@ -112,5 +82,6 @@ fn print(rt: &HostRuntime, results: &[Trial]) -> io::Result<()> {
 
 fn main(rt: HostRuntime) -> io::Result<()> {
     print(&rt, &of_maps(rt.alloc()))?;
-    print(&rt, &of_pages(rt.alloc()))
+    print(&rt, &of_pages(rt.alloc()))?;
+    print(&rt, &of_runs(rt.alloc()))
 }
