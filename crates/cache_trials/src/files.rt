@@ -1,6 +1,6 @@
 //! A page cache over each device on a file, beside a plain list of blocks.
 use crate::CALLS;
-use lru_caches::{BlockDevice, FileDevice, HashedFileDevice, PageCache};
+use lru_caches::{BlockDevice, FileDevice, HashedFileDevice, PageCache, Unclosed};
 use std::alloc::Global;
 use std::io::Cursor;
 use test_helpers::Random;
@@ -36,8 +36,8 @@ where
     cache.write(n, place.to_le_bytes()).is_ok()
 }
 
-// Makes random reads and writes, and returns how many agree. If the cache does not show all blocks in the end, none do.
-fn count<D: BlockDevice<Block>>(cache: &mut PageCache<Block, D>, model: &mut Vec<u64>) -> u64
+// Makes random reads and writes, and returns how many agree. If the file does not have all blocks in the end, none do.
+fn count<D: BlockDevice<Block> + Drop>(mut cache: PageCache<Block, D>, model: &mut Vec<u64>) -> u64
 where
     D::Error: Drop,
 {
@@ -45,16 +45,33 @@ where
     for _ in 0..CALLS {
         let n = random_number(&mut random);
         if let Some(place) = model.get_mut(n as usize) {
-            let right = agree(cache, n, place, &mut random);
+            let right = agree(&mut cache, n, place, &mut random);
             count = count.saturating_add(right as u64);
         }
     }
-    for (n, number) in model.iter().enumerate() {
-        if cache.read(n as u64).ok() != Some(number.to_le_bytes()) {
-            count = 0;
+    match cache.close() {
+        Ok(mut device) => if has_blocks(&mut device, model) {
+            count
+        } else {
+            0
+        },
+        Err(Unclosed { cache, error: _ }) => {
+            drop(cache.discard());
+            0
         }
     }
-    count
+}
+
+// Whether a device has the blocks of a list.
+fn has_blocks<D: BlockDevice<Block>>(device: &mut D, model: &Vec<u64>) -> bool
+where
+    D::Error: Drop,
+{
+    let mut right = true;
+    for (n, number) in model.iter().enumerate() {
+        right = right && device.read(n as u64).ok() == Some(number.to_le_bytes());
+    }
+    right
 }
 
 // A file whose blocks are the numbers of a list. Out of memory, it lacks blocks.
@@ -78,27 +95,27 @@ fn random_blocks(alloc: Global) -> Vec<u64> {
 /// Returns how many random calls agree on a device that keeps copies.
 pub fn calls_that_agree_on_copies(alloc: Global) -> u64 {
     let mut model = random_blocks(alloc);
-    let file = file_of(alloc, &model);
-    let device: Result<FileDevice<_, 8>, _> = FileDevice::new(alloc, file, BLOCKS);
-    let Ok(device) = device else {
-        return 0;
-    };
-    let mut cache = PageCache::new(alloc, device, CAPACITY);
-    let agree = count(&mut cache, &mut model);
-    drop(cache.discard());
-    agree
+    let device: Result<FileDevice<_, 8>, _> = FileDevice::new(
+        alloc,
+        file_of(alloc, &model),
+        BLOCKS,
+    );
+    match device {
+        Ok(device) => count(PageCache::new(alloc, device, CAPACITY), &mut model),
+        Err(_) => 0,
+    }
 }
 
 /// Returns how many random calls agree on a device that keeps hashes.
 pub fn calls_that_agree_on_hashes(alloc: Global) -> u64 {
     let mut model = random_blocks(alloc);
-    let file = file_of(alloc, &model);
-    let device: Result<HashedFileDevice<_, 8>, _> = HashedFileDevice::new(alloc, file, BLOCKS);
-    let Ok(device) = device else {
-        return 0;
-    };
-    let mut cache = PageCache::new(alloc, device, CAPACITY);
-    let agree = count(&mut cache, &mut model);
-    drop(cache.discard());
-    agree
+    let device: Result<HashedFileDevice<_, 8>, _> = HashedFileDevice::new(
+        alloc,
+        file_of(alloc, &model),
+        BLOCKS,
+    );
+    match device {
+        Ok(device) => count(PageCache::new(alloc, device, CAPACITY), &mut model),
+        Err(_) => 0,
+    }
 }
