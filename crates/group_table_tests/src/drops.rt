@@ -1,5 +1,5 @@
 //! Entries that are dropped, which no clause says. All entries of a table share one value.
-use super::tables::{moved, table_of};
+use super::tables::table_of;
 use group_table::Table;
 use std::alloc::{AllocError, Global};
 use std::cell::Cell;
@@ -16,36 +16,13 @@ fn sharing(alloc: Global, shared: &Rc<u64>) -> Result<Table<Rc<u64>>, AllocError
     Ok(table)
 }
 
+// A copy calls its closure once for each entry. If the closure fails, those that were made are dropped. A clear drops
+// what it removes.
 #[test]
 fn entries_are_dropped(rt: HostRuntime) -> Result<(), Fail> {
-    for is_cleared in [false, true] {
-        let shared = Rc::new(rt.alloc(), 0u64)?;
-        let mut table = sharing(rt.alloc(), &shared)?;
-        if table.is_full(3) {
-            drop(table.take(3));
-        }
-        // The first move makes a table of other buckets, and the others are rehashes.
-        for _ in 0..3u32 {
-            let _links: Vec<u32> = moved(&mut table, 32, |_| 5 << 57)?;
-        }
-        let moved = Rc::strong_count(&shared);
-        if is_cleared {
-            table.clear();
-        }
-        let cleared = Rc::strong_count(&shared);
-        drop(table);
-        let counts = (moved, cleared, Rc::strong_count(&shared));
-        check!(rt; counts == (14, if is_cleared { 1 } else { 14 }, 1));
-    }
-    Ok(())
-}
-
-// A copy calls its closure once for each entry. If the closure fails, those that were made are dropped.
-#[test]
-fn copies_are_dropped(rt: HostRuntime) -> Result<(), Fail> {
     let shared = Rc::new(rt.alloc(), 0u64)?;
-    let table = sharing(rt.alloc(), &shared)?;
-    for refused in [1, 10, 15u32] {
+    let mut table = sharing(rt.alloc(), &shared)?;
+    for (refused, asked_and_owned) in [(1, (1, 15)), (10, (10, 15)), (15u32, (14u32, 29usize))] {
         let asked = Cell::new(0u32);
         let copy = table.clone_with(|entry| {
             asked.set(asked.get().wrapping_add(1));
@@ -54,15 +31,11 @@ fn copies_are_dropped(rt: HostRuntime) -> Result<(), Fail> {
             }
             entry.clone()
         });
-        let counts = (asked.get(), Rc::strong_count(&shared));
+        check!(rt; (asked.get(), Rc::strong_count(&shared)) == asked_and_owned);
         drop(copy);
-        check!(rt; counts
-                == (if refused == 15 {
-                    (14, 29)
-                } else {
-                    (refused, 15)
-                }));
         check!(rt; Rc::strong_count(&shared) == 15);
     }
+    table.clear();
+    check!(rt; Rc::strong_count(&shared) == 1);
     Ok(())
 }

@@ -1,5 +1,6 @@
-//! The example of the docs of `Table`.
+//! The examples of the docs of `Table`, and of the masks of docs/TABLE.md.
 use group_table::Table;
+use group_table::group::{match_empty, match_free, match_tag};
 use std::test::Fail;
 use test_helpers::check;
 
@@ -13,5 +14,15 @@ fn of_the_table(rt: HostRuntime) -> Result<(), Fail> {
         let b = table.place(9, "b");
         check!(rt; table.find(9, |entry| *entry == "b") == Some(b));
     }
+    let mut bytes = [255; 16];
+    bytes[0] = 0;
+    bytes[2] = 128;
+    bytes[3] = 5;
+    let masks = [
+        match_tag(&bytes, 5),
+        match_empty(&bytes),
+        match_free(&bytes),
+    ];
+    check!(rt; masks == [0x0008, 0xfff2, 0xfff6]);
     Ok(())
 }

@@ -8,10 +8,6 @@ mod examples;
 #[cfg(test)]
 mod memory;
 #[cfg(test)]
-mod placings;
-#[cfg(test)]
 mod relocations;
-#[cfg(test)]
-mod sizes;
 #[cfg(test)]
 mod tables;

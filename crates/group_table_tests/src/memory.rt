@@ -1,71 +1,43 @@
-//! Memory that tables give back, which no clause says.
-use super::tables::{fill, move_once, table_of, thin};
+//! Memory that tables give back, which no clause says. All other memory is taken, so calls that lose a block run out of
+//! memory before long.
+use super::tables::{fill, is_copied, move_once, table_of};
 use std::alloc::{AllocError, Global};
 use std::test::Fail;
-use test_helpers::Hog;
+use test_helpers::{Hog, check};
 
-// What happens to a full table of 8 buckets. `Copied`: one copy is refused at the last entry, and one is made.
-#[derive(Clone, Copy)]
-enum Step {
-    Copied,
-    MovedTo(usize),
-    Emptied,
-    Cleared,
-}
+// The only memory that is left. A cycle of calls that loses 16 bytes uses it up within the cycles.
+const SPARE: usize = 1 << 16;
 
-use Step::{Cleared, Copied, Emptied, MovedTo};
+const CYCLES: u32 = 5000;
 
-// The steps, and the requests, among them the control bytes and entries of 8 buckets (24 and 64 bytes) and of 16 (32
-// and 128). A link has 4 bytes.
-const STEPS: [(&[Step], &[usize]); 6] = [
-    (&[Copied], &[24, 64, 24, 64]),
-    (&[MovedTo(16), MovedTo(8)], &[24, 64, 32, 128, 32, 64]),
-    (&[MovedTo(8)], &[24, 64, 32, 24]),
-    (&[Cleared], &[24, 64]),
-    (&[Emptied, MovedTo(16), MovedTo(0)], &[24, 64, 32, 128]),
-    (&[Cleared, MovedTo(16), MovedTo(0)], &[24, 64, 32, 128]),
-];
-
-// Makes a table, takes the steps, and drops it.
-fn take_steps(alloc: Global, steps: &[Step]) -> Result<(), AllocError> {
+// Copies a full table of 8 buckets, also with the copy of its last entry refused, moves it up, within its buckets and
+// down, and gives its buckets back when it is cleared. Another table is dropped with its entries. Returns whether the
+// copies were made and refused.
+fn cycle(alloc: Global) -> Result<bool, AllocError> {
     let mut table = table_of(alloc, 8)?;
     fill(&mut table, 1, 0);
-    for step in steps {
-        match *step {
-            Copied => {
-                for refused in [6, 7u64] {
-                    let copy = table.clone_with(|key| if *key == refused {
-                        Err(AllocError)
-                    } else {
-                        Ok(*key)
-                    });
-                    if copy.is_ok() != (refused == 7) {
-                        return Err(AllocError);
-                    }
-                }
-            }
-            MovedTo(buckets) => move_once(&mut table, buckets)?,
-            Emptied => thin(&mut table, 1, 0),
-            Cleared => table.clear(),
-        }
+    let are_copied = is_copied(&table, 7) && !is_copied(&table, 6);
+    for buckets in [16, 16, 8] {
+        move_once(&mut table, buckets)?;
     }
-    Ok(())
+    let mut other = table_of(alloc, 8)?;
+    fill(&mut other, 1, 0);
+    table.clear();
+    for buckets in [16, 0] {
+        move_once(&mut table, buckets)?;
+    }
+    Ok(are_copied)
 }
 
-// Ten times, with memory for each of the requests once.
 #[test]
 fn memory_is_given_back(rt: HostRuntime) -> Result<(), Fail> {
-    for (steps, requests) in STEPS {
-        let mut hog = Hog::new(rt.alloc(), requests)?;
-        for _ in 0..requests.len() {
-            hog.release();
-        }
-        let mut taken = 0u32;
-        for _ in 0..10u32 {
-            taken = taken.wrapping_add(take_steps(rt.alloc(), steps).is_ok() as u32);
-        }
-        drop(hog);
-        assert!(rt; taken == 10, "{requests:?}");
+    let mut hog = Hog::new(rt.alloc(), &[SPARE])?;
+    hog.release();
+    let mut made = 0u32;
+    for _ in 0..CYCLES {
+        made = made.wrapping_add((cycle(rt.alloc()) == Ok(true)) as u32);
     }
+    drop(hog);
+    check!(rt; made == CYCLES);
     Ok(())
 }

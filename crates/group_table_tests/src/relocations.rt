@@ -1,56 +1,44 @@
 //! Relocations and rehashes, compared with the rules of docs/TABLE.md, and how many requests they make.
 use super::tables::{
-    SCATTERED, fill, hash_of, keys_after, keys_of, move_once, moved, table_of, thin,
+    SCATTERED, fill, is_copied, keys_after, keys_of, move_once, moved, table_of, thin,
 };
-use group_table::{LinkType, Table, full_capacity};
+use group_table::{Table, full_capacity};
 use std::alloc::{AllocError, Global};
 use std::cell::Cell;
 use std::test::Fail;
 use test_helpers::{Hog, check};
 
-// Moves all entries into `buckets` buckets. Whether the keys are where the rules have them, each link leads to the key
-// of its old bucket, and the hash of each entry was asked for once.
-fn moves<N: LinkType>(
+// Moves all entries into `buckets` buckets. Whether the keys are where the rules have them, and the hash of each entry
+// was asked for once.
+fn moves(
     alloc: Global,
     table: &mut Table<u64>,
     buckets: usize,
     factor: u64,
 ) -> Result<bool, AllocError> {
-    let old = keys_of(alloc, table)?;
+    let expected = keys_after(alloc, &keys_of(alloc, table)?, buckets, factor)?;
     let asked = Cell::new(0usize);
-    let links: Vec<N> = moved(table, buckets, |key| {
-        asked.set(asked.get().wrapping_add(1));
-        hash_of(factor, *key)
-    })?;
-    let now = keys_of(alloc, table)?;
-    let mut is_right = asked.get() == table.len()
-        && now == keys_after(alloc, &old, buckets, factor)?;
-    for (key, link) in old.iter().zip(links.iter()) {
-        is_right = is_right && now.get(link.into_usize()).copied().flatten() == *key;
-    }
-    Ok(is_right)
+    moved(table, buckets, factor, &asked)?;
+    Ok(asked.get() == table.len() && keys_of(alloc, table)? == expected)
 }
 
 const SIZES: [usize; 11] = [4, 8, 16, 32, 64, 128, 256, 512, 1024, 2048, 4096];
 
-// Moves the entries of a table into each size up to `most` and back, and rehashes each size. The table is filled before
-// each move, and then every third bucket is taken. Whether all moves follow the rules.
-fn moves_up_and_down<N: LinkType>(
+// Moves the entries of a table into each size and back, and rehashes each size. The table is filled before each move,
+// and then every third bucket is taken. Whether all moves follow the rules.
+fn moves_up_and_down(
     alloc: Global,
-    most: usize,
+    table: &mut Table<u64>,
     factor: u64,
 ) -> Result<bool, AllocError> {
-    let mut table = table_of(alloc, 4)?;
     let mut next = 0;
     for buckets in SIZES.iter().chain(SIZES.iter().rev()) {
         for _ in 0..2u32 {
-            if *buckets <= most {
-                next = fill(&mut table, factor, next);
-                thin(&mut table, 3, 0);
-                thin(&mut table, 1, full_capacity(*buckets));
-                if !moves::<N>(alloc, &mut table, *buckets, factor)? {
-                    return Ok(false);
-                }
+            next = fill(table, factor, next);
+            thin(table, 3, 0);
+            thin(table, 1, full_capacity(*buckets));
+            if !moves(alloc, table, *buckets, factor)? {
+                return Ok(false);
             }
         }
     }
@@ -60,33 +48,54 @@ fn moves_up_and_down<N: LinkType>(
 #[test]
 fn up_and_down(rt: HostRuntime) -> Result<(), Fail> {
     for factor in [0, 1, SCATTERED] {
-        let by_width = [
-            moves_up_and_down::<u8>(rt.alloc(), 128, factor)?,
-            moves_up_and_down::<u16>(rt.alloc(), 256, factor)?,
-            moves_up_and_down::<u32>(rt.alloc(), 4096, factor)?,
-            moves_up_and_down::<usize>(rt.alloc(), 64, factor)?,
-        ];
-        assert!(rt; by_width == [true; 4], "{factor}");
+        let mut table = table_of(rt.alloc(), 4)?;
+        check!(rt; moves_up_and_down(rt.alloc(), &mut table, factor) == Ok(true));
     }
     Ok(())
+}
+
+// Rehashes, copies and relocates a table of 2^20 buckets. Whether the moves follow the rules.
+fn moves_many(alloc: Global, table: &mut Table<u64>) -> Result<bool, AllocError> {
+    let next = fill(table, SCATTERED, 0);
+    thin(table, 3, 0);
+    fill(table, SCATTERED, next);
+    let is_rehashed = moves(alloc, table, 1 << 20, SCATTERED)? && table.len() == 917_504;
+    let is_copied = is_copied(table, u64::MAX);
+    thin(table, 2, 458_752);
+    let is_relocated = moves(alloc, table, 1 << 19, SCATTERED)? && table.len() == 458_752;
+    Ok(is_rehashed && is_copied && is_relocated)
 }
 
 // A call may run out of memory, so a body that returns an error above some size is proved.
 #[test]
 fn many_buckets(rt: HostRuntime) -> Result<(), Fail> {
     let mut table = table_of(rt.alloc(), 1 << 20)?;
-    let next = fill(&mut table, SCATTERED, 0);
-    thin(&mut table, 3, 0);
-    fill(&mut table, SCATTERED, next);
-    let is_rehashed = moves::<u32>(rt.alloc(), &mut table, 1 << 20, SCATTERED)?;
-    let copy = table.clone_with(|key| Ok(*key))?;
-    let is_copied = keys_of(rt.alloc(), &copy)? == keys_of(rt.alloc(), &table)?;
-    thin(&mut table, 2, 458_752);
-    let is_relocated = moves::<u32>(rt.alloc(), &mut table, 1 << 19, SCATTERED)?;
-    check!(rt; (is_rehashed, is_copied, is_relocated) == (true, true, true));
-    let figures = (copy.len(), table.len(), table.room());
-    check!(rt; figures == (917_504, 458_752, 0));
+    check!(rt; moves_many(rt.alloc(), &mut table) == Ok(true));
     Ok(())
+}
+
+// Tries a move, with one more request met each time, until it succeeds. Returns how often it was refused.
+fn refusals(
+    alloc: Global,
+    table: &mut Table<u64>,
+    buckets: usize,
+    requests: &[usize],
+) -> Result<usize, AllocError> {
+    let mut refused = 0usize;
+    let mut hog = Hog::new(alloc, requests)?;
+    for _ in 0..=requests.len() {
+        if move_once(table, buckets).is_ok() {
+            break;
+        }
+        refused = refused.wrapping_add(1);
+        hog.release();
+    }
+    // If memory has no end, nothing is refused.
+    Ok(if hog.took_all() {
+        refused
+    } else {
+        requests.len()
+    })
 }
 
 #[test]
@@ -103,19 +112,8 @@ fn each_request_is_refused(rt: HostRuntime) -> Result<(), Fail> {
         let mut table = table_of(rt.alloc(), buckets)?;
         fill(&mut table, 0, 0);
         thin(&mut table, 1, left);
-        // One more request is met each time.
-        let mut refused = 0usize;
-        let mut hog = Hog::new(rt.alloc(), requests)?;
-        for _ in 0..=requests.len() {
-            if move_once(&mut table, to).is_ok() {
-                break;
-            }
-            refused = refused.wrapping_add(1);
-            hog.release();
-        }
-        let is_right = refused == requests.len() || !hog.took_all();
-        drop(hog);
-        check!(rt; (is_right, table.buckets(), table.len()) == (true, to, left));
+        check!(rt; refusals(rt.alloc(), &mut table, to, requests) == Ok(requests.len()));
+        check!(rt; (table.buckets(), table.len()) == (to, left));
     }
     Ok(())
 }

@@ -1,6 +1,7 @@
 //! Tables to be tested, and the rules of docs/TABLE.md over a list with the key of each bucket.
-use group_table::{LinkType, Table, buckets_for_capacity, full_capacity};
+use group_table::{Table, buckets_for_capacity, full_capacity};
 use std::alloc::{AllocError, Global};
+use std::cell::Cell;
 use std::mem;
 
 // More buckets than a test uses.
@@ -40,29 +41,42 @@ pub(super) fn thin(table: &mut Table<u64>, step: usize, left: usize) {
     }
 }
 
-/// Moves all entries into `buckets` buckets, or rehashes the table if it has as many.
-pub(super) fn moved<T: Drop, N: LinkType, H: Fn(&T) -> u64>(
-    table: &mut Table<T>,
+/// Moves all entries into `buckets` buckets, or rehashes the table if it has as many. Counts the hashes that are asked
+/// for.
+pub(super) fn moved(
+    table: &mut Table<u64>,
     buckets: usize,
-    hash: H,
-) -> Result<Vec<N>, AllocError>
-    requires { H.IsAlwaysCallable hash }
-{
-    let most = N::MAX.into_usize().min(MOST);
-    let count = buckets_for_capacity(full_capacity(buckets), most).unwrap_or(0);
-    if count == table.buckets() && count < most {
+    factor: u64,
+    asked: &Cell<usize>,
+) -> Result<Vec<u32>, AllocError> {
+    let hash = |key: &u64| {
+        asked.set(asked.get().wrapping_add(1));
+        hash_of(factor, *key)
+    };
+    let count = buckets_for_capacity(full_capacity(buckets), MOST).unwrap_or(0);
+    if count == table.buckets() && count < MOST {
         return table.rehash(hash);
     }
-    if count < most && table.len() <= full_capacity(count) {
+    if count < MOST && table.len() <= full_capacity(count) {
         return table.relocate(count, hash);
     }
     Err(AllocError)
 }
 
-/// Moves all entries as `moved` does, by hashes that are equal to the keys.
+/// Moves all entries as `moved` does.
 pub(super) fn move_once(table: &mut Table<u64>, buckets: usize) -> Result<(), AllocError> {
-    let _links: Vec<u32> = moved(table, buckets, |key| *key)?;
+    drop(moved(table, buckets, 1, &Cell::new(0))?);
     Ok(())
+}
+
+/// Returns whether the table is copied, if the copy of this key is refused.
+pub(super) fn is_copied(table: &Table<u64>, refused: u64) -> bool {
+    let copy = table.clone_with(|key| if *key == refused {
+        Err(AllocError)
+    } else {
+        Ok(*key)
+    });
+    copy.is_ok()
 }
 
 pub(super) fn keys_of(alloc: Global, table: &Table<u64>) -> Result<Vec<Option<u64>>, AllocError> {
