@@ -1,24 +1,26 @@
-//! Generic callers, which know a trait by its bound alone.
+//! Generic callers, which know a trait by its bound alone, and a call of each.
 ghost use Rattle.std.specs.Prelude.{◌≡◌, ◌+◌, ◌-◌, ◌^◌, IfOk, min};
 
-use lru_limits::{Costed, LookupKey, RandomState, Summing};
+use lru_limits::{ByCost, Costed, LookupKey, RandomState, Summing};
 use std::alloc::{AllocError, Global};
 use std::hash::{BuildHasher, Hash};
+use std::test::Fail;
+use test_helpers::{all, check};
 
-pub(super) fn cost_of_both<V: Costed>(a: &V, b: &V) -> u64
+fn cost_of_both<V: Costed>(a: &V, b: &V) -> u64
     ensures { result ≡ min (V.cost a.now + V.cost b.now) (2 ^ 64 - 1) }
 {
     a.cost().saturating_add(b.cost())
 }
 
 /// Whether the value names the key and hashes as it does.
-pub(super) fn names<K: Eq + Hash, Q: LookupKey<K>>(query: &Q, key: &K) -> bool {
+fn names<K: Eq + Hash, Q: LookupKey<K>>(query: &Q, key: &K) -> bool {
     let state = RandomState::default();
     query.is_key(key) && state.hash_one(query) == state.hash_one(key)
 }
 
 /// Offers a pair, and removes it if it is stored, which leaves the running total as it was.
-pub(super) fn offer_and_remove<K: Eq + Hash + Drop, V: Drop, I: LookupKey<K>, L: Summing<K, V, I>>(
+fn offer_and_remove<K: Eq + Hash + Drop, V: Drop, I: LookupKey<K>, L: Summing<K, V, I>>(
     limiter: &mut L,
     alloc: Global,
     key: I,
@@ -30,4 +32,17 @@ pub(super) fn offer_and_remove<K: Eq + Hash + Drop, V: Drop, I: LookupKey<K>, L:
         limiter.on_removed(&mut key, &mut value);
     }
     Ok(limiter.account())
+}
+
+#[test]
+fn of_texts(rt: HostRuntime) -> Result<(), Fail> {
+    let alloc = rt.alloc();
+    let (key, text) = (
+        String::from_str(alloc, "four")?,
+        String::from_str(alloc, "four")?,
+    );
+    check!(rt; all!(names(&"four", &key), !names(&"five", &key), cost_of_both(&key, &text) == 8));
+    let mut limiter = ByCost::new(5);
+    check!(rt; offer_and_remove(&mut limiter, alloc, key, text) == Ok(0));
+    Ok(())
 }

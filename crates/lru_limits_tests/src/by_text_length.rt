@@ -8,8 +8,6 @@ ghost use Rattle.lru_limits.specs.Stores.{replaced-exchanges};
 use lru_limits::{Insertion, Limiter, LookupKey, Summing};
 use std::alloc::{AllocError, Global};
 use std::hash::Hash;
-use std::test::Fail;
-use test_helpers::check;
 
 /// Limits the bytes of all texts together. It rejects a text that is longer than the limit by itself.
 #[derive(Clone, Copy, Debug)]
@@ -140,14 +138,4 @@ impl<K: Eq + Hash + Drop> Summing<K, String, K> for ByTextLength {
       empties = λ s. refl;
       keeps = λ s bytes. refl;
     } };
-}
-
-#[test]
-fn limits_texts(rt: HostRuntime) -> Result<(), Fail> {
-    let mut limiter = ByTextLength { limit: 5, total: 0 };
-    for (text, is_accepted, total) in [("sixsix", false, 0), ("four", true, 4), ("ab", true, 6)] {
-        let given = limiter.on_insert(rt.alloc(), 0, 1u64, String::from_str(rt.alloc(), text)?)?;
-        check!(rt; (given.is_some(), limiter.total) == (is_accepted, total));
-    }
-    Ok(())
 }

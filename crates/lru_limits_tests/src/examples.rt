@@ -5,7 +5,7 @@ use lru_limits::{
 };
 use std::hash::{BuildHasher, Hash, Hasher};
 use std::test::Fail;
-use test_helpers::check;
+use test_helpers::{all, check};
 
 /// A page whose cost is its bytes.
 struct Page {
@@ -24,30 +24,38 @@ impl Costed for Page {
 fn of_limiters(rt: HostRuntime) -> Result<(), Fail> {
     let alloc = rt.alloc();
     let limiter = ByLength::new(3);
-    check!(rt; limiter.max_length() == 3);
-    check!(rt; !Limiter::<u64, u64>::is_over_the_limit(&limiter, 3));
-    check!(rt; Limiter::<u64, u64>::is_over_the_limit(&limiter, 4));
+    check!(rt; all!(
+        limiter.max_length() == 3,
+        !Limiter::<u64, u64>::is_over_the_limit(&limiter, 3),
+        Limiter::<u64, u64>::is_over_the_limit(&limiter, 4)
+    ));
     let limiter = Storing(ByLength::new(3));
     check!(rt; Limiter::<u64, u64>::is_over_the_limit(&limiter, 4));
     let mut limiter = ByMemoryUsage::new(152);
-    check!(rt; limiter.max_memory_usage() == 152);
-    check!(rt; Limiter::<u64, u64>::on_grow(&mut limiter, 152));
-    check!(rt; !Limiter::<u64, u64>::on_grow(&mut limiter, 153));
-    check!(rt; !Limiter::<u64, u64>::is_over_the_limit(&Unlimited, usize::MAX));
-    check!(rt; !Limiter::<u64, u64>::is_over_the_limit(&UnlimitedCompact, usize::MAX));
+    check!(rt; all!(
+        limiter.max_memory_usage() == 152,
+        Limiter::<u64, u64>::on_grow(&mut limiter, 152),
+        !Limiter::<u64, u64>::on_grow(&mut limiter, 153),
+        !Limiter::<u64, u64>::is_over_the_limit(&Unlimited, usize::MAX),
+        !Limiter::<u64, u64>::is_over_the_limit(&UnlimitedCompact, usize::MAX)
+    ));
     let mut limiter = ByCost::new(3);
-    check!(rt; limiter.limit() == 3);
-    check!(rt; limiter.on_insert(alloc, 0, 1u64, 2u64)?.is_some());
-    check!(rt; limiter.on_insert(alloc, 1, 2u64, 4u64)?.is_none());
-    check!(rt; limiter.cost() == 2);
-    check!(rt; Summing::<u64, u64, u64>::account(&limiter) == 2);
+    check!(rt; all!(
+        limiter.limit() == 3,
+        limiter.on_insert(alloc, 0, 1u64, 2u64)?.is_some(),
+        limiter.on_insert(alloc, 1, 2u64, 4u64)?.is_none(),
+        limiter.cost() == 2,
+        Summing::<u64, u64, u64>::account(&limiter) == 2
+    ));
     let lower = limiter.with_limit(1);
     check!(rt; (lower.limit(), lower.cost()) == (1, 2));
     let mut limiter: ByWeight<16> = ByWeight::new(100);
-    check!(rt; limiter.limit() == 100);
-    check!(rt; limiter.on_insert(alloc, 0, 1u64, 2u64)?.is_some());
-    check!(rt; limiter.on_insert(alloc, 1, 80u64, 5u64)?.is_none());
-    check!(rt; limiter.cost() == 19);
+    check!(rt; all!(
+        limiter.limit() == 100,
+        limiter.on_insert(alloc, 0, 1u64, 2u64)?.is_some(),
+        limiter.on_insert(alloc, 1, 80u64, 5u64)?.is_none(),
+        limiter.cost() == 19
+    ));
     let lower = limiter.with_limit(10);
     check!(rt; (lower.limit(), lower.cost()) == (10, 19));
     let mut limiter = <ByCost as Budgeted<u64, u64>>::with_budget(3);
@@ -59,12 +67,14 @@ fn of_limiters(rt: HostRuntime) -> Result<(), Fail> {
 #[test]
 fn of_keys_costs_and_hashes(rt: HostRuntime) -> Result<(), Fail> {
     let key = String::from_str(rt.alloc(), "a")?;
-    check!(rt; "a".is_key(&key));
-    check!(rt; !"b".is_key(&key));
-    check!(rt; Page { bytes: 4096 }.cost() == 4096);
     let state = RandomState::with_seeds([5, 6, 7, 8]);
-    check!(rt; state.hash_one(&"a") == state.hash_one(&key));
-    check!(rt; KeyHasher::<String>::hash_named(&state, &"a") == state.hash_one(&key));
+    check!(rt; all!(
+        "a".is_key(&key),
+        !"b".is_key(&key),
+        Page { bytes: 4096 }.cost() == 4096,
+        state.hash_one(&"a") == state.hash_one(&key),
+        KeyHasher::<String>::hash_named(&state, &"a") == state.hash_one(&key)
+    ));
     let mut hasher = state.build_hasher();
     key.hash(&mut hasher);
     check!(rt; hasher.finish() == state.hash_one(&key));

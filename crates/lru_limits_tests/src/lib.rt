@@ -8,8 +8,6 @@ mod bounds;
 #[cfg(test)]
 mod by_text_length;
 #[cfg(test)]
-mod costs;
-#[cfg(test)]
 mod examples;
 #[cfg(test)]
 mod limiters;

@@ -5,8 +5,6 @@ ghost use Rattle.lru_limits.specs.Stores.{answers};
 use lru_limits::Limiter;
 use std::alloc::{AllocError, Global};
 use std::marker::Model;
-use std::test::Fail;
-use test_helpers::check;
 
 const MOST: usize = 3;
 
@@ -65,14 +63,4 @@ impl<V> Limiter<u64, V> for RemovedKeys {
     fn on_grow(&mut self, _new_memory_usage: usize) -> bool {
         true
     }
-}
-
-#[test]
-fn keeps_three_keys(rt: HostRuntime) -> Result<(), Fail> {
-    let mut limiter = RemovedKeys::new(rt.alloc())?;
-    for key in [5u64, 6, 7, 8] {
-        limiter.on_removed(&mut key.clone()?, &mut 0u8);
-    }
-    check!(rt; limiter.keys.as_slice() == [5, 6, 7].as_slice());
-    Ok(())
 }

@@ -4,10 +4,7 @@ ghost use Rattle.std.specs.Hash as fed;
 ghost use Rattle.lru_limits.specs.Keys.{number-lawful, field-lawful, both-lawful};
 ghost use Rattle.lru_limits.specs.Texts.{names_text, names_text-lawful};
 
-use super::bounds::names;
 use lru_limits::LookupKey;
-use std::test::Fail;
-use test_helpers::check;
 
 /// A name that belongs to a tenant.
 #[derive(Drop, PartialEq, Eq, Hash)]
@@ -33,17 +30,4 @@ impl LookupKey<Name> for Naming<'_> {
     fn is_key(&self, key: &Name) -> bool {
         self.tenant == key.tenant && self.text == key.text.as_str()
     }
-}
-
-#[test]
-fn both_fields_name_the_key(rt: HostRuntime) -> Result<(), Fail> {
-    let text = "a longer text of the map";
-    let name = Name {
-        tenant: 7,
-        text: String::from_str(rt.alloc(), text)?,
-    };
-    for (tenant, text, is_named) in [(7, text, true), (8, text, false), (7, "other", false)] {
-        check!(rt; names(&Naming { tenant, text }, &name) == is_named);
-    }
-    Ok(())
 }

@@ -3,8 +3,8 @@
 //! - [`map_of`], [`three_costs`], [`insert`], [`insert_all`], [`get`], [`peek`], [`counts_down`], [`is_list`],
 //!   [`remove_all`], [`reserve`], [`shrink`], [`figures`], [`report`]: a map of numbers. They have no contracts, so a
 //!   test that calls them is proved faster than one that calls the map.
-//! - [`fill`], [`is_pair`], [`is_value`], [`all`]: the map of the examples of the docs, and forms of their assertions
-//!   that are proved faster.
+//! - [`fill`], [`is_pair`], [`is_value`]: the map of the examples of the docs, and forms of their assertions that are
+//!   proved faster.
 //! - [`Texts`], [`texts_of`], [`has_keys`]: a map of texts.
 #![tactic(auto)]
 
@@ -16,11 +16,3 @@ pub use maps::{
     remove_all, report, reserve, shrink, three_costs,
 };
 pub use texts::{Texts, has_keys, texts_of};
-
-/// Whether all conditions hold. It stands for an assertion of each condition, if a test checks its result.
-#[macro_export]
-macro_rules! all {
-    ($($holds:expr),+) => {
-        $($holds)&&+
-    };
-}

@@ -1,6 +1,6 @@
 //! What tests share.
 //!
-//! - [`check`]: ends a test that does not hold.
+//! - [`check`], [`all`]: ends a test that does not hold, and joins conditions.
 //! - [`Hog`]: takes all memory, so that the requests of others are refused.
 //! - [`LinkedBy`], [`Alternating`], [`Within`], [`Blanking`]: limiters of maps from numbers to numbers.
 //! - [`InsertKey`] and [`Counting`]: texts that become a `String` when they are stored, and a limiter for them.
@@ -31,5 +31,14 @@ macro_rules! check {
         if !$holds {
             std::process::Abort::abort(&$rt);
         }
+    };
+}
+
+/// Whether all conditions hold. It stands for an assertion of each condition, if a test checks its result. Each condition
+/// is evaluated, whatever the others are: the proof of a test takes the longer the more branches the test has.
+#[macro_export]
+macro_rules! all {
+    ($($holds:expr),+) => {
+        $(($holds))&+
     };
 }
