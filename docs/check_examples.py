@@ -50,7 +50,7 @@ def expected(text):
 
 def is_read(text, start, end):
     """Whether a function reads the result of the `all!` between these positions."""
-    name = re.search(r"let(\w+)=(?:\w+&&)*$", text[:start])
+    name = re.search(r"let(\w+)=(?:\w+&&?)*$", text[:start])
     if name:
         rest = re.split(r"\}(?:pub)?fn", text[end:], maxsplit=1)[0]
         return re.search(rf"\b{name[1]}\b", rest) is not None

@@ -1,14 +1,9 @@
 //! Each key and each value is dropped once: none twice, and none is forgotten. No clause says when a value is dropped.
-use super::live::{Live, Lives, fill_with};
-use schnellru::{
-    Both, ByCost, ByLength, ByMemoryUsage, ByWeight, GetOrInsertError, Insertion, KeyHasher,
-    Limiter, LruMap, Storing, Unlimited, UnlimitedCompact,
-};
-use std::alloc::Global;
+//! The limiters of the crate are tried one by one in `lru_limits_tests`.
+use super::live::{Limit, Live, Lives, Map, fill_with, map_of_lives};
+use schnellru::{Both, GetOrInsertError, KeyHasher};
 use std::test::Fail;
 use test_helpers::{Hog, Random, check};
-
-type Map<'a, L> = LruMap<Live<'a>, Live<'a>, L>;
 
 /// A random value. The greatest one and any other that is not 0 have no sum of 64 bits.
 fn random_value<'a>(random: &mut Random, lives: &'a Lives) -> Live<'a> {
@@ -19,12 +14,7 @@ fn random_value<'a>(random: &mut Random, lives: &'a Lives) -> Live<'a> {
 }
 
 /// Inserts what a closure makes, and returns whether there was memory.
-fn insert_made<'a, L: Insertion<Live<'a>, Live<'a>, Live<'a>>>(
-    map: &mut Map<'a, L>,
-    key: Live<'a>,
-    value: Live<'a>,
-    lends: bool,
-) -> bool {
+fn insert_made<'a>(map: &mut Map<'a>, key: Live<'a>, value: Live<'a>, lends: bool) -> bool {
     let make = move || value;
     if lends {
         map.get_or_insert(key, make).is_ok()
@@ -34,8 +24,8 @@ fn insert_made<'a, L: Insertion<Live<'a>, Live<'a>, Live<'a>>>(
 }
 
 /// Inserts what a closure makes, unless it drops the value and fails, and returns whether there was memory.
-fn insert_if_made<'a, L: Insertion<Live<'a>, Live<'a>, Live<'a>>>(
-    map: &mut Map<'a, L>,
+fn insert_if_made<'a>(
+    map: &mut Map<'a>,
     key: Live<'a>,
     (value, fails): (Live<'a>, bool),
     lends: bool,
@@ -51,11 +41,7 @@ fn insert_if_made<'a, L: Insertion<Live<'a>, Live<'a>, Live<'a>>>(
 
 /// Makes a random call that inserts, and returns whether there was memory. Each closure owns its value, also if it is
 /// not called, or fails.
-fn random_insert<'a, L: Insertion<Live<'a>, Live<'a>, Live<'a>>>(
-    map: &mut Map<'a, L>,
-    random: &mut Random,
-    lives: &'a Lives,
-) -> bool {
+fn random_insert<'a>(map: &mut Map<'a>, random: &mut Random, lives: &'a Lives) -> bool {
     let (key, value) = (lives.key(random.below(40)), random_value(random, lives));
     let mut sink = |key: Live, value: Live| drop((key, value));
     match random.below(10) {
@@ -76,11 +62,7 @@ fn random_insert<'a, L: Insertion<Live<'a>, Live<'a>, Live<'a>>>(
 }
 
 /// Makes another random call, and drops what it returns.
-fn random_call<'a, L: Limiter<Live<'a>, Live<'a>> + Clone + Drop>(
-    map: &mut Map<'a, L>,
-    random: &mut Random,
-    lives: &'a Lives,
-) {
+fn random_call<'a>(map: &mut Map<'a>, random: &mut Random, lives: &'a Lives) {
     let number = random.below(40);
     match random.below(40) {
         0 => map.clear(),
@@ -106,119 +88,133 @@ fn random_call<'a, L: Limiter<Live<'a>, Live<'a>> + Clone + Drop>(
 
 /// Makes random calls on a map of this many pairs. Returns whether after each the keys and values that live are those
 /// of the map, and none after its drop.
-fn balances<'a, L: Insertion<Live<'a>, Live<'a>, Live<'a>> + Clone + Drop>(
-    alloc: Global,
-    limiter: L,
-    lives: &'a Lives,
-    pairs: u64,
-) -> bool {
+fn balances<'a>(mut map: Map<'a>, lives: &'a Lives, pairs: u64) -> bool {
     let mut random = Random::new(pairs.wrapping_add(1));
-    let mut map = LruMap::new(alloc, limiter, [1, 2, 3, 4], 16);
     let mut right = fill_with(&mut map, lives, pairs);
     for _ in 0..20_000u32 {
         if random.below(3) == 0 {
             random_call(&mut map, &mut random, lives);
         } else {
-            right = random_insert(&mut map, &mut random, lives) && right;
+            right = random_insert(&mut map, &mut random, lives) & right;
         }
         let len = map.len() as u64;
-        right = right && live(lives) == (len, len);
+        right = right & (lives.counts() == (len, len));
     }
     drop(map);
-    right && live(lives) == (0, 0)
+    right & (lives.counts() == (0, 0))
 }
 
+const MAX: u64 = u64::MAX;
+
+const ANY: usize = usize::MAX;
+
+/// Limits by the sum of the values, by the bytes of the table, by both and by none, and such that no pair is stored. The
+/// last maps have 10,000 pairs and more, until a random call takes all out.
 #[test]
 fn keys_and_values_are_dropped_once(rt: HostRuntime) {
-    let (alloc, lives) = (rt.alloc(), Lives::new());
-    let balanced = [
-        balances(alloc, ByLength::new(20), &lives, 0),
-        balances(alloc, ByLength::new(0), &lives, 0),
-        balances(alloc, ByMemoryUsage::new(560), &lives, 0),
-        balances(alloc, ByMemoryUsage::new(83), &lives, 0),
-        balances(alloc, ByCost::new(10), &lives, 0),
-        balances(alloc, ByCost::new(u64::MAX), &lives, 0),
-        balances(alloc, ByWeight::<1>::new(200), &lives, 0),
-        balances(alloc, Both(ByCost::new(10), ByLength::new(20)), &lives, 0),
-        balances(alloc, Unlimited, &lives, 0),
-        balances(alloc, UnlimitedCompact, &lives, 0),
-        balances(alloc, Storing(ByLength::new(3)), &lives, 0),
-    ];
-    check!(rt; balanced == [true; 11]);
-}
-
-/// The same with maps of 10,000 pairs and more, until a random call takes all out.
-#[test]
-fn many_keys_and_values_are_dropped_once(rt: HostRuntime) {
     let lives = Lives::new();
-    for pairs in 10_000..10_008u64 {
-        check!(rt; balances(rt.alloc(), ByLength::new(10_000), &lives, pairs));
+    for (most, bytes, pairs) in [
+        (20, ANY, 0),
+        (0, ANY, 0),
+        (MAX, 560, 0),
+        (MAX, 83, 0),
+        (10, 560, 0),
+        (MAX, ANY, 0),
+        (MAX, ANY, 10_000),
+        (MAX, ANY, 10_001),
+        (10_000, ANY, 10_002),
+        (10_000, ANY, 10_003),
+    ] {
+        let map = map_of_lives(rt.alloc(), most, bytes);
+        check!(rt; balances(map, &lives, pairs));
     }
 }
 
-fn live(lives: &Lives) -> (u64, u64) {
-    (lives.keys.get(), lives.values.get())
+/// The limiter of the map, with another limit of the sum.
+fn with_most(map: &Map, most: u64) -> Limit {
+    Both(map.limiter().0.with_limit(most), map.limiter().1)
 }
 
-/// What an update, a trim and another limiter evict is dropped, and so is what a walk by value has left.
+/// What an update, a trim, another limiter and a retain take out is dropped, and so is what a walk by value has left.
 #[test]
 fn what_trims_evict_is_dropped(rt: HostRuntime) {
     let lives = Lives::new();
-    let mut map = LruMap::new(rt.alloc(), ByLength::new(20_000), [1, 2, 3, 4], 16);
+    let mut map = map_of_lives(rt.alloc(), 20_000, ANY);
     check!(rt; fill_with(&mut map, &lives, 20_000));
-    *map.limiter_mut() = ByLength::new(16_000);
-    drop(map.update(lives.key(19_999), lives.value(0)));
-    check!(rt; live(&lives) == (16_000, 16_000));
-    *map.limiter_mut() = ByLength::new(12_000);
+    *map.limiter_mut() = with_most(&map, 16_000);
+    drop(map.update(lives.key(19_999), lives.value(1)));
+    check!(rt; lives.counts() == (16_000, 16_000));
+    *map.limiter_mut() = with_most(&map, 12_000);
     map.trim();
-    check!(rt; live(&lives) == (12_000, 12_000));
-    map.set_limiter(ByLength::new(5000));
+    check!(rt; lives.counts() == (12_000, 12_000));
+    map.set_limiter(with_most(&map, 5000));
     drop(map.remove_entry(&lives.key(19_999)));
-    check!(rt; live(&lives) == (4999, 4999));
+    check!(rt; lives.counts() == (4999, 4999));
+    map.retain(|key, _| key.number % 2 == 0);
+    check!(rt; lives.counts() == (2500, 2500));
+    map.retain_with(
+        |key, _| key.number % 4 == 0,
+        &mut |key, value| drop((key, value)),
+    );
+    check!(rt; lives.counts() == (1250, 1250));
     drop(map.into_iter().next());
-    check!(rt; live(&lives) == (0, 0));
+    check!(rt; lives.counts() == (0, 0));
 }
 
 /// What an extend could not insert is dropped, with what its iterator has left.
 #[test]
 fn what_an_extend_leaves_is_dropped(rt: HostRuntime) -> Result<(), Fail> {
     let lives = Lives::new();
-    let mut map: Map<Unlimited> = LruMap::new(rt.alloc(), Unlimited, [1, 2, 3, 4], 16);
+    let mut map = map_of_lives(rt.alloc(), MAX, ANY);
     check!(rt; fill_with(&mut map, &lives, 3));
     let hog = Hog::new(rt.alloc(), &[])?;
-    let entries = [7, 8, 9].map(|n: u64| (lives.key(n), lives.value(n)));
+    let entries = [
+        (lives.key(7), lives.value(7)),
+        (lives.key(8), lives.value(8)),
+    ];
     let is_refused = map.try_extend(entries).is_err();
     let all = hog.took_all();
     drop(hog);
-    check!(rt; !all || (is_refused && live(&lives) == (3, 3)));
+    check!(rt; !all || (is_refused && lives.counts() == (3, 3)));
     Ok(())
 }
 
-#[test]
-fn closures_that_are_not_called_are_dropped(rt: HostRuntime) {
-    let lives = Lives::new();
-    let mut none: Map<ByLength> = LruMap::new(rt.alloc(), ByLength::new(1), [1, 2, 3, 4], 16);
-    let (value, other) = (lives.value(0), lives.value(0));
-    let (asked, kept) = (lives.value(0), lives.value(0));
-    drop(none.pop_oldest_if(move |key, _| *key == value));
-    drop(none.try_pop_oldest(move |key, _| if *key == other { Ok(()) } else { Err(0u8) }));
-    check!(rt; none.peek_by_hash(7, move |key, _| *key == asked).is_none());
-    none.retain(move |key, _| *key == kept);
-    check!(rt; live(&lives) == (0, 0));
+/// Makes a call with a closure that owns a value, and compares a value that it gets with this value.
+fn ask<'a>(map: &mut Map<'a>, call: u32, hash: u64, value: Live<'a>) {
+    if call == 0 {
+        drop(map.try_pop_oldest(move |_, other| if *other == value { Ok(()) } else { Err(0u8) }));
+        return;
+    }
+    if call == 1 {
+        map.for_each_mut(move |_, other| if *other == value {
+            other.number = 4;
+        });
+        return;
+    }
+    let accepts = move |_: &Live, other: &Live| *other == value;
+    match call {
+        2 => drop(map.pop_oldest_if(accepts)),
+        3 => drop(map.peek_by_hash(hash, accepts).is_some()),
+        4 => drop(map.get_by_hash(hash, accepts).is_some()),
+        5 => drop(map.peek_by_hash_mut(hash, accepts).is_some()),
+        _ => map.retain(accepts),
+    }
 }
 
-/// A closure is dropped after a search that calls it or not, and after a walk.
+/// A closure is dropped, whether it is called or not, and whatever it returns.
 #[test]
 fn closures_are_dropped(rt: HostRuntime) {
     let lives = Lives::new();
-    let mut map: Map<ByLength> = LruMap::new(rt.alloc(), ByLength::new(1), [1, 2, 3, 4], 16);
-    check!(rt; fill_with(&mut map, &lives, 1));
-    let hash = map.hasher().hash_named(&lives.key(0));
-    let (found, other, written) = (lives.value(0), lives.value(2), lives.value(3));
-    check!(rt; map.peek_by_hash(hash, move |key, _| *key == found).is_some());
-    check!(rt; map.peek_by_hash(hash, move |key, _| *key == other).is_none());
-    map.for_each_mut(move |_, value| if *value == written {
-        value.number = 4;
-    });
-    check!(rt; live(&lives) == (1, 1));
+    for pairs in [0, 1u64] {
+        for number in [1, 2u64] {
+            for call in 0..=6u32 {
+                let mut map = map_of_lives(rt.alloc(), 1, ANY);
+                check!(rt; fill_with(&mut map, &lives, pairs));
+                let hash = map.hasher().hash_named(&lives.key(0));
+                ask(&mut map, call, hash, lives.value(number));
+                let len = map.len() as u64;
+                check!(rt; lives.counts() == (len, len));
+            }
+        }
+    }
 }

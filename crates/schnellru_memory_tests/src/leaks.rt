@@ -67,34 +67,23 @@ fn dropped(alloc: Global) -> Option<bool> {
     Some(refused(&mut map_of(alloc, Storing(Within::new(84))))? && !is_stored)
 }
 
-#[test]
-fn calls_give_their_memory_back(rt: HostRuntime) -> Result<(), Fail> {
-    let alloc = rt.alloc();
+/// How many of the cycles do not run out of memory, if only this much is left.
+fn cycles_made(alloc: Global, (cycles, spare): (u32, usize), n: u64) -> Result<u32, AllocError> {
     let mut map = map_of(alloc, UnlimitedCompact);
-    let mut hog = Hog::new(alloc, &[SPARE])?;
+    let mut hog = Hog::new(alloc, &[spare])?;
     hog.release();
     let mut made = 0u32;
-    for _ in 0..CYCLES {
-        let is_made = grown_and_shrunk(&mut map, 30).is_some() && dropped(alloc) == Some(true);
+    for _ in 0..cycles {
+        let is_made = grown_and_shrunk(&mut map, n).is_some() && dropped(alloc) == Some(true);
         made = made.wrapping_add(is_made as u32);
     }
-    drop(hog);
-    check!(rt; made == CYCLES);
-    Ok(())
+    Ok(made)
 }
 
 #[test]
-fn calls_on_large_maps_give_their_memory_back(rt: HostRuntime) -> Result<(), Fail> {
-    let mut map = map_of(rt.alloc(), UnlimitedCompact);
-    let mut hog = Hog::new(rt.alloc(), &[LARGE_SPARE])?;
-    hog.release();
-    let mut made = 0u32;
-    for _ in 0..LARGE_CYCLES {
-        made = made.wrapping_add(grown_and_shrunk(&mut map, 400).is_some() as u32);
-    }
-    drop(hog);
-    check!(rt; made == LARGE_CYCLES);
-    Ok(())
+fn calls_give_their_memory_back(rt: HostRuntime) {
+    check!(rt; cycles_made(rt.alloc(), (CYCLES, SPARE), 30) == Ok(CYCLES));
+    check!(rt; cycles_made(rt.alloc(), (LARGE_CYCLES, LARGE_SPARE), 400) == Ok(LARGE_CYCLES));
 }
 
 type Compact = LruMap<u64, u64, UnlimitedCompact>;

@@ -16,5 +16,3 @@ mod live;
 mod no_memory;
 #[cfg(test)]
 mod refused;
-#[cfg(test)]
-mod retains;

@@ -1,8 +1,8 @@
 //! Numbers that are counted while they live, to show what is dropped and what is not.
 ghost use Rattle.std.specs.Prelude.{◌≡◌};
 
-use schnellru::{Costed, Insertion, LruMap};
-use std::alloc::AllocError;
+use schnellru::{Both, ByCost, ByMemoryUsage, Costed, LruMap};
+use std::alloc::{AllocError, Global};
 use std::cell::Cell;
 
 /// How many keys and how many values live, and how many more may be cloned.
@@ -20,6 +20,11 @@ impl Lives {
             values: Cell::new(0),
             clones: Cell::new(0),
         }
+    }
+
+    /// How many keys and how many values live.
+    pub fn counts(&self) -> (u64, u64) {
+        (self.keys.get(), self.values.get())
     }
 
     pub fn key(&self, number: u64) -> Live<'_> {
@@ -75,15 +80,22 @@ impl Clone for Live<'_> {
     }
 }
 
-/// Inserts `n` pairs, and returns whether there was memory.
-pub fn fill_with<'a, L: Insertion<Live<'a>, Live<'a>, Live<'a>>>(
-    map: &mut LruMap<Live<'a>, Live<'a>, L>,
-    lives: &'a Lives,
-    n: u64,
-) -> bool {
+/// Limits the sum of the values, and the bytes of the table.
+pub type Limit = Both<ByCost, ByMemoryUsage>;
+
+pub type Map<'a> = LruMap<Live<'a>, Live<'a>, Limit>;
+
+/// A map whose values together are at most `most`, and whose table has at most `bytes` bytes.
+pub fn map_of_lives<'a>(alloc: Global, most: u64, bytes: usize) -> Map<'a> {
+    let limit = Both(ByCost::new(most), ByMemoryUsage::new(bytes));
+    LruMap::new(alloc, limit, [1, 2, 3, 4], 16)
+}
+
+/// Inserts the numbers below `n`, each with the value 1, and returns whether there was memory.
+pub fn fill_with<'a>(map: &mut Map<'a>, lives: &'a Lives, n: u64) -> bool {
     let mut is_filled = true;
     for number in 0..n {
-        is_filled = map.insert(lives.key(number), lives.value(0)).is_ok() && is_filled;
+        is_filled = map.insert(lives.key(number), lives.value(1)).is_ok() & is_filled;
     }
     is_filled
 }

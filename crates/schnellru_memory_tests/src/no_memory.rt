@@ -2,29 +2,41 @@
 use map_helpers::{figures, get, insert, insert_all, map_of, remove_all, reserve, shrink};
 use schnellru::{LruMap, ReserveError, Storing, UnlimitedCompact, Updated};
 use std::test::Fail;
-use test_helpers::{Hog, LastByte, Within, check};
+use test_helpers::{Hog, LastByte, Within, all, check};
 
 type Map = LruMap<u64, u64, UnlimitedCompact>;
 
 /// Whether calls that need no memory succeed while none is left.
 fn succeed_without_memory(map: &mut Map) -> bool {
-    let inserted = insert_all(map, 1..=7) == Ok(7) && insert_all(map, 1..=7) == Ok(7);
-    let found = get(map, 3) == Some(30) && map.remove(&3) == Some(30);
-    let added = map.try_insert(3, 30) == Ok(()) && map.remove(&3) == Some(30);
-    let updated = map.demote(&4) && map.update(5, 50) == Updated::Replaced(50);
-    let back = map.pop_oldest() == Some((4, 40)) && insert(map, 4) == Ok(true);
-    let made = map.get_or_insert(3, || 30).is_ok() && map.ensure_newest(3, || 30) == Ok(true);
-    let enough = reserve(map, 0) == Ok(()) && shrink(map) == Ok(false);
-    inserted && found && added && updated && back && made && enough
+    all!(
+        insert_all(map, 1..=7) == Ok(7),
+        insert_all(map, 1..=7) == Ok(7),
+        get(map, 3) == Some(30),
+        map.remove(&3) == Some(30),
+        map.try_insert(3, 30) == Ok(()),
+        map.remove(&3) == Some(30),
+        map.demote(&4),
+        map.update(5, 50) == Updated::Replaced(50),
+        map.pop_oldest() == Some((4, 40)),
+        insert(map, 4) == Ok(true),
+        map.get_or_insert(3, || 30).is_ok(),
+        map.ensure_newest(3, || 30) == Ok(true),
+        reserve(map, 0) == Ok(()),
+        shrink(map) == Ok(false)
+    )
 }
 
 /// Whether a full table is refused more memory, and is given back when it is empty.
 fn is_refused_and_given_back(map: &mut Map) -> bool {
-    let refused = insert(map, 8).is_err() && reserve(map, 1) == Err(ReserveError::Memory);
-    let given_back = map.try_insert(8, 80) == Err((8, 80)) && map.len() == 7;
-    let too_large = reserve(map, usize::MAX) == Err(ReserveError::TooLarge);
+    let refused = all!(
+        insert(map, 8).is_err(),
+        reserve(map, 1) == Err(ReserveError::Memory),
+        map.try_insert(8, 80) == Err((8, 80)),
+        map.len() == 7,
+        reserve(map, usize::MAX) == Err(ReserveError::TooLarge)
+    );
     map.clear();
-    refused && given_back && too_large && shrink(map) == Ok(true) && shrink(map) == Ok(false)
+    refused & all!(shrink(map) == Ok(true), shrink(map) == Ok(false))
 }
 
 /// Inserts while there is growth left, look-ups, removals, reservations that are met already, and shrinks of no pairs
@@ -34,7 +46,7 @@ fn calls_that_take_no_memory(rt: HostRuntime) -> Result<(), Fail> {
     let mut map = map_of(rt.alloc(), UnlimitedCompact);
     reserve(&mut map, 7)?;
     let hog = Hog::new(rt.alloc(), &[])?;
-    let succeed = succeed_without_memory(&mut map) && is_refused_and_given_back(&mut map);
+    let succeed = succeed_without_memory(&mut map) & is_refused_and_given_back(&mut map);
     let all = hog.took_all();
     drop(hog);
     check!(rt; succeed || !all);

@@ -1,8 +1,7 @@
 //! Calls whose requests for memory are refused in turn, until one is met. No clause says that memory is there, or how
 //! much a call takes. What a refused call leaves is a clause; these tests show it for each request.
 use map_helpers::{
-    Texts, counts_down, figures, has_keys, insert, insert_all, is_list, map_of, remove_all, report,
-    shrink, texts_of, three_costs,
+    Texts, counts_down, figures, has_keys, insert_all, map_of, remove_all, report, texts_of,
 };
 use schnellru::{GetOrInsertError, LruMap, ReserveError, Storing};
 use std::alloc::{AllocError, Global};
@@ -77,6 +76,8 @@ fn is_memory(error: &Option<GetOrInsertError<u8>>) -> bool {
     matches!(error, Some(GetOrInsertError::Memory))
 }
 
+type Hashed = LruMap<u64, u64, Storing<Within>, LastByte>;
+
 /// The number of pairs with the capacity and the bytes of the table, and how many entries inserts moved and placed.
 type Figures = ((usize, usize, usize), (u64, u64));
 
@@ -102,12 +103,7 @@ struct Case<'a> {
 
 impl Case<'_> {
     /// Whether the try of this number, counted from 0, ended as expected.
-    fn is_as_expected<S: BuildHasher>(
-        &self,
-        map: &LruMap<u64, u64, Storing<Within>, S>,
-        i: usize,
-        was_refused: bool,
-    ) -> bool {
+    fn is_as_expected(&self, map: &Hashed, i: usize, was_refused: bool) -> bool {
         let limiter = map.limiter().0;
         let is_told = self.told.get(i) == Some(&(limiter.removed, limiter.asked));
         let found = (figures(map), report(map));
@@ -120,25 +116,26 @@ impl Case<'_> {
     }
 }
 
-/// Makes the call while each request in turn is refused, and then once with memory. Returns the number of the first try
-/// that does not end as expected, unless memory has no end.
-fn first_fault<S: BuildHasher>(
-    alloc: Global,
-    map: &mut LruMap<u64, u64, Storing<Within>, S>,
-    case: Case,
-) -> Result<Option<usize>, AllocError> {
+/// Makes the call while each request in turn is refused, and then once with memory. Returns whether each try ends as
+/// expected, or memory has no end.
+fn ends_as_expected(alloc: Global, map: &mut Hashed, case: Case) -> Result<bool, AllocError> {
     insert_all(map, 1..=case.len)?;
     remove_all(map, case.removed.0..=case.removed.1);
-    let mut fault = None;
+    let mut right = true;
     let mut hog = Hog::new(alloc, case.requests)?;
     for i in 0..=case.requests.len() {
         let was_refused = is_refused(map, case.call, case.pair);
-        if fault.is_none() && !case.is_as_expected(map, i, was_refused) {
-            fault = Some(i);
-        }
+        right = right & case.is_as_expected(map, i, was_refused);
         hog.release();
     }
-    Ok(if hog.took_all() { fault } else { None })
+    Ok(right | !hog.took_all())
+}
+
+/// Tries the case on a map of its own.
+fn is_met(alloc: Global, case: Case) -> Result<bool, AllocError> {
+    let limiter = Storing(Within::new(case.most));
+    let mut map = LruMap::with_hasher(alloc, limiter, LastByte(0), 16);
+    ends_as_expected(alloc, &mut map, case)
 }
 
 /// No form of insert fails above some number of pairs, if there is memory.
@@ -153,9 +150,10 @@ fn inserts_of_many_pairs(rt: HostRuntime) {
     }
 }
 
-/// A first table, and a growth: the limiter is queried and notified of the new pair each time.
+/// A first table, and a growth: the limiter is queried and notified of the new pair each time. And a rehash after a
+/// refused growth: the oldest 15 pairs are evicted before it, once, and the limiter is not asked again.
 #[test]
-fn inserts_that_need_a_table(rt: HostRuntime) -> Result<(), Fail> {
+fn inserts_that_take_memory(rt: HostRuntime) {
     for call in INSERTS {
         let first = Case {
             most: 84,
@@ -180,44 +178,27 @@ fn inserts_that_need_a_table(rt: HostRuntime) -> Result<(), Fail> {
             told: &[(1, 3), (2, 4), (3, 5), (3, 6)],
             ..first
         };
-        for case in [first, growth] {
-            let limiter = Storing(Within::new(case.most));
-            let fault = first_fault(rt.alloc(), &mut map_of(rt.alloc(), limiter), case)?;
-            assert!(rt; fault == None, "{} pairs", case.len);
-        }
-    }
-    Ok(())
-}
-
-/// A rehash after a refused growth: the oldest 15 pairs are evicted before it, once, and the limiter is not asked
-/// again.
-#[test]
-fn inserts_that_need_a_rehash(rt: HostRuntime) -> Result<(), Fail> {
-    for call in INSERTS {
-        let case = Case {
+        let rehash = Case {
             most: 560,
             len: 28,
-            removed: (1, 0),
-            call,
             pair: (OF_HASH_28, 0),
             requests: &REHASH,
             stay: (28, 16),
             refused: ((13, 13, 560), (24, 28)),
             met: ((14, 28, 560), (37, 29)),
             told: &[(16, 5), (17, 5), (17, 5)],
+            ..first
         };
-        let limiter = Storing(Within::new(case.most));
-        let mut map = LruMap::with_hasher(rt.alloc(), limiter, LastByte(0), 16);
-        let fault = first_fault(rt.alloc(), &mut map, case)?;
-        assert!(rt; fault == None, "{} pairs", case.len);
+        for case in [first, growth, rehash] {
+            check!(rt; is_met(rt.alloc(), case) == Ok(true));
+        }
     }
-    Ok(())
 }
 
 /// Reservations of a first table, of a larger one and of a rehash, and a shrink. The pairs stay, and of a shrink and of
 /// a rehash the limiter hears nothing.
 #[test]
-fn reservations_and_shrinks(rt: HostRuntime) -> Result<(), Fail> {
+fn reservations_and_shrinks(rt: HostRuntime) {
     let first = Case {
         most: 84,
         len: 0,
@@ -266,32 +247,8 @@ fn reservations_and_shrinks(rt: HostRuntime) -> Result<(), Fail> {
         ..first
     };
     for case in [first, larger, rehash, shrink] {
-        let limiter = Storing(Within::new(case.most));
-        let mut map = LruMap::with_hasher(rt.alloc(), limiter, LastByte(0), 16);
-        let fault = first_fault(rt.alloc(), &mut map, case)?;
-        assert!(rt; fault == None, "{} pairs", case.len);
+        check!(rt; is_met(rt.alloc(), case) == Ok(true));
     }
-    Ok(())
-}
-
-/// A running total is charged for the new pair, and the charge is taken off if the growth runs out of memory. The links
-/// have 8 bytes, so an entry has 32.
-#[test]
-fn an_account_in_a_growth(rt: HostRuntime) -> Result<(), Fail> {
-    let mut map = three_costs(rt.alloc())?;
-    let mut found = [(false, false, 0u64); 4];
-    let mut hog = Hog::new(rt.alloc(), &[256, 24, 32])?;
-    for n in 0..4usize {
-        let refused = map.insert(4, 4).is_err();
-        let stays = is_list(&map, &[(3, 3), (2, 2), (1, 1)]);
-        found[n] = (refused, stays, map.limiter().cost());
-        hog.release();
-    }
-    let all = hog.took_all();
-    drop(hog);
-    let refused = (true, true, 6);
-    check!(rt; !all || found == [refused, refused, refused, (false, false, 10)]);
-    Ok(())
 }
 
 /// A limiter that makes a key in fresh memory: its request is refused, and then those of the growth, each time after

@@ -13,7 +13,6 @@ use schnellru::{
 };
 use std::alloc::{AllocError, Global};
 use std::hash::Hash;
-use test_helpers::check;
 
 /// Puts a value under a key, and returns whether the key is there then. If it is, a look-up returns the value.
 fn put(map: &mut LruMap<u64, u64>, key: u64, value: u64) -> Result<bool, AllocError>
@@ -168,54 +167,4 @@ fn put_newest(map: &mut LruMap<u64, u64>, key: u64, value: u64) -> Result<bool, 
     laws::inserts_leave_the_newest::<u64, u64, RandomState>();
     laws::maps_keep_to_their_length::<u64, u64, RandomState>();
     map.insert(key, value)
-}
-
-#[test]
-fn what_is_put_is_found(rt: HostRuntime) {
-    let mut map = LruMap::new(rt.alloc(), ByLength::new(2), [1, 2, 3, 4], 16);
-    check!(rt; put(&mut map, 1, 10) == Ok(true));
-    check!(rt; put_any(&mut map, 1, 15) == Ok(true));
-    check!(rt; overwrite(&mut map, 1, 20));
-    check!(rt; !overwrite(&mut map, 2, 20));
-    check!(rt; touch(&mut map, 1) && !touch(&mut map, 2));
-    check!(rt; map.peek(&1).copied() == Some(20));
-}
-
-#[test]
-fn answers_are_remembered(rt: HostRuntime) {
-    let square = |n: u64| n.wrapping_mul(n);
-    let mut squares = LruMap::new(rt.alloc(), ByLength::new(2), [1, 2, 3, 4], 16);
-    check!(rt; memo(&mut squares, square, 3) == Ok(9));
-    check!(rt; memo(&mut squares, square, 4) == Ok(16));
-    check!(rt; memo(&mut squares, square, 3) == Ok(9));
-}
-
-#[test]
-fn the_length_is_kept(rt: HostRuntime) {
-    let mut map = LruMap::new(rt.alloc(), ByLength::new(1), [1, 2, 3, 4], 16);
-    check!(rt; put_within(&mut map, 1, 10) == Ok(true));
-}
-
-#[test]
-fn the_sum_is_kept(rt: HostRuntime) {
-    let mut map = LruMap::new(rt.alloc(), ByCost::new(10), [1, 2, 3, 4], 16);
-    check!(rt; exchange(&mut map, 1, 2, 7) == Ok(true));
-    check!(rt; exchange(&mut map, 2, 3, 9) == Ok(true));
-    check!(rt; map.limiter().cost() == 9);
-}
-
-#[test]
-fn pairs_are_kept(rt: HostRuntime) {
-    let mut map = map_of_length(rt.alloc(), 2);
-    check!(rt; put_newest(&mut map, 1, 10) == Ok(true));
-    check!(rt; put_newest(&mut map, 2, 20) == Ok(true));
-    let mut shown = 0u64;
-    let done = put_and_show(&mut map, 3, 30, &mut |key: u64, _: u64| shown = key);
-    check!(rt; (done, shown, map.len()) == (Ok(true), 1, 2));
-}
-
-#[test]
-fn all_pairs_are_kept(rt: HostRuntime) {
-    let mut map = LruMap::new(rt.alloc(), UnlimitedCompact, [1, 2, 3, 4], 24);
-    check!(rt; put_and_keep_all(&mut map, 1, 10) == Ok(()));
 }

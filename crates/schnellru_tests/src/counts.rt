@@ -6,8 +6,6 @@ use map_helpers::{get, insert, insert_all, peek, report};
 use schnellru::{Limiter, LruMap, Storing, UnlimitedCompact, Updated};
 use std::alloc::{AllocError, Global};
 use std::cell::Cell;
-use std::rc::Rc;
-use std::test::Fail;
 use test_helpers::{Counted, Sum, check};
 
 type Map<'a> = LruMap<u64, u64, UnlimitedCompact, Counted<'a, Sum>>;
@@ -35,7 +33,7 @@ fn a_hasher_is_built_for_each_key_that_moves(rt: HostRuntime) {
     let mut moved_without_growth = 0u64;
     for key in 0..2000u64 {
         let (bytes, (moved, _)) = (map.memory_usage(), report(&map));
-        assert!(rt; surplus(&mut map, &builds, key) == Ok(0), "{key}");
+        check!(rt; surplus(&mut map, &builds, key) == Ok(0));
         if bytes == map.memory_usage() && moved < report(&map).0 {
             moved_without_growth = moved_without_growth.saturating_add(1);
         }
@@ -72,28 +70,49 @@ fn a_call_hashes_its_key_once(rt: HostRuntime) {
     check!(rt; (is_found, builds.get()) == ([true; 15], 15));
 }
 
-/// Limits nothing, and counts how often it is asked. When the map is cleared it counts the values that live.
+/// How often a limiter was asked, how many values live, and how many did when it heard of a clear.
 #[derive(Drop)]
-struct Asked<'a> {
-    asked: &'a Cell<u64>,
-    value: &'a Rc<u64>,
-    lives: &'a Cell<usize>,
+struct Notes {
+    asked: Cell<u64>,
+    lives: Cell<u64>,
+    left: Cell<u64>,
 }
 
-impl Limiter<u64, Rc<u64>> for Asked<'_> {
+impl Notes {
+    fn value(&self) -> Live<'_> {
+        self.lives.set(self.lives.get().wrapping_add(1));
+        Live(&self.lives)
+    }
+}
+
+/// A value that is counted while it lives.
+struct Live<'a>(&'a Cell<u64>);
+
+impl Drop for Live<'_> {
+    fn drop(self) {
+        let Live(lives) = self;
+        lives.set(lives.get().wrapping_sub(1));
+    }
+}
+
+/// Limits nothing, and notes how it is called.
+#[derive(Drop)]
+struct Noting<'a>(&'a Notes);
+
+impl<'a> Limiter<u64, Live<'a>> for Noting<'a> {
     type LinkType = u32;
 
     ghost rules = { no_rules };
 
     fn is_over_the_limit(&self, _length: usize) -> bool {
-        self.asked.set(self.asked.get().saturating_add(1));
+        self.0.asked.set(self.0.asked.get().saturating_add(1));
         false
     }
 
-    fn on_removed(&mut self, _key: &mut u64, _value: &mut Rc<u64>) {}
+    fn on_removed(&mut self, _key: &mut u64, _value: &mut Live<'a>) {}
 
     fn on_cleared(&mut self) {
-        self.lives.set(Rc::strong_count(self.value));
+        self.0.left.set(self.0.lives.get());
     }
 
     fn on_grow(&mut self, _new_memory_usage: usize) -> bool {
@@ -101,58 +120,29 @@ impl Limiter<u64, Rc<u64>> for Asked<'_> {
     }
 }
 
-type Asking<'a> = LruMap<u64, Rc<u64>, Storing<Asked<'a>>>;
-
-fn new_map<'a>(
-    alloc: Global,
-    asked: &'a Cell<u64>,
-    value: &'a Rc<u64>,
-    lives: &'a Cell<usize>,
-) -> Asking<'a> {
-    let limiter = Asked {
-        asked,
-        value,
-        lives,
-    };
-    LruMap::new(alloc, Storing(limiter), [1, 2, 3, 4], 16)
-}
-
-/// Inserts a copy of the value, and returns whether it is stored.
-fn is_stored(map: &mut Asking, key: u64, value: &Rc<u64>) -> bool {
-    match value.clone() {
-        Ok(value) => map.insert(key, value) == Ok(true),
-        Err(_) => false,
-    }
-}
-
 /// An insert of a new key queries the limiter once after it stored the pair, and once before if there are pairs. An
-/// insert of a key that is there queries once, and so does an update.
+/// insert of a key that is there queries once, and so does an update, and a trim if there are pairs. A clear is reported
+/// after the values were dropped.
 #[test]
-fn the_limiter_is_asked_once(rt: HostRuntime) -> Result<(), Fail> {
-    let (asked, lives, value) = (Cell::new(0), Cell::new(0), Rc::new(rt.alloc(), 0u64)?);
-    let mut map = new_map(rt.alloc(), &asked, &value, &lives);
+fn the_limiter_is_asked_once(rt: HostRuntime) {
+    let notes = Notes {
+        asked: Cell::new(0),
+        lives: Cell::new(0),
+        left: Cell::new(9),
+    };
+    let mut map = LruMap::new(rt.alloc(), Storing(Noting(&notes)), [1, 2, 3, 4], 16);
     for (key, wanted) in [(1u64, 1u64), (2, 3), (3, 5), (2, 6), (4, 8)] {
-        let found = (is_stored(&mut map, key, &value), asked.get());
-        assert!(rt; found == (true, wanted), "{key}");
+        check!(rt; map.insert(key, notes.value()) == Ok(true));
+        check!(rt; notes.asked.get() == wanted);
     }
-    drop(map.update(2, value.clone()?));
-    check!(rt; asked.get() == 9);
-    Ok(())
-}
-
-/// A trim queries the limiter once, if there are pairs. A clear is reported after the values were dropped.
-#[test]
-fn a_clear_is_reported_last(rt: HostRuntime) -> Result<(), Fail> {
-    let (asked, lives, value) = (Cell::new(0), Cell::new(0), Rc::new(rt.alloc(), 0u64)?);
-    let mut map = new_map(rt.alloc(), &asked, &value, &lives);
-    let are_stored = is_stored(&mut map, 1, &value) && is_stored(&mut map, 2, &value);
-    let other = value.clone()?;
-    let is_there = map.ensure_newest(1, move || other) == Ok(true);
-    let is_removed = map.remove(&2).is_some();
-    check!(rt; (are_stored, is_there, is_removed, asked.get()) == (true, true, true, 3));
+    drop(map.update(2, notes.value()));
+    check!(rt; notes.asked.get() == 9);
+    let other = notes.value();
+    check!(rt; map.ensure_newest(1, move || other) == Ok(true));
+    drop(map.remove(&2));
+    check!(rt; notes.asked.get() == 9);
     map.trim();
     map.clear();
     map.trim();
-    check!(rt; (lives.get(), asked.get()) == (1, 4));
-    Ok(())
+    check!(rt; (notes.left.get(), notes.asked.get()) == (0, 10));
 }

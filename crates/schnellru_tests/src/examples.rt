@@ -1,13 +1,14 @@
 //! The examples of the README and of the public items' documents.
 //!
 //! An example is a function that returns whether its assertions hold: a test of its own costs twice as much to prove.
-use map_helpers::{all, fill, is_pair, is_value, map_of};
+use map_helpers::{fill, is_pair, is_value, map_of};
 use schnellru::{
     ByLength, ByMemoryUsage, ByWeight, GetOrInsertError, KeyHasher, LruMap, MoveReport,
     RandomState, ReserveError, Unlimited, UnlimitedCompact,
 };
 use std::alloc::{AllocError, Global};
 use std::hash::BuildHasher;
+use test_helpers::{all, check};
 
 type Map = LruMap<u64, u64>;
 
@@ -41,7 +42,7 @@ fn of_a_map_with_a_budget(alloc: Global) -> Result<bool, AllocError> {
     for n in 1..=4 {
         map.insert(n, n)?;
     }
-    Ok(is_refused && all!(map.len() == 3 && map.memory_usage() == 84 && map.peek(&1).is_none()))
+    Ok(is_refused & all!(map.len() == 3 && map.memory_usage() == 84 && map.peek(&1).is_none()))
 }
 
 fn of_a_map_with_a_budget_and_a_hasher(alloc: Global) -> bool {
@@ -65,9 +66,9 @@ fn of_inserts_and_the_limiter(map: &mut Map) -> Result<bool, AllocError> {
         is_value(map.peek(&1), 20)
     );
     *map.limiter_mut() = ByLength::new(1);
-    let held = held && all!(map.len() == 3);
+    let held = held & all!(map.len() == 3);
     map.insert(4, 40)?;
-    Ok(held && all!(map.len() == 1))
+    Ok(held & all!(map.len() == 1))
 }
 
 fn of_inserts_that_return_a_value(map: &mut Map) -> Result<bool, AllocError> {
@@ -80,13 +81,13 @@ fn of_inserts_with_a_callback(map: &mut Map) -> Result<bool, AllocError> {
     map.insert_with(4, 40, &mut |key, value| left = Some((key, value)))?;
     let held = all!(left == Some((1, 10)));
     let (done, left) = map.insert_and_keep(5, 50)?;
-    Ok(held && all!(done == Ok(true) && left.as_slice() == [(2, 20)].as_slice()))
+    Ok(held & all!(done == Ok(true) && left.as_slice() == [(2, 20)].as_slice()))
 }
 
 fn of_inserts_that_evict_nothing(map: &mut Map) -> bool {
     let held = all!(map.try_insert(4, 40) == Err((4, 40)));
     map.pop_oldest();
-    held && all!((map.try_insert(4, 40), map.try_insert(4, 41)) == (Ok(()), Err((4, 41))))
+    held & all!((map.try_insert(4, 40), map.try_insert(4, 41)) == (Ok(()), Err((4, 41))))
 }
 
 fn of_removals(map: &mut Map) -> bool {
@@ -138,7 +139,7 @@ fn of_walks(alloc: Global) -> bool {
     for (key, value) in map.drain() {
         sum = sum.wrapping_add(key.wrapping_mul(value));
     }
-    is_filled && held && all!(map.is_empty(), (total, sum) == (140, 140))
+    is_filled & held & all!(map.is_empty(), (total, sum) == (140, 140))
 }
 
 fn of_both_ends(map: &mut Map) -> bool {
@@ -157,7 +158,7 @@ fn of_both_ends(map: &mut Map) -> bool {
         map.pop_newest() == Some((3, 30))
     );
     map.clear();
-    held && all!((map.len(), map.guaranteed_capacity()) == (0, 3))
+    held & all!((map.len(), map.guaranteed_capacity()) == (0, 3))
 }
 
 fn of_values_that_are_written(map: &mut Map) -> bool {
@@ -174,7 +175,7 @@ fn of_values_that_are_written(map: &mut Map) -> bool {
         *value = 200;
     }
     drop(walk);
-    held && all!(
+    held & all!(
         is_value(map.peek(&2), 200),
         is_pair(map.peek_newest(), 3, 300),
         is_pair(map.peek_oldest(), 1, 100)
@@ -187,7 +188,7 @@ fn of_values_that_are_written_in_place(map: &mut Map) -> bool {
     }
     let held = all!(is_pair(map.peek_oldest(), 1, 100));
     map.for_each_mut(|_, value| *value = value.saturating_add(1));
-    held && all!(is_value(map.peek(&1), 101))
+    held & all!(is_value(map.peek(&1), 101))
 }
 
 fn of_copies(map: &mut Map) -> Result<bool, AllocError> {
@@ -209,7 +210,7 @@ fn of_searches_by_a_hash(map: &mut Map) -> bool {
     if let Some(value) = map.peek_by_hash_mut(hash, |key, _| *key == 1) {
         *value = 100;
     }
-    held && all!(is_value(map.peek(&1), 100))
+    held & all!(is_value(map.peek(&1), 100))
 }
 
 fn of_seeds(alloc: Global) -> Result<bool, AllocError> {
@@ -242,12 +243,12 @@ fn of_gets_that_may_fail(map: &mut Map) -> Result<bool, GetOrInsertError<u8>> {
     let held = all!(map.get_or_insert_fallible(5, || Err(7u8)).is_err());
     let error = map.get_or_insert_fallible(5, || Err(7u8)).err();
     let held = held
-        && all!(
+        & all!(
             error == Some(GetOrInsertError::Caller(7)),
             map.peek(&5).is_none()
         );
     Ok(
-        held && all!(
+        held & all!(
             map.get_or_insert_fallible(5, || Ok::<u64, u8>(50))?
                 .copied()
                 == Some(50)
@@ -277,7 +278,7 @@ fn of_keys_that_are_promoted(map: &mut Map) -> bool {
 fn of_entries_that_are_removed(alloc: Global) -> bool {
     let mut map = map_of(alloc, ByLength::new(3));
     fill(&mut map)
-        && all!(
+        & all!(
             map.remove_entry(&1) == Some((1, 10)),
             map.remove_entry(&1) == None,
             insert_five(&mut map) == Ok(true),
@@ -341,7 +342,7 @@ fn of_new_maps(rt: HostRuntime) {
         of_walks(alloc),
         of_entries_that_are_removed(alloc),
     ];
-    assert!(rt; held == [true; 11], "{held:?}");
+    check!(rt; held == [true; 11]);
 }
 
 /// Each example has the map of three pairs anew. The first one counts what its table moved.
@@ -349,33 +350,33 @@ fn of_new_maps(rt: HostRuntime) {
 fn of_inserts_and_look_ups(rt: HostRuntime) {
     let mut map = map_of(rt.alloc(), ByLength::new(3));
     let held = [
-        fill(&mut map) && of_both_ends(&mut map),
-        fill(&mut map) && of_inserts_and_the_limiter(&mut map) == Ok(true),
-        fill(&mut map) && of_inserts_that_return_a_value(&mut map) == Ok(true),
-        fill(&mut map) && of_inserts_with_a_callback(&mut map) == Ok(true),
-        fill(&mut map) && of_inserts_that_evict_nothing(&mut map),
-        fill(&mut map) && of_removals(&mut map),
-        fill(&mut map) && of_look_ups(&mut map),
-        fill(&mut map) && of_values_that_are_counted(&mut map) == Ok(true),
-        fill(&mut map) && of_closures_that_may_fail(&mut map) == Ok(true),
-        fill(&mut map) && of_gets_that_may_fail(&mut map) == Ok(true),
+        fill(&mut map) & of_both_ends(&mut map),
+        fill(&mut map) & (of_inserts_and_the_limiter(&mut map) == Ok(true)),
+        fill(&mut map) & (of_inserts_that_return_a_value(&mut map) == Ok(true)),
+        fill(&mut map) & (of_inserts_with_a_callback(&mut map) == Ok(true)),
+        fill(&mut map) & of_inserts_that_evict_nothing(&mut map),
+        fill(&mut map) & of_removals(&mut map),
+        fill(&mut map) & of_look_ups(&mut map),
+        fill(&mut map) & (of_values_that_are_counted(&mut map) == Ok(true)),
+        fill(&mut map) & (of_closures_that_may_fail(&mut map) == Ok(true)),
+        fill(&mut map) & (of_gets_that_may_fail(&mut map) == Ok(true)),
     ];
-    assert!(rt; held == [true; 10], "{held:?}");
+    check!(rt; held == [true; 10]);
 }
 
 #[test]
 fn of_other_calls_on_three_pairs(rt: HostRuntime) {
     let mut map = map_of(rt.alloc(), ByLength::new(3));
     let held = [
-        fill(&mut map) && of_values_that_are_written(&mut map),
-        fill(&mut map) && of_values_that_are_written_in_place(&mut map),
-        fill(&mut map) && of_copies(&mut map) == Ok(true),
-        fill(&mut map) && of_searches_by_a_hash(&mut map),
-        fill(&mut map) && of_keys_that_are_promoted(&mut map),
-        fill(&mut map) && of_trims(&mut map),
-        fill(&mut map) && of_trims_with_a_callback(&mut map),
-        fill(&mut map) && of_another_limiter(&mut map),
-        fill(&mut map) && of_pops_on_a_condition(&mut map),
+        fill(&mut map) & of_values_that_are_written(&mut map),
+        fill(&mut map) & of_values_that_are_written_in_place(&mut map),
+        fill(&mut map) & (of_copies(&mut map) == Ok(true)),
+        fill(&mut map) & of_searches_by_a_hash(&mut map),
+        fill(&mut map) & of_keys_that_are_promoted(&mut map),
+        fill(&mut map) & of_trims(&mut map),
+        fill(&mut map) & of_trims_with_a_callback(&mut map),
+        fill(&mut map) & of_another_limiter(&mut map),
+        fill(&mut map) & of_pops_on_a_condition(&mut map),
     ];
-    assert!(rt; held == [true; 9], "{held:?}");
+    check!(rt; held == [true; 9]);
 }

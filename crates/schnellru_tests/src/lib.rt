@@ -14,8 +14,6 @@ mod counts;
 #[cfg(test)]
 mod examples;
 #[cfg(test)]
-mod keys;
-#[cfg(test)]
 mod order_of_calls;
 #[cfg(test)]
 mod sizes;

@@ -11,7 +11,7 @@ use std::alloc::{AllocError, Global};
 use std::cell::Cell;
 use std::ops::RangeInclusive;
 use std::test::Fail;
-use test_helpers::Hog;
+use test_helpers::{Hog, check};
 
 /// The calls that are noted, each as a digit.
 const IS_OVER: u64 = 1;
@@ -205,7 +205,7 @@ fn each_pair_is_passed_on_before_the_next_callback(rt: HostRuntime) -> Result<()
         (1, 3, (9, 84), (2, 21), false, (Ok(true), 61, 0)),
     ] {
         if let Some(found) = traced(alloc, first..=last, limits, pair, takes_memory)? {
-            assert!(rt; found == expected, "{first} to {last}, then {pair:?}");
+            check!(rt; found == expected);
         }
     }
     Ok(())
