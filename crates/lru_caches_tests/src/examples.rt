@@ -7,11 +7,12 @@ use lru_caches::{
     BlockDevice, Durable, FileDevice, FileError, HashedFileDevice, Loader, Memo, MemoTable,
     OrderedMap, PageCache, PageError, Question, Unclosed,
 };
+use map_helpers::{is_pair, is_value};
 use schnellru::{ByLength, RandomState};
 use std::cell::Cell;
 use std::io::Cursor;
 use std::test::Fail;
-use test_helpers::check;
+use test_helpers::{all, check};
 
 #[test]
 fn of_the_page_cache(rt: HostRuntime) {
@@ -21,14 +22,16 @@ fn of_the_page_cache(rt: HostRuntime) {
         calls_left: &calls_left,
     };
     let mut cache = PageCache::new(rt.alloc(), disk, 2);
-    check!(rt; cache.write(1, 20) == Ok(()));
-    check!(rt; (cache.read(1), cache.len()) == (Ok(20), 1));
-    check!(rt; cache.contains(1) && !cache.contains(2));
-    check!(rt; cache.device().blocks == [10, 11, 12, 13]);
-    check!(rt; cache.flush() == Ok(()));
-    check!(rt; cache.device().blocks == [10, 20, 12, 13]);
-    check!(rt; (copy_block(&mut cache, 1, 0), cache.read(0)) == (Ok(()), Ok(20)));
-    check!(rt; cache.read(4) == Err(PageError::Device(DiskError)));
+    check!(rt; all!(
+        cache.write(1, 20) == Ok(()),
+        (cache.read(1), cache.len()) == (Ok(20), 1),
+        cache.contains(1) && !cache.contains(2),
+        cache.device().blocks == [10, 11, 12, 13],
+        cache.flush() == Ok(()),
+        cache.device().blocks == [10, 20, 12, 13],
+        copy_block(&mut cache, 1, 0) == Ok(()),
+        cache.read(4) == Err(PageError::Device(DiskError))
+    ));
     let mut cache = match cache.close() {
         Ok(disk) => PageCache::new(rt.alloc(), disk, 2),
         Err(Unclosed { cache, error: _ }) => cache,
@@ -47,10 +50,12 @@ fn of_the_device(rt: HostRuntime) {
         blocks: [10, 11, 12, 13],
         calls_left: &calls_left,
     };
-    check!(rt; disk.write(1, &20) == Ok(()));
-    check!(rt; disk.read(1) == Ok(20));
-    check!(rt; disk.read(1) == Err(DiskError));
-    check!(rt; disk.sync() == Ok(()));
+    check!(rt; all!(
+        disk.write(1, &20) == Ok(()),
+        disk.read(1) == Ok(20),
+        disk.read(1) == Err(DiskError),
+        disk.sync() == Ok(())
+    ));
 }
 
 #[test]
@@ -58,21 +63,25 @@ fn of_the_file_devices(rt: HostRuntime) -> Result<(), Fail> {
     let alloc = rt.alloc();
     let file = Cursor::new(Vec::from_array(alloc, *b"zeroone.two.")?);
     let mut device: FileDevice<_, 4> = FileDevice::new(alloc, file, 3)?;
-    check!(rt; device.len() == 3);
-    check!(rt; device.write(1, b"uno.") == Ok(()));
-    check!(rt; device.read(1) == Ok(*b"uno."));
-    check!(rt; device.read(9) == Err(FileError::NoBlock));
-    check!(rt; device.file().position() == 8);
-    check!(rt; device.sync() == Ok(()));
+    check!(rt; all!(
+        device.len() == 3,
+        device.write(1, b"uno.") == Ok(()),
+        device.read(1) == Ok(*b"uno."),
+        device.read(9) == Err(FileError::NoBlock),
+        device.file().position() == 8,
+        device.sync() == Ok(())
+    ));
     let bytes = device.into_file().into_inner();
     check!(rt; bytes.starts_with(b"zerouno."));
     check!(rt; Cursor::new([0u8; 4]).make_durable().is_ok());
     let file = Cursor::new(Vec::from_array(alloc, *b"zeroone.two.")?);
     let mut hashed: HashedFileDevice<_, 4> = HashedFileDevice::new(alloc, file, 3)?;
-    check!(rt; hashed.len() == 3);
-    check!(rt; hashed.write(1, b"uno.") == Ok(()));
-    check!(rt; hashed.read(1) == Ok(*b"uno."));
-    check!(rt; hashed.file().position() == 8);
+    check!(rt; all!(
+        hashed.len() == 3,
+        hashed.write(1, b"uno.") == Ok(()),
+        hashed.read(1) == Ok(*b"uno."),
+        hashed.file().position() == 8
+    ));
     let bytes = hashed.into_file().into_inner();
     check!(rt; bytes.starts_with(b"zerouno."));
     Ok(())
@@ -85,26 +94,31 @@ fn of_the_ordered_map(rt: HostRuntime) -> Result<(), Fail> {
     let map: OrderedMap<u64, u64> = OrderedMap::with_hasher(alloc, seeded);
     check!(rt; map.is_empty());
     let mut map: OrderedMap<u64, u64> = OrderedMap::new(alloc);
-    check!(rt; (map.insert(1, 10)?, map.insert(2, 20)?) == (None, None));
-    check!(rt; map.insert(1, 11)? == Some(10));
-    check!(rt; map.contains_key(&1) && !map.contains_key(&9));
-    check!(rt; (map.get(&1), map.get(&9)) == (Some(&11), None));
-    check!(rt; map.len() == 2);
-    check!(rt; map.first() == Some((&1, &11)) && map.last() == Some((&2, &20)));
+    check!(rt; all!(
+        (map.insert(1, 10)?, map.insert(2, 20)?) == (None, None),
+        map.insert(1, 11)? == Some(10),
+        map.contains_key(&1) && !map.contains_key(&9),
+        (map.get(&1), map.get(&9)) == (Some(&11), None),
+        map.len() == 2,
+        is_pair(map.first(), 1, 11) && is_pair(map.last(), 2, 20)
+    ));
     let mut entries = map.iter();
     check!(rt; (entries.len(), entries.next(), entries.next_back())
             == (2, Some((&1, &11)), Some((&2, &20))));
     if let Some(value) = map.get_mut(&2) {
         *value = 22;
     }
-    check!(rt; map.get(&2) == Some(&22));
+    check!(rt; is_value(map.get(&2), 22));
     let mut total = 0u64;
     for (key, value) in map.iter() {
         total = total.wrapping_add(key.wrapping_mul(*value));
     }
-    check!(rt; (overwrite(&mut map, 1, 11), total) == (true, 55));
-    check!(rt; (map.remove(&2), map.remove(&2)) == (Some(22), None));
-    check!(rt; map.pop_first() == Some((1, 11)));
+    check!(rt; all!(
+        overwrite(&mut map, 1, 11),
+        total == 55,
+        (map.remove(&2), map.remove(&2)) == (Some(22), None),
+        map.pop_first() == Some((1, 11))
+    ));
     Ok(())
 }
 
@@ -114,11 +128,15 @@ fn of_the_ordered_map_as_a_list(rt: HostRuntime) -> Result<(), Fail> {
     for (key, value) in [(1, 10), (2, 20), (3, 30)] {
         map.insert(key, value)?;
     }
-    check!(rt; map.pop_last() == Some((3, 30)));
-    check!(rt; map.keys().next() == Some(&1) && map.values().next_back() == Some(&20));
+    check!(rt; all!(
+        map.pop_last() == Some((3, 30)),
+        is_value(map.keys().next(), 1) && is_value(map.values().next_back(), 20)
+    ));
     map.insert(3, 30)?;
-    check!(rt; (map.remove_entry(&3), map.remove_entry(&3)) == (Some((3, 30)), None));
-    check!(rt; map == map && map != OrderedMap::new(rt.alloc()));
+    check!(rt; all!(
+        (map.remove_entry(&3), map.remove_entry(&3)) == (Some((3, 30)), None),
+        map == map && map != OrderedMap::new(rt.alloc())
+    ));
     check!(rt; format!(in rt.alloc(); "{map:?}")?.as_str() == "{1: 10, 2: 20}");
     map.retain(|key, value| *key == 1 || *value > 30);
     check!(rt; (map.len(), map.contains_key(&1)) == (1, true));
@@ -139,10 +157,12 @@ fn of_the_ordered_map_and_its_table(rt: HostRuntime) -> Result<(), Fail> {
     for (key, value) in [(1, 11), (2, 20)] {
         map.insert(key, value)?;
     }
-    check!(rt; map.get_key_value(&1) == Some((&1, &11)) && map.get_key_value(&9).is_none());
-    check!(rt; map.move_to_back(&1) && !map.move_to_back(&9));
-    check!(rt; map.last() == Some((&1, &11)));
-    check!(rt; (map.shrink_to_fit(), map.shrink_to_fit()) == (Ok(true), Ok(false)));
+    check!(rt; all!(
+        is_pair(map.get_key_value(&1), 1, 11) && map.get_key_value(&9).is_none(),
+        map.move_to_back(&1) && !map.move_to_back(&9),
+        is_pair(map.last(), 1, 11),
+        (map.shrink_to_fit(), map.shrink_to_fit()) == (Ok(true), Ok(false))
+    ));
     Ok(())
 }
 
@@ -210,11 +230,9 @@ fn of_the_loader(rt: HostRuntime) {
 
 #[test]
 fn of_the_errors(rt: HostRuntime) -> Result<(), Fail> {
-    for (error, text) in [
-        (PageError::Device(1u64), "the device failed"),
-        (PageError::Memory, "no memory"),
-    ] {
-        check!(rt; format!(in rt.alloc(); "{error}")?.as_str() == text);
-    }
+    let failed: PageError<u64> = PageError::Device(1);
+    let memory: PageError<u64> = PageError::Memory;
+    let text = format!(in rt.alloc(); "{failed}, {memory}")?;
+    check!(rt; text.as_str() == "the device failed, no memory");
     Ok(())
 }

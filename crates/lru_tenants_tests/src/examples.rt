@@ -5,63 +5,81 @@ use lru_tenants::{
 };
 use std::alloc::Global;
 use std::test::Fail;
-use test_helpers::check;
+use test_helpers::{all, check};
+
+type Numbers = TenantCache<u64, u64, u64>;
 
 /// Makes a cache with one tenant, whose name is 1 and whose budget is 3. Out of memory, it has none, and puts fail.
-fn with_a_tenant(alloc: Global) -> TenantCache<u64, u64, u64> {
+fn with_a_tenant(alloc: Global) -> Numbers {
     let mut cache = TenantCache::new(alloc, [1, 2, 3, 4], 16);
     let _ = cache.open(1, 3);
     cache
 }
 
-#[test]
-fn of_the_cache(rt: HostRuntime) {
-    let mut cache: TenantCache<u64, u64, u64> = TenantCache::new(rt.alloc(), [1, 2, 3, 4], 16);
-    check!(rt; cache.is_empty());
-    check!(rt; cache.open(1, 3) == Ok(()));
-    check!(rt; cache.put(&1, 7, 2) == Ok(true));
-    check!(rt; cache.cost(&1) == Ok(2));
-    check!(rt; (cache.total_cost(), cache.total_budget()) == (2, 3));
-    check!(rt; cache.names().next() == Some(&1));
-    check!(rt; cache.peek(&1, &7) == Ok(Some(&2)));
-    check!(rt; cache.contains(&1, &7) == Ok(true));
-    check!(rt; cache.entries(&1) == Ok(1));
-    check!(rt; cache.budget(&1) == Ok(3));
-    check!(rt; (cache.remove(&1, &7), cache.remove(&1, &7)) == (Ok(Some(2)), Ok(None)));
-    check!(rt; cache.put(&1, 7, 2) == Ok(true));
-    check!(rt; (cache.set_budget(&1, 1), cache.cost(&1)) == (Ok(()), Ok(0)));
-    check!(rt; (cache.clear(&1), cache.entries(&1), cache.cost(&1)) == (Ok(()), Ok(0), Ok(0)));
-    check!(rt; cache.open(1, 5) == Err(TenantError::AlreadyOpen));
-    check!(rt; (cache.open(2, u64::MAX), cache.close(&2)) == (Ok(()), Ok(0)));
-    check!(rt; (cache.len(), cache.close(&1), cache.len()) == (1, Ok(0), 0));
+fn of_the_cache(cache: &mut Numbers) -> bool {
+    all!(
+        cache.is_empty(),
+        cache.open(1, 3) == Ok(()),
+        cache.put(&1, 7, 2) == Ok(true),
+        cache.cost(&1) == Ok(2),
+        (cache.total_cost(), cache.total_budget()) == (2, 3),
+        cache.names().next() == Some(&1),
+        cache.peek(&1, &7) == Ok(Some(&2)),
+        cache.contains(&1, &7) == Ok(true),
+        cache.entries(&1) == Ok(1),
+        cache.budget(&1) == Ok(3),
+        (cache.remove(&1, &7), cache.remove(&1, &7)) == (Ok(Some(2)), Ok(None)),
+        cache.put(&1, 7, 2) == Ok(true),
+        (cache.set_budget(&1, 1), cache.cost(&1)) == (Ok(()), Ok(0)),
+        (cache.clear(&1), cache.entries(&1), cache.cost(&1)) == (Ok(()), Ok(0), Ok(0)),
+        cache.open(1, 5) == Err(TenantError::AlreadyOpen),
+        (cache.open(2, u64::MAX), cache.close(&2)) == (Ok(()), Ok(0)),
+        (cache.len(), cache.close(&1), cache.len()) == (1, Ok(0), 0)
+    )
 }
 
-#[test]
-fn of_calls_that_pass_entries(rt: HostRuntime) {
-    let mut cache = with_a_tenant(rt.alloc());
+fn of_calls_that_pass_entries(cache: &mut Numbers) -> bool {
     let _ = cache.put(&1, 7, 2);
     let mut left = 0u64;
-    check!(rt; cache.put_with(&1, 8, 3, &mut |key, _| left = key) == Ok(true));
-    check!(rt; left == 7);
+    let put = all!(cache.put_with(&1, 8, 3, &mut |key, _| left = key) == Ok(true));
     let mut evicted = 0u64;
-    check!(rt; cache.set_budget_with(&1, 2, &mut |key, _| evicted = key) == Ok(()));
-    check!(rt; evicted == 8);
-    check!(rt; cache.put(&1, 9, 1u64) == Ok(true));
+    let set = all!(cache.set_budget_with(&1, 2, &mut |key, _| evicted = key) == Ok(()));
+    let _ = cache.put(&1, 9, 1u64);
     let mut last = 0u64;
-    check!(rt; cache.close_with(&1, &mut |key, _| last = key) == Ok(1));
-    check!(rt; last == 9);
+    let closed = all!(cache.close_with(&1, &mut |key, _| last = key) == Ok(1));
+    all!(put, left == 7, set, evicted == 8, closed, last == 9)
+}
+
+fn of_values_that_come_back(cache: &mut Numbers) -> Result<bool, TenantError> {
+    let _ = cache.put(&1, 7, 2);
+    let replaced = cache.put_full(&1, 7, 3, &mut |_, _| {})?;
+    let rejected = cache.put_full(&1, 8, 9, &mut |_, _| {})?;
+    Ok(all!(
+        (replaced.kept, replaced.unkept) == (true, Some(2)),
+        (rejected.kept, rejected.unkept) == (false, Some(9))
+    ))
+}
+
+fn of_values_made_and_totals(cache: &mut Numbers) -> bool {
+    let held = all!(
+        cache.get_or_put(&1, 7, || 2) == Ok(Some(&2)),
+        cache.get_or_put(&1, 7, || 3) == Ok(Some(&2)),
+        cache.set_total_limit(Some(5)) == Ok(()),
+        cache.open(2, 3) == Err(TenantError::OverTotal),
+        cache.total_limit() == Some(5)
+    );
+    costs_are_within_the_total_limit(cache);
+    held
 }
 
 #[test]
-fn of_values_that_come_back(rt: HostRuntime) -> Result<(), Fail> {
-    let mut cache = with_a_tenant(rt.alloc());
-    let _ = cache.put(&1, 7, 2);
-    let replaced = cache.put_full(&1, 7, 3, &mut |_, _| {})?;
-    check!(rt; (replaced.kept, replaced.unkept) == (true, Some(2)));
-    let rejected = cache.put_full(&1, 8, 9, &mut |_, _| {})?;
-    check!(rt; (rejected.kept, rejected.unkept) == (false, Some(9)));
-    check!(rt; (cache.entries(&1), cache.cost(&1)) == (Ok(1), Ok(3)));
-    Ok(())
+fn of_caches_of_numbers(rt: HostRuntime) {
+    let alloc = rt.alloc();
+    let mut cache = TenantCache::new(alloc, [1, 2, 3, 4], 16);
+    check!(rt; of_the_cache(&mut cache));
+    check!(rt; of_calls_that_pass_entries(&mut with_a_tenant(alloc)));
+    check!(rt; of_values_that_come_back(&mut with_a_tenant(alloc)) == Ok(true));
+    check!(rt; of_values_made_and_totals(&mut with_a_tenant(alloc)));
 }
 
 #[test]
@@ -75,17 +93,6 @@ fn of_weights(rt: HostRuntime) -> Result<(), Fail> {
     check!(rt; (weighed.open(1, 40), weighed.put(&1, 7, 2)) == (Ok(()), Ok(true)));
     check!(rt; weighed.cost(&1) == Ok(25));
     Ok(())
-}
-
-#[test]
-fn of_values_made_and_totals(rt: HostRuntime) {
-    let mut cache = with_a_tenant(rt.alloc());
-    check!(rt; cache.get_or_put(&1, 7, || 2) == Ok(Some(&2)));
-    check!(rt; cache.get_or_put(&1, 7, || 3) == Ok(Some(&2)));
-    check!(rt; cache.set_total_limit(Some(5)) == Ok(()));
-    check!(rt; cache.open(2, 3) == Err(TenantError::OverTotal));
-    check!(rt; cache.total_limit() == Some(5));
-    costs_are_within_the_total_limit(&cache);
 }
 
 #[test]
@@ -129,18 +136,15 @@ fn of_runs(rt: HostRuntime) -> Result<(), Fail> {
     Ok(())
 }
 
-/// Lists of no calls and of 100,000, each of which opens a tenant.
+/// A list of 100,000 calls, each of which opens a tenant.
 #[test]
-fn short_and_long_lists(rt: HostRuntime) -> Result<(), Fail> {
-    let alloc = rt.alloc();
-    for length in [0, 100_000usize] {
-        let mut calls = Vec::new(alloc);
-        for name in 0..length {
-            calls.push(TenantCall::Open(name as u64, 1))?;
-        }
-        let mut cache: TenantCache<u64, u64, u64> = TenantCache::new(alloc, [1, 2, 3, 4], 16);
-        check!(rt; run_tenants(alloc, &mut cache, calls)?.len() == length);
-        check!(rt; cache.len() == length);
+fn a_long_list(rt: HostRuntime) -> Result<(), Fail> {
+    let mut calls = Vec::new(rt.alloc());
+    for name in 0..100_000u64 {
+        calls.push(TenantCall::Open(name, 1))?;
     }
+    let mut cache: Numbers = TenantCache::new(rt.alloc(), [1, 2, 3, 4], 16);
+    check!(rt; run_tenants(rt.alloc(), &mut cache, calls)?.len() == 100_000);
+    check!(rt; cache.len() == 100_000);
     Ok(())
 }

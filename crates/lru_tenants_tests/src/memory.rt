@@ -36,49 +36,69 @@ fn call(cache: &mut TenantCache<u64, u64, u64>, kind: u32) -> Result<(), TenantE
     Ok(())
 }
 
-// Each call is made while no request is met, then while one is, and so on, until it succeeds. A refused call succeeds
-// when there is memory again.
+// Makes a call while no request is met, then while one is, and so on, until it succeeds. A refused call succeeds when
+// there is memory again. Returns how often the call was refused.
+fn refusals(alloc: Global, kind: u32, size: u64) -> Result<usize, TenantError> {
+    let (tenants, pairs) = if kind == 0 { (size, 0) } else { (1, size) };
+    for requests in 0..8usize {
+        let mut cache = cache_of(alloc, tenants, pairs)?;
+        let Ok(hog) = Hog::but(alloc, requests) else {
+            return Err(TenantError::Memory);
+        };
+        let first = call(&mut cache, kind);
+        // If memory has no end, nothing is refused.
+        let refused = if hog.took_all() { requests } else { 1 };
+        drop(hog);
+        if first.is_ok() {
+            return Ok(refused);
+        }
+        call(&mut cache, kind)?;
+    }
+    Err(TenantError::Memory)
+}
+
 #[test]
 fn each_request_is_refused(rt: HostRuntime) -> Result<(), Fail> {
     for kind in 0..3u32 {
-        let mut refused = 0u32;
-        for size in 0..=14u64 {
-            for requests in 0..8usize {
-                let (tenants, pairs) = if kind == 0 { (size, 0) } else { (1, size) };
-                let mut cache = cache_of(rt.alloc(), tenants, pairs)?;
-                let hog = Hog::but(rt.alloc(), requests)?;
-                let first = call(&mut cache, kind);
-                // If memory has no end, nothing is refused.
-                refused = refused.wrapping_add((first.is_err() || !hog.took_all()) as u32);
-                drop(hog);
-                if first.is_ok() {
-                    break;
-                }
-                let again = call(&mut cache, kind);
-                check!(rt; (first, again) == (Err(TenantError::Memory), Ok(())));
-            }
+        let mut refused = 0usize;
+        for size in [0, 1, 3, 7, 14u64] {
+            refused = refused.wrapping_add(refusals(rt.alloc(), kind, size)?);
         }
         check!(rt; refused > 0);
     }
     Ok(())
 }
 
-// A list of one call takes the memory of one answer, and fails without it.
+// Carries out a hundred lists of one call. Returns how many found memory, and how many of these found memory for their
+// answers.
+fn lists_made(alloc: Global, cache: &mut TenantCache<u64, u64, u64>) -> (u32, u32) {
+    let (mut lists, mut made) = (0u32, 0u32);
+    for _ in 0..100u32 {
+        if let Ok(calls) = vec![in alloc; TenantCall::Cost(1)] {
+            lists = lists.wrapping_add(1);
+            made = made.wrapping_add(run_tenants(alloc, cache, calls).is_ok() as u32);
+        }
+    }
+    (lists, made)
+}
+
+// A list takes the memory of its answers, and fails without it. It is freed in both cases: the one block that is left
+// serves each of the lists.
 #[test]
 fn a_list_takes_the_memory_of_its_answers(rt: HostRuntime) -> Result<(), Fail> {
-    let alloc = rt.alloc();
-    for is_met in [false, true] {
-        let calls = vec![in alloc; TenantCall::Cost(1)]?;
-        let mut hog = Hog::new(alloc, &[size_of::<TenantAnswer<u64>>()])?;
-        if is_met {
-            hog.release();
-        }
-        let mut cache: TenantCache<u64, u64, u64> = TenantCache::new(alloc, [1, 2, 3, 4], 16);
-        let is_made = run_tenants(alloc, &mut cache, calls).is_ok();
-        let all = hog.took_all();
-        drop(hog);
-        check!(rt; is_made == is_met || !all);
-    }
+    let (list, answers) = (
+        size_of::<TenantCall<u64, u64, u64>>(),
+        size_of::<TenantAnswer<u64>>(),
+    );
+    let mut cache = TenantCache::new(rt.alloc(), [1, 2, 3, 4], 16);
+    let mut hog = Hog::new(rt.alloc(), &[list, answers])?;
+    hog.release();
+    let without = lists_made(rt.alloc(), &mut cache);
+    hog.release();
+    let with = lists_made(rt.alloc(), &mut cache);
+    let all = hog.took_all();
+    drop(hog);
+    check!(rt; (without, with) == ((100, 0), (100, 100)) || !all);
     Ok(())
 }
 
@@ -168,25 +188,5 @@ fn names_are_dropped(rt: HostRuntime) -> Result<(), Fail> {
     check!(rt; cache.open(first, 2) == Ok(()));
     check!(rt; cache.open(second, 2) == Err(TenantError::AlreadyOpen));
     check!(rt; (cache.close(&name), Rc::strong_count(&name)) == (Ok(0), 1));
-    Ok(())
-}
-
-// A list that finds no memory for its answers is freed: the one block that is left serves each of a hundred lists.
-#[test]
-fn a_list_without_answers_is_freed(rt: HostRuntime) -> Result<(), Fail> {
-    let alloc = rt.alloc();
-    let mut hog = Hog::new(alloc, &[size_of::<TenantCall<u64, u64, u64>>()])?;
-    hog.release();
-    let mut cache: TenantCache<u64, u64, u64> = TenantCache::new(alloc, [1, 2, 3, 4], 16);
-    let (mut lists, mut made) = (0u32, 0u32);
-    for _ in 0..100u32 {
-        if let Ok(calls) = vec![in alloc; TenantCall::Cost(1)] {
-            lists = lists.wrapping_add(1);
-            made = made.wrapping_add(run_tenants(alloc, &mut cache, calls).is_ok() as u32);
-        }
-    }
-    let all = hog.took_all();
-    drop(hog);
-    check!(rt; lists == 100 && (made == 0 || !all));
     Ok(())
 }
