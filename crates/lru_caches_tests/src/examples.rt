@@ -9,6 +9,7 @@ use lru_caches::{
 };
 use map_helpers::{is_pair, is_value};
 use schnellru::{ByLength, RandomState};
+use std::alloc::AllocError;
 use std::cell::Cell;
 use std::io::Cursor;
 use std::test::Fail;
@@ -87,82 +88,99 @@ fn of_the_file_devices(rt: HostRuntime) -> Result<(), Fail> {
     Ok(())
 }
 
-#[test]
-fn of_the_ordered_map(rt: HostRuntime) -> Result<(), Fail> {
-    let alloc = rt.alloc();
-    let seeded = RandomState::with_seeds([5, 6, 7, 8]);
-    let map: OrderedMap<u64, u64> = OrderedMap::with_hasher(alloc, seeded);
-    check!(rt; map.is_empty());
-    let mut map: OrderedMap<u64, u64> = OrderedMap::new(alloc);
-    check!(rt; all!(
+type Map = OrderedMap<u64, u64>;
+
+fn of_an_ordered_map(map: &mut Map) -> Result<bool, AllocError> {
+    let held = all!(
         (map.insert(1, 10)?, map.insert(2, 20)?) == (None, None),
         map.insert(1, 11)? == Some(10),
         map.contains_key(&1) && !map.contains_key(&9),
         (map.get(&1), map.get(&9)) == (Some(&11), None),
         map.len() == 2,
         is_pair(map.first(), 1, 11) && is_pair(map.last(), 2, 20)
-    ));
+    );
     let mut entries = map.iter();
-    check!(rt; (entries.len(), entries.next(), entries.next_back())
-            == (2, Some((&1, &11)), Some((&2, &20))));
+    let held = held
+        & all!(
+            (entries.len(), entries.next(), entries.next_back())
+                == (2, Some((&1, &11)), Some((&2, &20)))
+        );
     if let Some(value) = map.get_mut(&2) {
         *value = 22;
     }
-    check!(rt; is_value(map.get(&2), 22));
+    let held = held & all!(is_value(map.get(&2), 22));
     let mut total = 0u64;
     for (key, value) in map.iter() {
         total = total.wrapping_add(key.wrapping_mul(*value));
     }
-    check!(rt; all!(
-        overwrite(&mut map, 1, 11),
-        total == 55,
-        (map.remove(&2), map.remove(&2)) == (Some(22), None),
-        map.pop_first() == Some((1, 11))
-    ));
-    Ok(())
+    Ok(
+        held & all!(
+            overwrite(map, 1, 11),
+            total == 55,
+            (map.remove(&2), map.remove(&2)) == (Some(22), None),
+            map.pop_first() == Some((1, 11))
+        ),
+    )
 }
 
-#[test]
-fn of_the_ordered_map_as_a_list(rt: HostRuntime) -> Result<(), Fail> {
-    let mut map: OrderedMap<u64, u64> = OrderedMap::new(rt.alloc());
+fn of_an_ordered_map_as_a_list(map: &mut Map, none: &Map) -> Result<bool, AllocError> {
+    map.clear();
     for (key, value) in [(1, 10), (2, 20), (3, 30)] {
         map.insert(key, value)?;
     }
-    check!(rt; all!(
+    let held = all!(
         map.pop_last() == Some((3, 30)),
         is_value(map.keys().next(), 1) && is_value(map.values().next_back(), 20)
-    ));
+    );
     map.insert(3, 30)?;
-    check!(rt; all!(
-        (map.remove_entry(&3), map.remove_entry(&3)) == (Some((3, 30)), None),
-        map == map && map != OrderedMap::new(rt.alloc())
-    ));
-    check!(rt; format!(in rt.alloc(); "{map:?}")?.as_str() == "{1: 10, 2: 20}");
+    let held = held
+        & all!(
+            (map.remove_entry(&3), map.remove_entry(&3)) == (Some((3, 30)), None),
+            *map == *map && *map != *none
+        );
     map.retain(|key, value| *key == 1 || *value > 30);
-    check!(rt; (map.len(), map.contains_key(&1)) == (1, true));
+    let held = held & all!((map.len(), map.contains_key(&1)) == (1, true));
     map.clear();
-    check!(rt; map.is_empty());
-    map.insert(1, 10)?;
-    map.insert(2, 20)?;
-    let mut entries = map.into_iter();
-    check!(rt; (entries.len(), entries.next(), entries.next_back())
-            == (2, Some((1, 10)), Some((2, 20))));
-    Ok(())
+    Ok(held & all!(map.is_empty()))
 }
 
-#[test]
-fn of_the_ordered_map_and_its_table(rt: HostRuntime) -> Result<(), Fail> {
-    let mut map: OrderedMap<u64, u64> = OrderedMap::new(rt.alloc());
-    check!(rt; map.try_reserve(100) == Ok(()));
+fn of_an_ordered_map_and_its_table(map: &mut Map) -> Result<bool, AllocError> {
+    map.clear();
+    let is_reserved = all!(map.try_reserve(100) == Ok(()));
     for (key, value) in [(1, 11), (2, 20)] {
         map.insert(key, value)?;
     }
+    Ok(
+        is_reserved
+            & all!(
+                is_pair(map.get_key_value(&1), 1, 11) && map.get_key_value(&9).is_none(),
+                map.move_to_back(&1) && !map.move_to_back(&9),
+                is_pair(map.last(), 1, 11),
+                (map.shrink_to_fit(), map.shrink_to_fit()) == (Ok(true), Ok(false))
+            ),
+    )
+}
+
+#[test]
+fn of_ordered_maps(rt: HostRuntime) -> Result<(), Fail> {
+    let alloc = rt.alloc();
+    let seeded = RandomState::with_seeds([5, 6, 7, 8]);
+    let map: OrderedMap<u64, u64> = OrderedMap::with_hasher(alloc, seeded);
+    let none = map;
+    let mut map: OrderedMap<u64, u64> = OrderedMap::new(alloc);
     check!(rt; all!(
-        is_pair(map.get_key_value(&1), 1, 11) && map.get_key_value(&9).is_none(),
-        map.move_to_back(&1) && !map.move_to_back(&9),
-        is_pair(map.last(), 1, 11),
-        (map.shrink_to_fit(), map.shrink_to_fit()) == (Ok(true), Ok(false))
+        none.is_empty(),
+        of_an_ordered_map(&mut map) == Ok(true),
+        of_an_ordered_map_as_a_list(&mut map, &none) == Ok(true),
+        of_an_ordered_map_and_its_table(&mut map) == Ok(true)
     ));
+    map.clear();
+    map.insert(1, 10)?;
+    map.insert(2, 20)?;
+    check!(rt; format!(in rt.alloc(); "{map:?}")?.as_str() == "{1: 10, 2: 20}");
+    let mut entries = map.into_iter();
+    check!(rt; (entries.len(), entries.next(), entries.next_back())
+            == (2, Some((1, 10)), Some((2, 20))));
     Ok(())
 }
 
