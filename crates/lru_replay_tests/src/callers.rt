@@ -4,8 +4,6 @@ ghost use Rattle.std.specs.Prelude.{◌≤◌, length, OnOk};
 use lru_replay::{Answer, Call, laws, run_calls};
 use schnellru::{ByLength, LruMap, RandomState};
 use std::alloc::{AllocError, Global};
-use std::test::Fail;
-use test_helpers::check;
 
 /// Inserts two pairs by a list of calls, into a map that is within its length, and leaves it so.
 fn put_both(
@@ -23,13 +21,4 @@ fn put_both(
         Call::Insert(second.0, second.1),
     ]?;
     run_calls(alloc, map, calls)
-}
-
-#[test]
-fn a_run_keeps_the_length(rt: HostRuntime) -> Result<(), Fail> {
-    let mut map = LruMap::new(rt.alloc(), ByLength::new(1), [1, 2, 3, 4], 16);
-    let answers = put_both(rt.alloc(), &mut map, (1, 10), (2, 20))?;
-    check!(rt; answers.as_slice() == [Answer::Flag(true), Answer::Flag(true)].as_slice());
-    check!(rt; (map.len(), map.peek(&2).copied()) == (1, Some(20)));
-    Ok(())
 }

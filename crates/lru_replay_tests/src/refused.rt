@@ -1,7 +1,7 @@
 //! Runs of calls, as lists and as lines, in which the first requests for memory are met and the next one is refused.
 use lru_replay::{Answer, Call, ReplayEnd, replay, run_calls, run_summing};
 use map_helpers::{insert_all, map_of};
-use schnellru::{ByCost, Insertion, LruMap, UnlimitedCompact};
+use schnellru::ByCost;
 use std::alloc::{AllocError, Global};
 use std::mem::size_of;
 use std::test::Fail;
@@ -12,16 +12,6 @@ const ANSWERS: usize = 4 * size_of::<Answer<u64, u64>>();
 
 /// The bytes of a list of eight pairs.
 const LIST: usize = 128;
-
-/// An insert for which a table of 8 buckets grows, a list, a drain, and a look-up.
-fn calls<L: Drop>(alloc: Global) -> Result<Vec<Call<u64, u64, L>>, AllocError> {
-    let mut calls = Vec::new(alloc);
-    calls.push(Call::Insert(8, 80))?;
-    calls.push(Call::List)?;
-    calls.push(Call::Drain { front: 8, back: 0 })?;
-    calls.push(Call::Get(1))?;
-    Ok(calls)
-}
 
 /// Whether the calls were made, the pair was inserted, the pairs were listed, and then drained, and whether a key is
 /// found afterwards.
@@ -52,16 +42,6 @@ fn expected(met: usize) -> Facts {
     }
 }
 
-/// A map of seven pairs.
-fn seven<L: Insertion<u64, u64, u64> + Drop>(
-    alloc: Global,
-    limiter: L,
-) -> Result<LruMap<u64, u64, L>, AllocError> {
-    let mut map = map_of(alloc, limiter);
-    insert_all(&mut map, 1..=7)?;
-    Ok(map)
-}
-
 /// Takes all memory but that of the first requests.
 fn hog_that_meets(alloc: Global, requests: &[usize], met: usize) -> Result<Hog, AllocError> {
     let mut hog = Hog::new(alloc, requests)?;
@@ -71,41 +51,37 @@ fn hog_that_meets(alloc: Global, requests: &[usize], met: usize) -> Result<Hog, 
     Ok(hog)
 }
 
-#[test]
-fn lists_of_calls(rt: HostRuntime) -> Result<(), Fail> {
-    let alloc = rt.alloc();
-    for met in 0..=6usize {
-        let mut map = seven(alloc, UnlimitedCompact)?;
-        let calls = calls(alloc)?;
-        let hog = hog_that_meets(alloc, &[ANSWERS, 384, 32, 32, LIST, LIST], met)?;
-        let answers = run_calls(alloc, &mut map, calls).ok();
-        let all = hog.took_all();
-        drop(hog);
-        check!(rt; !all || facts_of(answers) == expected(met));
-    }
-    Ok(())
+/// Makes four calls on a map of seven pairs, of which the first requests for memory are met: an insert for which a table
+/// of 8 buckets grows, a list, a drain, and a look-up. Returns whether the answers are as expected, and the cost is that
+/// of the pairs that are left. The links have 8 bytes, so an entry has 32.
+fn is_as_expected(alloc: Global, met: usize, sums: bool) -> Result<bool, AllocError> {
+    let mut map = map_of(alloc, ByCost::new(1000));
+    insert_all(&mut map, 1..=7)?;
+    let drain = Call::Drain { front: 8, back: 0 };
+    let calls = vec![in alloc; Call::Insert(8, 80), Call::List, drain, Call::Get(1)]?;
+    let hog = hog_that_meets(alloc, &[ANSWERS, 512, 32, 64, LIST, LIST], met)?;
+    let answers = if sums {
+        run_summing(alloc, &mut map, calls).ok()
+    } else {
+        run_calls(alloc, &mut map, calls).ok()
+    };
+    let all = hog.took_all();
+    drop(hog);
+    let cost = match met {
+        0..=3 => 280,
+        4..=5 => 360,
+        _ => 0,
+    };
+    Ok(!all | ((facts_of(answers) == expected(met)) & (map.limiter().cost() == cost)))
 }
 
-/// The links have 8 bytes, so an entry has 32. The cost is that of the pairs that are left.
 #[test]
-fn lists_of_calls_under_a_sum(rt: HostRuntime) -> Result<(), Fail> {
-    let alloc = rt.alloc();
+fn lists_of_calls(rt: HostRuntime) {
     for met in 0..=6usize {
-        let mut map = seven(alloc, ByCost::new(1000))?;
-        let calls = calls(alloc)?;
-        let hog = hog_that_meets(alloc, &[ANSWERS, 512, 32, 64, LIST, LIST], met)?;
-        let answers = run_summing(alloc, &mut map, calls).ok();
-        let all = hog.took_all();
-        drop(hog);
-        let cost = match met {
-            0..=3 => 280,
-            4..=5 => 360,
-            _ => 0,
-        };
-        let is_as_expected = facts_of(answers) == expected(met) && map.limiter().cost() == cost;
-        check!(rt; !all || is_as_expected);
+        for sums in [false, true] {
+            check!(rt; is_as_expected(rt.alloc(), met, sums) == Ok(true));
+        }
     }
-    Ok(())
 }
 
 /// Replays the lines, of which the first requests for memory are met. Returns whether all is done, with this text.

@@ -1,6 +1,6 @@
 //! Maps that tests share, and what a test looks at in them.
 //!
-//! - [`map_of`], [`three_costs`], [`insert`], [`insert_all`], [`get`], [`peek`], [`counts_down`], [`is_list`],
+//! - [`map_of`], [`insert`], [`insert_all`], [`get`], [`peek`], [`counts_down`], [`is_list`],
 //!   [`remove_all`], [`reserve`], [`shrink`], [`figures`], [`report`]: a map of numbers. They have no contracts, so a
 //!   test that calls them is proved faster than one that calls the map.
 //! - [`fill`], [`is_pair`], [`is_value`]: the map of the examples of the docs, and forms of their assertions that are
@@ -13,6 +13,6 @@ mod texts;
 
 pub use maps::{
     counts_down, figures, fill, get, insert, insert_all, is_list, is_pair, is_value, map_of, peek,
-    remove_all, report, reserve, shrink, three_costs,
+    remove_all, report, reserve, shrink,
 };
 pub use texts::{Texts, has_keys, texts_of};

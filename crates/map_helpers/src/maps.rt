@@ -1,5 +1,5 @@
 //! Maps from numbers to numbers, and what a test looks at in them.
-use schnellru::{ByCost, ByLength, Insertion, Limiter, LruMap, RandomState, ReserveError};
+use schnellru::{ByLength, Insertion, Limiter, LruMap, RandomState, ReserveError};
 use std::alloc::{AllocError, Global};
 use std::hash::{BuildHasher, Hash};
 use std::ops::RangeInclusive;
@@ -7,15 +7,6 @@ use std::ops::RangeInclusive;
 /// A map of numbers with entries of 16 bytes.
 pub fn map_of<L: Limiter<u64, u64>>(alloc: Global, limiter: L) -> LruMap<u64, u64, L, RandomState> {
     LruMap::new(alloc, limiter, [1, 2, 3, 4], 16)
-}
-
-/// A map of the pairs (1, 1), (2, 2) and (3, 3), with a cost of at most 10.
-pub fn three_costs(alloc: Global) -> Result<LruMap<u64, u64, ByCost, RandomState>, AllocError> {
-    let mut map = map_of(alloc, ByCost::new(10));
-    for n in 1..=3u64 {
-        map.insert(n, n)?;
-    }
-    Ok(map)
 }
 
 /// Leaves the pairs (1, 10), (2, 20) and (3, 30), and a limit of three pairs. Returns whether there was memory.

@@ -4,7 +4,6 @@
 //! - [`Hog`]: takes all memory, so that the requests of others are refused.
 //! - [`LinkedBy`], [`Alternating`], [`Within`], [`Blanking`]: limiters of maps from numbers to numbers.
 //! - [`InsertKey`] and [`Counting`]: texts that become a `String` when they are stored, and a limiter for them.
-//! - [`Weighed`]: a value with a cost of its own.
 //! - [`Random`]: random numbers, the same in each run.
 //! - [`LastByte`] with [`OF_HASH_28`], [`Sum`], [`Counted`]: hashers.
 #![tactic(auto)]
@@ -14,14 +13,12 @@ mod hog;
 mod insert_key;
 mod limiters;
 mod random;
-mod weighed;
 
 pub use hashers::{Counted, LastByte, OF_HASH_28, Sum};
 pub use hog::Hog;
 pub use insert_key::{Counting, InsertKey};
 pub use limiters::{Alternating, Blanking, LinkedBy, Within};
 pub use random::Random;
-pub use weighed::Weighed;
 
 /// Ends a test if the condition is false. The output names only the line, so the prover takes a third of the time of an
 /// `assert!`, and a seventh of the time of an `assert_eq!`.
