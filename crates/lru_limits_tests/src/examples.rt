@@ -21,8 +21,7 @@ impl Costed for Page {
 }
 
 #[test]
-fn of_limiters(rt: HostRuntime) -> Result<(), Fail> {
-    let alloc = rt.alloc();
+fn of_limiters(rt: HostRuntime) {
     let limiter = ByLength::new(3);
     check!(rt; all!(
         limiter.max_length() == 3,
@@ -39,6 +38,11 @@ fn of_limiters(rt: HostRuntime) -> Result<(), Fail> {
         !Limiter::<u64, u64>::is_over_the_limit(&Unlimited, usize::MAX),
         !Limiter::<u64, u64>::is_over_the_limit(&UnlimitedCompact, usize::MAX)
     ));
+}
+
+#[test]
+fn of_running_totals(rt: HostRuntime) -> Result<(), Fail> {
+    let alloc = rt.alloc();
     let mut limiter = ByCost::new(3);
     check!(rt; all!(
         limiter.limit() == 3,

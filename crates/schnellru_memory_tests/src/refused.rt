@@ -150,10 +150,9 @@ fn inserts_of_many_pairs(rt: HostRuntime) {
     }
 }
 
-/// A first table, and a growth: the limiter is queried and notified of the new pair each time. And a rehash after a
-/// refused growth: the oldest 15 pairs are evicted before it, once, and the limiter is not asked again.
+/// A first table, and a growth: the limiter is queried and notified of the new pair each time.
 #[test]
-fn inserts_that_take_memory(rt: HostRuntime) {
+fn inserts_that_need_a_table(rt: HostRuntime) {
     for call in INSERTS {
         let first = Case {
             most: 84,
@@ -178,20 +177,29 @@ fn inserts_that_take_memory(rt: HostRuntime) {
             told: &[(1, 3), (2, 4), (3, 5), (3, 6)],
             ..first
         };
-        let rehash = Case {
+        for case in [first, growth] {
+            check!(rt; is_met(rt.alloc(), case) == Ok(true));
+        }
+    }
+}
+
+/// A rehash after a refused growth: the oldest 15 pairs are evicted before it, once, and the limiter is not asked again.
+#[test]
+fn inserts_that_need_a_rehash(rt: HostRuntime) {
+    for call in INSERTS {
+        let case = Case {
             most: 560,
             len: 28,
+            removed: (1, 0),
+            call,
             pair: (OF_HASH_28, 0),
             requests: &REHASH,
             stay: (28, 16),
             refused: ((13, 13, 560), (24, 28)),
             met: ((14, 28, 560), (37, 29)),
             told: &[(16, 5), (17, 5), (17, 5)],
-            ..first
         };
-        for case in [first, growth, rehash] {
-            check!(rt; is_met(rt.alloc(), case) == Ok(true));
-        }
+        check!(rt; is_met(rt.alloc(), case) == Ok(true));
     }
 }
 
