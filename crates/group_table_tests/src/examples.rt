@@ -8,6 +8,7 @@ use test_helpers::check;
 fn of_the_table(rt: HostRuntime) -> Result<(), Fail> {
     let alloc = rt.alloc();
     let mut table = Table::with_buckets(alloc, 8)?;
+    check!(rt; table.has_bucket(7) && !table.has_bucket(8));
     let b = table.try_place(7, "a").ok().ok_or("no room")?;
     check!(rt; table.find(7, |entry| *entry == "a") == Some(b));
     if table.room() > 0 {
