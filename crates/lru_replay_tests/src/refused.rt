@@ -106,6 +106,8 @@ const INPUT: &[u8] =
 
 const PUTS: &[u8] = b"compact\nput 1 10\nput 2 20\nlist\n";
 
+const ANSWERS_TO_PUTS: &[u8] = b"true\ntrue\n2:20 1:10\n";
+
 /// The requests of a table of 4 buckets, and of one of 8.
 const TABLES: [usize; 5] = [96, 20, 192, 24, 16];
 
@@ -150,13 +152,17 @@ fn replays_give_their_memory_back(rt: HostRuntime) -> Result<(), Fail> {
     let mut hog = Hog::new(alloc, &[1 << 16])?;
     hog.release();
     let mut right = 0u32;
-    for _ in 0..1000u32 {
-        let mut reader = INPUT;
+    for round in 0..4000u32 {
+        let (mut reader, text) = if round % 2 == 0 {
+            (INPUT, text_of(5))
+        } else {
+            (PUTS, ANSWERS_TO_PUTS)
+        };
         writer.clear();
         let is_done = replay(alloc, &mut reader, &mut writer) == Ok(ReplayEnd::Done);
-        right = right.wrapping_add((is_done && writer.as_slice() == text_of(5)) as u32);
+        right = right.wrapping_add((is_done && writer.as_slice() == text) as u32);
     }
     drop(hog);
-    check!(rt; right == 1000);
+    check!(rt; right == 4000);
     Ok(())
 }

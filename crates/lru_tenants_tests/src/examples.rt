@@ -136,7 +136,7 @@ fn of_runs(rt: HostRuntime) -> Result<(), Fail> {
     Ok(())
 }
 
-/// A list of 100,000 calls, each of which opens a tenant.
+/// A list of no calls, and one of 100,000, each of which opens a tenant.
 #[test]
 fn a_long_list(rt: HostRuntime) -> Result<(), Fail> {
     let mut calls = Vec::new(rt.alloc());
@@ -144,6 +144,7 @@ fn a_long_list(rt: HostRuntime) -> Result<(), Fail> {
         calls.push(TenantCall::Open(name, 1))?;
     }
     let mut cache: Numbers = TenantCache::new(rt.alloc(), [1, 2, 3, 4], 16);
+    check!(rt; run_tenants(rt.alloc(), &mut cache, Vec::new(rt.alloc()))?.is_empty());
     check!(rt; run_tenants(rt.alloc(), &mut cache, calls)?.len() == 100_000);
     check!(rt; cache.len() == 100_000);
     Ok(())

@@ -24,4 +24,7 @@ fn a_search_ends_with_its_answer(rt: HostRuntime) {
             .copied();
         check!(rt; (found, asked.get()) == (value, questions));
     }
+    asked.set(0);
+    check!(rt; map.get_by_hash(0, |_, _| is_question(&asked, 2)).is_some());
+    check!(rt; asked.get() == 2);
 }
