@@ -38,8 +38,9 @@ pub(crate) fn has_empty_neighbours(control: &Control, b: usize) -> bool
     ensures { MatchBool result (HasEmptyNeighbours (IsEmptyAt control.now) (buckets_of control.now) b)
         (IsHemmedIn (IsEmptyAt control.now) (buckets_of control.now) b) }
 {
-    // There is a gap below sixteen if the highest empty lane before this bucket is above the used lanes from it on. A
-    // comparison of the masks takes fewer instructions than two counts and their sum.
+    // `used` has a bit for each used bucket from this one up to the next empty one. The mask of the empty buckets before
+    // is greater exactly if these used ones and those directly before are fewer than sixteen. Comparing the masks takes
+    // fewer instructions than two counts and their sum.
     let used = lanes_below(empty_from(control, b));
     empty_before(control, b) > used
 }
