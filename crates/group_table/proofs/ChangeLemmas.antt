@@ -1,13 +1,21 @@
--- What an insertion and a removal make of the buckets, seen by their numbers and as bucket states.
+-- What an insertion and a removal make of the buckets, seen by their numbers and as bucket states, and of the counts.
 use Rattle.std.proofs.Common.{◌≡◌, ◌≢◌, ℕ, ◌+◌, ◌<◌, cond, List, [], ◌∷◌, length, set, None, inl, inr, refl, ap}
 use Rattle.std.proofs.Common.{sym, ◌∙◌, arith, length-set}
 use Rattle.group_table.specs.Bucket.{Bucket, Slot, Tagged, empty, deleted, full, bucket_at, is_full, IsFull, entry_at}
 use Rattle.group_table.specs.Bucket.{entry_of, entry_count, mark_of, marks_of}
 use Rattle.group_table.specs.Probe.{hash_tag}
-use Rattle.group_table.specs.Table.{Table}
-use Rattle.group_table.specs.Change.{Places, Removes}
+use Rattle.group_table.specs.Table.{Table, Insertions}
+use Rattle.group_table.specs.Change.{Places, Removes, count_up, placings, one_placed, some_moved}
 use Rattle.group_table.proofs.BucketLemmas.{bucket_at-set_same, bucket_at-set_other, count_by-set}
 use Rattle.group_table.proofs.BucketLemmas.{full_lt, is_full-marks_of, marks_of-set}
+
+-- all insertions, with one more
+pub placings-placed : (c : Insertions) → placings (one_placed c) ≡ count_up (placings c) 1
+placings-placed c = omega arith
+
+-- and with n moves
+pub placings-moved : (c : Insertions) (n : ℕ) → placings (some_moved c n) ≡ count_up (placings c) n
+placings-moved c n = omega arith
 
 module _ {T : Type 0} (old new : Table T) (hash : ℕ) (entry : T) (b : ℕ) (places : Places old new hash entry b) where
   placed_free : is_full (bucket_at old.slots b) ≡ is_full (bucket_at (marks_of old.slots) b)

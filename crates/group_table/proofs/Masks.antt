@@ -1,6 +1,6 @@
 -- A comparison with one byte, read as a mask of sixteen lanes.
 use Rattle.std.proofs.Common.{◌≡◌, ◌≢◌, ◌↔◌, ℕ, zero, suc, ◌-◌, ◌/◌, ◌%◌, ◌^◌, ◌<◌, ◌≤◌, List, Bool, true, false, cond}
-use Rattle.std.proofs.Common.{length, get_or, map, replicate, refl, sym, ap, subst, ◌∙◌, arith, w8, w16, pow-suc}
+use Rattle.std.proofs.Common.{length, get_or, map, replicate, refl, sym, ap, subst, ◌∙◌, arith, w8, w16, w32, pow-suc}
 use Rattle.std.proofs.Common.{bit_and, inl, inr, ◌+◌, ◌*◌, nat_lt, pow_mono, pow_pos}
 use native.Mathlib.Decide.{dec_lt}
 use Rattle.std.specs.Int.{bit_at}
@@ -114,14 +114,14 @@ set_below n (suc t) (suc i) some set zeros l =
     (λ j k. sym (bit_at-suc n j) ∙ zeros (suc j) (omega arith)) (omega arith)
 
 -- `(n - 1) & !n` has the bits below the lowest of n
-low_ones : (n t : ℕ) → 0 < n → n < 65536 → t < 16 → bit_at n t ≡ 1 → ((i : ℕ) → i < t → bit_at n i ≡ 0)
-    → bit_and (n - 1) (65535 - n) ≡ 2 ^ t - 1
+low_ones : (n t : ℕ) → 0 < n → n < 4294967296 → t < 32 → bit_at n t ≡ 1 → ((i : ℕ) → i < t → bit_at n i ≡ 0)
+    → bit_and (n - 1) (4294967295 - n) ≡ 2 ^ t - 1
 low_ones n t some fits within set zeros =
-    same_from_bits_below 16 _ _ (omega (arith, and_le_l (n - 1) (65535 - n)))
-    (omega (arith, pow_mono {i = t} {j = 16} (omega arith)))
+    same_from_bits_below 32 _ _ (omega (arith, and_le_l (n - 1) (4294967295 - n)))
+    (omega (arith, pow_mono {i = t} {j = 32} (omega arith)))
     (λ i p.
-    let both = bit_at_and (n - 1) (65535 - n) i in
-    let turned : bit_at (65535 - n) i ≡ 1 - bit_at n i = bit_at_not w16 n i fits p in
+    let both = bit_at_and (n - 1) (4294967295 - n) i in
+    let turned : bit_at (4294967295 - n) i ≡ 1 - bit_at n i = bit_at_not w32 n i fits p in
     elim (dec_lt i t) [
       | yes q ↦ omega (arith, both, turned, zeros i q, set_below n t i some set zeros q, bit_at_ones t i q)
       | no q ↦ elim (dec_lt t i) [
@@ -201,18 +201,32 @@ module _ (mask : ℕ) (fits : mask < 65536) where
         absurd (omega (arith, p, ap (count_leading_zeros 16) z ∙ leading_of_zero 16))
   ]
 
--- the lanes below the lowest one of a mask, all sixteen of an empty one
-pub lanes_under : (mask : ℕ) → mask < 65536
-    → bit_and ((mask + 65535) % 65536) (65535 - mask) ≡ 2 ^ count_trailing_zeros 16 mask - 1
-lanes_under mask fits = elim (dec_lt 0 mask) [
-  | yes q ↦
-      let h = bit_at-trailing_zeros w16 mask q fits in
-      let less : (mask + 65535) % 65536 ≡ mask - 1 = omega arith in
-      ap (λ n. bit_and n (65535 - mask)) less ∙ low_ones mask (count_trailing_zeros 16 mask) q fits h.0 h.1 h.2
+-- the lanes below the lowest one of a mask, in 32 bits
+pub lanes_under : (mask : ℕ) → mask < 65536 → mask ≢ 0
+    → bit_and ((mask + 4294967295) % 4294967296) (4294967295 - mask) ≡ 2 ^ count_trailing_zeros 16 mask - 1
+lanes_under mask fits some =
+    let q : 0 < mask = omega (arith, some) in
+    let h = bit_at-trailing_zeros w16 mask q fits in
+    let less : (mask + 4294967295) % 4294967296 ≡ mask - 1 = omega arith in
+    ap (λ n. bit_and n (4294967295 - mask)) less
+    ∙ low_ones mask (count_trailing_zeros 16 mask) q (omega arith) (omega (arith, h.0)) h.1 h.2
+
+-- of an empty mask, all 32 bits
+pub lanes_under_none : (mask : ℕ) → mask ≡ 0
+    → bit_and ((mask + 4294967295) % 4294967296) (4294967295 - mask) ≡ 2 ^ 32 - 1
+lanes_under_none mask none = ap (λ n. bit_and ((n + 4294967295) % 4294967296) (4294967295 - n)) none
+
+-- a mask is above them as if they were at most sixteen
+pub lanes_under_mask : (low mask under : ℕ) → mask < 65536 → (low ≢ 0 → under ≡ 2 ^ count_trailing_zeros 16 low - 1)
+    → (low ≡ 0 → under ≡ 2 ^ 32 - 1) → nat_lt under mask ≡ nat_lt (2 ^ count_trailing_zeros 16 low - 1) mask
+lanes_under_mask low mask under fits some none = elim (dec_lt 0 low) [
+  | yes q ↦ ap (λ n. nat_lt n mask) (some (omega (arith, q)))
   | no q ↦
-      let none : mask ≡ 0 = omega arith in
-      let all : count_trailing_zeros 16 mask ≡ 16 = ap (count_trailing_zeros 16) none ∙ trailing_of_zero 16 in
-      ap (λ n. bit_and ((n + 65535) % 65536) (65535 - n)) none ∙ sym (ap (λ n. 2 ^ n - 1) all)
+      let empty : low ≡ 0 = omega arith in
+      let all : count_trailing_zeros 16 low ≡ 16 = ap (count_trailing_zeros 16) empty ∙ trailing_of_zero 16 in
+      le-ltb under mask (omega (arith, none empty))
+      ∙ sym (le-ltb (2 ^ count_trailing_zeros 16 low - 1) mask
+      (omega (arith, ap (λ n. 2 ^ n) all)))
 ]
 
 -- a mask is above the lanes below another one if its highest lane is not below the lowest of that one

@@ -1,5 +1,5 @@
 -- The entry of a full bucket leaves.
-use Rattle.std.proofs.Common.{◌≡◌, ℕ, ◌+◌, ◌%◌, ◌<◌, ◌≤◌, Bool, true, false, cond, List, length, set, Option, None}
+use Rattle.std.proofs.Common.{◌≡◌, ℕ, ◌+◌, ◌-◌, ◌^◌, ◌%◌, ◌<◌, ◌≤◌, Bool, true, false, cond, List, length, set, Option, None}
 use Rattle.std.proofs.Common.{refl, ap, sym, ◌∙◌, arith, inl, inr, count_by, MatchBool}
 use Rattle.std.proofs.Math.Nat.{mod-add-mod, mod-lt}
 use mir.Val.{bool_byte}
@@ -17,9 +17,11 @@ use Rattle.group_table.proofs.LayoutLemmas.{byte_from_mark}
 use Rattle.group_table.proofs.TableLemmas.{used_lt, room_by}
 use Rattle.group_table.proofs.WriteLemmas.{slots_of-written, IsValid-written, entry_count-written}
 
-pub bool_byte-le : (t : Bool) → bool_byte t ≤ 1
-bool_byte-le true = omega arith
-bool_byte-le false = omega arith
+-- to subtract all ones is to add one
+pub room_gained : (gives : Bool) (room ones : ℕ) → ones ≡ cond gives (2 ^ 64 - 1) 0 → room < 2 ^ 64 - 1
+    → (room + (2 ^ 64 - ones)) % 2 ^ 64 ≡ room + bool_byte gives
+room_gained true room ones all small = omega (arith, all)
+room_gained false room ones none small = omega (arith, none)
 
 -- up to 16 buckets, 16 neighbours are all, and one of them is empty
 hemmed_in_small : (marks : List Mark) (b : ℕ) → IsHemmedIn (IsEmpty marks) (length marks) b → length marks ≤ 16

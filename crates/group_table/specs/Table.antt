@@ -4,10 +4,15 @@ use Rattle.group_table.specs.Sizes.{IsBucketCount, full_capacity}
 use Rattle.group_table.specs.Bucket.{Slot, Mark, empty, bucket_at, refilled, is_deleted, is_used, entry_count, room}
 use Rattle.group_table.specs.Probe.{probed, IsFirstFree}
 
+-- how many insertions the table has made: of entries that were new to it, and of entries that it moved
+pub record Insertions : Type 0 where
+  pub placed : ℕ
+  pub moved : ℕ
+
 -- what is in each bucket, and how many insertions the table has made
 pub record Table (T : Type 0) : Type 0 where
   pub slots : List (Slot T)
-  pub placings : ℕ
+  pub insertions : Insertions
 
 -- the table after a write through `get_mut(b)`
 abbrev pub with_entry : {T : Type 0} → Table T → ℕ → T → Table T

@@ -1,7 +1,7 @@
 //! Control bytes: one for each bucket, and 16 more, which repeat the first buckets, so that a group is read in one
 //! piece.
 ghost use Rattle.std.specs.Prelude.{◌≡◌, ℕ, ◌+◌, ◌-◌, ◌%◌, ◌^◌, ◌<◌, ◌≤◌, [], length, max, replicate, slice_index};
-ghost use Rattle.std.specs.Prelude.{slice_set, if◌then◌else◌, nat_eq, nat_lt, ◌⊎◌, IfOk};
+ghost use Rattle.std.specs.Prelude.{slice_set, Bool, if◌then◌else◌, nat_eq, nat_lt, ◌⊎◌, IfOk};
 ghost use Rattle.group_table.specs.Sizes.{IsPowerFromFour};
 ghost use Rattle.group_table.specs.Probe.{hash_tag};
 ghost use Rattle.group_table.specs.Bytes.{empty_byte, deleted_byte, IsTag, IsFreeByte};
@@ -194,12 +194,14 @@ pub(crate) fn tag_of(hash: u64) -> u8
     (hash >> 57) as u8
 }
 
-// Returns the control byte of a bucket whose entry has left, by whether that gives growth left back.
+// Returns the control byte of a bucket whose entry has left: `EMPTY` if that gives growth left back, and `DELETED`
+// otherwise. `gives_room` is all ones or 0.
 #[inline]
-pub(crate) fn emptied_byte(gives_room: bool) -> u8
-    ensures { result ≡ (if gives_room then empty_byte else deleted_byte) }
+pub(crate) fn emptied_byte(gives_room: usize) -> u8
+    ensures { (gives : Bool) → gives_room ≡ (if gives then 2 ^ 64 - 1 else 0) →
+        result ≡ (if gives then empty_byte else deleted_byte) }
 {
-    if gives_room { EMPTY } else { DELETED }
+    (gives_room & 0x7f) as u8 | DELETED
 }
 
 // Returns how much of the growth left an entry takes in a free bucket with this byte: one in an empty bucket, none in a

@@ -1,5 +1,6 @@
 //! Whether the 16 neighbouring buckets around a bucket contain an empty one, by two groups of control bytes.
-ghost use Rattle.std.specs.Prelude.{◌≡◌, ◌≢◌, ℕ, ◌+◌, ◌-◌, ◌%◌, ◌<◌, slice_index, MatchBool};
+ghost use Rattle.std.specs.Prelude.{◌≡◌, ◌≢◌, ℕ, ◌+◌, ◌-◌, ◌%◌, ◌^◌, ◌<◌, Bool, if◌then◌else◌, nat_lt, slice_index};
+ghost use Rattle.std.specs.Prelude.{MatchBool};
 ghost use Rattle.group_table.specs.Bytes.{empty_byte};
 ghost use Rattle.group_table.specs.Control.{buckets_of, HasEmptyByte, IsCircle};
 ghost use Rattle.group_table.specs.Neighbours.{HasEmptyNeighbours, IsHemmedIn};
@@ -29,18 +30,29 @@ fn empty_from(control: &Control, b: usize) -> u16
     control.group(b).match_empty()
 }
 
-// Returns whether every 16 neighbouring buckets around this one contain an empty one. They lie between the last empty
-// bucket before it and the first one after it, so the used buckets between these decide.
-pub(crate) fn has_empty_neighbours(control: &Control, b: usize) -> bool
+// Returns all ones if the first number is less than the second, and 0 otherwise: the sign of their difference.
+#[inline]
+fn ones_if_less(low: u32, high: u16) -> usize
+    ensures { result ≡ (if nat_lt low high then 2 ^ 64 - 1 else 0) }
+{
+    let difference = low as i64 - high as i64;
+    (difference >> 32).cast_unsigned() as usize
+}
+
+// Returns all ones if every 16 neighbouring buckets around this one contain an empty one, and 0 otherwise. The caller
+// makes a count and a byte of it, for which a `bool` would take more instructions. The neighbouring buckets lie between
+// the last empty bucket before this one and the first one after it, so the used buckets between these decide.
+pub(crate) fn ones_if_empty_neighbours(control: &Control, b: usize) -> usize
     requires bucket { b < buckets_of control.now }
     requires used { slice_index control.now b ≢ empty_byte }
     requires some_empty { HasEmptyByte control.now }
-    ensures { MatchBool result (HasEmptyNeighbours (IsEmptyAt control.now) (buckets_of control.now) b)
+    ensures { (empty : Bool) × (result ≡ (if empty then 2 ^ 64 - 1 else 0))
+        × MatchBool empty (HasEmptyNeighbours (IsEmptyAt control.now) (buckets_of control.now) b)
         (IsHemmedIn (IsEmptyAt control.now) (buckets_of control.now) b) }
 {
     // `used` has a bit for each used bucket from this one up to the next empty one. The mask of the empty buckets before
     // is greater exactly if these used ones and those directly before are fewer than sixteen. Comparing the masks takes
     // fewer instructions than two counts and their sum.
     let used = lanes_below(empty_from(control, b));
-    empty_before(control, b) > used
+    ones_if_less(used, empty_before(control, b))
 }

@@ -1,4 +1,4 @@
-//! `Table`. A contract sees a table as its `slots`, one for each bucket, and its `placings`, the number of insertions.
+//! `Table`. A contract sees a table as its `slots`, one for each bucket, and the numbers of its `insertions`.
 ghost use Rattle.std.specs.Prelude.{◌≡◌, ◌↔◌, ℕ, ◌+◌, ◌^◌, ◌<◌, ◌≤◌, [], length, replicate, Some, IfSome, IfNone};
 ghost use Rattle.std.specs.Prelude.{IfOk, IfErr, OnErr, IsOk, IsTrue, nat_eq};
 ghost use Rattle.std.specs.Borrow.{sem};
@@ -10,12 +10,12 @@ ghost use Rattle.group_table.specs.Control.{buckets_of};
 ghost use Rattle.group_table.specs.Layout.{IsLaidOut, slots_of};
 ghost use Rattle.group_table.specs.Probe.{IsFirstFree};
 ghost use Rattle.group_table.specs.Search.{Finds, FindsNone};
-ghost use Rattle.group_table.specs.Change.{Places, MayFill, HasNoPlace, Removes, count_up};
+ghost use Rattle.group_table.specs.Change.{Places, MayFill, HasNoPlace, Removes, count_up, no_insertions, one_placed};
 
 use crate::control::{Control, emptied_byte, room_taken, tag_of};
 use crate::entries::Entries;
 use crate::fields::{drop_entries, empty_bucket, fill_bucket};
-use crate::neighbours::has_empty_neighbours;
+use crate::neighbours::ones_if_empty_neighbours;
 use crate::probe::{find_bucket, first_free};
 use crate::sizes::full_capacity;
 use std::alloc::{AllocError, Global};
@@ -48,8 +48,9 @@ pub struct Table<T> {
     room: usize,
     control: Control,
     entries: Entries<T>,
-    placings: u64,
+    placed: u64,
     len: usize,
+    moved: u64,
 }
 
 impl<T> Model for Table<T> {
@@ -61,7 +62,7 @@ impl<T> Model for Table<T> {
     ghost use Rattle.group_table.specs.Bucket.{entry_count};
     ghost use Rattle.group_table.specs.Layout.{slots_of, IsValid};
 
-    ghost view = { λ t. record { slots = slots_of t.control t.entries; placings = t.placings } };
+    ghost view = { λ t. record { slots = slots_of t.control t.entries; insertions = record { placed = t.placed; moved = t.moved } } };
 
     ghost invariant = { λ t. IsValid t.control t.entries t.room
         × (t.len ≡ entry_count (slots_of t.control t.entries)) };
@@ -73,7 +74,7 @@ impl<T> Table<T> {
     /// Makes a table of no buckets, which takes no memory. It rejects each entry until `relocate` gives it buckets.
     pub fn new(alloc: Global) -> Self
         ensures slots { result.slots ≡ [] }
-        ensures placings { result.placings ≡ 0 }
+        ensures insertions { result.insertions ≡ no_insertions }
         ensures table { IsTable (marks_of result.slots) }
         ensures fits { (hash_of : ℕ → ℕ) → Fits result.slots hash_of }
     {
@@ -82,7 +83,8 @@ impl<T> Table<T> {
             entries: Entries::new(alloc),
             room: 0,
             len: 0,
-            placings: 0,
+            placed: 0,
+            moved: 0,
         }
     }
 
@@ -99,7 +101,7 @@ impl<T> Table<T> {
         requires count { IsBucketCount buckets }
         requires addressable { buckets + 16 < 2 ^ 63 }
         ensures slots { IfOk result (λ t. t.slots ≡ replicate buckets empty) }
-        ensures placings { IfOk result (λ t. t.placings ≡ 0) }
+        ensures insertions { IfOk result (λ t. t.insertions ≡ no_insertions) }
         ensures table { IfOk result (λ t. IsTable (marks_of t.slots)) }
         ensures fits { IfOk result (λ t. (hash_of : ℕ → ℕ) → Fits t.slots hash_of) }
         ensures succeeds { buckets ≡ 0 → IsOk result }
@@ -121,7 +123,8 @@ impl<T> Table<T> {
             entries,
             room: full_capacity(buckets),
             len: 0,
-            placings: 0,
+            placed: 0,
+            moved: 0,
         })
     }
 
@@ -183,13 +186,13 @@ impl<T> Table<T> {
         ensures removed { Removes self.old.slots self.new.slots b }
         ensures room { room (marks_of self.new.slots)
             ≡ room (marks_of self.old.slots) + room_at (marks_of self.new.slots) b }
-        ensures placings { self.new.placings ≡ self.old.placings }
+        ensures insertions { self.new.insertions ≡ self.old.insertions }
         ensures fits { (hash_of : ℕ → ℕ) → Fits self.old.slots hash_of → Fits self.new.slots hash_of }
         ensures table { IsTable (marks_of self.new.slots) }
     {
         self.len -= 1;
-        let gives_room = has_empty_neighbours(&self.control, b);
-        self.room += gives_room as usize;
+        let gives_room = ones_if_empty_neighbours(&self.control, b);
+        self.room = self.room.wrapping_sub(gives_room);
         let byte = emptied_byte(gives_room);
         empty_bucket(&mut self.control, &mut self.entries, b, byte)
     }
@@ -270,18 +273,18 @@ impl<T> Table<T> {
         ensures table { IsTable (marks_of self.new.slots) }
     {
         // The counts that only rise are written before and after the bucket: then each takes one instruction.
-        make_count_room(&mut self.placings);
+        make_count_room(&mut self.placed);
         self.len += 1;
         fill_bucket(&mut self.control, &mut self.entries, b, tag_of(hash), entry);
         self.room -= spent;
-        self.placings += 1;
+        self.placed += 1;
     }
 
     // Makes every bucket of a table without entries empty.
     fn empty_buckets(&mut self)
         requires { entry_count self.old.slots ≡ 0 }
         ensures slots { self.new.slots ≡ replicate (length self.old.slots) empty }
-        ensures placings { self.new.placings ≡ self.old.placings }
+        ensures insertions { self.new.insertions ≡ self.old.insertions }
         ensures table { IsTable (marks_of self.new.slots) }
     {
         self.control.clear();
@@ -306,7 +309,8 @@ impl<T> Table<T> {
             entries,
             room: _,
             len: _,
-            placings: _,
+            placed: _,
+            moved: _,
         } = self;
         (control, entries)
     }
@@ -328,7 +332,7 @@ impl<T: Drop> Table<T> {
     /// all growth is left, because then no bucket is full or deleted.
     pub fn clear(&mut self)
         ensures slots { self.new.slots ≡ replicate (length self.old.slots) empty }
-        ensures placings { self.new.placings ≡ self.old.placings }
+        ensures insertions { self.new.insertions ≡ self.old.insertions }
         ensures table { IsTable (marks_of self.new.slots) }
         ensures fits { (hash_of : ℕ → ℕ) → Fits self.new.slots hash_of }
     {

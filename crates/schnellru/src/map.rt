@@ -79,7 +79,6 @@ pub struct LruMap<K: Eq + Hash, V, L: Limiter<K, V> = ByLength, S: KeyHasher<K> 
     hasher: S,
     entry_bytes: usize,
     moved: u64,
-    placed: u64,
     shrunk: u64,
     alloc: Global,
 }
@@ -117,7 +116,6 @@ impl<K: Eq + Hash, V, L: Limiter<K, V>, S: KeyHasher<K>> LruMap<K, V, L, S> {
             hasher,
             entry_bytes,
             moved: 0,
-            placed: 0,
             shrunk: 0,
             alloc,
         }

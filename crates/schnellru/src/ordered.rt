@@ -7,7 +7,7 @@ ghost use Rattle.std.specs.Prelude.{IfNone, IfOk, OnOk, OnErr, IsOk, IsTrue, rep
 ghost use Rattle.std.specs.Borrow.{sem};
 ghost use Rattle.group_table.specs.Sizes.{IsBucketCount, full_capacity};
 ghost use Rattle.group_table.specs.Bucket.{empty, marks_of, IsFull, entry_at, entry_count, room, room_at};
-ghost use Rattle.group_table.specs.Change.{Removes, count_up};
+ghost use Rattle.group_table.specs.Change.{Removes, no_insertions, some_moved};
 ghost use Rattle.group_table.specs.Relocation.{Renumbers, KeepsHashes};
 ghost use Rattle.group_table.specs.Table.{IsTable};
 ghost use Rattle.lru_limits.specs.Hashing.{hash_by};
@@ -60,7 +60,7 @@ impl<K, V, N: LinkType> Model for OrderedTable<K, V, N> {
     ghost view = { λ t. record {
       slots = pair_slots t.chain.table.slots;
       order = along N.number (length t.chain.table.slots) t.chain.table.slots t.chain.newest;
-      placings = t.chain.table.placings;
+      insertions = t.chain.table.insertions;
     } };
 
     ghost invariant = { λ t. IsWhole N.number N.link N.MAX t.chain.table.slots t.chain.newest t.chain.oldest
@@ -74,7 +74,7 @@ impl<K, V, N: LinkType> OrderedTable<K, V, N> {
     pub(crate) fn new(alloc: Global) -> Self
         ensures slots { result.slots ≡ [] }
         ensures order { result.order ≡ [] }
-        ensures placings { result.placings ≡ 0 }
+        ensures insertions { result.insertions ≡ no_insertions }
         ensures linked { IsLinked result }
         ensures fits { (hash_of : K → ℕ) → KeysFit hash_of result.slots }
     {
@@ -117,6 +117,14 @@ impl<K, V, N: LinkType> OrderedTable<K, V, N> {
         ensures linked { IsLinked self.now }
     {
         self.chain.table.room()
+    }
+
+    // How many pairs were put into the table. A pair that moves is not counted again.
+    #[inline]
+    pub(crate) fn placed(&self) -> u64
+        ensures placed { result ≡ self.now.insertions.placed }
+    {
+        self.chain.table.placed()
     }
 
     // The pair in a full bucket.
@@ -216,7 +224,7 @@ impl<K, V, N: LinkType> OrderedTable<K, V, N> {
         requires { IsFull self.old.slots b }
         ensures slots { self.new.slots ≡ self.old.slots }
         ensures order { self.new.order ≡ b ∷ without_bucket b self.old.order }
-        ensures placings { self.new.placings ≡ self.old.placings }
+        ensures insertions { self.new.insertions ≡ self.old.insertions }
         ensures linked { IsLinked self.new }
     {
         let newer = self.chain.table.get(b).newer;
@@ -232,7 +240,7 @@ impl<K, V, N: LinkType> OrderedTable<K, V, N> {
         requires { IsFull self.old.slots b }
         ensures slots { self.new.slots ≡ self.old.slots }
         ensures order { self.new.order ≡ without_bucket b self.old.order ++ b ∷ [] }
-        ensures placings { self.new.placings ≡ self.old.placings }
+        ensures insertions { self.new.insertions ≡ self.old.insertions }
         ensures linked { IsLinked self.new }
     {
         let older = self.chain.table.get(b).older;
@@ -251,7 +259,7 @@ impl<K, V, N: LinkType> OrderedTable<K, V, N> {
         ensures pair { entry_at self.old.slots b ≡ Some result }
         ensures removed { Removes self.old.slots self.new.slots b }
         ensures order { self.new.order ≡ without_bucket b self.old.order }
-        ensures placings { self.new.placings ≡ self.old.placings }
+        ensures insertions { self.new.insertions ≡ self.old.insertions }
         ensures room { room (marks_of self.new.slots) ≡ room (marks_of self.old.slots)
             + room_at (marks_of self.new.slots) b }
         ensures fits { (hash_of : K → ℕ) → KeysFit hash_of self.old.slots → KeysFit hash_of self.new.slots }
@@ -268,7 +276,7 @@ impl<K: Drop, V: Drop, N: LinkType> OrderedTable<K, V, N> {
     pub(crate) fn clear(&mut self)
         ensures slots { self.new.slots ≡ replicate (length self.old.slots) empty }
         ensures order { self.new.order ≡ [] }
-        ensures placings { self.new.placings ≡ self.old.placings }
+        ensures insertions { self.new.insertions ≡ self.old.insertions }
         ensures fits { (hash_of : K → ℕ) → KeysFit hash_of self.new.slots }
         ensures linked { IsLinked self.new }
     {
@@ -308,7 +316,7 @@ impl<K: Eq + Hash, V, N: LinkType> OrderedTable<K, V, N> {
         ensures buckets { OnOk result (length self.new.slots ≡ buckets) }
         ensures pairs { pairs_of self.new ≡ pairs_of self.old }
         ensures room { OnOk result (room (marks_of self.new.slots) + length self.old.order ≡ full_capacity buckets) }
-        ensures placings { OnOk result (self.new.placings ≡ count_up self.old.placings (length self.old.order)) }
+        ensures insertions { OnOk result (self.new.insertions ≡ some_moved self.old.insertions (length self.old.order)) }
         ensures fits { OnOk result (KeysFit (S.hash_of hasher.now) self.new.slots) }
         ensures linked { IsLinked self.new }
         ensures unchanged { OnErr result (self.new ≡ self.old) }
@@ -336,7 +344,7 @@ fn renumber_entries<K: Eq + Hash, V, N: LinkType, S: BuildHasher>(
     ensures renumbered { IfOk result (λ links. Renumbers N.number N.MAX table.old.slots table.new.slots links.items) }
     ensures entries { OnOk result (entry_count table.new.slots ≡ entry_count table.old.slots) }
     ensures room { OnOk result (room (marks_of table.new.slots) + entry_count table.old.slots ≡ full_capacity buckets) }
-    ensures placings { OnOk result (table.new.placings ≡ count_up table.old.placings (entry_count table.old.slots)) }
+    ensures insertions { OnOk result (table.new.insertions ≡ some_moved table.old.insertions (entry_count table.old.slots)) }
     ensures hashes { IfOk result (λ links.
         KeepsHashes N.number N.MAX (entry_at table.old.slots) table.new.slots links.items
         (hash_in (hash_by K.hash_input S.BuildHasher S.Hasher.Hasher hasher.now) (pair_slots table.old.slots))) }

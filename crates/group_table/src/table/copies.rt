@@ -17,7 +17,7 @@ impl<T: Drop> Table<T> {
     /// Makes a table of the same buckets, with what `f` returns for each entry.
     ///
     /// `f` is called in rising order of the buckets, once for each entry, until it returns an error. Deleted buckets
-    /// stay deleted, so the growth left is the same, and the count of insertions is copied. It takes time O(buckets),
+    /// stay deleted, so the growth left is the same, and the counts of insertions are copied. It takes time O(buckets),
     /// and two requests for memory.
     ///
     /// # Errors
@@ -28,7 +28,7 @@ impl<T: Drop> Table<T> {
         requires callable { F.IsAlwaysCallable f }
         ensures copies { IfOk result (λ t. Copies F.Fn f self.now.slots t.slots) }
         ensures marks { IfOk result (λ t. marks_of t.slots ≡ marks_of self.now.slots) }
-        ensures placings { IfOk result (λ t. t.placings ≡ self.now.placings) }
+        ensures insertions { IfOk result (λ t. t.insertions ≡ self.now.insertions) }
         ensures fits { IfOk result (λ t. (hash_of : ℕ → ℕ) → Fits self.now.slots hash_of → Fits t.slots hash_of) }
         ensures table { IfOk result (λ t. IsTable (marks_of t.slots)) }
         ensures succeeds { length self.now.slots ≡ 0 → IsOk result }
@@ -36,7 +36,8 @@ impl<T: Drop> Table<T> {
         let alloc = self.entries.allocator();
         if self.control.is_empty() {
             let mut none = Table::new(alloc);
-            none.placings = self.placings;
+            none.placed = self.placed;
+            none.moved = self.moved;
             return Ok(none);
         }
         let control = self.control.copied(alloc)?;
@@ -46,7 +47,8 @@ impl<T: Drop> Table<T> {
             entries,
             room: self.room,
             len: self.len,
-            placings: self.placings,
+            placed: self.placed,
+            moved: self.moved,
         })
     }
 }

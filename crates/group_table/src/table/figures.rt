@@ -4,6 +4,7 @@ ghost use Rattle.std.specs.Mem.{type_size};
 ghost use prog.Memory.{capped};
 ghost use Rattle.group_table.specs.Bucket.{marks_of, IsFull, entry_count, room};
 ghost use Rattle.group_table.specs.Table.{IsTable};
+ghost use Rattle.group_table.specs.Change.{placings};
 
 use super::Table;
 use crate::cells::bytes_of;
@@ -56,10 +57,20 @@ impl<T> Table<T> {
     /// `u64::MAX` stays there.
     #[inline]
     pub fn placings(&self) -> u64
-        ensures value { result ≡ self.now.placings }
+        ensures value { result ≡ placings self.now.insertions }
         ensures table { IsTable (marks_of self.now.slots) }
     {
-        self.placings
+        self.placed.saturating_add(self.moved)
+    }
+
+    /// Returns how many entries `place` and `try_place` have inserted. A moved entry is not counted again. A count that
+    /// reaches `u64::MAX` stays there.
+    #[inline]
+    pub fn placed(&self) -> u64
+        ensures value { result ≡ self.now.insertions.placed }
+        ensures table { IsTable (marks_of self.now.slots) }
+    {
+        self.placed
     }
 
     /// Returns the bytes that an entry takes in the table: the size of its type.

@@ -22,7 +22,7 @@ impl<T> Table<T> {
         requires room { entry_count self.old.slots < full_capacity (length self.old.slots) }
         requires none_deleted { count_by is_deleted self.old.slots ≡ 0 }
         ensures joins { Joins self.old.slots self.new.slots hash entry result }
-        ensures placings { self.new.placings ≡ self.old.placings }
+        ensures insertions { self.new.insertions ≡ self.old.insertions }
     {
         let b = first_free(&self.control, hash);
         fill_bucket(&mut self.control, &mut self.entries, b, tag_of(hash), entry);
@@ -49,7 +49,7 @@ pub(crate) fn move_entries<T, N: LinkType, H: Fn(&T) -> u64>(
     requires one_each { length links.old.items ≡ length old.old }
     requires none_linked { (b : ℕ) → slice_index_or links.old.items b N.MAX ≡ N.MAX }
     ensures buckets { length fresh.new.slots ≡ length fresh.old.slots }
-    ensures placings { fresh.new.placings ≡ fresh.old.placings }
+    ensures insertions { fresh.new.insertions ≡ fresh.old.insertions }
     ensures one_each { length links.new.items ≡ length old.old }
     ensures none_left { old.new ≡ replicate (length old.old) None }
     ensures none_deleted { count_by is_deleted fresh.new.slots ≡ 0 }

@@ -5,7 +5,7 @@ ghost use Rattle.std.specs.Prelude.{◌≡◌, ℕ, ◌+◌, ◌^◌, ◌<◌, �
 ghost use Rattle.group_table.specs.Sizes.{IsBucketCount, full_capacity};
 ghost use Rattle.group_table.specs.Bucket.{marks_of, entry_at, entry_count, is_deleted, room};
 ghost use Rattle.group_table.specs.Table.{IsTable};
-ghost use Rattle.group_table.specs.Change.{count_up};
+ghost use Rattle.group_table.specs.Change.{some_moved};
 ghost use Rattle.group_table.specs.Relocation.{Renumbers, KeepsHashes, GivesHashes};
 
 use crate::control::Control;
@@ -49,7 +49,7 @@ impl<T> Table<T> {
         ensures room { OnOk result (
             room (marks_of self.new.slots) + entry_count self.old.slots ≡ full_capacity (length self.new.slots)) }
         ensures none_deleted { OnOk result (count_by is_deleted self.new.slots ≡ 0) }
-        ensures placings { OnOk result (self.new.placings ≡ count_up self.old.placings (entry_count self.old.slots)) }
+        ensures insertions { OnOk result (self.new.insertions ≡ some_moved self.old.insertions (entry_count self.old.slots)) }
         ensures hashes { IfOk result (λ links. (hash_at : ℕ → ℕ) →
             GivesHashes H.Fn hash_of (entry_at self.old.slots) hash_at →
             KeepsHashes N.number N.MAX (entry_at self.old.slots) self.new.slots links.items hash_at) }
@@ -60,7 +60,8 @@ impl<T> Table<T> {
         let alloc = self.entries.allocator();
         let mut fresh = Table::with_buckets(alloc, buckets)?;
         if self.len == 0 {
-            fresh.placings = self.placings;
+            fresh.placed = self.placed;
+            fresh.moved = self.moved;
             mem::replace(self, fresh).free_unused();
             return Ok(Vec::new(alloc));
         }
@@ -71,10 +72,12 @@ impl<T> Table<T> {
                 return Err(error);
             }
         };
-        let placings = self.placings.saturating_add(self.len as u64);
+        let placed = self.placed;
+        let moved = self.moved.saturating_add(self.len as u64);
         let (control, mut entries) = mem::replace(self, fresh).into_parts();
         move_entries(&control, &mut entries, self, &mut links, &hash_of);
-        self.placings = placings;
+        self.placed = placed;
+        self.moved = moved;
         entries.free(control.buckets());
         Ok(links)
     }
@@ -101,7 +104,7 @@ impl<T> Table<T> {
         ensures room { OnOk result (
             room (marks_of self.new.slots) + entry_count self.old.slots ≡ full_capacity (length self.new.slots)) }
         ensures none_deleted { OnOk result (count_by is_deleted self.new.slots ≡ 0) }
-        ensures placings { OnOk result (self.new.placings ≡ count_up self.old.placings (entry_count self.old.slots)) }
+        ensures insertions { OnOk result (self.new.insertions ≡ some_moved self.old.insertions (entry_count self.old.slots)) }
         ensures hashes { IfOk result (λ links. (hash_at : ℕ → ℕ) →
             GivesHashes H.Fn hash_of (entry_at self.old.slots) hash_at →
             KeepsHashes N.number N.MAX (entry_at self.old.slots) self.new.slots links.items hash_at) }
@@ -126,7 +129,7 @@ impl<T> Table<T> {
             &hash_of,
         );
         self.room = full_capacity(buckets) - self.len;
-        self.placings = self.placings.saturating_add(self.len as u64);
+        self.moved = self.moved.saturating_add(self.len as u64);
         Ok(links)
     }
 }

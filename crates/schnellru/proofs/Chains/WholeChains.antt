@@ -8,7 +8,7 @@ use Rattle.std.proofs.lemmas.List.Sums.{count_by-le-length}
 use Rattle.group_table.specs.Link.{IsLinkType}
 use Rattle.group_table.specs.Bucket.{Slot, bucket_at, is_full, IsFull, entry_at, entry_of, entry_count, marks_of}
 use Rattle.group_table.specs.Bucket.{refilled}
-use Rattle.group_table.specs.Table.{Table, IsTable}
+use Rattle.group_table.specs.Table.{Insertions, Table, IsTable}
 use Rattle.group_table.specs.Change.{Places, Removes}
 use Rattle.group_table.proofs.BucketLemmas.{bucket_at-past, is_full-marks_of, entry_count-marks_of}
 use Rattle.group_table.proofs.RefillLemmas.{entry_at-refilled, entry_at-refilled_other, marks_of-refilled}
@@ -78,10 +78,10 @@ module _ {N : Type 0} {number : N → ℕ} {link : ℕ → N} {none : N} {eq : N
       (sym (whole_order whole)) whole
 
   -- a whole table is linked
-  pub IsLinked-view : {placings : ℕ} {slots : List (Slot (Entry K V N))} {newest oldest : N} {order : List ℕ}
+  pub IsLinked-view : {insertions : Insertions} {slots : List (Slot (Entry K V N))} {newest oldest : N} {order : List ℕ}
       → IsWhole number link none slots newest oldest order
       → IsTable (marks_of slots)
-      → IsLinked {K = K} {V = V} (record { slots = pair_slots slots; order = order; placings = placings })
+      → IsLinked {K = K} {V = V} (record { slots = pair_slots slots; order = order; insertions = insertions })
   IsLinked-view {slots = slots} whole table = record {
     table = rw (marks_of-pair_slots slots) table;
     distinct = whole.chain.distinct;
@@ -225,17 +225,17 @@ module _ {N : Type 0} {number : N → ℕ} {link : ℕ → N} {none : N} {eq : N
     }
 
     -- and the table shows it
-    pub view-refilled : (placings : ℕ) → ◌≡◌ {A = OrderedTable K V}
-        (record { slots = pair_slots after; order = along number (length after) after newest; placings = placings })
-        (with_pair (record { slots = pair_slots slots; order = order; placings = placings }) b (pair.key, pair.value))
-    view-refilled placings =
+    pub view-refilled : (insertions : Insertions) → ◌≡◌ {A = OrderedTable K V}
+        (record { slots = pair_slots after; order = along number (length after) after newest; insertions = insertions })
+        (with_pair (record { slots = pair_slots slots; order = order; insertions = insertions }) b (pair.key, pair.value))
+    view-refilled insertions =
         let wrote = pair_slots-rewritten slots b next in
         let stays = whole_order IsWhole-refilled in
         cc
 
-    pub IsLinked-refilled : {placings : ℕ} → IsTable (marks_of slots)
-        → IsLinked (with_pair (record { slots = pair_slots slots; order = order; placings = placings }) b
+    pub IsLinked-refilled : {insertions : Insertions} → IsTable (marks_of slots)
+        → IsLinked (with_pair (record { slots = pair_slots slots; order = order; insertions = insertions }) b
         (pair.key, pair.value))
-    IsLinked-refilled {placings} table =
+    IsLinked-refilled {insertions} table =
         rw (← pair_slots-rewritten slots b next)
         (IsLinked-view IsWhole-refilled (rw (marks_of-refilled slots b next) table))

@@ -17,11 +17,14 @@ use Rattle.lru_model.proofs.Theorems.CallChanges.{room_cleared}
 
 module _ {K V S H : Type 0} (rules : Rules K V S) (t u : OrderedTable K V)
     (slots : u.slots ≡ replicate (length t.slots) empty) (order : u.order ≡ [])
-    (counted : u.placings ≡ t.placings) (fields : Fields S H) (notified : S)
+    (counted : u.insertions ≡ t.insertions) (fields : Fields S H) (notified : S)
     (is_notified : notified ≡ rules.on_cleared fields.limiter) where
   marks : marks_of u.slots ≡ replicate (buckets (state_of t fields)) empty
   marks = ap marks_of slots ∙ marks_of-cleared _ (length t.slots)
       ∙ ap (λ n. replicate n empty) (sym (length-marks_of t.slots))
+
+  placed : u.insertions.placed ≡ t.insertions.placed
+  placed = ap (λ c. c.placed) counted
 
   none_left : pairs_of u ≡ []
   none_left = ap (entries_in u.slots) order
@@ -42,14 +45,16 @@ module _ {K V S H : Type 0} (rules : Rules K V S) (t u : OrderedTable K V)
     map = record {
       distinct = subst (AreDistinct eq) (sym none_left) (none_distinct eq);
       sized = sized_same fields t u notified holds.map.sized next
-          (ap length slots ∙ length-replicate (length t.slots) empty);
+          (ap length slots ∙ length-replicate (length t.slots) empty)
+          (omega (arith, placed, holds.map.sized.placed));
       paid =
           let as_many : length (marks_of u.slots) ≡ buckets (state_of t fields) = ap length marks
           ∙ length-replicate {A = Mark} (buckets (state_of t fields)) empty in
           record {
-            moved = holds.map.paid.moved;
+            moved = omega (arith, placed, holds.map.paid.moved);
             ahead = λ below. omega (
               arith,
+              placed,
               holds.map.paid.ahead below,
               ap room marks,
               room_cleared (buckets (state_of t fields)),

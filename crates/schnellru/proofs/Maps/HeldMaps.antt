@@ -16,7 +16,7 @@ use Rattle.schnellru.proofs.OrderedTables.BucketPairs.{pairs-length}
 module _ {K V S H : Type 0} (fields : Fields S H) where
   pub sized_by : (t : OrderedTable K V) → IsLinked t → (length t.slots ≡ 0) ⊎ (length t.slots < fields.max)
       → ((bytes : ℕ) × (usage fields.entry_bytes (length t.slots) ≡ Some bytes)) → fields.moved < 2 ^ 64
-      → fields.placed < 2 ^ 64 → fields.shrunk < 2 ^ 64 → IsSized (state_of t fields)
+      → t.insertions.placed < 2 ^ 64 → fields.shrunk < 2 ^ 64 → IsSized (state_of t fields)
   sized_by t linked reached usable m p s = record {
     table = linked.table;
     taken = entry_count-marks_of t.slots ∙ linked.count ∙ sym (pairs-length t linked);
@@ -74,11 +74,11 @@ module _ {K V S H : Type 0} (fields : Fields S H) where
   -- a table of as many buckets is as usable
   pub sized_same : (t u : OrderedTable K V) (l : S) → IsSized (state_of t fields) → IsLinked u → length u.slots
       ≡ length t.slots
-      → IsSized (state_of u (record fields { limiter = l }))
-  sized_same t u l sized linked same =
+      → u.insertions.placed < 2 ^ 64 → IsSized (state_of u (record fields { limiter = l }))
+  sized_same t u l sized linked same placed =
       let e : length (marks_of t.slots) ≡ length u.slots = length-marks_of t.slots ∙ sym same in
       sized_by (record fields { limiter = l }) u linked (subst (λ n. (n ≡ 0) ⊎ (n < fields.max)) e sized.reachable)
-      (subst (λ n. (bytes : ℕ) × (usage fields.entry_bytes n ≡ Some bytes)) e sized.usable) sized.moved sized.placed
+      (subst (λ n. (bytes : ℕ) × (usage fields.entry_bytes n ≡ Some bytes)) e sized.usable) sized.moved placed
       sized.shrunk
 
   -- what holds of a map holds after some pairs left
@@ -92,42 +92,48 @@ module _ {K V S H : Type 0} (fields : Fields S H) where
     fits = fits;
     map = record {
       distinct = distinct;
-      sized = sized_same t u l holds.map.sized linked same;
+      sized = sized_same t u l holds.map.sized linked same
+          (omega (arith, ap (λ st. st.counts.placed) leaves.is, holds.map.sized.placed));
       paid = leaves_paid (state_of t fields) left (state_of u (record fields { limiter = l })) leaves holds.map.paid;
     };
   }
 
 -- what holds of a map holds with pairs of distinct keys that fit in the same buckets, under another limiter and hasher
 module _ {K V S H : Type 0} (eq : K → K → Bool) (hash_of : H → K → ℕ) (fields : Fields S H) (t u : OrderedTable K V)
-  where
-    pub copied_holds : (limiter : S) (hasher : H) → Holds eq hash_of t fields → IsLinked u
-        → KeysFit (hash_of hasher) u.slots
-        → marks_of u.slots ≡ marks_of t.slots → AreDistinct eq (pairs_of u)
-        → Holds eq hash_of u (record fields { limiter = limiter; hasher = hasher })
-    copied_holds limiter hasher holds linked fits marks distinct =
-        let same : length (marks_of t.slots) ≡ length u.slots = sym (ap length marks) ∙ length-marks_of u.slots in
-        let sized = holds.map.sized in
-        record {
-          linked = linked;
-          fits = fits;
-          map = record {
-            distinct = distinct;
-            sized = sized_by (record fields { limiter = limiter; hasher = hasher }) u linked
-                (subst (λ n. (n ≡ 0) ⊎ (n < fields.max)) same sized.reachable)
-                (subst (λ n. (bytes : ℕ) × (usage fields.entry_bytes n ≡ Some bytes)) same sized.usable) sized.moved
-                sized.placed sized.shrunk;
-            paid = record {
-              moved = holds.map.paid.moved;
-              ahead = λ below. subst (λ m. fields.moved + (full_capacity (length m) - 2 * room m)
-                  ≤ 2 * fields.placed + fields.shrunk)
-                  (sym marks) (holds.map.paid.ahead below);
-            };
+    (counted : u.insertions ≡ t.insertions) where
+  pub copied_holds : (limiter : S) (hasher : H) → Holds eq hash_of t fields → IsLinked u
+      → KeysFit (hash_of hasher) u.slots
+      → marks_of u.slots ≡ marks_of t.slots → AreDistinct eq (pairs_of u)
+      → Holds eq hash_of u (record fields { limiter = limiter; hasher = hasher })
+  copied_holds limiter hasher holds linked fits marks distinct =
+      let same : length (marks_of t.slots) ≡ length u.slots = sym (ap length marks) ∙ length-marks_of u.slots in
+      let sized = holds.map.sized in
+      let placed = ap (λ c. c.placed) counted in
+      record {
+        linked = linked;
+        fits = fits;
+        map = record {
+          distinct = distinct;
+          sized = sized_by (record fields { limiter = limiter; hasher = hasher }) u linked
+              (subst (λ n. (n ≡ 0) ⊎ (n < fields.max)) same sized.reachable)
+              (subst (λ n. (bytes : ℕ) × (usage fields.entry_bytes n ≡ Some bytes)) same sized.usable) sized.moved
+              (omega (arith, placed, sized.placed)) sized.shrunk;
+          paid = record {
+            moved = omega (arith, placed, holds.map.paid.moved);
+            ahead = λ below. omega (
+              arith,
+              placed,
+              holds.map.paid.ahead below,
+              ap (λ m. full_capacity (length m) - 2 * room m) marks,
+            );
           };
-        }
+        };
+      }
 
 -- what holds of a map holds after its pairs were written or reordered in their buckets, with distinct keys that fit
 pub alike_holds : {K V S H : Type 0} (fields : Fields S H) (eq : K → K → Bool) (hash_of : H → K → ℕ)
-    (t u : OrderedTable K V)
+    (t u : OrderedTable K V) → u.insertions ≡ t.insertions
     → Holds eq hash_of t fields → IsLinked u → KeysFit (hash_of fields.hasher) u.slots
     → marks_of u.slots ≡ marks_of t.slots → AreDistinct eq (pairs_of u) → Holds eq hash_of u fields
-alike_holds fields eq hash_of t u = copied_holds eq hash_of fields t u fields.limiter fields.hasher
+alike_holds fields eq hash_of t u counted =
+    copied_holds eq hash_of fields t u counted fields.limiter fields.hasher

@@ -2,8 +2,9 @@
 use Rattle.std.proofs.Common.{◌≡◌, ℕ, ◌+◌, ◌*◌, ◌<◌, ◌≤◌, inr, Bool, length, Some, sym, ap, ◌∙◌, subst, arith}
 use Rattle.group_table.specs.Sizes.{full_capacity}
 use Rattle.group_table.specs.Bucket.{marks_of, room}
-use Rattle.group_table.specs.Change.{count_up}
+use Rattle.group_table.specs.Change.{count_up, some_moved, placings}
 use Rattle.group_table.proofs.BucketLemmas.{length-marks_of}
+use Rattle.group_table.proofs.ChangeLemmas.{placings-moved}
 use Rattle.lru_model.specs.Sizes.{usage}
 use Rattle.lru_model.specs.State.{MovesTo}
 use Rattle.schnellru.specs.Inside.OrderedTable.{OrderedTable, IsLinked, KeysFit, pairs_of}
@@ -16,14 +17,22 @@ use Rattle.schnellru.proofs.Maps.HeldMaps.{sized_by}
 module _ {K V S H : Type 0} (t u : OrderedTable K V) (count : ℕ) (linked : IsLinked t) (next : IsLinked u)
     (table : length u.slots ≡ count)
     (pairs : pairs_of u ≡ pairs_of t) (left : room (marks_of u.slots) + length t.order ≡ full_capacity count)
-    (counted : u.placings ≡ count_up t.placings (length t.order)) (fields : Fields S H) where
+    (counted : u.insertions ≡ some_moved t.insertions (length t.order)) (fields : Fields S H) where
+  -- nothing new was put into the table
+  pub placed : u.insertions.placed ≡ t.insertions.placed
+  placed = ap (λ c. c.placed) counted
+
   pub moves_to : MovesTo count (state_of t fields) (state_of u fields)
   moves_to = record {
     table = length-marks_of u.slots ∙ table;
     exact = omega (arith, left, pairs-length t linked);
     state = λ i. record (state_of u fields) {
       pairs = pairs i;
-      counts = counts_of ((counted ∙ ap (count_up t.placings) (sym (pairs-length t linked))) i) fields;
+      counts = record (counts_of u.insertions fields) {
+        placings = (ap placings counted ∙ placings-moved t.insertions (length t.order)
+            ∙ ap (count_up (placings t.insertions)) (sym (pairs-length t linked))) i;
+        placed = placed i;
+      };
     };
   }
 
@@ -39,11 +48,11 @@ module _ {K V S H : Type 0} (t u : OrderedTable K V) (count : ℕ) (linked : IsL
       distinct = subst (AreDistinct eq) (sym pairs) holds.map.distinct;
       sized = sized_by fields u next (inr (subst (λ n. n < fields.max) (sym table) reached))
           (subst (λ n. (bytes : ℕ) × (usage fields.entry_bytes n ≡ Some bytes)) (sym table) usable)
-          holds.map.sized.moved holds.map.sized.placed holds.map.sized.shrunk;
+          holds.map.sized.moved (omega (arith, placed, holds.map.sized.placed)) holds.map.sized.shrunk;
       paid = record {
-        moved = holds.map.paid.moved;
+        moved = omega (arith, placed, holds.map.paid.moved);
         ahead = λ below. omega
-            (arith, moves_to.exact, ap full_capacity moves_to.table, half, holds.map.paid.ahead below);
+            (arith, placed, moves_to.exact, ap full_capacity moves_to.table, half, holds.map.paid.ahead below);
       };
     };
   }

@@ -1,13 +1,13 @@
 -- What holds of a map if its limiter comes with a list of what was passed to the callback.
 use Rattle.std.proofs.Common.{◌≡◌, ℕ, ◌+◌, Bool, true, false, List, [], ◌∷◌, ◌++◌, length, Option, Some, None, refl}
-use Rattle.std.proofs.Common.{ap, ◌∙◌}
+use Rattle.std.proofs.Common.{ap, ◌∙◌, cond}
 use Rattle.std.proofs.Common.{arith, sym, subst}
 use Rattle.std.proofs.lemmas.Bool.{true≢false, false≢true}
 use Rattle.std.proofs.lemmas.Option.{same_Some}
 use Rattle.std.proofs.lemmas.Fn.{FoldsTo-push}
 use Rattle.std.specs.Fn.{Mut, Called}
 use Rattle.lru_limits.specs.Rules.{Rules, Offers, Replaced, Notified}
-use Rattle.lru_model.specs.Lists.{last, without, set_entry}
+use Rattle.lru_model.specs.Lists.{last, without, set_entry, is_empty}
 use Rattle.lru_model.specs.State.{State, Contents, Leaves, contents, notified_of, pop}
 use Rattle.lru_model.specs.Calls.{PopOldest, left_of}
 use Rattle.lru_model.specs.Place.{IsPlaced, unstored}
@@ -69,6 +69,23 @@ module _ {K V S H : Type 0} (rules : Rules K V S) (before : List (K × V)) (old 
 pub make_room-over : {K V S : Type 0} (rules : Rules K V S) (c : Contents K V S) →
     rules.is_over_the_limit c.limiter (length c.pairs + 1) ≡ true → make_room rules c ≡ pop rules c
 make_room-over rules c over = rw over refl
+
+-- if it would not be, the map stays as it is
+pub make_room-within : {K V S : Type 0} (rules : Rules K V S) (c : Contents K V S) →
+    rules.is_over_the_limit c.limiter (length c.pairs + 1) ≡ false → make_room rules c ≡ c
+make_room-within rules c within = rw within refl
+
+-- nor does a map without pairs change
+pub make_room-empty : {K V S : Type 0} (rules : Rules K V S) (c : Contents K V S) → is_empty c.pairs ≡ true
+    → make_room rules c ≡ c
+make_room-empty {K} {V} {S} rules c none = go c.pairs none (rules.is_over_the_limit c.limiter (length c.pairs + 1))
+  where
+    go : (pairs : List (K × V)) → is_empty pairs ≡ true → (over : Bool) →
+        cond over (pop rules (record { pairs = pairs; limiter = c.limiter })) (record { pairs = pairs; limiter = c.limiter })
+        ≡ record { pairs = pairs; limiter = c.limiter }
+    go [] e true = refl
+    go [] e false = refl
+    go (p ∷ ps) e over = absurd (false≢true e)
 
 -- the pair that was not placed goes to the list
 pub noted_unstored : {K V S H : Type 0} (rules : Rules K V S) (before : List (K × V)) (old new : State K V S H)

@@ -3,7 +3,7 @@ use Rattle.std.proofs.Common.{◌≡◌, ℕ, ◌+◌, ◌<◌, ◌≤◌, ◌�
 use Rattle.std.proofs.Common.{subst, arith}
 use Rattle.group_table.specs.Sizes.{full_capacity, buckets_for}
 use Rattle.group_table.specs.Bucket.{marks_of, room}
-use Rattle.group_table.specs.Change.{count_up}
+use Rattle.group_table.specs.Change.{count_up, some_moved}
 use Rattle.group_table.proofs.BucketLemmas.{length-marks_of}
 use Rattle.lru_model.specs.Sizes.{usage}
 use Rattle.lru_model.specs.State.{MovesTo, IsSized, buckets}
@@ -30,13 +30,13 @@ module _ {K V S H : Type 0} (fields : Fields S H) (t : OrderedTable K V) (linked
 module _ {K V S H : Type 0} (t u : OrderedTable K V) (count : ℕ) (linked : IsLinked t) (next : IsLinked u)
     (table : length u.slots ≡ count)
     (pairs : pairs_of u ≡ pairs_of t) (left : room (marks_of u.slots) + length t.order ≡ full_capacity count)
-    (placings : u.placings ≡ count_up t.placings (length t.order)) (fields : Fields S H) where
+    (insertions : u.insertions ≡ some_moved t.insertions (length t.order)) (fields : Fields S H) where
   -- with the pairs counted
   abbrev pub counted : Fields S H
   counted = record fields { shrunk = count_up fields.shrunk (length (pairs_of t)) }
 
   pub shrinks_to : MovesTo count (shrink_counted (state_of t fields)) (state_of u counted)
-  shrinks_to = moves_to t u count linked next table pairs left placings counted
+  shrinks_to = moves_to t u count linked next table pairs left insertions counted
 
   pub shrinks_holds : (eq : K → K → Bool) (hash_of : H → K → ℕ) → Holds eq hash_of t fields
       → KeysFit (hash_of fields.hasher) u.slots → count < length t.slots → Holds eq hash_of u counted
@@ -46,7 +46,8 @@ module _ {K V S H : Type 0} (t u : OrderedTable K V) (count : ℕ) (linked : IsL
     map = record {
       distinct = subst (AreDistinct eq) (sym pairs) holds.map.distinct;
       sized = sized_by counted u next (reached sized.reachable)
-          (usable.0, ap (usage fields.entry_bytes) table ∙ usable.1) sized.moved sized.placed (omega arith);
+          (usable.0, ap (usage fields.entry_bytes) table ∙ usable.1) sized.moved
+          (omega (arith, ap (λ c. c.placed) insertions, sized.placed)) (omega arith);
       paid = paid_after (state_of t fields) (state_of u counted)
           (moved_pays (state_of t fields) count (state_of u counted) shrinks_to) sized.moved
           (omega (arith, shrinks_to.table, few, sized.table.addressable)) holds.map.paid;

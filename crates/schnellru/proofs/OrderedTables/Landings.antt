@@ -7,7 +7,8 @@ use Rattle.group_table.specs.Sizes.{full_capacity}
 use Rattle.group_table.specs.Bucket.{empty, full, entry_of, marks_of, room}
 use Rattle.group_table.specs.Bucket.{IsFull}
 use Rattle.group_table.specs.Probe.{hash_tag, filled}
-use Rattle.group_table.specs.Change.{count_up}
+use Rattle.group_table.specs.Change.{count_up, placings}
+use Rattle.group_table.proofs.ChangeLemmas.{placings-placed}
 use Rattle.std.proofs.lemmas.Bool.{false≢true}
 use Rattle.group_table.proofs.FirstFree.{fills_within}
 use Rattle.group_table.proofs.BucketLemmas.{length-marks_of, is_full-marks_of, marks_of-set}
@@ -57,49 +58,39 @@ module _ {K V : Type 0} (t u : OrderedTable K V) (hash : ℕ) (pair : K × V) (b
       (subst (λ n. b < n) (sym (length-marks_of t.slots)) lands_within) lands.first lands.room
       (ap marks_of lands.slots ∙ marks_of-set t.slots b (filled hash pair)) lands.order
 
-  -- and n counts it
-  module _ {S H : Type 0} (fields : Fields S H) (sized : IsSized (state_of t fields)) (n : ℕ)
-      (counts : n ≡ count_up fields.placed 1) where
-    abbrev counted : Fields S H
-    counted = record fields { placed = n }
+  placed : u.insertions.placed ≡ count_up t.insertions.placed 1
+  placed = ap (λ c. c.placed) lands.insertions
 
-    counts_insert : (state_of u counted).counts ≡ count_insert 0 (state_of t fields).counts
-    counts_insert = λ i. record (state_of u counted).counts {
+  module _ {S H : Type 0} (fields : Fields S H) (sized : IsSized (state_of t fields)) where
+    counts_insert : (state_of u fields).counts ≡ count_insert 0 (state_of t fields).counts
+    counts_insert = λ i. record (state_of u fields).counts {
+      placings = (ap placings lands.insertions ∙ placings-placed t.insertions) i;
       moved = count_up-none fields.moved sized.moved i;
-      placings = lands.placings i;
-      placed = counts i;
+      placed = placed i;
     }
 
     pub lands_placed : IsPlaced pair (buckets (state_of t fields)) (room (marks_of u.slots)) 0 (state_of t fields)
-        (state_of u counted)
+        (state_of u fields)
     lands_placed = record {
       table = length-marks_of u.slots ∙ lands_length ∙ sym (length-marks_of t.slots);
       room_left = refl;
-      state = λ i. record (state_of u counted) { pairs = lands_pairs i; counts = counts_insert i };
+      state = λ i. record (state_of u fields) { pairs = lands_pairs i; counts = counts_insert i };
     }
 
-    pub lands_sized : IsLinked u → IsSized (state_of u counted)
-    lands_sized next = let same = sized_same fields t u fields.limiter sized next lands_length in record {
-      table = same.table;
-      taken = same.taken;
-      reachable = same.reachable;
-      usable = same.usable;
-      moved = sized.moved;
-      placed = omega (arith, counts);
-      shrunk = sized.shrunk;
-    }
+    pub lands_sized : IsLinked u → IsSized (state_of u fields)
+    lands_sized next = sized_same fields t u fields.limiter sized next lands_length (omega (arith, placed))
 
     pub lands_paid : IsPaid (potential (state_of t fields)) (state_of t fields).counts
-        → IsPaid (potential (state_of u counted)) (state_of u counted).counts
-    lands_paid paid = paid_after (state_of t fields) (state_of u counted)
-        (pays_placing (state_of t fields) (state_of u counted) 0 sized.placed sized.shrunk counts_insert
+        → IsPaid (potential (state_of u fields)) (state_of u fields).counts
+    lands_paid paid = paid_after (state_of t fields) (state_of u fields)
+        (pays_placing (state_of t fields) (state_of u fields) 0 sized.placed sized.shrunk counts_insert
         (omega (arith, lands.room, room_at-most (marks_of t.slots) b, ap full_capacity lands_placed.table)))
         sized.moved (omega (arith, sized.table.addressable, lands_placed.table)) paid
 
     -- so what holds of every map holds, if its key was not there
     pub lands_holds : {eq : K → K → Bool} (hash_of : H → K → ℕ) → Holds eq hash_of t fields → IsLinked u
         → KeysFit (hash_of fields.hasher) u.slots
-        → lookup_entry (eq pair.0) (pairs_of t) ≡ None → Holds eq hash_of u counted
+        → lookup_entry (eq pair.0) (pairs_of t) ≡ None → Holds eq hash_of u fields
     unfolding IsDistinct
     lands_holds {eq} hash_of holds next fits absent = record {
       linked = next;

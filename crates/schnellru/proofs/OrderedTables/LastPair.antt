@@ -17,7 +17,7 @@ use Rattle.schnellru.proofs.Maps.HeldMaps.{alike_holds}
 module _ {K V : Type 0} (t v : OrderedTable K V) (linked : IsLinked t) (b : ℕ) (p : K × V) (there : entry_at t.slots b
     ≡ Some p)
     (slots : v.slots ≡ t.slots) (order : v.order ≡ without_bucket b t.order ++ b ∷ [])
-    (counted : v.placings ≡ t.placings)
+    (counted : v.insertions ≡ t.insertions)
     (names : K → Bool) {eq : K → K → Bool} (laws : IsEquivalence eq) (one : (x y : K) → names x ≡ true → names y
     ≡ eq x y) (named : names p.0 ≡ true)
     (distinct : AreDistinct eq (pairs_of t)) where
@@ -43,7 +43,7 @@ module _ {K V : Type 0} (t v : OrderedTable K V) (linked : IsLinked t) (b : ℕ)
     }
 
     pub demoted_holds : (hash_of : H → K → ℕ) → Holds eq hash_of t fields → IsLinked v → Holds eq hash_of v fields
-    demoted_holds hash_of holds next = alike_holds fields eq hash_of t v holds next
+    demoted_holds hash_of holds next = alike_holds fields eq hash_of t v counted holds next
         (subst (KeysFit (hash_of fields.hasher)) (sym slots) holds.fits)
         (ap marks_of slots) (subst (AreDistinct eq) (sym demoted_pairs)
         (distinct_last eq names laws (pairs_of t) distinct))

@@ -22,7 +22,7 @@ use Rattle.schnellru.proofs.OrderedTables.Writes.{written_first, kept_holds}
 -- the pair in the bucket b of t comes first, in v
 module _ {K V : Type 0} (t v : OrderedTable K V) (linked : IsLinked t) (b : ℕ) (p : K × V) (there : entry_at t.slots b
     ≡ Some p)
-    (slots : v.slots ≡ t.slots) (order : v.order ≡ b ∷ without_bucket b t.order) (counted : v.placings ≡ t.placings)
+    (slots : v.slots ≡ t.slots) (order : v.order ≡ b ∷ without_bucket b t.order) (counted : v.insertions ≡ t.insertions)
     (names : K → Bool) {eq : K → K → Bool} (laws : IsEquivalence eq) (one : (x y : K) → names x ≡ true → names y
     ≡ eq x y) (named : names p.0 ≡ true)
     (distinct : AreDistinct eq (pairs_of t)) where
@@ -46,7 +46,7 @@ module _ {K V : Type 0} (t v : OrderedTable K V) (linked : IsLinked t) (b : ℕ)
     }
 
     pub promoted_holds : (hash_of : H → K → ℕ) → Holds eq hash_of t fields → IsLinked v → Holds eq hash_of v fields
-    promoted_holds hash_of holds next = alike_holds fields eq hash_of t v holds next
+    promoted_holds hash_of holds next = alike_holds fields eq hash_of t v counted holds next
         (subst (KeysFit (hash_of fields.hasher)) (sym slots) holds.fits)
         (ap marks_of slots) (subst (AreDistinct eq) (sym promoted_pairs)
         (distinct_first eq names one (pairs_of t) distinct))
@@ -54,7 +54,7 @@ module _ {K V : Type 0} (t v : OrderedTable K V) (linked : IsLinked t) (b : ℕ)
 -- the oldest pair of t, in the bucket b, comes first, in v
 module _ {K V : Type 0} (t v : OrderedTable K V) (linked : IsLinked t) (b : ℕ) (oldest : last_bucket t.order ≡ Some b)
     (p : K × V) (there : entry_at t.slots b ≡ Some p)
-    (slots : v.slots ≡ t.slots) (order : v.order ≡ b ∷ without_bucket b t.order) (counted : v.placings ≡ t.placings)
+    (slots : v.slots ≡ t.slots) (order : v.order ≡ b ∷ without_bucket b t.order) (counted : v.insertions ≡ t.insertions)
   where
     oldest_pairs : pairs_of v ≡ after (last (pairs_of t)) (without_last (pairs_of t))
     oldest_pairs = ap (entries_in v.slots) order

@@ -3,7 +3,7 @@ use Rattle.std.proofs.Common.{◌≡◌, ℕ, ◌+◌, ◌<◌, Bool, List, ◌�
 use Rattle.std.proofs.lemmas.List.{get_or-set_same}
 use Rattle.std.specs.Prelude.{Contains, option_map}
 use Rattle.group_table.specs.Link.{IsLinkType}
-use Rattle.group_table.specs.Bucket.{Slot, empty, entry_of, marks_of, room, room_at}
+use Rattle.group_table.specs.Bucket.{Slot, empty, entry_of, entry_at, marks_of, room, room_at}
 use Rattle.group_table.specs.Probe.{filled}
 use Rattle.group_table.specs.Table.{Table, IsTable}
 use Rattle.group_table.specs.Change.{Places, MayFill}
@@ -11,7 +11,7 @@ use Rattle.group_table.specs.Fits.{Fits, with_hash}
 use Rattle.group_table.proofs.FirstFree.{fills_within}
 use Rattle.schnellru.specs.declared.ordered.Entry.{Entry}
 use Rattle.schnellru.specs.Inside.OrderedTable.{OrderedTable, IsLinked, KeysFit, Lands}
-use Rattle.schnellru.specs.Inside.Chain.{pair_slots, newer_at, along, IsChain, IsWhole}
+use Rattle.schnellru.specs.Inside.Chain.{pair_slots, newer_at, older_at, along, IsChain, IsWhole}
 use Rattle.schnellru.proofs.Chains.WholeChains.{whole_order, IsWhole-shown, IsLinked-view, placed_absent}
 use Rattle.schnellru.proofs.Chains.WholeChains.{IsChain-placed, IsWhole-placed}
 use Rattle.schnellru.proofs.OrderedTables.KeyHashes.{KeysFit-placed}
@@ -37,21 +37,26 @@ module _ {N : Type 0} {number : N → ℕ} {link : ℕ → N} {none : N} {eq : N
       (Contains order b → ⊥)
   others_chained = (order, IsChain-placed laws whole places within, placed_absent laws whole places within)
 
-  -- and its entry has the newer link that it had
-  pub placed_newer : entry.newer ≡ none → newer_at new.slots b ≡ Some none
-  placed_newer newest = ap (λ slots. newer_at slots b) places.slots
-      ∙ ap (λ s. option_map (λ x. x.newer) (entry_of s)) (get_or-set_same old.slots b (filled hash entry) empty within)
-      ∙ ap Some newest
+  there : entry_at new.slots b ≡ Some entry
+  there = ap (λ slots. entry_at slots b) places.slots
+      ∙ ap entry_of (get_or-set_same old.slots b (filled hash entry) empty within)
+
+  -- and its entry has the links that it had
+  pub placed_newer : {l : N} → entry.newer ≡ l → newer_at new.slots b ≡ Some l
+  placed_newer is = ap (option_map (λ x. x.newer)) there ∙ ap Some is
+
+  pub placed_older : {l : N} → entry.older ≡ l → older_at new.slots b ≡ Some l
+  placed_older is = ap (option_map (λ x. x.older)) there ∙ ap Some is
 
   abbrev before : OrderedTable K V
-  before = record { slots = pair_slots old.slots; order = order; placings = old.placings }
+  before = record { slots = pair_slots old.slots; order = order; insertions = old.insertions }
 
   pairs_set : pair_slots new.slots ≡ slice_set (pair_slots old.slots) b (filled hash pair)
   pairs_set = ap pair_slots places.slots ∙ pair_slots-set old.slots b (filled hash entry)
       ∙ ap (λ p. slice_set (pair_slots old.slots) b (filled hash p)) is
 
   module _ (linked : Table (Entry K V N)) (newest' oldest' : N) (pairs : pair_slots linked.slots ≡ pair_slots new.slots)
-      (placings : linked.placings ≡ new.placings)
+      (insertions : linked.insertions ≡ new.insertions)
       (chain : (order : List ℕ) → IsChain number link none new.slots newest oldest order → (Contains order b → ⊥)
       → IsChain number link none linked.slots newest' oldest' (b ∷ order)) where
     linked_whole : IsWhole number link none linked.slots newest' oldest' (b ∷ order)
@@ -62,7 +67,7 @@ module _ {N : Type 0} {number : N → ℕ} {link : ℕ → N} {none : N} {eq : N
     after = record {
       slots = pair_slots linked.slots;
       order = along number (length linked.slots) linked.slots newest';
-      placings = linked.placings;
+      insertions = linked.insertions;
     }
 
     pub shown_whole : IsWhole number link none linked.slots newest' oldest'
@@ -85,7 +90,7 @@ module _ {N : Type 0} {number : N → ℕ} {link : ℕ → N} {none : N} {eq : N
         may = rw (marks_of-pair_slots old.slots) may;
         slots = pairs ∙ pairs_set;
         order = whole_order laws linked_whole;
-        placings = placings ∙ places.placings;
+        insertions = insertions ∙ places.insertions;
         room = rw (pairs, marks_of-pair_slots new.slots, marks_of-pair_slots old.slots) spends;
       };
       fits = λ hash_of fits was same.

@@ -39,7 +39,7 @@ module _ {K V S : Type 0} (rules : Rules K V S) (by : Replaced K V S) (old new :
   is_removed = record {
     slots = subst (λ p. Removes (with_pair old b p).slots new.slots b) pair_is out.slots;
     order = out.order;
-    placings = out.placings;
+    insertions = out.insertions;
     room = out.room ∙ ap (λ m. room m + room_at (marks_of new.slots) b) (marks_of-refilled old.slots b (k, v));
     notified = out.notified ∙ (λ i.
         (rules.on_removed (notified i) ((taken_is ∙ pair_is) i).0 ((taken_is ∙ pair_is) i).1).limiter);
@@ -93,7 +93,7 @@ module _ {K V S H : Type 0} (by : Replaced K V S) (old new : OrderedTable K V) (
         (arith, pairs-length old first, pairs-length new next, ap length step.order) in record {
           is = λ i. record (state_of new (record fields { limiter = step.notified i })) {
             pairs = replaced_pairs i;
-            counts = counts_of (step.placings i) fields;
+            counts = counts_of (step.insertions i) fields;
           };
           room = record {
             table = ap length marks;
@@ -130,7 +130,7 @@ module _ {K V S H : Type 0} (by : Replaced K V S) (old new : OrderedTable K V) (
     removed_leaves = record {
       is = λ i. record (state_of new (record fields { limiter = step.notified i })) {
         pairs = removed_pairs i;
-        counts = counts_of (step.placings i) fields;
+        counts = counts_of (step.insertions i) fields;
       };
       room = frees_room old new b first next removed_length (ap (λ o. suc (length o)) step.order
           ∙ fewer) step.room;

@@ -44,7 +44,7 @@ module _ {K V S : Type 0} (rules : Rules K V S) (t u : OrderedTable K V) (b : �
     taken_leaves left pairs_are notified_is = record {
       is = λ i. record (state_of u (record fields { limiter = notified_is i })) {
         pairs = pairs_are i;
-        counts = counts_of (out.placings i) fields;
+        counts = counts_of (out.insertions i) fields;
       };
       room = frees_room t u b first next (length-removed t.slots u.slots b out.slots)
           (ap (λ o. suc (length o)) out.order

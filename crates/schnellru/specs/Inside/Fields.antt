@@ -7,7 +7,6 @@ pub record Fields (S H : Type 0) : Type 0 where
   pub limiter : S
   pub hasher : H
   pub moved : ℕ
-  pub placed : ℕ
   pub shrunk : ℕ
   pub entry_bytes : ℕ
   pub max : ℕ
@@ -18,7 +17,6 @@ fields_of m max = record {
   limiter = m.limiter;
   hasher = m.hasher;
   moved = m.moved;
-  placed = m.placed;
   shrunk = m.shrunk;
   entry_bytes = m.entry_bytes;
   max = max;

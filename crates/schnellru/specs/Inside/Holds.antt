@@ -1,16 +1,18 @@
 -- How the fields of an `LruMap` hold its state. No public clause cites this module.
 use Rattle.std.specs.Prelude.{ℕ, Bool}
 use Rattle.group_table.specs.Bucket.{marks_of}
+use Rattle.group_table.specs.Change.{placings}
+use Rattle.group_table.specs.Table.{Insertions}
 use Rattle.lru_model.specs.State.{State, TableState, Counts, IsMap}
 use Rattle.schnellru.specs.Inside.Fields.{Fields}
 use Rattle.schnellru.specs.Inside.OrderedTable.{OrderedTable, IsLinked, KeysFit, pairs_of}
 
 -- What a map counts: the table counts its insertions, and the fields contain the other counts.
-abbrev pub counts_of : {S H : Type 0} → ℕ → Fields S H → Counts
-counts_of placings fields = record {
-  placings = placings;
+abbrev pub counts_of : {S H : Type 0} → Insertions → Fields S H → Counts
+counts_of insertions fields = record {
+  placings = placings insertions;
   moved = fields.moved;
-  placed = fields.placed;
+  placed = insertions.placed;
   shrunk = fields.shrunk;
 }
 
@@ -26,7 +28,7 @@ module _ {K V S H : Type 0} where
     limiter = fields.limiter;
     hasher = fields.hasher;
     table = table_state entries;
-    counts = counts_of entries.placings fields;
+    counts = counts_of entries.insertions fields;
     entry_bytes = fields.entry_bytes;
     max = fields.max;
   }

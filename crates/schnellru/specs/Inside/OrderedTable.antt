@@ -4,8 +4,8 @@ use Rattle.std.specs.Prelude.{option_to_list, unwrap_or, Contains, AllPairs}
 use Rattle.group_table.specs.Bucket.{Slot, IsFull, entry_at, entry_count, bucket_at, refilled, marks_of, room}
 use Rattle.group_table.specs.Bucket.{room_at}
 use Rattle.group_table.specs.Probe.{filled, IsFirstFree}
-use Rattle.group_table.specs.Change.{MayFill, count_up}
-use Rattle.group_table.specs.Table.{IsTable}
+use Rattle.group_table.specs.Change.{MayFill, one_placed}
+use Rattle.group_table.specs.Table.{Insertions, IsTable}
 use Rattle.group_table.specs.Fits.{Fits}
 
 pub record OrderedTable (K V : Type 0) : Type 0 where
@@ -14,7 +14,7 @@ pub record OrderedTable (K V : Type 0) : Type 0 where
   -- the full buckets, newest first
   pub order : List ℕ
   -- how many insertions the table has made
-  pub placings : ℕ
+  pub insertions : Insertions
 
 -- the buckets without this one
 abbrev pub without_bucket : ℕ → List ℕ → List ℕ
@@ -48,7 +48,7 @@ module _ {K V : Type 0} where
     pub may : MayFill (marks_of old.slots) b
     pub slots : new.slots ≡ slice_set old.slots b (filled hash pair)
     pub order : new.order ≡ b ∷ old.order
-    pub placings : new.placings ≡ count_up old.placings 1
+    pub insertions : new.insertions ≡ one_placed old.insertions
     pub room : room (marks_of new.slots) + room_at (marks_of old.slots) b ≡ room (marks_of old.slots)
 
   -- what holds of every table whose buckets are linked

@@ -15,7 +15,7 @@ pub record IsReplaced {K V S : Type 0} (by : Replaced K V S) (b : ℕ) (old new 
     : Type 0 where
   pub slots : new.slots ≡ (with_pair old b (by.key, by.new_value)).slots
   pub order : new.order ≡ old.order
-  pub placings : new.placings ≡ old.placings
+  pub insertions : new.insertions ≡ old.insertions
   pub notified : limiter ≡ by.limiter
 
 -- The limiter rejected the new value, and the pair was removed.
@@ -23,7 +23,7 @@ pub record IsRemoved {K V S : Type 0} (rules : Rules K V S) (by : Replaced K V S
     (limiter : S) : Type 0 where
   pub slots : Removes (with_pair old b (by.key, by.old_value)).slots new.slots b
   pub order : new.order ≡ without_bucket b old.order
-  pub placings : new.placings ≡ old.placings
+  pub insertions : new.insertions ≡ old.insertions
   pub room : room_of (marks_of new.slots) ≡ room_of (marks_of old.slots) + room_at (marks_of new.slots) b
   pub notified : limiter ≡ (rules.on_removed by.limiter by.key by.old_value).limiter
 
@@ -37,7 +37,7 @@ pub record IsTakenOut {K V S : Type 0} (rules : Rules K V S) (b : ℕ) (old new 
   pub notified : after ≡ notified_of rules (Some pair) limiter
   pub slots : Removes old.slots new.slots b
   pub order : new.order ≡ without_bucket b old.order
-  pub placings : new.placings ≡ old.placings
+  pub insertions : new.insertions ≡ old.insertions
   pub room : room_of (marks_of new.slots) ≡ room_of (marks_of old.slots) + room_at (marks_of new.slots) b
 
 -- The limiter was offered a new value for the pair of the key, in a map. The result is whether the limiter accepts the

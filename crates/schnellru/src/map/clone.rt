@@ -48,7 +48,6 @@ impl<
             hasher,
             entry_bytes: self.entry_bytes,
             moved: self.moved,
-            placed: self.placed,
             shrunk: self.shrunk,
             alloc: self.alloc,
         })

@@ -42,7 +42,7 @@ impl<K: Eq + Hash, V, L: Limiter<K, V>, S: KeyHasher<K>> LruMap<K, V, L, S> {
         let _ = &self.entries;
         MoveReport {
             moved: self.moved,
-            placed: self.placed,
+            placed: self.entries.placed(),
             shrunk: self.shrunk,
         }
     }

@@ -3,7 +3,6 @@
 ghost use Rattle.std.specs.Prelude.{◌≡◌, ℕ, ◌+◌, ◌-◌, ◌*◌, ◌/◌, ◌^◌, ◌<◌, ◌≤◌, [], ◌∷◌, length, true, None, Some};
 ghost use Rattle.std.specs.Prelude.{Ok, OnOk, OnErr, IfErr, IsOk};
 ghost use Rattle.group_table.specs.Sizes.{IsPowerFromFour, full_capacity};
-ghost use Rattle.group_table.specs.Change.{count_up};
 ghost use Rattle.lru_model.specs.Lists.{lookup_entry};
 ghost use Rattle.lru_model.specs.Sizes.{usage};
 ghost use Rattle.lru_model.specs.State.{buckets, room, IsAhead};
@@ -33,11 +32,7 @@ impl<K: Eq + Hash, V, L: Limiter<K, V>, S: KeyHasher<K>> LruMap<K, V, L, S> {
         ensures spends { length self.old.pairs + room self.old ≡ full_capacity (buckets self.old) →
             room self.new + 1 ≡ room self.old }
     {
-        // Each change of the count is one instruction on memory: the compiler does not keep it while the table is
-        // written.
-        make_count_room(&mut self.placed);
         self.entries.place(hash, pair);
-        self.placed += 1;
     }
 
     // Stores the pair in the first free bucket, if the table may fill that one. Otherwise returns it.
@@ -52,7 +47,6 @@ impl<K: Eq + Hash, V, L: Limiter<K, V>, S: KeyHasher<K>> LruMap<K, V, L, S> {
         ensures no_bucket { OnErr result (HasNoBucket hash self.old) }
     {
         self.entries.try_place(hash, pair)?;
-        self.placed = self.placed.saturating_add(1);
         Ok(())
     }
 
@@ -203,15 +197,5 @@ impl<K: Eq + Hash, V, L: Limiter<K, V>, S: KeyHasher<K>> LruMap<K, V, L, S> {
     {
         let (key, value) = notify(&mut self.limiter, pair);
         sink(key, value);
-    }
-}
-
-// Takes one off a count of `u64::MAX`, so that counting one more neither overflows nor changes it.
-#[inline]
-fn make_count_room(count: &mut u64)
-    ensures { count.new + 1 ≡ count_up count.old 1 }
-{
-    if *count == u64::MAX {
-        *count -= 1;
     }
 }

@@ -25,7 +25,7 @@ impl<K, V, N: LinkType> Chain<K, V, N> {
     pub(crate) fn unlink(&mut self, b: usize)
         requires { InChain N.number N.link N.MAX self.old b }
         ensures pairs { pair_slots self.new.table.slots ≡ pair_slots self.old.table.slots }
-        ensures placings { self.new.table.placings ≡ self.old.table.placings }
+        ensures insertions { self.new.table.insertions ≡ self.old.table.insertions }
         ensures chain { (order : List ℕ) → KeepsOrder N.number N.link N.MAX self.old order → Contains order b →
             KeepsOrder N.number N.link N.MAX self.new (without_bucket b order) }
     {
@@ -41,7 +41,7 @@ impl<K, V, N: LinkType> Chain<K, V, N> {
         requires gap { (order : List ℕ) × (b : ℕ) × HasGap N.number N.link N.MAX self.old order b newer older }
         requires last { IsTrue last → older ≡ N.MAX }
         ensures pairs { pair_slots self.new.table.slots ≡ pair_slots self.old.table.slots }
-        ensures placings { self.new.table.placings ≡ self.old.table.placings }
+        ensures insertions { self.new.table.insertions ≡ self.old.table.insertions }
         ensures chain { (order : List ℕ) (b : ℕ) → HasGap N.number N.link N.MAX self.old order b newer older →
             KeepsOrder N.number N.link N.MAX self.new (without_bucket b order) }
     {
@@ -72,7 +72,7 @@ impl<K, V, N: LinkType> Chain<K, V, N> {
         requires some { self.old.newest ≢ N.MAX }
         requires chained { OutOfChain N.number N.link N.MAX self.old b }
         ensures pairs { pair_slots self.new.table.slots ≡ pair_slots self.old.table.slots }
-        ensures placings { self.new.table.placings ≡ self.old.table.placings }
+        ensures insertions { self.new.table.insertions ≡ self.old.table.insertions }
         ensures chain { (order : List ℕ) → KeepsOrder N.number N.link N.MAX self.old order → (Contains order b → ⊥) →
             KeepsOrder N.number N.link N.MAX self.new (b ∷ order) }
     {
@@ -89,7 +89,7 @@ impl<K, V, N: LinkType> Chain<K, V, N> {
         requires some { self.old.oldest ≢ N.MAX }
         requires chained { OutOfChain N.number N.link N.MAX self.old b }
         ensures pairs { pair_slots self.new.table.slots ≡ pair_slots self.old.table.slots }
-        ensures placings { self.new.table.placings ≡ self.old.table.placings }
+        ensures insertions { self.new.table.insertions ≡ self.old.table.insertions }
         ensures chain { (order : List ℕ) → KeepsOrder N.number N.link N.MAX self.old order → (Contains order b → ⊥) →
             KeepsOrder N.number N.link N.MAX self.new (order ++ b ∷ []) }
     {
@@ -100,20 +100,20 @@ impl<K, V, N: LinkType> Chain<K, V, N> {
         self.oldest = link;
     }
 
-    // Puts a bucket that is in no chain in front of the chain, or makes it the only one. Its newer link is `MAX`
-    // already.
-    pub(crate) fn link_placed(&mut self, b: usize)
+    // Puts a bucket that is in no chain in front of the chain, or makes it the only one. Its entry has the links of the
+    // newest entry already: the older one leads to `first`, which has been the newest.
+    pub(crate) fn link_placed(&mut self, b: usize, first: N)
+        requires first { first ≡ self.old.newest }
         requires full { IsFull self.old.table.slots b }
-        requires first { newer_at self.old.table.slots b ≡ Some N.MAX }
+        requires newer { newer_at self.old.table.slots b ≡ Some N.MAX }
+        requires older { older_at self.old.table.slots b ≡ Some first }
         requires chained { OutOfChain N.number N.link N.MAX self.old b }
         ensures pairs { pair_slots self.new.table.slots ≡ pair_slots self.old.table.slots }
-        ensures placings { self.new.table.placings ≡ self.old.table.placings }
+        ensures insertions { self.new.table.insertions ≡ self.old.table.insertions }
         ensures chain { (order : List ℕ) → KeepsOrder N.number N.link N.MAX self.old order → (Contains order b → ⊥) →
             KeepsOrder N.number N.link N.MAX self.new (b ∷ order) }
     {
-        let first = self.newest;
         let link = N::from_usize(b);
-        link_first(&mut self.table, b, first);
         self.set_newer(first, link);
         self.newest = link;
     }
@@ -127,7 +127,7 @@ impl<K, V, N: LinkType> Chain<K, V, N> {
         ensures slots { SetsNewer N.number self.old.table.slots self.new.table.slots at to }
         ensures newest { self.new.newest ≡ self.old.newest }
         ensures oldest { SetsEnd N.MAX self.old.oldest self.new.oldest at to }
-        ensures placings { self.new.table.placings ≡ self.old.table.placings }
+        ensures insertions { self.new.table.insertions ≡ self.old.table.insertions }
     {
         if self.leads(at) {
             write_newer(&mut self.table, at, to);
@@ -145,7 +145,7 @@ impl<K, V, N: LinkType> Chain<K, V, N> {
         ensures slots { SetsOlder N.number self.old.table.slots self.new.table.slots at to }
         ensures newest { SetsEnd N.MAX self.old.newest self.new.newest at to }
         ensures oldest { self.new.oldest ≡ self.old.oldest }
-        ensures placings { self.new.table.placings ≡ self.old.table.placings }
+        ensures insertions { self.new.table.insertions ≡ self.old.table.insertions }
     {
         if self.leads(at) {
             write_older(&mut self.table, at, to);
@@ -159,7 +159,7 @@ impl<K, V, N: LinkType> Chain<K, V, N> {
         requires reached { length self.old.table.slots < N.number N.MAX }
         requires moved { Moved N.number N.link N.MAX self.old links.now }
         ensures pairs { pair_slots self.new.table.slots ≡ pair_slots self.old.table.slots }
-        ensures placings { self.new.table.placings ≡ self.old.table.placings }
+        ensures insertions { self.new.table.insertions ≡ self.old.table.insertions }
         ensures chain { (before : List (Slot (Entry K V N))) (order : List ℕ) →
             IsWhole N.number N.link N.MAX before self.old.newest self.old.oldest order
             → Renumbers N.number N.MAX before self.old.table.slots links.now →
@@ -181,7 +181,7 @@ impl<K, V, N: LinkType> Chain<K, V, N> {
 fn write_newer<K, V, N: LinkType>(table: &mut Table<Entry<K, V, N>>, at: N, to: N)
     requires { IsFull table.old.slots (N.number at) }
     ensures slots { SetsNewer N.number table.old.slots table.new.slots at to }
-    ensures placings { table.new.placings ≡ table.old.placings }
+    ensures insertions { table.new.insertions ≡ table.old.insertions }
 {
     table.get_mut(at.into_usize()).newer = to;
 }
@@ -191,7 +191,7 @@ fn write_newer<K, V, N: LinkType>(table: &mut Table<Entry<K, V, N>>, at: N, to: 
 fn write_older<K, V, N: LinkType>(table: &mut Table<Entry<K, V, N>>, at: N, to: N)
     requires { IsFull table.old.slots (N.number at) }
     ensures slots { SetsOlder N.number table.old.slots table.new.slots at to }
-    ensures placings { table.new.placings ≡ table.old.placings }
+    ensures insertions { table.new.insertions ≡ table.old.insertions }
 {
     table.get_mut(at.into_usize()).older = to;
 }
@@ -201,22 +201,11 @@ fn write_older<K, V, N: LinkType>(table: &mut Table<Entry<K, V, N>>, at: N, to: 
 fn set_links<K, V, N: LinkType>(table: &mut Table<Entry<K, V, N>>, b: usize, newer: N, older: N)
     requires { IsFull table.old.slots b }
     ensures links { SetsLinks table.old.slots table.new.slots b newer older }
-    ensures placings { table.new.placings ≡ table.old.placings }
+    ensures insertions { table.new.insertions ≡ table.old.insertions }
 {
     let entry = table.get_mut(b);
     entry.newer = newer;
     entry.older = older;
-}
-
-// Sets the older link of the entry in a full bucket, whose newer link is `MAX` already.
-#[inline]
-fn link_first<K, V, N: LinkType>(table: &mut Table<Entry<K, V, N>>, b: usize, older: N)
-    requires full { IsFull table.old.slots b }
-    requires first { newer_at table.old.slots b ≡ Some N.MAX }
-    ensures links { SetsLinks table.old.slots table.new.slots b N.MAX older }
-    ensures placings { table.new.placings ≡ table.old.placings }
-{
-    table.get_mut(b).older = older;
 }
 
 // Rewrites the links of an entry to where its neighbours have moved.
@@ -227,7 +216,7 @@ fn move_links<K, V, N: LinkType>(table: &mut Table<Entry<K, V, N>>, b: usize, li
     requires newer { (l : N) → newer_at table.old.slots b ≡ Some l → HasPlace N.number N.MAX links.now l }
     requires older { (l : N) → older_at table.old.slots b ≡ Some l → HasPlace N.number N.MAX links.now l }
     ensures links { MovesLinks N.number N.MAX links.now table.old.slots table.new.slots b }
-    ensures placings { table.new.placings ≡ table.old.placings }
+    ensures insertions { table.new.insertions ≡ table.old.insertions }
 {
     let entry = table.get_mut(b);
     entry.newer = moved_link(links, entry.newer);

@@ -20,7 +20,7 @@ impl<K: Drop, V: Drop, N: LinkType> OrderedTable<K, V, N> {
         ensures pairs { IfOk result (λ t. AllZip (IsPairClone K.is_clone V.is_clone) (pairs_of self.now) (pairs_of t)) }
         ensures order { IfOk result (λ t. t.order ≡ self.now.order) }
         ensures marks { IfOk result (λ t. marks_of t.slots ≡ marks_of self.now.slots) }
-        ensures placings { IfOk result (λ t. t.placings ≡ self.now.placings) }
+        ensures insertions { IfOk result (λ t. t.insertions ≡ self.now.insertions) }
         ensures fits { IfOk result (λ t. (hash_of other : K → ℕ)
             → ((key copy : K) → K.is_clone key copy → other copy ≡ hash_of key) →
             KeysFit hash_of self.now.slots → KeysFit other t.slots) }

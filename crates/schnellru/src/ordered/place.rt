@@ -17,8 +17,9 @@ impl<K, V, N: LinkType> OrderedTable<K, V, N> {
             → KeysFit hash_of self.new.slots }
         ensures linked { IsLinked self.new }
     {
-        let b = self.chain.table.place(hash, unlinked(pair));
-        self.chain.link_placed(b);
+        let first = self.chain.newest;
+        let b = self.chain.table.place(hash, newest_entry(pair, first));
+        self.chain.link_placed(b, first);
     }
 
     // The same for any table: if no bucket may take the pair, it is returned.
@@ -31,9 +32,10 @@ impl<K, V, N: LinkType> OrderedTable<K, V, N> {
         ensures unchanged { OnErr result (self.new ≡ self.old) }
         ensures no_place { OnErr result (HasNoPlace (marks_of self.old.slots) hash) }
     {
-        match self.chain.table.try_place(hash, unlinked(pair)) {
+        let first = self.chain.newest;
+        match self.chain.table.try_place(hash, newest_entry(pair, first)) {
             Ok(b) => {
-                self.chain.link_placed(b);
+                self.chain.link_placed(b, first);
                 Ok(())
             }
             Err(entry) => Err((entry.pair.key, entry.pair.value)),
@@ -41,17 +43,17 @@ impl<K, V, N: LinkType> OrderedTable<K, V, N> {
     }
 }
 
-// An entry with no links. It gets the older one once its bucket is known. If that were written here, the compiler would
-// join the two links first.
+// The entry of a pair that is newer than `first`, which has been the newest.
 #[inline]
-fn unlinked<K, V, N: LinkType>(pair: (K, V)) -> Entry<K, V, N>
+fn newest_entry<K, V, N: LinkType>(pair: (K, V), first: N) -> Entry<K, V, N>
     ensures pair { (result.pair.key, result.pair.value) ≡ pair }
     ensures newer { result.newer ≡ N.MAX }
+    ensures older { result.older ≡ first }
 {
     let (key, value) = pair;
     Entry {
         newer: N::MAX,
-        older: N::MAX,
+        older: first,
         pair: Pair { key, value },
     }
 }

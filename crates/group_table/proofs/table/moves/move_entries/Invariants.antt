@@ -11,7 +11,7 @@ invariant-loop-b g l = record {
   rest : (k : ℕ) → l.b ≤ k → get_or l.old k None ≡ get_or l.initial.old k None;
   same : length l.links.items ≡ length l.initial.links.items;
   buckets : length l.fresh.slots ≡ length l.initial.fresh.slots;
-  placings : l.fresh.placings ≡ l.initial.fresh.placings;
+  insertions : l.fresh.insertions ≡ l.initial.fresh.insertions;
   none_deleted : count_by is_deleted l.fresh.slots ≡ 0;
   entries : entry_count l.fresh.slots ≡ count_by is_some (take l.b l.initial.old);
   moves : Moves g.N.LinkType.number g.N.LinkType.MAX (place_at (take l.b l.initial.old)) l.fresh.slots l.links.items;

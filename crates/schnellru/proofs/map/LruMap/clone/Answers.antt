@@ -11,7 +11,7 @@ pub invariant_of-result : goal.invariant_of-result
 invariant_of-result g c =
     let m = c.self.inside in let holds = c.self.invariant in let done = c.in_ok-entries.ensures in
     let hash_of = g.S.KeyHasher.hash_of in
-    copied_holds g.K.PartialEq.eq hash_of _ m.entries c.in_ok-entries.entries c.in_ok-limiter.limiter
+    copied_holds g.K.PartialEq.eq hash_of _ m.entries c.in_ok-entries.entries done.insertions c.in_ok-limiter.limiter
     c.in_ok-hasher.hasher holds done.linked
     (done.fits (hash_of m.hasher) (hash_of c.in_ok-hasher.hasher)
     (λ key copy same. c.requires.hashers m.hasher c.in_ok-hasher.hasher c.in_ok-hasher.ensures.cases copy
@@ -35,6 +35,6 @@ returns-clause-clone g c =
       hasher = c.in_ok-hasher.ensures.cases;
       rest = λ i. record (state_of c.in_ok-entries.entries rest) {
         table = record { marks = done.marks i; places = done.order i };
-        counts = counts_of (done.placings i) rest;
+        counts = counts_of (done.insertions i) rest;
       };
     })

@@ -3,7 +3,11 @@ use Rattle.lru_model.specs.State.{contents, Leaves}
 use Rattle.lru_model.specs.Callbacks.{noting, noted}
 use Rattle.schnellru.proofs.OrderedTables.BucketPairs.{pairs-length}
 use Rattle.lru_model.proofs.States.CallablePairs.{oldest_callable, rest_callable_with}
-use Rattle.schnellru.proofs.Maps.NotedStates.{takes_more, noted_pop, make_room-over}
+use Rattle.schnellru.proofs.Maps.NotedStates.{takes_more, noted_pop, make_room-over, make_room-within, make_room-empty}
+use Rattle.lru_model.proofs.States.LeavingPairs.{leaves_self}
+use Rattle.lru_model.specs.Inserts.{make_room}
+use Rattle.schnellru.proofs.map.LruMap.make_room.Goals.{else-not-is_empty-via-then-not-is_empty+else-is_over_the_limit}
+use Rattle.schnellru.proofs.map.LruMap.make_room.Goals.{else-not-is_empty-via-else-not-is_empty}
 use Rattle.schnellru.proofs.map.LruMap.make_room.Goals as goal
 
 pub returns-then-is_over_the_limit-clause-passed : goal.returns-then-is_over_the_limit-clause-passed
@@ -20,6 +24,26 @@ returns-then-is_over_the_limit-clause-passed g c =
       subst (λ left. Leaves (noted before st) left (noted (before ++ pair ∷ []) u))
           (sym (make_room-over (noting rules) (contents (noted before st)) over))
           (noted_pop rules before st u pair c.take_oldest-key.ensures.step),
+    )
+
+pub returns-else-not-is_empty-clause-passed : goal.returns-else-not-is_empty-clause-passed
+returns-else-not-is_empty-clause-passed g c =
+    let m = c.self.inside in let rules = g.L.Limiter.rules in let st = c.args.self.now in
+    λ first before taken.
+    let here = contents (noted before st) in
+    let stays : make_room (noting rules) here ≡ here = elim c.else-not-is_empty.branch [
+      | else-not-is_empty-via-then-not-is_empty+else-is_over_the_limit w ↦
+          make_room-within (noting rules) here (rw (← c.self.view_is)
+          (ap (λ n. rules.is_over_the_limit m.limiter (n + 1))
+          (pairs-length m.entries c.self.invariant.linked ∙ sym w.len.ensures.len)
+          ∙ sym w.is_over_the_limit.ensures ∙ w.if-is_over_the_limit.false))
+      | else-not-is_empty-via-else-not-is_empty w ↦
+          make_room-empty (noting rules) here (sym c.is_empty.ensures ∙ w.if-not-is_empty.false)
+    ] in (
+      before,
+      taken,
+      subst (λ left. Leaves (noted before st) left (noted before st)) (sym stays)
+          (leaves_self (noted before st)),
     )
 
 pub sink-requires : goal.sink-requires

@@ -2,10 +2,14 @@ use Rattle.std.proofs.Common.{refl, ap, ◌∙◌}
 use Rattle.schnellru.specs.Inside.Holds.{state_of}
 use Rattle.schnellru.specs.Inside.OrderedTable.{pairs_of}
 use Rattle.schnellru.proofs.OrderedTables.BucketPairs.{all_full}
-use Rattle.schnellru.proofs.OrderedTables.Places.{pair_at, at_set}
+use Rattle.schnellru.proofs.OrderedTables.Places.{got_in, pair_at, at_set}
 use Rattle.schnellru.proofs.OrderedTables.Writes.{kept_holds, kept_state}
 use Rattle.schnellru.specs.Inside.Fields.{fields_of}
 use Rattle.schnellru.proofs.map.LruMap.pair_at_mut.Goals as goal
+
+pub pair_mut-pair-requires : goal.pair_mut-pair-requires
+pair_mut-pair-requires g c = c.self.invariant.linked.only c.args.b
+    (got_in c.self.inside.entries.order c.args.at c.args.b (rw (← c.self.view_is) at c.requires))
 
 pub invariant_of-self-lent : goal.invariant_of-self-lent
 invariant_of-self-lent g c = λ w.

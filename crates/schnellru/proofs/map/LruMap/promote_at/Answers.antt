@@ -16,7 +16,7 @@ invariant_of-self g c =
     let laws = g.met.K.Eq.laws in
     let (p, there) = entry_by_full (bucket_at t.slots c.args.b)
     (holds.linked.only c.args.b (rw (← c.self.view_is) at c.requires)) in
-    promoted_holds t c.promote.new.self holds.linked c.args.b p there e.slots e.order e.placings
+    promoted_holds t c.promote.new.self holds.linked c.args.b p there e.slots e.order e.insertions
     (g.K.PartialEq.eq p.0) laws (λ x y h. laws.congr p.0 x y h) (laws.refl p.0) holds.map.distinct _
     g.S.KeyHasher.hash_of holds e.linked
 
@@ -30,5 +30,5 @@ returns-clause-promoted g c = λ names one at.
     let laws = g.met.K.Eq.laws in
     let (p, there, named) = pair_of_place t holds.linked names laws one holds.map.distinct c.args.b
     (rw (← c.self.view_is) at at) in
-    rw (← c.self.view_is) (promoted_state t c.promote.new.self holds.linked c.args.b p there e.slots e.order e.placings
+    rw (← c.self.view_is) (promoted_state t c.promote.new.self holds.linked c.args.b p there e.slots e.order e.insertions
     names laws one named holds.map.distinct _)

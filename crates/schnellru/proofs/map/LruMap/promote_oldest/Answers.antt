@@ -13,7 +13,7 @@ invariant_of-self g c =
     let t = c.self.inside.entries in let b = c.oldest-b.result in let holds = c.self.invariant in
     let e = c.promote.ensures in let laws = g.met.K.Eq.laws in
     let (p, there) = entry_by_full (bucket_at t.slots b) (oldest_full t holds.linked b c.oldest-b.ensures.oldest) in
-    promoted_holds t c.promote.new.self holds.linked b p there e.slots e.order e.placings
+    promoted_holds t c.promote.new.self holds.linked b p there e.slots e.order e.insertions
     (g.K.PartialEq.eq p.0) laws (λ x y h. laws.congr p.0 x y h) (laws.refl p.0) holds.map.distinct _
     g.S.KeyHasher.hash_of holds e.linked
 
@@ -25,5 +25,5 @@ returns g c =
     rw (← c.self.view_is) (
       c.promote.new.self.order,
       oldest_promoted t c.promote.new.self linked b
-          c.oldest-b.ensures.oldest p there e.slots e.order e.placings _,
+          c.oldest-b.ensures.oldest p there e.slots e.order e.insertions _,
     )

@@ -66,7 +66,7 @@ invariant_of-self-2 g c =
     let hash_of = g.S.KeyHasher.hash_of in
     subst (λ n. Holds g.K.PartialEq.eq hash_of c.move_to.new.self (record rest { shrunk = n })) (sym rises)
     (shrinks_holds m.entries c.move_to.new.self c.in-Some.count holds.linked e.linked e.buckets e.pairs e.room
-    e.placings rest g.K.PartialEq.eq hash_of holds e.fits
+    e.insertions rest g.K.PartialEq.eq hash_of holds e.fits
     (omega (arith, c.if-buckets-count.false, c.buckets.ensures.buckets)))
 
 pub returns-clause-step : goal.returns-clause-step
@@ -86,7 +86,7 @@ returns-clause-step g c =
     (subst (λ n. MovesTo c.in-Some.count (shrink_counted st)
     (state_of c.move_to.new.self (record rest { shrunk = n }))) (sym rises)
     (shrinks_to m.entries c.move_to.new.self c.in-Some.count holds.linked e.linked e.buckets e.pairs e.room
-    e.placings rest)))
+    e.insertions rest)))
 
 pub returns-clause-map : goal.returns-clause-map
 returns-clause-map g c = (invariant_of-self-2 g c).map

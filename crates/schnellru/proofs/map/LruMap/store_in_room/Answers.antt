@@ -12,7 +12,7 @@ pub invariant_of-self : goal.invariant_of-self
 invariant_of-self g c =
     let m = c.self.inside in let e = c.place.ensures in let holds = c.self.invariant in
     lands_holds m.entries c.place.new.self c.args.hash c.args.pair e.placed.0 holds.linked e.placed.1 _
-    holds.map.sized _ c.make_count_room.ensures _ holds
+    holds.map.sized _ holds
     e.linked (e.fits _ holds.fits (sym (rw (← c.self.view_is) at c.requires.hash)))
     (rw (← c.self.view_is) at c.requires.absent)
 
@@ -21,7 +21,7 @@ returns-clause-placed g c =
     let m = c.self.inside in let e = c.place.ensures in let holds = c.self.invariant in
     rw (← c.self.view_is)
     (lands_placed m.entries c.place.new.self c.args.hash c.args.pair e.placed.0 holds.linked e.placed.1 _
-    holds.map.sized _ c.make_count_room.ensures)
+    holds.map.sized)
 
 pub returns-clause-fills : goal.returns-clause-fills
 returns-clause-fills g c =

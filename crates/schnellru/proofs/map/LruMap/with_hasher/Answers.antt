@@ -21,15 +21,16 @@ invariant_of-result g c =
           limiter = c.args.limiter;
           hasher = c.args.hasher;
           moved = 0;
-          placed = 0;
           shrunk = 0;
           entry_bytes = c.args.entry_bytes;
           max = g.L.LinkType.LinkType.number g.L.LinkType.LinkType.MAX;
         }) c.new.result c.new.ensures.linked (inl none)
-            (0, ap (usage c.args.entry_bytes) none) (omega arith) (omega arith) (omega arith);
+            (0, ap (usage c.args.entry_bytes) none) (omega arith)
+            (omega (arith, ap (λ counts. counts.placed) c.new.ensures.insertions)) (omega arith);
         paid = record {
           moved = omega arith;
-          ahead = λ below. subst (λ s. 0 + (full_capacity (length (marks_of s)) - 2 * room (marks_of s)) ≤ 0)
+          ahead = λ below. subst (λ s. 0 + (full_capacity (length (marks_of s)) - 2 * room (marks_of s))
+              ≤ 2 * c.new.result.insertions.placed + 0)
               (sym c.new.ensures.slots) (omega arith);
         };
       };

@@ -8,6 +8,6 @@ returns-clause-taken g c = record {
   notified = c.notify.ensures.limiter;
   slots = c.take.ensures.removed;
   order = c.take.ensures.order;
-  placings = c.take.ensures.placings;
+  insertions = c.take.ensures.insertions;
   room = c.take.ensures.room;
 }

@@ -39,12 +39,12 @@ returns g c =
     let gap = IsGap-taken laws whole.chain c.args.b (inside laws whole c.args.b shown) _ c.take-newer.ensures.entry _
     removed in
     let chain = c.close_gap.ensures.chain _ c.args.b gap in
-    let same_placings = c.close_gap.ensures.placings ∙ c.take-newer.ensures.placings in
+    let same_insertions = c.close_gap.ensures.insertions ∙ c.take-newer.ensures.insertions in
     rw (← c.self.view_is) (record {
       pair = entry_at-pair_slots _ c.args.b ∙ ap (option_map pair_of) c.take-newer.ensures.entry;
       removed = taken_removes _ _ _ c.args.b removed same;
       order = taken_order _ _ _ c.args.b removed same laws whole full chain;
-      placings = same_placings;
+      insertions = same_insertions;
       room = taken_room _ _ _ c.args.b removed same c.take-newer.ensures.room;
       fits = taken_fits _ _ _ c.args.b removed same full c.take-newer.ensures.fits;
       linked = IsLinked-view laws (invariant_of-self g c)

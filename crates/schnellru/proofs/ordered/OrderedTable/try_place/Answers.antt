@@ -1,29 +1,35 @@
 use Rattle.schnellru.proofs.Chains.WholeChains.{IsLinked-view}
-use Rattle.schnellru.proofs.OrderedTables.PlacedEntries.{others_chained, placed_newer, shown_whole, placed}
+use Rattle.schnellru.proofs.OrderedTables.PlacedEntries.{others_chained, placed_newer, placed_older, shown_whole, placed}
 use Rattle.schnellru.proofs.OrderedTables.PairSlots.{marks_of-pair_slots}
 use Rattle.schnellru.proofs.ordered.OrderedTable.try_place.Goals as goal
 
 pub link_placed-requires-clause-chained : goal.link_placed-requires-clause-chained
 link_placed-requires-clause-chained g c =
-    others_chained g.met.N.LinkType.laws c.self.invariant c.unlinked.ensures.pair c.in-Ok.ensures.placed
+    others_chained g.met.N.LinkType.laws c.self.invariant c.newest_entry.ensures.pair c.in-Ok.ensures.placed
     c.in-Ok.ensures.may_fill
 
-pub link_placed-requires-clause-first : goal.link_placed-requires-clause-first
-link_placed-requires-clause-first g c =
-    placed_newer g.met.N.LinkType.laws c.self.invariant c.unlinked.ensures.pair c.in-Ok.ensures.placed
-    c.in-Ok.ensures.may_fill c.unlinked.ensures.newer
+pub link_placed-requires-clause-newer : goal.link_placed-requires-clause-newer
+link_placed-requires-clause-newer g c =
+    placed_newer g.met.N.LinkType.laws c.self.invariant c.newest_entry.ensures.pair c.in-Ok.ensures.placed
+    c.in-Ok.ensures.may_fill c.newest_entry.ensures.newer
+
+pub link_placed-requires-clause-older : goal.link_placed-requires-clause-older
+link_placed-requires-clause-older g c =
+    placed_older g.met.N.LinkType.laws c.self.invariant c.newest_entry.ensures.pair c.in-Ok.ensures.placed
+    c.in-Ok.ensures.may_fill
+    c.newest_entry.ensures.older
 
 pub invariant_of-self : goal.invariant_of-self
 invariant_of-self g c =
     let e = c.link_placed.ensures in let new = c.link_placed.new.self in
-    shown_whole g.met.N.LinkType.laws c.self.invariant c.unlinked.ensures.pair c.in-Ok.ensures.placed
-    c.in-Ok.ensures.may_fill new.table new.newest new.oldest e.pairs e.placings e.chain
+    shown_whole g.met.N.LinkType.laws c.self.invariant c.newest_entry.ensures.pair c.in-Ok.ensures.placed
+    c.in-Ok.ensures.may_fill new.table new.newest new.oldest e.pairs e.insertions e.chain
 
 pub returns-in-Ok : goal.returns-in-Ok
 returns-in-Ok g c =
     let e = c.link_placed.ensures in let new = c.link_placed.new.self in
-    let p = placed g.met.N.LinkType.laws c.self.invariant c.unlinked.ensures.pair c.in-Ok.ensures.placed
-    c.in-Ok.ensures.may_fill new.table new.newest new.oldest e.pairs e.placings e.chain in
+    let p = placed g.met.N.LinkType.laws c.self.invariant c.newest_entry.ensures.pair c.in-Ok.ensures.placed
+    c.in-Ok.ensures.may_fill new.table new.newest new.oldest e.pairs e.insertions e.chain in
     record {
       placed = rw (← c.self.view_is) (c.in-Ok.b, p.lands c.in-Ok.ensures.room);
       fits = λ hash_of fits same. p.fits hash_of c.in-Ok.ensures.fits (rw (← c.self.view_is) at fits) same;

@@ -1,20 +1,14 @@
-use Rattle.std.proofs.Common.{◌∙◌, inl, inr}
-use Rattle.schnellru.proofs.OrderedTables.PairSlots.{same_full}
-use Rattle.schnellru.proofs.Chains.LinkWrites.{newest_leads, IsChain-fields, IsChain-linked}
+use Rattle.std.proofs.Common.{◌∙◌, ap, Some}
+use Rattle.schnellru.proofs.Chains.LinkWrites.{newest_leads, IsChain-linked}
 use Rattle.schnellru.proofs.ordered.chain.Chain.link_placed.Goals as goal
 
 pub set_newer-requires-clause-there : goal.set_newer-requires-clause-there
-set_newer-requires-clause-there g c = elim (newest_leads g.met.N.LinkType.laws c.requires.chained.1) [
-  | inl none ↦ inl none
-  | inr full ↦ inr (same_full _ _ c.link_first.ensures.links.pairs _ ∙ full)
-]
+set_newer-requires-clause-there g c =
+    rw c.requires.first (newest_leads g.met.N.LinkType.laws c.requires.chained.1)
 
 pub returns-clause-chain : goal.returns-clause-chain
 returns-clause-chain g c order chain absent =
-    let links = c.link_first.ensures.links in
-    rw c.from_usize-link.ensures (IsChain-linked g.met.N.LinkType.laws c.args.b
-    (IsChain-fields g.met.N.LinkType.laws c.args.b chain absent links) absent
-    (same_full _ _ links.pairs c.args.b ∙ c.requires.full)
-    (links.newer_there) links.older_there
-    (rw c.from_usize-link.ensures at c.set_newer.ensures.slots)
-    (rw c.from_usize-link.ensures at c.set_newer.ensures.oldest))
+    rw c.from_usize-link.ensures (IsChain-linked g.met.N.LinkType.laws c.args.b chain absent c.requires.full
+    c.requires.newer (c.requires.older ∙ ap Some c.requires.first)
+    (rw (c.from_usize-link.ensures, c.requires.first) at c.set_newer.ensures.slots)
+    (rw (c.from_usize-link.ensures, c.requires.first) at c.set_newer.ensures.oldest))

@@ -8,7 +8,7 @@ use Rattle.schnellru.proofs.ordered.chain.Chain.rewrite.Goals as goal
 use Rattle.schnellru.proofs.ordered.chain.Chain.rewrite.Goals.{then-ne, else-ne}
 
 pub loop-old-init : goal.loop-old-init
-loop-old-init g c = record { links = MovedUpTo-none; newest = refl; oldest = refl; placings = refl }
+loop-old-init g c = record { links = MovedUpTo-none; newest = refl; oldest = refl; insertions = refl }
 
 -- the entry at the new number of an old bucket, which has its links of before
 pub move_links-requires-clause-newer : goal.move_links-requires-clause-newer
@@ -49,7 +49,7 @@ loop-old-preserved g c =
             links = MovedUpTo-more before.links c.requires.moved.3 leads moves;
             newest = before.newest;
             oldest = before.oldest;
-            placings = w.move_links.ensures.placings ∙ before.placings;
+            insertions = w.move_links.ensures.insertions ∙ before.insertions;
           })
       | else-ne w ↦
           let none = rw link at (equal_by_test g.met.N.LinkType.laws
@@ -58,7 +58,7 @@ loop-old-preserved g c =
             links = MovedUpTo-passed before.links none;
             newest = before.newest;
             oldest = before.oldest;
-            placings = before.placings;
+            insertions = before.insertions;
           })
     ]
 

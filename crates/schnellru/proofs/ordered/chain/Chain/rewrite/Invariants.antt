@@ -7,5 +7,5 @@ invariant-loop-old g l = record {
   links : MovedUpTo g.N.LinkType.number g.N.LinkType.MAX l.fn.self.table.slots l.self.table.slots l.links l.old;
   newest : l.self.newest ≡ l.fn.self.newest;
   oldest : l.self.oldest ≡ l.fn.self.oldest;
-  placings : l.self.table.placings ≡ l.fn.self.table.placings;
+  insertions : l.self.table.insertions ≡ l.fn.self.table.insertions;
 }
