@@ -35,13 +35,13 @@ pub(crate) struct Pair<K, V> {
     pub(crate) value: V,
 }
 
-// A pair with its neighbours in the order; `MAX` at the ends. The key and the value are side by side at the end, so a
-// look at a pair usually reads one line of memory.
+// A pair with its neighbours in the order; `MAX` at the ends. The key and the value are side by side, and so are the
+// value and the links: a look at a pair and a step of a walk each usually read one line of memory.
 #[derive(Drop)]
 pub(crate) struct Entry<K, V, N> {
+    pair: Pair<K, V>,
     newer: N,
     older: N,
-    pair: Pair<K, V>,
 }
 
 #[derive(Drop)]
