@@ -1,7 +1,7 @@
 #!/usr/bin/env bash
 # Times the map on 24 loads beside the crate schnellru, and beside lru where that is given too. It needs cargo, and
 # proves the library first. Memory is read by `ps`.
-#   loads.sh SCHNELLRU [LRU] [-- rounds | memory | more]
+#   loads.sh SCHNELLRU [LRU] [-- rounds [keys ..] | memory | more]
 # SCHNELLRU and LRU are folders of checkouts of the crates, which cargo builds there.
 set -euo pipefail
 crates=() words=()
@@ -9,7 +9,7 @@ while [ $# -gt 0 ]; do
     if [ "$1" = -- ]; then words=("${@:2}") && break; fi
     crates+=("$(realpath "$1")") && shift
 done
-[ ${#crates[@]} -gt 0 ] || { echo 'usage: loads.sh SCHNELLRU [LRU] [-- rounds | memory | more]'; exit 2; }
+[ ${#crates[@]} -gt 0 ] || { echo 'usage: loads.sh SCHNELLRU [LRU] [-- rounds [keys ..] | memory | more]'; exit 2; }
 cd "$(dirname "$0")"
 out=$(mktemp -d)
 trap 'rm -rf "$out"' EXIT

@@ -161,14 +161,16 @@ fn seconds(run: impl FnOnce() -> u64) -> (f64, u64) {
     (start.elapsed().as_secs_f64(), answer)
 }
 
-fn measure(engines: &[Engine], rounds: usize) {
+/// Times the loads with each of these numbers of keys: the best of some rounds, without the fill.
+fn measure(engines: &[Engine], rounds: usize, sizes: &[u64]) {
     println!(
         "{:<28}{}",
         "ns a call",
         engines.iter().map(|e| format!("{:>16}", e.0)).collect::<String>()
     );
     let mut logs = vec![0.0f64; engines.len()];
-    for n in [1_000u64, 50_000, 1_000_000] {
+    let mut rows = 0;
+    for &n in sizes {
         let fill: Vec<u64> = (0..n).map(spread).collect();
         for (name, length, filled, calls) in loads(n) {
             let before: &[u64] = if filled { &fill } else { &[] };
@@ -203,14 +205,15 @@ fn measure(engines: &[Engine], rounds: usize) {
             println!("{:<28}{}", format!("{name}, {n}"), row.collect::<String>());
             logs.iter_mut()
                 .zip(&best)
-                .for_each(|(log, b)| *log += (ns(b) / ns(&best[0])).ln() / 24.0);
+                .for_each(|(log, b)| *log += (ns(b) / ns(&best[0])).ln());
+            rows += 1;
         }
     }
     println!(
         "{:<28}{}",
         "geometric mean",
         logs.iter()
-            .map(|log| format!("{:>15.2}x", log.exp()))
+            .map(|log| format!("{:>15.2}x", (log / rows as f64).exp()))
             .collect::<String>()
     );
 }
@@ -275,6 +278,11 @@ fn main() {
             None => memory_of_each(&engines),
         },
         Some("more") => more::measure(words.next().and_then(|r| r.parse().ok()).unwrap_or(5)),
-        rounds => measure(&engines, rounds.and_then(|r| r.parse().ok()).unwrap_or(5)),
+        rounds => {
+            let rounds = rounds.and_then(|r| r.parse().ok()).unwrap_or(5);
+            let sizes: Vec<u64> = words.filter_map(|n| n.parse().ok()).collect();
+            let usual = [1_000, 50_000, 1_000_000];
+            measure(&engines, rounds, if sizes.is_empty() { &usual } else { &sizes });
+        }
     }
 }

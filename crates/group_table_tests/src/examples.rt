@@ -15,6 +15,7 @@ fn of_the_table(rt: HostRuntime) -> Result<(), Fail> {
         let b = table.place(9, "b");
         check!(rt; table.find(9, |entry| *entry == "b") == Some(b));
     }
+    check!(rt; (table.placed(), table.placings()) == (2, 2));
     let mut bytes = [255; 16];
     bytes[0] = 0;
     bytes[2] = 128;

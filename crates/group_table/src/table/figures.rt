@@ -65,6 +65,10 @@ impl<T> Table<T> {
 
     /// Returns how many entries `place` and `try_place` have inserted. A moved entry is not counted again. A count that
     /// reaches `u64::MAX` stays there.
+    ///
+    /// ```
+    /// assert_eq!(rt; (table.placed(), table.placings()), (2, 2));
+    /// ```
     #[inline]
     pub fn placed(&self) -> u64
         ensures value { result ≡ self.now.insertions.placed }
