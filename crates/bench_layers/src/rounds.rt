@@ -62,8 +62,8 @@ fn copy(map: &Map, drains: bool, mut sum: u64) -> u64 {
     sum
 }
 
-/// Makes rounds over a map of the keys below a count: removals (0), pops (1), walks (2), copies that are drained (3), or
-/// copies alone (4). Returns a sum over the values, or over the lengths of copies alone.
+/// Makes rounds over a map of the keys below a count: removals (0), pops (1), walks (2), copies that are drained (3),
+/// or copies alone (4). Returns a sum over the values, or over the lengths of copies alone.
 #[unsafe(no_mangle)]
 pub extern "C" fn rattle_map_rounds(alloc: Global, kind: u8, count: u64, rounds: u64) -> u64 {
     let mut map = filled(alloc, count);

@@ -79,8 +79,8 @@ fn map_of_three(alloc: Global) -> Held {
     map
 }
 
-// Inserts a key into an ordered map of three entries that finds no memory for a fourth. Returns whether the map holds no
-// reference to the key then.
+// Inserts a key into an ordered map of three entries that finds no memory for a fourth. Returns whether the map holds
+// no reference to the key then.
 fn is_freed_after_a_refused_insert(alloc: Global, refused: &Rc<u64>) -> bool {
     let mut map = map_of_three(alloc);
     let is_expected = is_refused(alloc, &mut map, refused);

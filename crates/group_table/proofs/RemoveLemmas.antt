@@ -1,5 +1,6 @@
 -- The entry of a full bucket leaves.
-use Rattle.std.proofs.Common.{◌≡◌, ℕ, ◌+◌, ◌-◌, ◌^◌, ◌%◌, ◌<◌, ◌≤◌, Bool, true, false, cond, List, length, set, Option, None}
+use Rattle.std.proofs.Common.{◌≡◌, ℕ, ◌+◌, ◌-◌, ◌^◌, ◌%◌, ◌<◌, ◌≤◌, Bool, true, false, cond, List, length, set}
+use Rattle.std.proofs.Common.{Option, None}
 use Rattle.std.proofs.Common.{refl, ap, sym, ◌∙◌, arith, inl, inr, count_by, MatchBool}
 use Rattle.std.proofs.Math.Nat.{mod-add-mod, mod-lt}
 use mir.Val.{bool_byte}

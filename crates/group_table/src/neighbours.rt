@@ -50,9 +50,9 @@ pub(crate) fn ones_if_empty_neighbours(control: &Control, b: usize) -> usize
         × MatchBool empty (HasEmptyNeighbours (IsEmptyAt control.now) (buckets_of control.now) b)
         (IsHemmedIn (IsEmptyAt control.now) (buckets_of control.now) b) }
 {
-    // `used` has a bit for each used bucket from this one up to the next empty one. The mask of the empty buckets before
-    // is greater exactly if these used ones and those directly before are fewer than sixteen. Comparing the masks takes
-    // fewer instructions than two counts and their sum.
+    // `used` has a bit for each used bucket from this one up to the next empty one. The mask of the empty buckets
+    // before is greater exactly if these used ones and those directly before are fewer than sixteen. Comparing the
+    // masks takes fewer instructions than two counts and their sum.
     let used = lanes_below(empty_from(control, b));
     ones_if_less(used, empty_before(control, b))
 }

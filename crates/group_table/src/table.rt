@@ -62,7 +62,10 @@ impl<T> Model for Table<T> {
     ghost use Rattle.group_table.specs.Bucket.{entry_count};
     ghost use Rattle.group_table.specs.Layout.{slots_of, IsValid};
 
-    ghost view = { λ t. record { slots = slots_of t.control t.entries; insertions = record { placed = t.placed; moved = t.moved } } };
+    ghost view = { λ t. record {
+      slots = slots_of t.control t.entries;
+      insertions = record { placed = t.placed; moved = t.moved };
+    } };
 
     ghost invariant = { λ t. IsValid t.control t.entries t.room
         × (t.len ≡ entry_count (slots_of t.control t.entries)) };
@@ -192,6 +195,7 @@ impl<T> Table<T> {
     {
         self.len -= 1;
         let gives_room = ones_if_empty_neighbours(&self.control, b);
+        // To subtract all ones is to add 1.
         self.room = self.room.wrapping_sub(gives_room);
         let byte = emptied_byte(gives_room);
         empty_bucket(&mut self.control, &mut self.entries, b, byte)
@@ -272,7 +276,7 @@ impl<T> Table<T> {
             Fits self.new.slots (with_hash hash_of b hash) }
         ensures table { IsTable (marks_of self.new.slots) }
     {
-        // The counts that only rise are written before and after the bucket: then each takes one instruction.
+        // `len` rises before the bucket is written, and `placed` after it: then each takes one instruction.
         make_count_room(&mut self.placed);
         self.len += 1;
         fill_bucket(&mut self.control, &mut self.entries, b, tag_of(hash), entry);
@@ -326,7 +330,7 @@ impl<T: Drop> Drop for Table<T> {
 }
 
 impl<T: Drop> Table<T> {
-    /// Drops all entries. Every bucket is empty then; their number and the count of insertions stay.
+    /// Drops all entries. Every bucket is empty then; their number and the counts of insertions stay.
     ///
     /// It writes all control bytes, and goes through the entries' places only if there is an entry. It does nothing if
     /// all growth is left, because then no bucket is full or deleted.

@@ -3,8 +3,8 @@ ghost use Rattle.std.specs.Prelude.{◌≡◌, ◌+◌, ◌*◌, ◌%◌, ◌^�
 
 use std::hash::{BuildHasher, Hasher};
 
-/// Hashes to a polynomial of the bytes that were written: by the factor 0 to the last byte, so that keys below 2^56 hash
-/// to 0, and by the factor 1 to their sum.
+/// Hashes to a polynomial of the bytes that were written: by the factor 0 to the last byte, so that keys below 2^56
+/// hash to 0, and by the factor 1 to their sum.
 #[derive(Clone, Copy)]
 pub struct Polynomial {
     /// By what the hash is multiplied at each byte.

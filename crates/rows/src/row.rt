@@ -3,7 +3,8 @@ use crate::escapes::unescape;
 use std::alloc::Global;
 use std::fmt::Write;
 
-/// An input, and the answers and the exit status that it must give. Out of memory, bytes are missing, and the row fails.
+/// An input, and the answers and the exit status that it must give. Out of memory, bytes are missing, and the row
+/// fails.
 #[derive(Drop)]
 pub struct Row<'a> {
     /// What the row shows.

@@ -316,7 +316,8 @@ impl<K: Eq + Hash, V, N: LinkType> OrderedTable<K, V, N> {
         ensures buckets { OnOk result (length self.new.slots ≡ buckets) }
         ensures pairs { pairs_of self.new ≡ pairs_of self.old }
         ensures room { OnOk result (room (marks_of self.new.slots) + length self.old.order ≡ full_capacity buckets) }
-        ensures insertions { OnOk result (self.new.insertions ≡ some_moved self.old.insertions (length self.old.order)) }
+        ensures insertions { OnOk result (
+            self.new.insertions ≡ some_moved self.old.insertions (length self.old.order)) }
         ensures fits { OnOk result (KeysFit (S.hash_of hasher.now) self.new.slots) }
         ensures linked { IsLinked self.new }
         ensures unchanged { OnErr result (self.new ≡ self.old) }
@@ -344,7 +345,8 @@ fn renumber_entries<K: Eq + Hash, V, N: LinkType, S: BuildHasher>(
     ensures renumbered { IfOk result (λ links. Renumbers N.number N.MAX table.old.slots table.new.slots links.items) }
     ensures entries { OnOk result (entry_count table.new.slots ≡ entry_count table.old.slots) }
     ensures room { OnOk result (room (marks_of table.new.slots) + entry_count table.old.slots ≡ full_capacity buckets) }
-    ensures insertions { OnOk result (table.new.insertions ≡ some_moved table.old.insertions (entry_count table.old.slots)) }
+    ensures insertions { OnOk result (
+        table.new.insertions ≡ some_moved table.old.insertions (entry_count table.old.slots)) }
     ensures hashes { IfOk result (λ links.
         KeepsHashes N.number N.MAX (entry_at table.old.slots) table.new.slots links.items
         (hash_in (hash_by K.hash_input S.BuildHasher S.Hasher.Hasher hasher.now) (pair_slots table.old.slots))) }

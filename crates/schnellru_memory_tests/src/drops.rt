@@ -108,8 +108,8 @@ const MAX: u64 = u64::MAX;
 
 const ANY: usize = usize::MAX;
 
-/// Limits by the sum of the values, by the bytes of the table, by both and by none, and such that no pair is stored. The
-/// last maps have 10,000 pairs and more, until a random call takes all out.
+/// Limits by the sum of the values, by the bytes of the table, by both and by none, and such that no pair is stored.
+/// The last maps have 10,000 pairs and more, until a random call takes all out.
 #[test]
 fn keys_and_values_are_dropped_once(rt: HostRuntime) {
     let lives = Lives::new();

@@ -183,7 +183,8 @@ fn inserts_that_need_a_table(rt: HostRuntime) {
     }
 }
 
-/// A rehash after a refused growth: the oldest 15 pairs are evicted before it, once, and the limiter is not asked again.
+/// A rehash after a refused growth: the oldest 15 pairs are evicted before it, once, and the limiter is not asked
+/// again.
 #[test]
 fn inserts_that_need_a_rehash(rt: HostRuntime) {
     for call in INSERTS {

@@ -121,8 +121,8 @@ impl<'a> Limiter<u64, Live<'a>> for Noting<'a> {
 }
 
 /// An insert of a new key queries the limiter once after it stored the pair, and once before if there are pairs. An
-/// insert of a key that is there queries once, and so does an update, and a trim if there are pairs. A clear is reported
-/// after the values were dropped.
+/// insert of a key that is there queries once, and so does an update, and a trim if there are pairs. A clear is
+/// reported after the values were dropped.
 #[test]
 fn the_limiter_is_asked_once(rt: HostRuntime) {
     let notes = Notes {

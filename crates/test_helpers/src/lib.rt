@@ -31,8 +31,9 @@ macro_rules! check {
     };
 }
 
-/// Whether all conditions hold. It stands for an assertion of each condition, if a test checks its result. Each condition
-/// is evaluated, whatever the others are: the proof of a test takes the longer the more branches the test has.
+/// Whether all conditions hold. It stands for an assertion of each condition, if a test checks its result. Each
+/// condition is evaluated, whatever the others are: the proof of a test takes the longer the more branches the test
+/// has.
 #[macro_export]
 macro_rules! all {
     ($($holds:expr),+) => {

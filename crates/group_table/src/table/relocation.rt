@@ -24,8 +24,8 @@ impl<T> Table<T> {
     /// A table without entries may move to no buckets, which gives its memory back.
     ///
     /// The result contains a link for each old bucket: the number of the bucket where its entry is now, or `MAX` if it
-    /// was free. It is empty for a table without entries. `hash_of` is called once for each entry. The count of
-    /// insertions rises by the entries, and no bucket is deleted afterwards. It takes time O(old buckets + new
+    /// was free. It is empty for a table without entries. `hash_of` is called once for each entry. `placings` rises
+    /// by the number of entries, `placed` stays, and no bucket is deleted afterwards. It takes time O(old buckets + new
     /// buckets).
     ///
     /// # Errors
@@ -49,7 +49,8 @@ impl<T> Table<T> {
         ensures room { OnOk result (
             room (marks_of self.new.slots) + entry_count self.old.slots ≡ full_capacity (length self.new.slots)) }
         ensures none_deleted { OnOk result (count_by is_deleted self.new.slots ≡ 0) }
-        ensures insertions { OnOk result (self.new.insertions ≡ some_moved self.old.insertions (entry_count self.old.slots)) }
+        ensures insertions { OnOk result (
+            self.new.insertions ≡ some_moved self.old.insertions (entry_count self.old.slots)) }
         ensures hashes { IfOk result (λ links. (hash_at : ℕ → ℕ) →
             GivesHashes H.Fn hash_of (entry_at self.old.slots) hash_at →
             KeepsHashes N.number N.MAX (entry_at self.old.slots) self.new.slots links.items hash_at) }
@@ -84,7 +85,7 @@ impl<T> Table<T> {
 
     /// Moves all entries within the table so that no bucket is deleted, and returns what `relocate` returns.
     ///
-    /// `hash_of` is called once for each entry. It takes time O(buckets).
+    /// `hash_of` is called once for each entry, and `placings` rises by their number. It takes time O(buckets).
     ///
     /// # Errors
     ///
@@ -104,7 +105,8 @@ impl<T> Table<T> {
         ensures room { OnOk result (
             room (marks_of self.new.slots) + entry_count self.old.slots ≡ full_capacity (length self.new.slots)) }
         ensures none_deleted { OnOk result (count_by is_deleted self.new.slots ≡ 0) }
-        ensures insertions { OnOk result (self.new.insertions ≡ some_moved self.old.insertions (entry_count self.old.slots)) }
+        ensures insertions { OnOk result (
+            self.new.insertions ≡ some_moved self.old.insertions (entry_count self.old.slots)) }
         ensures hashes { IfOk result (λ links. (hash_at : ℕ → ℕ) →
             GivesHashes H.Fn hash_of (entry_at self.old.slots) hash_at →
             KeepsHashes N.number N.MAX (entry_at self.old.slots) self.new.slots links.items hash_at) }

@@ -227,7 +227,8 @@ module _ {N : Type 0} {number : N → ℕ} {link : ℕ → N} {none : N} {eq : N
     -- and the table shows it
     pub view-refilled : (insertions : Insertions) → ◌≡◌ {A = OrderedTable K V}
         (record { slots = pair_slots after; order = along number (length after) after newest; insertions = insertions })
-        (with_pair (record { slots = pair_slots slots; order = order; insertions = insertions }) b (pair.key, pair.value))
+        (with_pair (record { slots = pair_slots slots; order = order; insertions = insertions }) b
+        (pair.key, pair.value))
     view-refilled insertions =
         let wrote = pair_slots-rewritten slots b next in
         let stays = whole_order IsWhole-refilled in

@@ -81,7 +81,8 @@ pub make_room-empty : {K V S : Type 0} (rules : Rules K V S) (c : Contents K V S
 make_room-empty {K} {V} {S} rules c none = go c.pairs none (rules.is_over_the_limit c.limiter (length c.pairs + 1))
   where
     go : (pairs : List (K × V)) → is_empty pairs ≡ true → (over : Bool) →
-        cond over (pop rules (record { pairs = pairs; limiter = c.limiter })) (record { pairs = pairs; limiter = c.limiter })
+        cond over (pop rules (record { pairs = pairs; limiter = c.limiter }))
+        (record { pairs = pairs; limiter = c.limiter })
         ≡ record { pairs = pairs; limiter = c.limiter }
     go [] e true = refl
     go [] e false = refl

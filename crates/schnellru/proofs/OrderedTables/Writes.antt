@@ -80,7 +80,8 @@ module _ {K V : Type 0} (t : OrderedTable K V) (linked : IsLinked t) (b : ℕ) (
     pub kept_holds : (hash_of : H → K → ℕ) → Holds eq hash_of t fields → IsLinked (with_pair t b (p.0, w))
         → KeysFit (hash_of fields.hasher) (with_pair t b (p.0, w)).slots
         → Holds eq hash_of (with_pair t b (p.0, w)) fields
-    kept_holds hash_of holds next fits = alike_holds fields eq hash_of t (with_pair t b (p.0, w)) (λ i. t.insertions) holds next fits
+    kept_holds hash_of holds next fits =
+        alike_holds fields eq hash_of t (with_pair t b (p.0, w)) (λ i. t.insertions) holds next fits
         (marks_of-refilled t.slots b (p.0, w))
         (subst (IsDistinct eq) (sym (ap keys_of (kept_pairs w) ∙ keys-set_value names (pairs_of t) w)) distinct)
 

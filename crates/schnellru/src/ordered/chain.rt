@@ -54,8 +54,8 @@ impl<K, V, N: LinkType> Chain<K, V, N> {
         }
     }
 
-    // Returns whether a link leads to a bucket. It compares the link with the number of buckets, and not with `MAX`: that
-    // takes one instruction less.
+    // Returns whether a link leads to a bucket. It compares the link with the number of buckets, and not with `MAX`:
+    // that takes one instruction less.
     #[inline]
     pub(crate) fn leads(&self, link: N) -> bool
         requires some { 0 < length self.now.table.slots }

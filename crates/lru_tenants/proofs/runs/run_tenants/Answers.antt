@@ -80,7 +80,8 @@ returns-clause-own g c =
     let h = c.loop-call.invariant in
     let none : length (into_iter_items c.loop-call.call-iterator) ≡ 0 = sym h.left ∙ c.in-None.ensures.steps.0 in
     let all = sym (append-nil c.loop-call.yielded)
-    ∙ ap (λ l. c.loop-call.yielded ++ l) (sym (nil_from_length (into_iter_items c.loop-call.call-iterator) none)) ∙ h.items in
+    ∙ ap (λ l. c.loop-call.yielded ++ l) (sym (nil_from_length (into_iter_items c.loop-call.call-iterator) none))
+    ∙ h.items in
     let (dids, runs, steps) = h.run in
     let Does = KeptStep g.L.Limiter.rules g.L.Insertion.offers g.L.Summing.cost_of g.L.Summing.account
     g.L.Budgeted.budget_of g.K.PartialEq.eq g.S.KeyHasher.hash_of

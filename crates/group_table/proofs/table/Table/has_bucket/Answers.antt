@@ -16,4 +16,8 @@ pub returns-clause-table : goal.returns-clause-table
 returns-clause-table g c = rw (← c.self.view_is) (IsTable-by _ _ _ c.self.invariant.0)
 
 pub has_bucket-requires : goal.has_bucket-requires
-has_bucket-requires g c = omega (arith, length-laid_out _ _ c.self.invariant.0.laid_out, rw (← c.self.view_is) at c.requires)
+has_bucket-requires g c = omega (
+  arith,
+  length-laid_out _ _ c.self.invariant.0.laid_out,
+  rw (← c.self.view_is) at c.requires,
+)

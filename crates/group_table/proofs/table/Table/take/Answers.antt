@@ -72,7 +72,12 @@ returns-clause-removed g c =
     let gives = c.ones_if_empty_neighbours-gives_room.ensures in
     let emptied = rw (buckets_are _ _ c.self.invariant.0.laid_out) at gives.2 in
     let r = removed _ _ _ c.self.invariant.0 c.args.b there gives.0 emptied in
-    rw (← c.self.view_is, c.empty_bucket.ensures.control, c.empty_bucket.ensures.entries, c.emptied_byte-byte.ensures gives.0 gives.1)
+    rw (
+      ← c.self.view_is,
+      c.empty_bucket.ensures.control,
+      c.empty_bucket.ensures.entries,
+      c.emptied_byte-byte.ensures gives.0 gives.1,
+    )
     r.removes
 
 pub returns-clause-room : goal.returns-clause-room
@@ -81,7 +86,12 @@ returns-clause-room g c =
     let gives = c.ones_if_empty_neighbours-gives_room.ensures in
     let emptied = rw (buckets_are _ _ c.self.invariant.0.laid_out) at gives.2 in
     let r = removed _ _ _ c.self.invariant.0 c.args.b there gives.0 emptied in
-    rw (← c.self.view_is, c.empty_bucket.ensures.control, c.empty_bucket.ensures.entries, c.emptied_byte-byte.ensures gives.0 gives.1)
+    rw (
+      ← c.self.view_is,
+      c.empty_bucket.ensures.control,
+      c.empty_bucket.ensures.entries,
+      c.emptied_byte-byte.ensures gives.0 gives.1,
+    )
     (room-removed _ _ _ c.self.invariant.0 c.args.b there _ _ r)
 
 pub returns-clause-fits : goal.returns-clause-fits

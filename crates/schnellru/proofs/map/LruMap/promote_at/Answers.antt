@@ -30,5 +30,5 @@ returns-clause-promoted g c = λ names one at.
     let laws = g.met.K.Eq.laws in
     let (p, there, named) = pair_of_place t holds.linked names laws one holds.map.distinct c.args.b
     (rw (← c.self.view_is) at at) in
-    rw (← c.self.view_is) (promoted_state t c.promote.new.self holds.linked c.args.b p there e.slots e.order e.insertions
-    names laws one named holds.map.distinct _)
+    rw (← c.self.view_is) (promoted_state t c.promote.new.self holds.linked c.args.b p there e.slots e.order
+    e.insertions names laws one named holds.map.distinct _)

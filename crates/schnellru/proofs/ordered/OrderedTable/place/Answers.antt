@@ -1,5 +1,6 @@
 use Rattle.std.proofs.Common.{inl}
-use Rattle.schnellru.proofs.OrderedTables.PlacedEntries.{others_chained, placed_newer, placed_older, shown_whole, placed, linked_room}
+use Rattle.schnellru.proofs.OrderedTables.PlacedEntries.{others_chained, placed_newer, placed_older, shown_whole}
+use Rattle.schnellru.proofs.OrderedTables.PlacedEntries.{placed, linked_room}
 use Rattle.schnellru.proofs.ordered.OrderedTable.place.Goals as goal
 
 pub place-b-requires : goal.place-b-requires

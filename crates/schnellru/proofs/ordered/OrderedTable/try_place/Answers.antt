@@ -1,5 +1,6 @@
 use Rattle.schnellru.proofs.Chains.WholeChains.{IsLinked-view}
-use Rattle.schnellru.proofs.OrderedTables.PlacedEntries.{others_chained, placed_newer, placed_older, shown_whole, placed}
+use Rattle.schnellru.proofs.OrderedTables.PlacedEntries.{others_chained, placed_newer, placed_older, shown_whole}
+use Rattle.schnellru.proofs.OrderedTables.PlacedEntries.{placed}
 use Rattle.schnellru.proofs.OrderedTables.PairSlots.{marks_of-pair_slots}
 use Rattle.schnellru.proofs.ordered.OrderedTable.try_place.Goals as goal
 
