@@ -20,8 +20,8 @@
  * - malloc, realloc and free belong together, and align a block of n bytes to each power of two up to 16 that
  *   divides n.
  *
- * A handle without a map is fine for every call. Except for lru_new and lru_bytes_new, the call changes nothing, and
- * returns that there is nothing. So a call after lru_free and a second lru_free are harmless. A handle that is lost
+ * A handle without a map is fine for every call. The call changes nothing, and returns that there is nothing.
+ * Only lru_new makes a map, and lru_clone frees the map of the copy, and so do the calls for bytes. So a call after lru_free and a second lru_free are harmless. A handle that is lost
  * without lru_free or lru_bytes_free leaks its map.
  *
  * No call ends the process. A call that runs out of memory says so in its result, and leaves a map that works.

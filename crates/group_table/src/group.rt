@@ -2,7 +2,7 @@
 ghost use Rattle.std.specs.Prelude.{◌≡◌, ◌≢◌, ◌≤◌, ◌<◌, ◌+◌, ◌-◌, ◌^◌, ◌↔◌, ℕ, length, slice_index};
 ghost use Rattle.std.specs.Int.Count.{count_trailing_zeros};
 ghost use Rattle.group_table.specs.Bytes.{empty_byte, IsTag, IsFreeByte};
-ghost use Rattle.group_table.specs.Lanes.{IsMaskOf, IsMaskAt, HasLane, lowest};
+ghost use Rattle.group_table.specs.Lanes.{IsMaskOf, HasLane, lowest};
 
 use crate::control::{DELETED, EMPTY};
 use std::simd::prelude::*;

@@ -1,6 +1,5 @@
 //! Searches for a hash, group by group, over the control bytes and the entries.
 ghost use Rattle.std.specs.Prelude.{◌≡◌, ◌↔◌, ℕ, ◌+◌, ◌%◌, ◌^◌, ◌<◌, ◌≤◌, length, IfSome, IfNone, IsTrue};
-ghost use Rattle.group_table.specs.Sizes.{IsPowerFromFour};
 ghost use Rattle.group_table.specs.Bucket.{bucket_at, empty};
 ghost use Rattle.group_table.specs.Probe.{probed, IsFirst};
 ghost use Rattle.group_table.specs.Search.{Finds, FindsNone};

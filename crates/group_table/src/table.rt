@@ -1,6 +1,6 @@
 //! `Table`. A contract sees a table as its `slots`, one for each bucket, and the numbers of its `insertions`.
-ghost use Rattle.std.specs.Prelude.{◌≡◌, ◌↔◌, ℕ, ◌+◌, ◌^◌, ◌<◌, ◌≤◌, [], length, replicate, Some, IfSome, IfNone};
-ghost use Rattle.std.specs.Prelude.{IfOk, IfErr, OnErr, IsOk, IsTrue, nat_eq};
+ghost use Rattle.std.specs.Prelude.{◌≡◌, ℕ, ◌+◌, ◌^◌, ◌<◌, ◌≤◌, [], length, replicate, Some, IfSome, IfNone};
+ghost use Rattle.std.specs.Prelude.{IfOk, IfErr, OnErr, IsOk, nat_eq};
 ghost use Rattle.std.specs.Borrow.{sem};
 ghost use Rattle.group_table.specs.Sizes.{IsBucketCount};
 ghost use Rattle.group_table.specs.Bucket.{empty, marks_of, IsFull, entry_at, entry_count, room, room_at};
@@ -10,7 +10,7 @@ ghost use Rattle.group_table.specs.Control.{buckets_of};
 ghost use Rattle.group_table.specs.Layout.{IsLaidOut, slots_of};
 ghost use Rattle.group_table.specs.Probe.{IsFirstFree};
 ghost use Rattle.group_table.specs.Search.{Finds, FindsNone};
-ghost use Rattle.group_table.specs.Change.{Places, MayFill, HasNoPlace, Removes, count_up, no_insertions, one_placed};
+ghost use Rattle.group_table.specs.Change.{Places, MayFill, HasNoPlace, Removes, count_up, no_insertions};
 
 use crate::control::{Control, emptied_byte, room_taken, tag_of};
 use crate::entries::Entries;

@@ -1,6 +1,7 @@
 //! The functions that C calls. `bindings/c/lru.h` declares them, without `alloc`, which passes nothing.
 //!
-//! A call on a handle without a map changes nothing, and returns that there is nothing.
+//! A call on a handle without a map changes nothing, and returns that there is nothing. Only `lru_new` makes a map, and
+//! `lru_clone` drops the map of the copy.
 ghost use Rattle.std.specs.Prelude.{◌≡◌, ◌+◌, nat_eq, length, is_some, is_ok, Some, None, Result, Bool, true, false, ⊤};
 ghost use Rattle.std.specs.declared.alloc.AllocError.{AllocError};
 ghost use Rattle.lru_limits.specs.Limiters.{length_rules, length_offers};

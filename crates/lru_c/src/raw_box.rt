@@ -36,6 +36,7 @@ impl<T: Drop, A: Allocator> RawBox<T, A> {
         ensures value { result.value ≡ self.value }
     {
         let RawBox { start, mark: _ } = self;
+        // SAFETY: `self` owns the value at `start`, whose block `alloc` gave, and is gone then.
         unsafe { Box::from_raw(alloc, start) }
     }
 }

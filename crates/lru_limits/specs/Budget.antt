@@ -1,6 +1,6 @@
 -- The limiters by a cost: their limit, and the sum of the costs that they keep.
 --     Budget                 the two numbers
---     can_add most sum c     the cost c is at most most, and the sum with it fits 64 bits
+--     can_add limit sum c    the cost c is at most the limit, and the sum with it fits 64 bits
 --     charged b c            the sum with c added, if it can be
 --     refunded b c           the sum with c taken off, or 0 if c is greater
 --     exchanged b k v w c d  what is left after the value v of cost c was to be replaced by w of cost d
@@ -19,7 +19,7 @@ pub record Budget : Type 0 where
   pub cost : ℕ
 
 abbrev pub can_add : ℕ → ℕ → ℕ → Bool
-can_add most sum c = nat_le c most && nat_lt (sum + c) (2 ^ 64)
+can_add limit sum c = nat_le c limit && nat_lt (sum + c) (2 ^ 64)
 
 abbrev pub charged : Budget → ℕ → Budget
 charged b c = if can_add b.limit b.cost c then record b { cost = b.cost + c } else b

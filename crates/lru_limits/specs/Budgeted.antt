@@ -23,10 +23,11 @@ pub record IsBudgeted {K V S : Type 0} (rules : Rules K V S) (offers : Offers K 
   -- the entry of a new key is stored as it is, if it is accepted
   pub gives : (s : S) (n : ℕ) (k : K) (v : V) (t : S) (given : Option (K × V)) → offers.on_insert s n k v t given
       → given ≡ (if accepts s k v then Some (k, v) else None)
-  -- else none is stored, and the limiter stays; an offer never runs out of memory
+  -- else none is stored, and the offer may leave the limiter as it is
   pub refuses : (s : S) (n : ℕ) (k : K) (v : V) → accepts s k v ≡ false → offers.on_insert s n k v s None
+  -- an offer never runs out of memory
   pub finds : (s : S) (n : ℕ) (k : K) (v : V) → offers.may_run_out s n k v → ⊥
-  -- no key and no value is changed
+  -- a removal changes neither key nor value, and a replacement no value
   pub leaves : (s : S) (k : K) (v : V)
       → ((rules.on_removed s k v).key ≡ k) × ((rules.on_removed s k v).value ≡ v)
   pub replaces : (s : S) (n : ℕ) (k i : K) (v w : V) → let r = offers.on_replace s n k i v w in

@@ -1,6 +1,6 @@
 //! What a key may be looked up by.
 ghost use Rattle.std.specs.Prelude.{◌≡◌, Bool, ℕ, IsTrue};
-ghost use Rattle.lru_limits.specs.Hashing.{hash_by, hash_by-named, hash_by-equal};
+ghost use Rattle.lru_limits.specs.Hashing.{hash_by, hash_by-equal};
 ghost use Rattle.lru_limits.specs.Laws.{IsLookup};
 ghost use Rattle.lru_limits.specs.Texts.{names_text, names_text-lawful};
 

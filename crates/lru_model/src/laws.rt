@@ -11,9 +11,9 @@ ghost use Rattle.group_table.specs.Sizes.{full_capacity};
 ghost use Rattle.lru_model.specs.Lists.{first, without_last, keys_of, lookup, lookup_entry, IsFront};
 ghost use Rattle.lru_model.specs.Sizes.{usage, IsGreatestUsage};
 ghost use Rattle.lru_model.specs.State.{State, Contents, contents, buckets, room, potential, FirstFreeIs, IsSized};
-ghost use Rattle.lru_model.specs.State.{IsPaid, IsMap};
+ghost use Rattle.lru_model.specs.State.{IsPaid};
 ghost use Rattle.lru_model.specs.Place.{Place, Outcome, placed, no_memory, IsPlaced, HasPairsButNoGrowth, FillsBucket};
-ghost use Rattle.lru_model.specs.Calls.{Get, promoted, Remove, PopOldest, PopNewest, cleared};
+ghost use Rattle.lru_model.specs.Calls.{Remove};
 ghost use Rattle.lru_model.specs.Reservations.{Reserve};
 ghost use Rattle.lru_model.specs.declared.results.ReserveError.{ReserveError};
 ghost use Rattle.lru_model.specs.Callbacks.{InsertPasses};
@@ -21,9 +21,9 @@ ghost use Rattle.lru_model.specs.Inserts.{Insert, replacement, IsOutOfMemory};
 ghost use Rattle.lru_model.specs.Exact.{IsDetermined, NeverRunsOut, EndsExactly, EndsIfLanded, InsertsInList};
 ghost use Rattle.lru_model.specs.Exact.{Ending, EndsAlike, LookAlike, AlwaysGrants, HasTables};
 ghost use Rattle.lru_model.specs.Theorems.{PaysForMoves, CountsPlacings, Stores, KeepsValues, IsRefusedGrowth};
-ghost use Rattle.lru_model.specs.Theorems.{UsesAtMost, EvictsOldest, IsSummed, SaysWhether};
+ghost use Rattle.lru_model.specs.Theorems.{EvictsOldest, SaysWhether};
 
-use lru_limits::{ByLength, ByMemoryUsage, Insertion, KeyHasher, Limiter, LookupKey, Summing};
+use lru_limits::{Insertion, KeyHasher, Limiter, LookupKey};
 use std::hash::Hash;
 
 mod calls;
@@ -243,8 +243,8 @@ pub fn inserts_pay_for_moves<
         CountsPlacings old.counts new.counts }
 {}
 
-/// If the limiter refuses growth, the map keeps at least half of what the table may hold, the new entry included. In a
-/// table of up to 16 buckets exactly the oldest entry is evicted.
+/// If a full table cannot grow, because the limiter refuses or there is no larger table, the map keeps at least half of
+/// what the table may hold, the new entry included. In a table of up to 16 buckets exactly the oldest entry is evicted.
 pub fn refused_growth_keeps_half<K: Eq + Hash, V, L: Limiter<K, V>, S: KeyHasher<K>>()
     ensures half { (pair : K × V) (old new : State K V L S) →
         IsRefusedGrowth L.rules old →
@@ -260,8 +260,9 @@ pub fn refused_growth_keeps_half<K: Eq + Hash, V, L: Limiter<K, V>, S: KeyHasher
         new.pairs ≡ pair ∷ without_last old.pairs }
 {}
 
-/// An insertion into the table evicts nothing, if the table grows or is at most half full after a rehash. Nor does one
-/// that runs out of memory. Only a refused growth makes the table evict.
+/// An insertion into the table evicts nothing if the table grows, or is rehashed and at most half full then. It evicts
+/// only if the table cannot grow, because the limiter refuses or there is no larger table, even if it then runs out of
+/// memory.
 pub fn growth_keeps_the_list<K: Eq + Hash, V, L: Limiter<K, V>, S: KeyHasher<K>>()
     ensures grown { (pair : K × V) (old new : State K V L S) →
         buckets new ≢ buckets old →

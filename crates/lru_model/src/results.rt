@@ -34,7 +34,8 @@ pub struct Inserted<V> {
 /// ```
 #[derive(Clone, Copy, Debug, Drop, PartialEq, Eq)]
 pub enum Updated<V> {
-    /// The entry contains the new value in place of this one.
+    /// The limiter accepted the new value in place of this one. If it was over its limit then, the entry may have been
+    /// evicted.
     Replaced(V),
     /// The limiter rejected this new value, and the entry was removed.
     Rejected(V),
@@ -45,10 +46,10 @@ pub enum Updated<V> {
 /// Why a reservation fails.
 ///
 /// ```
-/// let mut map: LruMap<u64, u64, Unlimited> = LruMap::new(alloc, Unlimited, [1, 2, 3, 4], 16);
+/// let mut map: LruMap<u64, u64, Unlimited> = LruMap::new(alloc, Unlimited, [1, 2, 3, 4], 32);
 /// assert_eq!(rt; map.try_reserve(usize::MAX), Err(ReserveError::TooLarge));
 /// assert_eq!(rt; map.try_reserve(1 << 50), Err(ReserveError::Memory));
-/// let mut map: LruMap<u64, u64, ByMemoryUsage> = LruMap::with_memory_budget(alloc, 84, [1, 2, 3, 4], 16);
+/// let mut map: LruMap<u32, u32, ByMemoryUsage> = LruMap::with_memory_budget(alloc, 84, [1, 2, 3, 4], 16);
 /// assert_eq!(rt; map.try_reserve(4), Err(ReserveError::Refused));
 /// ```
 #[derive(Clone, Copy, Debug, PartialEq, Eq, Error)]
@@ -64,7 +65,7 @@ pub enum ReserveError {
     Memory = 3,
 }
 
-/// Why no value is lent by `get_or_insert_fallible`.
+/// Why `ensure_newest_fallible` or `get_or_insert_fallible` fails.
 ///
 /// ```
 /// let answer = map.ensure_newest_fallible(4, || Err(7u8));

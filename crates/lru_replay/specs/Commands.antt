@@ -5,7 +5,7 @@ use Rattle.lru_replay.specs.declared.calls.call.Call.TheVariants as calls
 use Rattle.lru_replay.specs.declared.lines.command.Command.{Command}
 use Rattle.lru_replay.specs.declared.lines.command.Command.TheVariants as commands
 
--- The call of the same name. A drain takes pairs from the newest end alone.
+-- The call of the same name, except that `put` is `InsertWith`. A drain takes pairs from the newest end alone.
 abbrev pub call_of : {S : Type 0} → Command → Call ℕ ℕ S
 call_of (commands.Insert k v) = calls.Insert k v
 call_of (commands.Put k v) = calls.InsertWith k v

@@ -1,10 +1,10 @@
--- What the limiter of a limit by cost says, which is `ByCost`, and which cost a limiter keeps. `Limiters` has what the
--- limiters of the other limits say.
+-- The rules and the offers of `ByCost` over numbers, and which running total a limiter of a replay reports. `Limiters`
+-- has those of the other limiters.
 use Rattle.std.specs.Prelude.{ℕ, Option, Some, None}
 use Rattle.lru_limits.specs.Rules.{Rules, Offers}
 use Rattle.lru_limits.specs.Budget.{Budget, by_cost, charges}
 
--- more costs than the limit are over it, if a value's cost is itself, and any growth is permitted
+-- a running total above the limit is over it, and any growth is permitted; a value costs itself
 abbrev pub cost_rules : Rules ℕ ℕ Budget
 cost_rules = by_cost (λ value. value)
 

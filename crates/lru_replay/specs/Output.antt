@@ -102,7 +102,7 @@ figures_text figures = named_text (codes "len ") figures.len ++ (named_text (cod
     ++ (named_text (codes " memory ") figures.memory ++ (named_text (codes " moved ") figures.moved
     ++ placed_text figures.placed figures.shrunk)))
 
--- A reply, if the limiter keeps this cost, or none. No line has the reply to an update, or that a cost differs.
+-- The text of a reply, if the limiter keeps this cost, or none. No line gets the reply that a cost differs.
 abbrev pub reply_text : Option ℕ → Reply ℕ ℕ → List ℕ
 reply_text cost (flag there) = flag_text there
 reply_text cost (given result out) = insert_text result ++ rest_text out

@@ -10,7 +10,7 @@ use Rattle.lru_replay.specs.declared.calls.call.Answer.TheVariants as answers
 use Rattle.lru_replay.specs.declared.lines.figures.Figures.{Figures}
 
 pub data Reply (K V : Type 0) : Type 0 where
-  -- whether the key of an insertion or of a write is there now
+  -- whether the key of an insert, a write, a promotion or a demotion is there, or that of a `Contains`
   flag : Bool → Reply K V
   -- how an insert ended, and what it passed to its callback, in that order
   given : Result Bool AllocError → List (K × V) → Reply K V
@@ -22,7 +22,7 @@ pub data Reply (K V : Type 0) : Type 0 where
   pair : Option (K × V) → Reply K V
   -- pairs, in the order in which they were given
   listed : List (K × V) → Reply K V
-  -- whether room is reserved
+  -- whether growth is reserved
   reserved : Result (Unit {0}) ReserveError → Reply K V
   -- whether the table has fewer buckets
   shrunk : Result Bool AllocError → Reply K V
@@ -31,16 +31,16 @@ pub data Reply (K V : Type 0) : Type 0 where
   -- it is done, and there is nothing to say of it
   done : Reply K V
   no_memory : Reply K V
-  -- a sum would change by it, so it is not done
+  -- the running total would be wrong after the call, so it was not made
   cost_differs : Reply K V
 
 -- what a reply says of memory
 pub data Want : Type 0 where
   -- that all was found
   found_all : Want
-  -- that some was not, and no more
+  -- that the call ran out of memory
   runs_out : Want
-  -- that memory ran out, and the pairs that were passed to the callback
+  -- that an insert ran out of memory, and the reply also lists the pairs that were passed to its callback
   runs_out_with_pairs : Want
 
 module _ {K V : Type 0} where

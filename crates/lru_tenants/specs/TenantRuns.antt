@@ -2,7 +2,7 @@
 --     rules, offers       what the limiter says (`Rules`, `Offers` of `lru_limits`)
 --     fresh budget        the empty map with which a tenant opens
 --     hash_of h k         the hash of the key k, by the hasher h
-use Rattle.std.specs.Prelude.{◌≡◌, ◌⊎◌, ℕ, Bool, true, false, List, [], length, reverse, Option, Some, None}
+use Rattle.std.specs.Prelude.{◌≡◌, ◌≤◌, ◌⊎◌, ℕ, Bool, true, false, List, [], length, reverse, Option, Some, None}
 use Rattle.std.specs.Prelude.{option_map, IfSome}
 use Rattle.std.specs.Prelude.{Result, Ok, Err}
 use Rattle.std.specs.declared.alloc.AllocError.{AllocError}
@@ -125,10 +125,13 @@ module _ {K V L S : Type 0} where
 module _ {N K V L S : Type 0} (rules : Rules K V L) (offers : Offers K V L K) (cost : K → V → ℕ)
     (account budget_of : L → ℕ) (eq : K → K → Bool) (hash_of : S → K → ℕ) (fresh : ℕ → State K V L S)
     (total_limit : Option ℕ) where
-  -- the call may answer this and leave the tenant that it names so; no call is over the total if there is no limit
+  -- The call may answer this and leave the tenant that it names so. `sum` is the sum of all budgets with the new one:
+  -- the other tenants decide it, so only that it is at least this budget is said. No call is over the total if there is
+  -- no limit.
   abbrev pub TenantStep : TenantCall N K V → Option (State K V L S) → TenantAnswer V → Option (State K V L S) → Type 0
   TenantStep (calls.Open name budget) old answer new = (result : Result (Unit {0}) TenantError) × (sum : ℕ)
-      × Opens (is_above total_limit sum) (fresh budget) old result new × (answer ≡ answers.Opened result)
+      × (budget ≤ sum) × Opens (is_above total_limit sum) (fresh budget) old result new
+      × (answer ≡ answers.Opened result)
   TenantStep (calls.Put name key value) old answer new = (result : Result Bool TenantError)
       × Puts rules offers budget_of eq hash_of key value old result new × (answer ≡ answers.Put result)
   TenantStep (calls.Get name key) old answer new = (result : Result (Option V) TenantError)

@@ -32,7 +32,7 @@ use totals::is_above;
 /// the total limit, if `set_total_limit` set one.
 ///
 /// ```
-/// let mut cache: TenantCache<u64, u64, u64> = TenantCache::new(alloc, [1, 2, 3, 4], 16);
+/// let mut cache: TenantCache<u64, u64, u64> = TenantCache::new(alloc, [1, 2, 3, 4], 32);
 /// assert_eq!(rt; cache.open(1, 3), Ok(()));
 /// assert_eq!(rt; cache.put(&1, 7, 2), Ok(true));
 /// assert_eq!(rt; cache.cost(&1), Ok(2));
@@ -79,7 +79,7 @@ impl<N: Eq + Hash, K: Eq + Hash + Drop, V: Costed + Drop> TenantCache<N, K, V> {
     /// memory.
     ///
     /// ```
-    /// let mut cache: TenantCache<u64, u64, u64> = TenantCache::new(alloc, [1, 2, 3, 4], 16);
+    /// let mut cache: TenantCache<u64, u64, u64> = TenantCache::new(alloc, [1, 2, 3, 4], 32);
     /// assert!(rt; cache.is_empty());
     /// ```
     pub fn new(alloc: Global, seed: [u64; 4], entry_bytes: usize) -> Self
@@ -105,7 +105,7 @@ impl<N: Eq + Hash, K: Eq + Hash, V, L: Budgeted<K, V>, S: KeyHasher<K> + Copy> T
     ///
     /// ```
     /// let mut weighed: TenantCache<u64, u64, u64, ByWeight<16>, _> =
-    ///     TenantCache::with_hasher(alloc, std::collections::hash_map::RandomState::new(&rt)?, 48);
+    ///     TenantCache::with_hasher(alloc, std::collections::hash_map::RandomState::new(&rt)?, 32);
     /// assert_eq!(rt; (weighed.open(1, 40), weighed.put(&1, 7, 2)), (Ok(()), Ok(true)));
     /// assert_eq!(rt; weighed.cost(&1), Ok(25));
     /// ```
@@ -169,8 +169,8 @@ impl<
     ///
     /// # Errors
     ///
-    /// `AlreadyOpen`; `OverTotal`: the sum of all budgets would be above the total limit; or `Memory`: there was none
-    /// for one tenant more. An error changes nothing.
+    /// `AlreadyOpen`; `OverTotal`: the sum of all budgets would be above the total limit; or `Memory`: out of
+    /// memory for one tenant more. An error changes nothing.
     pub fn open(&mut self, name: N, budget: u64) -> Result<(), TenantError>
         ensures opens { On N.eq name (Opens (is_over L.budget_of (N.eq name) budget self.old)
             (fresh L.made (L.LinkType.number L.LinkType.MAX) self.old budget)) self.old result self.new }
@@ -221,7 +221,7 @@ impl<
     ///
     /// # Errors
     ///
-    /// `NotOpen`: nothing has changed. `Memory`: there was none for the entry. The newest of the tenant's entries are
+    /// `NotOpen`: nothing has changed. `Memory`: out of memory for the entry. The newest of the tenant's entries are
     /// left, as after an `Err` of `LruMap::insert`.
     pub fn put(&mut self, name: &N, key: K, value: V) -> Result<bool, TenantError>
         ensures puts { On N.eq name.now (Puts L.rules L.offers L.budget_of K.eq S.hash_of key value)

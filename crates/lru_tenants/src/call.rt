@@ -14,7 +14,7 @@ pub enum TenantCall<N, K, V> {
     Put(N, K, V),
     /// `get`: returns the tenant's value of the key, and makes its entry the newest.
     Get(N, K),
-    /// `cost`: returns the sum of the costs of the tenant's values.
+    /// `cost`: returns the sum of the costs of the tenant's entries.
     Cost(N),
     /// `close`: drops the tenant's entries and closes the tenant.
     Close(N),

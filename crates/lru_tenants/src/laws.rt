@@ -1,5 +1,5 @@
 //! Laws about calls. A caller that needs one calls the function, which does nothing.
-ghost use Rattle.std.specs.Prelude.{◌≡◌, ◌≤◌, List, Option, IfSome, sum_by};
+ghost use Rattle.std.specs.Prelude.{◌≡◌, ◌≤◌, List, IfSome, sum_by};
 ghost use Rattle.std.specs.Map.{values_of};
 ghost use Rattle.lru_model.specs.Runs.{Step};
 ghost use Rattle.lru_model.specs.State.{State};

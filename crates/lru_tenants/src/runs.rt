@@ -51,6 +51,11 @@ pub fn run_tenants<
     ensures limit { IfOk result (λ answers. IfSome cache.new.total_limit
         (λ limit. sum_by (λ map. L.account map.limiter) (values_of cache.new.tenants) ≤ limit)) }
     ensures unmade { OnErr result (cache.new ≡ cache.old) }
+
+    // The calls change tenants alone.
+    ensures hasher { cache.new.hasher ≡ cache.old.hasher }
+    ensures entry_bytes { cache.new.entry_bytes ≡ cache.old.entry_bytes }
+    ensures total_limit { cache.new.total_limit ≡ cache.old.total_limit }
 {
     each_tenant_has_its_own_run::<N, K, V, L, S>();
     // Nothing at run time: it shows the proof what holds of the tenants.

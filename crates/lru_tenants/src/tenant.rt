@@ -153,7 +153,7 @@ pub(crate) fn clear<K: Eq + Hash + Drop, V: Drop, L: Budgeted<K, V>, S: KeyHashe
     let _len = map.len();
 }
 
-// Another budget. What is over it leaves, and is passed to the callback.
+// Sets the budget. Passes the entries that are evicted for it to the callback.
 pub(crate) fn set_budget<
     K: Eq + Hash + Drop,
     V: Drop,
@@ -176,7 +176,7 @@ pub(crate) fn set_budget<
     map.trim_with(sink);
 }
 
-// All pairs leave, oldest first, and are passed to the callback. Returns how many these were.
+// Removes all pairs, oldest first, and passes each to the callback. Returns how many these were.
 pub(crate) fn empty<K: Eq + Hash, V, L: Budgeted<K, V>, S: KeyHasher<K>, F: FnMut(K, V)>(
     map: &mut LruMap<K, V, L, S>,
     sink: &mut F,

@@ -11,7 +11,7 @@ type Numbers = TenantCache<u64, u64, u64>;
 
 /// Makes a cache with one tenant, whose name is 1 and whose budget is 3. Out of memory, it has none, and puts fail.
 fn with_a_tenant(alloc: Global) -> Numbers {
-    let mut cache = TenantCache::new(alloc, [1, 2, 3, 4], 16);
+    let mut cache = TenantCache::new(alloc, [1, 2, 3, 4], 32);
     let _ = cache.open(1, 3);
     cache
 }
@@ -75,7 +75,7 @@ fn of_values_made_and_totals(cache: &mut Numbers) -> bool {
 #[test]
 fn of_caches_of_numbers(rt: HostRuntime) {
     let alloc = rt.alloc();
-    let mut cache = TenantCache::new(alloc, [1, 2, 3, 4], 16);
+    let mut cache = TenantCache::new(alloc, [1, 2, 3, 4], 32);
     check!(rt; of_the_cache(&mut cache));
     check!(rt; of_calls_that_pass_entries(&mut with_a_tenant(alloc)));
     check!(rt; of_values_that_come_back(&mut with_a_tenant(alloc)) == Ok(true));
@@ -88,7 +88,7 @@ fn of_weights(rt: HostRuntime) -> Result<(), Fail> {
     let mut weighed: TenantCache<u64, u64, u64, ByWeight<16>, _> = TenantCache::with_hasher(
         alloc,
         std::collections::hash_map::RandomState::new(&rt)?,
-        48,
+        32,
     );
     check!(rt; (weighed.open(1, 40), weighed.put(&1, 7, 2)) == (Ok(()), Ok(true)));
     check!(rt; weighed.cost(&1) == Ok(25));
@@ -129,7 +129,7 @@ fn of_runs(rt: HostRuntime) -> Result<(), Fail> {
         TenantCall::Put(1, 7, 1),
         TenantCall::Get(2, 7),
     ]?;
-    let mut cache: TenantCache<u64, u64, u64> = TenantCache::new(alloc, [1, 2, 3, 4], 16);
+    let mut cache: TenantCache<u64, u64, u64> = TenantCache::new(alloc, [1, 2, 3, 4], 32);
     let answers = run_tenants(alloc, &mut cache, calls)?;
     check!(rt; answers.get(1) == Some(&TenantAnswer::Put(Ok(true))));
     check!(rt; answers.get(2) == Some(&TenantAnswer::Got(Err(TenantError::NotOpen))));

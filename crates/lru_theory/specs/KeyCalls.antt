@@ -10,7 +10,8 @@ use Rattle.lru_replay.specs.CallRuns.{IsRun, CallStep}
 use Rattle.lru_replay.specs.Replies.{Reply}
 use Rattle.lru_theory.specs.References.{FoundMemory}
 
--- What a call does to the keys. Pops, drains, trims, a get by a hash and another limiter are left out.
+-- What a call does to the keys. Updates, demotions, pops, drains, trims, gets by a hash and other limiters are left
+-- out.
 abbrev pub key_call : {K V S : Type 0} → Call K V S → Option (KeyCall K)
 key_call (calls.Insert key v) = Some (refers key)
 key_call (calls.InsertWith key v) = Some (refers key)

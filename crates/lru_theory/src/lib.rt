@@ -58,8 +58,8 @@ pub fn more_capacity_never_misses_more<K: Eq + Hash + Drop, V: Drop, S: KeyHashe
 
 /// After the same calls a smaller map is included in a larger map: its keys are keys of the larger map, in the
 /// same order (`included`). So what the smaller map finds, the larger map finds (`finds`). The calls may insert, get,
-/// peek, write, remove, clear, reserve and shrink, in any order. Pops, drains, gets by a hash and other limiters are
-/// left out.
+/// promote, peek, write, remove, clear, reserve and shrink, in any order. Updates, demotions, pops, drains, trims, gets
+/// by a hash and other limiters are left out.
 pub fn a_smaller_map_is_included<K: Eq + Hash + Drop, V: Drop, S: KeyHasher<K>>()
     ensures included { (on : List (KeyCall K)) (old small other large : State K V ByLength S) →
         IsExact K.eq → CallsOn K.eq S.hash_of on old small → CallsOn K.eq S.hash_of on other large →

@@ -1,5 +1,5 @@
 //! The plain way to count misses: a map of that length.
-ghost use Rattle.std.specs.Prelude.{◌≡◌, ◌≤◌, ◌<◌, IfOk, reverse, map, nat_eq, true, vec_len};
+ghost use Rattle.std.specs.Prelude.{◌≡◌, ◌≤◌, ◌<◌, IfOk, reverse, map, nat_eq, true};
 ghost use Rattle.group_table.specs.Change.{count_up};
 ghost use Rattle.recency.specs.Recency.{misses};
 ghost use Rattle.lru_replay.specs.Replies.{all_said};
@@ -11,7 +11,7 @@ use schnellru::{ByLength, LruMap, RandomState, laws};
 use std::alloc::{AllocError, Global};
 
 /// The bytes of an entry with a key and a value of 8 bytes, and its links.
-const ENTRY_BYTES: usize = 32;
+const ENTRY_BYTES: usize = 24;
 
 /// Makes a reference to each key.
 fn references(alloc: Global, keys: &Vec<u64>) -> Result<Vec<Call<u64, u64, ByLength>>, AllocError>

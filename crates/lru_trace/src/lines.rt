@@ -1,5 +1,5 @@
 //! The lines of a trace: the sizes, and then a key in each line.
-ghost use Rattle.std.specs.Prelude.{◌≡◌, ◌≢◌, ◌<◌, ℕ, List, [], ◌++◌, Some, true, false, length, nat_lt};
+ghost use Rattle.std.specs.Prelude.{◌≡◌, ◌<◌, ℕ, List, [], ◌++◌, Some, true, false, length, nat_lt};
 ghost use Rattle.std.specs.Prelude.{IfOk, IfSome, MatchOption};
 ghost use Rattle.std.specs.Io.BufRead.{take_through, drop_through, strip_last};
 ghost use Rattle.lru_trace.specs.Counted.{IsOf};
@@ -81,7 +81,7 @@ pub fn sizes_of(alloc: Global, line: &[u8]) -> Result<Option<Vec<usize>>, TraceE
 ///
 /// # Errors
 ///
-/// `Read`: a read failed, or there were 2 ^ 64 - 2 lines. `Memory`: there was none for a line or a key.
+/// `Read`: a read failed, or there were 2 ^ 64 - 2 lines. `Memory`: out of memory for a line or a key.
 pub fn read_keys<R: BufRead, P: Write>(
     reader: &mut R,
     line: &mut Vec<u8>,

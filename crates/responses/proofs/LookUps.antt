@@ -10,12 +10,12 @@ use Rattle.std.proofs.lemmas.Bool.{true≢false}
 use Rattle.std.proofs.lemmas.Map.{lookup-remove_entry}
 use Rattle.lru_limits.specs.Rules.{Rules}
 use Rattle.lru_model.specs.Calls.{promoted, Remove}
-use Rattle.lru_model.specs.Lists.{lookup}
+use Rattle.lru_model.specs.Lists.{lookup, lookup_entry, after, front, without}
 use Rattle.lru_model.specs.State.{State}
 use Rattle.lru_tenants.specs.Cache.{Cache, tenant, IsTenant, Leaves, On}
 use Rattle.lru_tenants.specs.TenantRuns.{Gets, IfOpen}
 use Rattle.lru_tenants.specs.declared.error.TenantError.{TenantError}
-use Rattle.responses.specs.LookUps.{fresh_at, LooksUp}
+use Rattle.responses.specs.LookUps.{fresh_at, looked_up, LooksUp}
 use Rattle.responses.specs.declared.cache.Response.{Response}
 use Rattle.std.specs.Prelude.{IfSome}
 use Rattle.lru_model.proofs.CallerLemmas.{read_back, written-found, promoted-absent}
@@ -40,6 +40,52 @@ found-key {K} {V} names (x ∷ xs) v e = go (found-key names xs v) (names x.0) r
         → cond is (Some x.1) (lookup names xs) ≡ Some v → (k : K) × (names k ≡ true)
     go later true is e = (x.0, is)
     go later false is e = later e
+
+module _ {K V : Type 0} (names : K → Bool) where
+  -- the pair of a value that is found passes the test
+  found-pair : (xs : List (K × V)) (v : V) → lookup names xs ≡ Some v
+      → (p : K × V) × (lookup_entry names xs ≡ Some p) × (names p.0 ≡ true)
+  found-pair [] v e = absurd (true≢false (sym (ap is_some e)))
+  found-pair (x ∷ xs) v e = go (found-pair xs v) (names x.0) refl e
+    where
+      go : (lookup names xs ≡ Some v → (p : K × V) × (lookup_entry names xs ≡ Some p) × (names p.0 ≡ true))
+          → (is : Bool) → names x.0 ≡ is → cond is (Some x.1) (lookup names xs) ≡ Some v
+          → (p : K × V) × (cond is (Some x) (lookup_entry names xs) ≡ Some p) × (names p.0 ≡ true)
+      go later true is e = (x, refl, is)
+      go later false is e = later e
+
+  -- if no value is found, no pair is
+  no-pair : (xs : List (K × V)) → lookup names xs ≡ None → lookup_entry names xs ≡ None
+  no-pair [] e = refl
+  no-pair (x ∷ xs) e = go (no-pair xs) (names x.0) e
+    where
+      go : (lookup names xs ≡ None → lookup_entry names xs ≡ None) → (is : Bool)
+          → cond is (Some x.1) (lookup names xs) ≡ None → cond is (Some x) (lookup_entry names xs) ≡ None
+      go later true e = absurd (true≢false (ap is_some e))
+      go later false e = later e
+
+  -- a pair that became the newest is removed
+  without-front : (xs : List (K × V)) (v : V) → lookup names xs ≡ Some v
+      → without names (front names xs) ≡ without names xs
+  without-front xs v found =
+      let (p, there, named) = found-pair xs v found in
+      ap (λ o. without names (after o (without names xs))) there
+      ∙ ap (λ b. cond b (without names xs) (p ∷ without names (without names xs))) named
+
+module _ {K : Type 0} (names : K → Bool) (now : ℕ) (xs : List (K × Response)) where
+  -- the list after a get that finds nothing, or a fresh response
+  front-looked_up : (found : Option Response) → lookup names xs ≡ found → fresh_at now found ≡ found
+      → front names xs ≡ looked_up names now xs
+  front-looked_up None is same = ap (λ o. after o (without names xs)) (no-pair names xs is)
+      ∙ sym (ap (λ o. cond (is_some (fresh_at now o)) (front names xs) (without names xs)) is)
+  front-looked_up (Some v) is same =
+      sym (ap (λ o. cond (is_some o) (front names xs) (without names xs)) (ap (fresh_at now) is ∙ same))
+
+  -- the list after a stale response was removed
+  stale-looked_up : (v : Response) → lookup names xs ≡ Some v → fresh_at now (lookup names xs) ≡ None
+      → without names (front names xs) ≡ looked_up names now xs
+  stale-looked_up v found stale = without-front names xs v found
+      ∙ sym (ap (λ o. cond (is_some o) (front names xs) (without names xs)) stale)
 
 module _ {K V : Type 0} {eq : K → K → Bool} (laws : IsEquivalence eq) (names : K → Bool)
     (one : (x y : K) → names x ≡ true → names y ≡ eq x y) where
@@ -102,6 +148,7 @@ module _ {K L S : Type 0} (names : K → Bool) (now : ℕ) where
         promoted names map,
         ap Ok (sym same ∙ ap (fresh_at now) value),
         is,
+        front-looked_up names now map.pairs found (sym value) same,
         still-there names map found (sym value) ∙ sym same ∙ ap (fresh_at now) value,
       )
 
@@ -157,6 +204,12 @@ module _ {N K L S : Type 0} {eq : N → N → Bool} (equal : IsEquivalence eq) {
       (subst (λ t. IfSome t (λ map. IsDistinct keys (keys_of map.pairs))) is distinct) in
       let same : fresh_at now (lookup names map.pairs) ≡ None = ap (fresh_at now) found ∙ stale in (
         left,
-        subst (λ t. LooksUp names now t (Ok None) left) (sym was) (own, ap Ok (sym same), now-is, none ∙ sym same),
+        subst (λ t. LooksUp names now t (Ok None) left) (sym was) (
+          own,
+          ap Ok (sym same),
+          now-is,
+          ap (λ st. st.pairs) remove.state.is ∙ stale-looked_up names now map.pairs response found same,
+          none ∙ sym same,
+        ),
         leaves-both host gets.0 left old mid new gets.2 leaves,
       )

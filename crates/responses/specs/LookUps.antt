@@ -1,8 +1,8 @@
 -- What a look-up of a response does to its host.
 --     names path      whether a path is the one that is looked up
 --     now             the time of the look-up
-use Rattle.std.specs.Prelude.{◌≡◌, ℕ, nat_lt, Bool, if◌then◌else◌, Option, Some, None, Result, Ok, Err}
-use Rattle.lru_model.specs.Lists.{lookup}
+use Rattle.std.specs.Prelude.{◌≡◌, ℕ, nat_lt, Bool, if◌then◌else◌, List, Option, Some, None, is_some, Result, Ok, Err}
+use Rattle.lru_model.specs.Lists.{lookup, front, without}
 use Rattle.lru_model.specs.State.{State}
 use Rattle.lru_tenants.specs.declared.error.TenantError.{TenantError}
 use Rattle.lru_tenants.specs.declared.error.TenantError.TheVariants.{NotOpen}
@@ -13,10 +13,15 @@ abbrev pub fresh_at : ℕ → Option Response → Option Response
 fresh_at now None = None
 fresh_at now (Some response) = if nat_lt now response.expires then Some response else None
 
+-- what it leaves of the list: a fresh response becomes the newest, and a stale one is removed; the others stay
+abbrev pub looked_up : {K : Type 0} → (K → Bool) → ℕ → List (K × Response) → List (K × Response)
+looked_up names now pairs = if is_some (fresh_at now (lookup names pairs)) then front names pairs else without names pairs
+
 -- It returns the response that is there, if it is fresh. A stale one is not there any more.
 abbrev pub LooksUp : {K L S : Type 0} → (K → Bool) → ℕ → Option (State K Response L S)
     → Result (Option Response) TenantError → Option (State K Response L S) → Type 0
 LooksUp names now None answer new = (answer ≡ Err NotOpen) × (new ≡ None)
 LooksUp {K} {L} {S} names now (Some old) answer new = (left : State K Response L S)
     × (answer ≡ Ok (fresh_at now (lookup names old.pairs))) × (new ≡ Some left)
+    × (left.pairs ≡ looked_up names now old.pairs)
     × (lookup names left.pairs ≡ fresh_at now (lookup names old.pairs))

@@ -1,6 +1,6 @@
 //! `LruMap`. A contract sees a map as a `State`: its pairs, newest first, with its limiter, its hasher, the state of
 //! each bucket of its table, and its counts.
-ghost use Rattle.std.specs.Prelude.{◌≡◌, ℕ, ◌∷◌, []};
+ghost use Rattle.std.specs.Prelude.{◌≡◌, []};
 ghost use Rattle.lru_limits.specs.Mixing.{seeded};
 ghost use Rattle.lru_model.specs.Sizes.{default_entry_bytes, max_of_32_bits};
 ghost use Rattle.schnellru.specs.EntrySize.{entry_size};
@@ -44,7 +44,7 @@ pub const DEFAULT_ENTRY_BYTES: usize = 32;
 /// its limit, so that the oldest entries are evicted, and how large the table may grow.
 ///
 /// ```
-/// let mut map = LruMap::new(alloc, ByLength::new(2), [1, 2, 3, 4], 32);
+/// let mut map = LruMap::new(alloc, ByLength::new(2), [1, 2, 3, 4], 16);
 /// map.insert(1, 10)?;
 /// map.insert(2, 20)?;
 /// map.get(&1);
@@ -54,10 +54,10 @@ pub const DEFAULT_ENTRY_BYTES: usize = 32;
 ///
 /// # The bytes of an entry
 ///
-/// Each constructor takes the number of bytes of a bucket, as `entry_bytes`. `memory_usage` counts by this number, and
-/// so do the sizes of tables that a limiter permits or refuses. A bucket has two links of a type `N`, and then a key
-/// and a value, so the number is `size_of::<(N, N, (K, V))>()`. It is 24 for `u64` keys, `u32` values and links of 32
-/// bits, and 32 for `u64` keys and values and links of 64 bits.
+/// `with_limiter` computes the bytes of an entry, and `default` assumes 32. The other constructors take the number, as
+/// `entry_bytes`. `memory_usage` counts by it, and so do the sizes of tables that a limiter permits or refuses. An
+/// entry contains a key, a value and two links of a type `N`, so the number is `size_of::<(N, N, (K, V))>()`. It is 24
+/// for `u64` keys, `u32` values and links of 32 bits, and 32 for `u64` keys and values and links of 64 bits.
 ///
 /// The number does not change the memory that the map takes. If it is too small, `ByMemoryUsage` permits tables that
 /// take more memory than its limit. If it is too great, `ByMemoryUsage` refuses tables that would fit. A table whose
@@ -102,7 +102,7 @@ impl<K: Eq + Hash, V, L: Limiter<K, V>, S: KeyHasher<K>> LruMap<K, V, L, S> {
     /// The documentation of the type says how to compute the bytes of an entry. Cost: `O(1)`.
     ///
     /// ```
-    /// let map: LruMap<u64, u32> = LruMap::with_hasher(alloc, ByLength::new(3), RandomState::default(), 32);
+    /// let map: LruMap<u64, u32> = LruMap::with_hasher(alloc, ByLength::new(3), RandomState::default(), 24);
     /// assert!(rt; map.is_empty() && map.memory_usage() == 0);
     /// ```
     ///
@@ -170,7 +170,7 @@ impl<K: Eq + Hash, V, L: Limiter<K, V>> LruMap<K, V, L, RandomState> {
     /// of the type says how to compute the bytes of an entry. Cost: `O(1)`, and no memory.
     ///
     /// ```
-    /// let mut map = LruMap::new(alloc, ByLength::new(2), [1, 2, 3, 4], 32);
+    /// let mut map = LruMap::new(alloc, ByLength::new(2), [1, 2, 3, 4], 16);
     /// map.insert(1, 10)?;
     /// ```
     ///
@@ -184,7 +184,7 @@ impl<K: Eq + Hash, V, L: Limiter<K, V>> LruMap<K, V, L, RandomState> {
     /// The same as `new`, under schnellru's name for a constructor with given seeds.
     ///
     /// ```
-    /// let mut map: LruMap<u64, u64> = LruMap::with_seed(alloc, ByLength::new(3), [5, 6, 7, 8], 16);
+    /// let mut map: LruMap<u64, u64> = LruMap::with_seed(alloc, ByLength::new(3), [5, 6, 7, 8], 24);
     /// map.insert(1, 10)?;
     /// let hash = RandomState::with_seeds([5, 6, 7, 8]).hash_one(&1u64);
     /// assert_eq!(rt; map.peek_by_hash(hash, |key, _| *key == 1).copied(), Some(10));
@@ -205,7 +205,7 @@ impl<K: Eq + Hash, V, S: KeyHasher<K>> LruMap<K, V, ByMemoryUsage, S> {
     ///
     /// ```
     /// let seeded = RandomState::with_seeds([5, 6, 7, 8]);
-    /// let map: LruMap<u64, u64, ByMemoryUsage> = LruMap::with_memory_budget_and_hasher(alloc, 84, seeded, 16);
+    /// let map: LruMap<u32, u32, ByMemoryUsage> = LruMap::with_memory_budget_and_hasher(alloc, 84, seeded, 16);
     /// assert_eq!(rt; map.limiter().max_memory_usage(), 84);
     /// ```
     ///
@@ -228,7 +228,7 @@ impl<K: Eq + Hash, V> LruMap<K, V, ByMemoryUsage, RandomState> {
     /// The budget limits `memory_usage`, which counts `entry_bytes` bytes an entry. Cost: `O(1)`, and no memory.
     ///
     /// ```
-    /// let mut map: LruMap<u64, u64, ByMemoryUsage> = LruMap::with_memory_budget(alloc, 84, [1, 2, 3, 4], 16);
+    /// let mut map: LruMap<u32, u32, ByMemoryUsage> = LruMap::with_memory_budget(alloc, 84, [1, 2, 3, 4], 16);
     /// for n in 1..=4 {
     ///     map.insert(n, n)?;
     /// }

@@ -1,6 +1,6 @@
 //! What a table takes in bytes, and the table that a map grows into.
 ghost use Rattle.std.specs.Prelude.{◌≡◌, ◌-◌, ◌/◌, ◌^◌, ◌<◌, ◌≤◌};
-ghost use Rattle.group_table.specs.Sizes.{IsBucketCount, full_capacity, buckets_for};
+ghost use Rattle.group_table.specs.Sizes.{IsBucketCount, full_capacity};
 ghost use Rattle.lru_model.specs.Sizes.{bytes_of, usage, IsGreatestUsage, target, larger};
 
 use group_table::{buckets_for_capacity, full_capacity};

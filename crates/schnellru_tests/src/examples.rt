@@ -13,7 +13,7 @@ use test_helpers::{all, check};
 type Map = LruMap<u64, u64>;
 
 fn of_the_map(alloc: Global) -> Result<bool, AllocError> {
-    let mut map = LruMap::new(alloc, ByLength::new(2), [1, 2, 3, 4], 32);
+    let mut map = LruMap::new(alloc, ByLength::new(2), [1, 2, 3, 4], 16);
     map.insert(1, 10)?;
     map.insert(2, 20)?;
     map.get(&1);
@@ -26,13 +26,13 @@ fn of_a_map_with_a_hasher(alloc: Global) -> bool {
         alloc,
         ByLength::new(3),
         RandomState::default(),
-        32,
+        24,
     );
     all!(map.is_empty() && map.memory_usage() == 0)
 }
 
 fn of_a_map_with_a_budget(alloc: Global) -> Result<bool, AllocError> {
-    let mut map: LruMap<u64, u64, ByMemoryUsage> = LruMap::with_memory_budget(
+    let mut map: LruMap<u32, u32, ByMemoryUsage> = LruMap::with_memory_budget(
         alloc,
         84,
         [1, 2, 3, 4],
@@ -47,10 +47,10 @@ fn of_a_map_with_a_budget(alloc: Global) -> Result<bool, AllocError> {
 
 fn of_a_map_with_a_budget_and_a_hasher(alloc: Global) -> bool {
     let seeded = RandomState::with_seeds([5, 6, 7, 8]);
-    let map: LruMap<u64, u64, ByMemoryUsage> = LruMap::with_memory_budget_and_hasher(
+    let map: LruMap<u32, u32, ByMemoryUsage> = LruMap::with_memory_budget_and_hasher(
         alloc, 84, seeded, 16,
     );
-    let usage = LruMap::<u64, u64, UnlimitedCompact>::memory_usage_for_memory_budget(512, 16);
+    let usage = LruMap::<u32, u32, UnlimitedCompact>::memory_usage_for_memory_budget(512, 16);
     all!(map.limiter().max_memory_usage() == 84, usage == 288)
 }
 
@@ -214,14 +214,14 @@ fn of_searches_by_a_hash(map: &mut Map) -> bool {
 }
 
 fn of_seeds(alloc: Global) -> Result<bool, AllocError> {
-    let mut map: LruMap<u64, u64> = LruMap::with_seed(alloc, ByLength::new(3), [5, 6, 7, 8], 16);
+    let mut map: LruMap<u64, u64> = LruMap::with_seed(alloc, ByLength::new(3), [5, 6, 7, 8], 24);
     map.insert(1, 10)?;
     let hash = RandomState::with_seeds([5, 6, 7, 8]).hash_one(&1u64);
     Ok(all!(map.peek_by_hash(hash, |key, _| *key == 1).copied() == Some(10)))
 }
 
 fn of_failed_reservations(alloc: Global) -> bool {
-    let mut map: LruMap<u64, u64, Unlimited> = LruMap::new(alloc, Unlimited, [1, 2, 3, 4], 16);
+    let mut map: LruMap<u64, u64, Unlimited> = LruMap::new(alloc, Unlimited, [1, 2, 3, 4], 32);
     all!(
         map.try_reserve(usize::MAX) == Err(ReserveError::TooLarge),
         map.try_reserve(1 << 50) == Err(ReserveError::Memory)

@@ -1,6 +1,7 @@
 //! The functions that C calls on a map of byte strings. `bindings/c/lru.h` declares them, without `alloc`.
 //!
-//! A call on a handle without a map changes nothing, and returns that there is nothing.
+//! A call on a handle without a map changes nothing, and returns that there is nothing. Only `lru_bytes_new` makes a
+//! map, and `lru_bytes_clone` drops the map of the copy.
 ghost use Rattle.std.specs.Prelude.{◌≡◌, length, is_some, slice_get, Option, Some, None, true, false, ⊤};
 ghost use Rattle.lru_limits.specs.Mixing.{seeded};
 ghost use Rattle.lru_model.specs.Calls.{Remove, promoted, cleared};

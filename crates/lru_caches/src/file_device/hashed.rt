@@ -16,8 +16,8 @@ use std::marker::Model;
 ///
 /// Nothing is proved of the bytes that an operating system returns. So a read fails unless the hash of the file's block
 /// is the hash of the block that was written last, or that the file had when the device was made. Contracts see a block
-/// of such a device as its hash: two blocks of one hash, which whoever looks for such blocks can find, are one to them.
-/// [`FileDevice`] compares whole blocks.
+/// of such a device as its hash, so they do not tell two blocks with the same hash apart, and whoever looks for such
+/// blocks can find them. [`FileDevice`] compares whole blocks.
 ///
 /// After a failed write the reads of that block may fail, until a write of it succeeds.
 ///

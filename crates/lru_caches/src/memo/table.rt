@@ -26,7 +26,7 @@ pub trait Question<K, V> {
 ///
 /// [`Memo`](crate::Memo) calls its function, so that function cannot use the memo. A recursion uses a table: it gets
 /// the answer at its key, or else computes and stores it. Whatever a `get` returns is an answer. A caller proves that
-/// what it stores is one, and passes no fact on.
+/// what it stores is one.
 ///
 /// ```
 /// let mut squares = MemoTable::new(alloc, ByLength::new(9), Squares);

@@ -5,7 +5,7 @@ ghost use Rattle.std.specs.Map.Iter.{deref_pair};
 ghost use Rattle.lru_model.specs.Lists.{back, lookup_entry};
 
 use crate::ordered_map::{OrderedMap, distinct};
-use schnellru::{KeyHasher, LookupKey, ReserveError, Unlimited};
+use schnellru::{KeyHasher, LookupKey, ReserveError};
 use std::alloc::AllocError;
 use std::hash::Hash;
 
@@ -46,7 +46,7 @@ impl<K: Eq + Hash, V, S: KeyHasher<K>> OrderedMap<K, V, S> {
         self.map.promote(key)
     }
 
-    /// Takes memory for n more entries, so that their inserts grow the table no more. The entries stay.
+    /// Takes memory for n more entries, so that inserting them does not grow the table. The entries stay.
     ///
     /// ```
     /// assert_eq!(rt; map.try_reserve(100), Ok(()));

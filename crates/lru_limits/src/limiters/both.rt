@@ -1,5 +1,4 @@
 //! Two limiters for one map.
-ghost use Rattle.std.specs.Prelude.{◌≡◌};
 ghost use Rattle.lru_limits.specs.Admissions.{offers_of, offers_of-terms, offers_of-lawful};
 ghost use Rattle.lru_limits.specs.Both.{both_rules, both_terms, both-sums};
 
@@ -26,7 +25,7 @@ use std::hash::Hash;
 /// assert!(rt; limiter.on_insert(alloc, 0, 1u64, 8u64)?.is_some() && limiter.0.cost() == 8);
 /// ```
 ///
-/// Cost: each callback calls one or two callbacks of each limiter, and takes no memory of its own.
+/// Cost: each callback calls at most two callbacks of each limiter, and takes no memory of its own.
 #[derive(Clone, Copy, Debug)]
 pub struct Both<A, B>(pub A, pub B);
 

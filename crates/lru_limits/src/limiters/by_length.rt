@@ -13,8 +13,9 @@ use std::marker::Model;
 
 /// Limits the number of entries. A contract sees it as that number.
 ///
-/// A map under it has at most `max_length` entries after each call, unless somebody lowers the limit, and after each
-/// insert that stores an entry or replaces a value. It rejects an entry only if `max_length` is 0.
+/// A map under it has at most `max_length` entries after each call. If the limit is lowered through `limiter_mut`, the
+/// map may have more until a `trim`, or until an insert or an update stores an entry or replaces a value. It rejects an
+/// entry only if `max_length` is 0.
 ///
 /// ```
 /// let limiter = ByLength::new(3);

@@ -11,7 +11,7 @@ use std::alloc::AllocError;
 pub enum Call<K, V, L> {
     /// `insert`: makes the pair of this key and value the newest.
     Insert(K, V),
-    /// `insert_with`: the same as `Insert`, and returns the pairs that leave.
+    /// `insert_with`: the same as `Insert`, and returns the pairs that are evicted, rejected or not stored.
     InsertWith(K, V),
     /// `get_or_insert`: returns the value of the key, which is inserted with this value if it is not there.
     GetOrInsert(K, V),
@@ -45,7 +45,7 @@ pub enum Call<K, V, L> {
     PeekOldest,
     /// `peek_newest`: returns the newest pair.
     PeekNewest,
-    /// `try_reserve`: makes room for n more pairs.
+    /// `try_reserve`: reserves growth for n more pairs.
     Reserve(usize),
     /// `shrink_to_fit`: shrinks the table to as few buckets as hold the pairs.
     Shrink,

@@ -5,7 +5,6 @@ ghost use Rattle.lru_model.specs.State.{IsMap};
 ghost use Rattle.lru_replay.specs.declared.calls.call.Call.TheVariants as calls;
 ghost use Rattle.lru_replay.specs.CallRuns.{IsRun, CallStep};
 ghost use Rattle.lru_replay.specs.Replies.{said, all_said};
-ghost use Rattle.lru_replay.specs.Steps.{ReplyStep};
 
 use crate::calls::call::{Answer, Call};
 use crate::calls::pairs::{drain_pairs, insert_with, list};

@@ -1,5 +1,5 @@
 //! The line `drain`: pairs are taken out, and written as they go.
-ghost use Rattle.std.specs.Prelude.{◌≡◌, ℕ, List, [], ◌∷◌, ◌++◌, Option, if◌then◌else◌, codes};
+ghost use Rattle.std.specs.Prelude.{ℕ, List, [], ◌++◌, Option, if◌then◌else◌, codes};
 ghost use Rattle.lru_model.specs.Drains.{Drained};
 ghost use Rattle.lru_replay.specs.Output.{Writes, pairs_text, taken_text};
 

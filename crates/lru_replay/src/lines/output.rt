@@ -1,5 +1,5 @@
 //! The texts of replies, written piece by piece.
-ghost use Rattle.std.specs.Prelude.{◌≡◌, ℕ, Bool, Option, [], ◌∷◌, ◌++◌, decimal};
+ghost use Rattle.std.specs.Prelude.{Option, [], ◌++◌, decimal};
 ghost use Rattle.lru_replay.specs.Output.{Writes, flag_text, value_text, left_text, pair_text, rest_text, pairs_text};
 ghost use Rattle.lru_replay.specs.Output.{reservation_text, shrink_text, figures_text, placed_text, cost_text};
 ghost use Rattle.lru_replay.specs.Output.{named_text, taken_text, insert_text, updated_text};
@@ -43,7 +43,7 @@ pub fn write_flag<W: Write>(writer: &mut W, flag: bool) -> Result<(), ReplayErro
     }
 }
 
-/// Writes what an insert returned, and after it the pairs that left.
+/// Writes what an insert returned, and after it the pairs that were evicted, rejected or not stored.
 pub fn write_given<W: Write>(
     writer: &mut W,
     done: Result<bool, AllocError>,

@@ -1,4 +1,4 @@
-//! The line `put`: an insert, with the pairs that leave written after its answer.
+//! The line `put`: an insert that writes its answer, and after it the pairs that were evicted, rejected or not stored.
 ghost use Rattle.std.specs.Prelude.{ℕ, Option};
 ghost use Rattle.lru_replay.specs.declared.lines.command.Command.TheVariants as commands;
 ghost use Rattle.lru_replay.specs.LineRuns.{AnswersCommand};
@@ -10,7 +10,8 @@ use crate::lines::output::{write_bytes, write_given};
 use schnellru::{Insertion, LruMap};
 use std::io::Write;
 
-/// Inserts, and writes the answer and then the pairs that left. If there is no memory to store these, nothing changes.
+/// Inserts, and writes the answer, and after it the pairs that were evicted, rejected or not stored. If there is no
+/// memory to list these, nothing changes.
 pub fn write_put<L: Insertion<u64, u64, u64>, W: Write>(
     map: &mut LruMap<u64, u64, L>,
     key: u64,

@@ -1,9 +1,7 @@
 //! A replay, from the lines of a reader to the answer lines of a writer.
-ghost use Rattle.std.specs.Prelude.{◌≡◌, ◌↔◌, ℕ, nat_eq, List, IfSome, OnOk, IsErrOf};
+ghost use Rattle.std.specs.Prelude.{◌≡◌, ◌↔◌, ℕ, List, IfSome, OnOk, IsErrOf};
 ghost use Rattle.std.specs.Io.KnownBytes.{Appends, IsAtEnd};
 ghost use Rattle.std.specs.Option.{OnSome};
-ghost use Rattle.lru_model.specs.Calls.{promoted};
-ghost use Rattle.lru_model.specs.Lists.{lookup};
 ghost use Rattle.lru_model.specs.State.{IsSized};
 ghost use Rattle.lru_replay.specs.Lines.{lines_of, TakesFirst};
 ghost use Rattle.lru_replay.specs.Maps.{empty};
@@ -29,7 +27,7 @@ use schnellru::{
 use std::alloc::Global;
 use std::io::{BufRead, Write};
 
-/// The bytes of an entry, unless the first line says otherwise.
+/// The bytes that the map counts for an entry, unless the first line says otherwise.
 const ENTRY_BYTES: usize = 32;
 
 /// Carries out what a line says, and writes the answer.

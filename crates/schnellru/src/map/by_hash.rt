@@ -1,7 +1,6 @@
 //! Searches by a hash, with a closure that recognises the entry.
-ghost use Rattle.std.specs.Prelude.{◌≡◌, IfSome, IfNone};
+ghost use Rattle.std.specs.Prelude.{IfSome, IfNone};
 ghost use Rattle.std.specs.Borrow.{sem};
-ghost use Rattle.std.specs.Option.{option_copied_mut};
 ghost use Rattle.lru_model.specs.ByHash.{GivesByHash, GivesNoneByHash};
 ghost use Rattle.lru_model.specs.State.{IsMap};
 ghost use Rattle.lru_model.specs.Calls.{promoted, written};

@@ -28,7 +28,7 @@ impl<
     ///
     /// # Errors
     ///
-    /// `Err` says that a request for memory was refused, or a clone failed. What was copied is dropped.
+    /// `Err` says that the map ran out of memory, or a clone failed. What was copied is dropped.
     ///
     /// After schnellru's `LruMap::clone`.
     pub fn clone(&self) -> Result<Self, AllocError>

@@ -55,11 +55,11 @@ impl<K: Eq + Hash, V, L: Limiter<K, V>, S: KeyHasher<K>> LruMap<K, V, L, S> {
         self.entries.len() + self.entries.room()
     }
 
-    /// Returns the bytes of the table, or 0 without buckets: the bytes of its entries, rounded up to a multiple of 16,
-    /// a byte for each bucket, and 16 more.
+    /// Returns the bytes of the table, or 0 without buckets: `entry_bytes` for each bucket, full or not, together
+    /// rounded up to a multiple of 16, a byte more for each bucket, and 16 more.
     ///
-    /// An entry counts as the bytes that the constructor was given. 4 buckets of 16 bytes are 64 + 4 + 16 = 84. Cost:
-    /// `O(1)`.
+    /// `entry_bytes` is the number that the constructor was given, or that `with_limiter` computed. 4 buckets of 16
+    /// bytes are 64 + 4 + 16 = 84. Cost: `O(1)`.
     ///
     /// ```
     /// assert!(rt; map.len() == 3 && map.memory_usage() == 84 && map.peek(&1).is_none());
@@ -77,7 +77,7 @@ impl<K: Eq + Hash, V, L: Limiter<K, V>, S: KeyHasher<K>> LruMap<K, V, L, S> {
     /// Returns the greatest `memory_usage` within a budget of a map whose entries have `entry_bytes` bytes, or 0.
     ///
     /// ```
-    /// let usage = LruMap::<u64, u64, UnlimitedCompact>::memory_usage_for_memory_budget(512, 16);
+    /// let usage = LruMap::<u32, u32, UnlimitedCompact>::memory_usage_for_memory_budget(512, 16);
     /// assert_eq!(rt; usage, 288);
     /// ```
     ///

@@ -1,5 +1,5 @@
 //! `insert` and its forms.
-ghost use Rattle.std.specs.Prelude.{◌≡◌, ◌+◌, true, false, not, ◌∷◌, None, Some, IfSome, IfOk, Ok, OnErr, List};
+ghost use Rattle.std.specs.Prelude.{◌≡◌, ◌+◌, true, false, ◌∷◌, None, Some, IfSome, IfOk, Ok, OnErr, List};
 ghost use Rattle.std.specs.Prelude.{IsTrue};
 ghost use Rattle.lru_model.specs.Lists.{first, lookup_entry, is_empty, IsFront};
 ghost use Rattle.lru_model.specs.State.{contents, room, IsMap};
@@ -22,10 +22,13 @@ impl<K: Eq + Hash + Drop, V: Drop, L: Limiter<K, V>, S: KeyHasher<K>> LruMap<K, 
     ///
     /// If the key is there, the stored key stays, and the limiter decides whether the new value replaces the old one;
     /// if it rejects the value, the entry is removed and the result is false. A new key goes to the limiter, which
-    /// returns the entry to store, or none. If one more entry would be over the limit, the oldest is evicted first. The
-    /// table grows if it has to and the limiter permits it; if it may not, the oldest entries are evicted until a
-    /// bucket is free, or until fewer than half of what the table may hold are left and it is rehashed. If the key is
-    /// there then, the oldest entries are evicted while the limiter is over its limit.
+    /// returns the entry to store, or none. If one more entry would be over the limit, the oldest is evicted first.
+    ///
+    /// If no bucket takes the entry then, a table with fewer than half of the entries that it may hold is rehashed, and
+    /// any other grows. If there is no larger table, or the limiter refuses it, the oldest entries are evicted until a
+    /// bucket is free, or until fewer than half are left and the table is rehashed. If there is no entry to evict, the
+    /// new one is not stored, and the result is false. If the key is there then, the oldest entries are evicted while
+    /// the limiter is over its limit.
     ///
     /// ```
     /// assert!(rt; map.insert(1, 10)?);
@@ -38,14 +41,13 @@ impl<K: Eq + Hash + Drop, V: Drop, L: Limiter<K, V>, S: KeyHasher<K>> LruMap<K, 
     ///
     /// # Errors
     ///
-    /// An `Err` says that the map ran out of memory for a new key. Then the key is not there, and the entries that are
-    /// left are the newest of the old ones: some of the oldest may have been evicted to make room. The limiter was
-    /// notified of each, and of the new entry.
+    /// An `Err` says that the map ran out of memory for a new key, which is not there then. There are two causes.
+    /// Either `on_insert` ran out of memory; then nothing has changed. Or the table had no growth left, and the
+    /// allocation for a rehash or a larger table failed. Then the entries that are left are the newest of the old ones:
+    /// some of the oldest may have been evicted to make room. The limiter was notified of each, and of the new entry.
     ///
-    /// There are two causes. Either `on_insert` ran out of memory; then nothing has changed. Or the table had no growth
-    /// left, and the allocation for a rehash or a larger table failed. While there is growth left, only `on_insert`
-    /// takes memory. Running out of memory evicts nothing by itself: the same entries would have been evicted had the
-    /// insert succeeded.
+    /// While there is growth left, only `on_insert` takes memory. Running out of memory evicts nothing by itself: the
+    /// same entries would have been evicted had the insert succeeded.
     ///
     /// After schnellru's `LruMap::insert`.
     #[inline(always)]

@@ -14,8 +14,8 @@ use std::alloc::AllocError;
 use std::hash::Hash;
 
 impl<K: Eq + Hash + Drop, V: Drop, L: Limiter<K, V>, S: KeyHasher<K>> LruMap<K, V, L, S> {
-    /// The same as `insert_with`, and returns what `insert` returns, and the entries that the callback of `insert_with`
-    /// would get, in order. Memory for these is taken before the map changes.
+    /// Inserts as `insert` does. Returns its result, and the entries that `insert_with` would pass to its callback, in
+    /// order. Memory for these is taken before the map changes.
     ///
     /// ```
     /// let (done, left) = map.insert_and_keep(5, 50)?;

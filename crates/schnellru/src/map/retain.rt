@@ -22,7 +22,7 @@ impl<K: Eq + Hash + Drop, V: Drop, L: Limiter<K, V>, S: KeyHasher<K>> LruMap<K, 
     /// assert!(rt; map.len() == 2 && !map.contains(&1));
     /// ```
     ///
-    /// Cost: `O(n)` for n entries, each of which becomes the newest for a moment.
+    /// Cost: `O(n)` for n entries. Each that stays becomes the newest for a moment.
     ///
     /// After std's `HashMap::retain`; schnellru has no such call.
     pub fn retain<F: FnMut(&K, &V) -> bool>(&mut self, keep: F)

@@ -26,7 +26,7 @@ impl<K: Eq + Hash, V, L: Limiter<K, V>, S: KeyHasher<K>> LruMap<K, V, L, S> {
     ///
     /// # Errors
     ///
-    /// `Err` says that a request for memory was refused. Nothing has changed then.
+    /// `Err` says that the map ran out of memory. Nothing has changed then.
     ///
     /// schnellru has no such call.
     pub fn shrink_to_fit(&mut self) -> Result<bool, AllocError>

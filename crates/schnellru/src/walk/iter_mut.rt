@@ -153,6 +153,9 @@ impl<K: Eq + Hash, V, L: Limiter<K, V>, S: KeyHasher<K>> LruMap<K, V, L, S> {
     /// Returns an iterator over the entries, newest first, that lends each value for writing. The order stays. The
     /// limiter is not notified of what is written.
     ///
+    /// It is no `Iterator`, so no `for` loop walks it: write `while let Some((key, value)) = walk.next()`, or call
+    /// `for_each_mut`.
+    ///
     /// ```
     /// let mut walk = map.iter_mut();
     /// if let Some((_, value)) = walk.next() {
