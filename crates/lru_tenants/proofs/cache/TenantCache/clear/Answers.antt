@@ -1,8 +1,7 @@
-use Rattle.std.proofs.Common.{sym, refl}
-use Rattle.std.proofs.Common.{◌≡◌}
+use Rattle.std.proofs.Common.{◌≡◌, None, sym, refl}
 use Rattle.lru_model.specs.Calls.{cleared}
 use Rattle.lru_tenants.specs.TenantRuns.{IfOpen}
-use Rattle.lru_tenants.proofs.Changes.{on-written}
+use Rattle.lru_tenants.proofs.Changes.{on-same, on-written}
 use Rattle.lru_tenants.proofs.Kept.{kept-written, same-sum}
 use Rattle.lru_tenants.proofs.cache.TenantCache.clear.Goals as goal
 
@@ -27,3 +26,9 @@ returns-clause-clears g c = let u = c.clear.new.map in
     (c.get_mut.follows.lender u) c.in-Some.own.now u (sym c.in-Some.ensures.value) (c.get_mut.follows.holds u)
     (IfOpen (λ old done new. new ≡ cleared g.L.Limiter.rules old)) _
     (tt, u, c.clear.ensures.clears, refl, refl))
+
+pub returns-in_default-clause-clears : goal.returns-in_default-clause-clears
+returns-in_default-clause-clears g c =
+    rw (c.get_mut.follows.holds-at-none, ← c.self.view_is) (on-same c.args.name.now
+    (IfOpen (λ old done new. new ≡ cleared g.L.Limiter.rules old)) _ g.met.N.Eq.laws _ None
+    (sym c.in_default.ensures.value) (refl, refl))

@@ -82,3 +82,10 @@ returns-clause-rejects g c = let u = c.insert_full.new.map in
     c.self.inside.total_limit) ≡ Some map)))
     c.in-Some.ensures.value (λ rejected. let (says, same) = c.insert_full.ensures.rejects rejected in
     (c.put_answer.ensures ∙ ap put_answer says, is ∙ ap Some same)))
+
+pub returns-in_default-clause-puts : goal.returns-in_default-clause-puts
+returns-in_default-clause-puts g c =
+    rw (c.get_mut.follows.holds-at-none, ← c.self.view_is) (on-same c.args.name.now
+    (Puts g.L.Limiter.rules g.L.Insertion.offers g.L.Budgeted.budget_of g.K.PartialEq.eq g.S.KeyHasher.hash_of
+    c.args.key c.args.value) _ g.met.N.Eq.laws _ None
+    (sym c.in_default.ensures.value) (refl, refl))

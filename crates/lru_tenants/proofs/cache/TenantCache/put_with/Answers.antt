@@ -63,3 +63,10 @@ returns-in_default-clause-passed g c =
           g.met.N.Eq.laws _ None
           (sym c.in_default.ensures.value) (refl, refl),
     )
+
+pub returns-in_default-clause-puts : goal.returns-in_default-clause-puts
+returns-in_default-clause-puts g c =
+    rw (c.get_mut.follows.holds-at-none, ← c.self.view_is) (on-same c.args.name.now
+    (Puts g.L.Limiter.rules g.L.Insertion.offers g.L.Budgeted.budget_of g.K.PartialEq.eq g.S.KeyHasher.hash_of
+    c.args.key c.args.value) _ g.met.N.Eq.laws _ None
+    (sym c.in_default.ensures.value) (refl, refl))

@@ -1,7 +1,7 @@
-use Rattle.std.proofs.Common.{sym, refl}
+use Rattle.std.proofs.Common.{None, sym, refl}
 use Rattle.lru_model.specs.Calls.{Remove}
 use Rattle.lru_tenants.specs.TenantRuns.{IfOpen}
-use Rattle.lru_tenants.proofs.Changes.{on-written}
+use Rattle.lru_tenants.proofs.Changes.{on-same, on-written}
 use Rattle.lru_tenants.proofs.Kept.{kept-written, same-sum}
 use Rattle.lru_tenants.proofs.cache.TenantCache.remove.Goals as goal
 
@@ -26,3 +26,9 @@ returns-clause-removes g c = let u = c.remove.new.map in
     (c.get_mut.follows.lender u) c.in-Some.own.now u (sym c.in-Some.ensures.value) (c.get_mut.follows.holds u)
     (IfOpen (Remove g.L.Limiter.rules (g.Q.LookupKey.names c.args.key.now))) _
     (c.remove.result, u, c.remove.ensures.removes, refl, refl))
+
+pub returns-in_default-clause-removes : goal.returns-in_default-clause-removes
+returns-in_default-clause-removes g c =
+    rw (c.get_mut.follows.holds-at-none, ← c.self.view_is) (on-same c.args.name.now
+    (IfOpen (Remove g.L.Limiter.rules (g.Q.LookupKey.names c.args.key.now))) _ g.met.N.Eq.laws _ None
+    (sym c.in_default.ensures.value) (refl, refl))

@@ -125,3 +125,9 @@ returns-in_default-clause-passed g c =
           g.met.N.Eq.laws _ None
           (sym c.in_default.ensures.value) (refl, refl),
     )
+
+pub returns-in_default-clause-sets : goal.returns-in_default-clause-sets
+returns-in_default-clause-sets g c =
+    rw (c.get_mut.follows.holds-at-none, ← c.self.view_is) (on-same c.args.name.now
+    (SetsBudget g.L.Limiter.rules (g.L.Budgeted.rebudgeted c.args.budget) _) _ g.met.N.Eq.laws _ None
+    (sym c.in_default.ensures.value) (refl, refl))
