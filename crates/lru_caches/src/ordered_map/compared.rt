@@ -10,7 +10,7 @@ use std::hash::Hash;
 /// assert!(rt; map == map && map != OrderedMap::new(alloc));
 /// ```
 ///
-/// Cost: `O(n)` for n entries.
+/// Cost: `O(1)` if the lengths differ, else `O(n)` for n entries.
 ///
 /// After std's `Vec`; indexmap's maps are equal in any order.
 impl<K: Eq + Hash, V: PartialEq, S: KeyHasher<K>> PartialEq for OrderedMap<K, V, S> {
@@ -23,6 +23,9 @@ impl<K: Eq + Hash, V: PartialEq, S: KeyHasher<K>> PartialEq for OrderedMap<K, V,
     ghost laws = { lists_per (and_per (on_per (λ p. p.0) K.PartialEq.laws) (on_per (λ p. p.1) V.laws)) };
 
     fn eq(&self, other: &Self) -> bool {
+        if self.len() != other.len() {
+            return false;
+        }
         let mut theirs = other.iter();
         let mut ours = self.iter();
         'entries: while let Some((key, value)) = ours.next() {
@@ -35,8 +38,15 @@ impl<K: Eq + Hash, V: PartialEq, S: KeyHasher<K>> PartialEq for OrderedMap<K, V,
                 None => return false,
             }
         }
-        theirs.next().is_none()
+        true
     }
+}
+
+impl<K: Eq + Hash, V: Eq, S: KeyHasher<K>> Eq for OrderedMap<K, V, S> {
+    ghost use Rattle.std.specs.Cmp.{on_equiv, and_equiv};
+    ghost use Rattle.std.specs.Cmp.Lexicographic.{lists_equiv};
+
+    ghost laws = { lists_equiv (and_equiv (on_equiv (λ p. p.0) K.Eq.laws) (on_equiv (λ p. p.1) V.Eq.laws)) };
 }
 
 /// Shows the entries, oldest first, as `{1: 10, 2: 20}`.

@@ -32,7 +32,6 @@ const ENTRY_BYTES: usize = 32;
 
 /// Carries out what a line says, and writes the answer.
 fn answer_command<L: Insertion<u64, u64, u64> + ReportsCost, W: Write>(
-    alloc: Global,
     map: &mut LruMap<u64, u64, L>,
     line: &[u8],
     writer: &mut W,
@@ -71,7 +70,6 @@ fn answer_command<L: Insertion<u64, u64, u64> + ReportsCost, W: Write>(
 
 /// Carries out what a line says, and writes the answer line.
 fn answer_line<L: Insertion<u64, u64, u64> + ReportsCost, W: Write>(
-    alloc: Global,
     map: &mut LruMap<u64, u64, L>,
     line: &[u8],
     writer: &mut W,
@@ -80,7 +78,7 @@ fn answer_line<L: Insertion<u64, u64, u64> + ReportsCost, W: Write>(
         (W.contents writer.old) (W.contents writer.new) result }
     ensures sized { IsSized map.new }
 {
-    let carried_out = answer_command(alloc, map, line, writer);
+    let carried_out = answer_command(map, line, writer);
     learn(map);
     carried_out?;
     write_bytes(writer, b"\n")
@@ -95,7 +93,6 @@ fn learn<L: Insertion<u64, u64, u64>>(map: &LruMap<u64, u64, L>)
 
 /// Answers the lines up to the reader's end.
 fn answer_lines<L: Insertion<u64, u64, u64> + ReportsCost, R: BufRead, W: Write>(
-    alloc: Global,
     map: &mut LruMap<u64, u64, L>,
     reader: &mut R,
     writer: &mut W,
@@ -106,8 +103,8 @@ fn answer_lines<L: Insertion<u64, u64, u64> + ReportsCost, R: BufRead, W: Write>
     let mut line = Line::new();
     for _ in 0..u64::MAX {
         match read_line(reader, &mut line)? {
-            Ending::Feed => answer_line(alloc, map, line.as_slice(), writer)?,
-            Ending::InputEnd => return answer_line(alloc, map, line.as_slice(), writer),
+            Ending::Feed => answer_line(map, line.as_slice(), writer)?,
+            Ending::InputEnd => return answer_line(map, line.as_slice(), writer),
             Ending::Nothing => return Ok(()),
         }
     }
@@ -127,7 +124,7 @@ fn answer_with<L: Insertion<u64, u64, u64> + ReportsCost + Drop, R: BufRead, W: 
         (R.remaining reader.old) (R.remaining reader.new) (W.contents writer.old) (W.contents writer.new) result }
 {
     let mut map = LruMap::with_hasher(alloc, limiter, RandomState::default(), entry_bytes);
-    answer_lines(alloc, &mut map, reader, writer)
+    answer_lines(&mut map, reader, writer)
 }
 
 /// Answers the lines on an empty map under the limit.

@@ -2,11 +2,12 @@ use Rattle.std.proofs.Common.{◌≡◌, ◌&&◌, length}
 use Rattle.std.specs.Cmp.Lexicographic.{pointwise}
 use Rattle.lru_caches.proofs.ordered_map.compared.OrderedMapPartialEq.eq.Given as goal
 
--- the entries that are left are equal if and only if all are
+-- the entries that are left are as many in both, and are equal if and only if all are
 abbrev pub invariant-entries : goal.invariant-entries
 invariant-entries g l =
-    pointwise (λ p q. g.K.PartialEq.eq p.0 q.0 && g.V.PartialEq.eq p.1 q.1) l.ours l.theirs
-    ≡ pointwise (λ p q. g.K.PartialEq.eq p.0 q.0 && g.V.PartialEq.eq p.1 q.1) l.self l.other
+    (length l.ours ≡ length l.theirs)
+    × (pointwise (λ p q. g.K.PartialEq.eq p.0 q.0 && g.V.PartialEq.eq p.1 q.1) l.ours l.theirs
+    ≡ pointwise (λ p q. g.K.PartialEq.eq p.0 q.0 && g.V.PartialEq.eq p.1 q.1) l.self l.other)
 
 abbrev pub decreases-entries : goal.decreases-entries
 decreases-entries g l = length l.ours
