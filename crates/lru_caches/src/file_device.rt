@@ -1,5 +1,5 @@
 //! A device over a file. A contract sees a device as the list of its blocks.
-ghost use Rattle.std.specs.Prelude.{◌≡◌, ◌<◌, ◌^◌, [], length, IfOk};
+ghost use Rattle.std.specs.Prelude.{◌≡◌, ◌≢◌, ℕ, ◌<◌, ◌^◌, [], length, IfOk, OnOk, OnErr};
 ghost use Rattle.std.specs.List.{slice_index_or};
 
 use crate::device::BlockDevice;
@@ -151,7 +151,11 @@ impl<F: Read + Write + Seek + Durable, const N: usize> BlockDevice<[u8; N]> for 
         }
     }
 
-    fn write(&mut self, n: u64, block: &[u8; N]) -> Result<(), FileError> {
+    fn write(&mut self, n: u64, block: &[u8; N]) -> Result<(), FileError>
+        ensures written { OnOk result (slice_index_or self.new n [] ≡ block.now) }
+        ensures others { (m : ℕ) → m ≢ n → slice_index_or self.new m [] ≡ slice_index_or self.old m [] }
+        ensures failed { OnErr result (self.new ≡ self.old) }
+    {
         let Some(copy) = self.copies.get_mut(n as usize) else {
             return Err(FileError::NoBlock);
         };

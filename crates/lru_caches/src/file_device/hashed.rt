@@ -1,5 +1,5 @@
 //! A device over a file that keeps hashes. A contract sees a device as the list of the hashes of its blocks.
-ghost use Rattle.std.specs.Prelude.{◌≡◌, ◌<◌, ◌^◌, [], ◌∷◌, length, IfOk};
+ghost use Rattle.std.specs.Prelude.{◌≡◌, ◌≢◌, ℕ, ◌<◌, ◌^◌, [], ◌∷◌, length, IfOk, OnOk, OnErr};
 ghost use Rattle.std.specs.List.{slice_index_or};
 ghost use Rattle.lru_limits.specs.Mixing.{seeded};
 
@@ -134,7 +134,12 @@ impl<F: Read + Write + Seek + Durable, const N: usize> BlockDevice<[u8; N]>
         }
     }
 
-    fn write(&mut self, n: u64, block: &[u8; N]) -> Result<(), FileError> {
+    fn write(&mut self, n: u64, block: &[u8; N]) -> Result<(), FileError>
+        ensures written { OnOk result (slice_index_or self.new n 0 ≡
+            ⟦<RandomState as KeyHasher<[u8; N]>>⟧.hash_of (seeded (1 ∷ 2 ∷ 3 ∷ 4 ∷ [])) block.now) }
+        ensures others { (m : ℕ) → m ≢ n → slice_index_or self.new m 0 ≡ slice_index_or self.old m 0 }
+        ensures failed { OnErr result (self.new ≡ self.old) }
+    {
         let Some(hash) = self.hashes.get_mut(n as usize) else {
             return Err(FileError::NoBlock);
         };
