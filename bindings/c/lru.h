@@ -15,14 +15,15 @@
  * - No pointer is null, even if its length is 0. A handle is writable and aligned. A pointer with a length points to
  *   that number of elements. What a pointer points to has been written before, as by an initializer, also if the call
  *   only writes it. What a call writes overlaps nothing else of the call.
- * - There is one call on a handle at a time, and the calls on a handle come from one thread.
+ * - There is one call on a handle at a time. A thread that takes a handle over from another one synchronises with it.
  * - No call comes from a signal handler, or from the forked child of a process with threads.
  * - malloc, realloc and free belong together, and align a block of n bytes to each power of two up to 16 that
  *   divides n.
  *
- * A handle without a map is fine for every call. The call changes nothing, and returns that there is nothing.
- * Only lru_new makes a map, and lru_clone frees the map of the copy, and so do the calls for bytes. So a call after lru_free and a second lru_free are harmless. A handle that is lost
- * without lru_free or lru_bytes_free leaks its map.
+ * A handle without a map is fine for every call. lru_new and lru_bytes_new make a map, lru_clone and lru_bytes_clone
+ * free the map of the copy, and every other call changes nothing. Each but the first two returns that there is nothing.
+ * So a call after lru_free and a second lru_free are harmless. A handle that is lost without lru_free or lru_bytes_free
+ * leaks its map.
  *
  * No call ends the process. A call that runs out of memory says so in its result, and leaves a map that works.
  * Running out of memory evicts nothing by itself.
