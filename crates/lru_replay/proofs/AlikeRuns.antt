@@ -32,7 +32,7 @@ use Rattle.lru_replay.specs.Figures.{IsFigures}
 use Rattle.lru_replay.specs.Replies.{Reply, flag, given, updated, value, pair, listed, reserved, shrunk, stats, done}
 use Rattle.lru_replay.specs.Replies.{no_memory}
 use Rattle.lru_replay.specs.Replies.{insert_reply, made_reply, cost_differs}
-use Rattle.lru_replay.specs.Replies.{want_of}
+use Rattle.lru_replay.specs.Replies.{memory_report}
 use Rattle.lru_replay.specs.Steps.{ReplyStep, FindsByHash, found, not_found}
 use Rattle.lru_replay.specs.declared.calls.call.Call.{Call}
 use Rattle.lru_replay.specs.declared.calls.call.Call.TheVariants as calls
@@ -138,7 +138,7 @@ module _ {K V S H : Type 0} (rules : Rules K V S) (offers : Offers K V S K) (eq 
           let same = same_shape alike in
           (r ∙ ap R (sym same) ∙ sym a, look_alike new last (l ∙ ap F same ∙ sym n))
 
-      module _ (same_wants : want_of reply ≡ want_of answer) where
+      module _ (same_wants : memory_report reply ≡ memory_report answer) where
         both_short : wants_memory reply ≡ wants_memory answer
         both_short = ap is_short same_wants
 
@@ -223,7 +223,7 @@ module _ {K V S H : Type 0} (rules : Rules K V S) (offers : Offers K V S K) (eq 
           (is' ∙ ap value (sym same))
           (ap shape (e' ∙ ap (λ r. if is_some r then promoted (eq k) other else other) (sym same)))
 
-      step_alike : want_of reply ≡ want_of answer → (call : Call K V S)
+      step_alike : memory_report reply ≡ memory_report answer → (call : Call K V S)
           → HasPlainSearch (hash_of old.hasher) call → ReplyStep rules offers eq hash_of old call reply new
           → ReplyStep rules offers eq hash_of other call answer last → AreAlike
       step_alike wants (calls.Insert k v) plain h h' = insert_alike wants k v h h'
@@ -312,26 +312,26 @@ module _ {K V S H : Type 0} (rules : Rules K V S) (offers : Offers K V S K) (eq 
 
     -- a call that stores pairs and finds memory for them returns more than a lack of memory
     stored_tells : (old new : State K V S H) (call : Call K V S) (reply : Reply K V) → StoresPairs call
-        → ReplyStep rules offers eq hash_of old call reply new → is_alone (want_of reply) ≡ false
+        → ReplyStep rules offers eq hash_of old call reply new → is_alone (memory_report reply) ≡ false
     stored_tells old new (calls.InsertWith k v) reply stores (result, out, h, is) =
-        ap (λ r. is_alone (want_of r)) is ∙ given_tells result out
-    stored_tells old new calls.List reply stores (is, e) = ap (λ r. is_alone (want_of r)) is
-    stored_tells old new (calls.Drain front back) reply stores (pairs, h, is) = ap (λ r. is_alone (want_of r)) is
+        ap (λ r. is_alone (memory_report r)) is ∙ given_tells result out
+    stored_tells old new calls.List reply stores (is, e) = ap (λ r. is_alone (memory_report r)) is
+    stored_tells old new (calls.Drain front back) reply stores (pairs, h, is) = ap (λ r. is_alone (memory_report r)) is
     stored_tells old new call reply stores step = absurd stores
 
     pub call_alike : (old other new last : State K V S H) → LookAlike old other → buckets old ≤ 16 → buckets new ≤ 16
-        → buckets last ≤ 16 → (reply answer : Reply K V) → want_of reply ≡ want_of answer
+        → buckets last ≤ 16 → (reply answer : Reply K V) → memory_report reply ≡ memory_report answer
         → (call : Call K V S) → HasPlainSearch (hash_of old.hasher) call
         → CallStep rules offers eq hash_of old call reply new
         → CallStep rules offers eq hash_of other call answer last → (reply ≡ answer) × LookAlike new last
     call_alike old other new last alike small after too reply answer wants call plain (inl s) (inl t) =
         step_alike old other new last alike small after too reply answer wants call plain s t
     call_alike old other new last alike small after too reply answer wants call plain (inl s) (inr (stores, is, e)) =
-        let both : true ≡ false = ap (λ r. is_alone (want_of r)) (sym is) ∙ ap is_alone (sym wants)
+        let both : true ≡ false = ap (λ r. is_alone (memory_report r)) (sym is) ∙ ap is_alone (sym wants)
         ∙ stored_tells old new call reply stores s in
         absurd (true≢false both)
     call_alike old other new last alike small after too reply answer wants call plain (inr (stores, is, e)) (inl t) =
-        let both : true ≡ false = ap (λ r. is_alone (want_of r)) (sym is) ∙ ap is_alone wants
+        let both : true ≡ false = ap (λ r. is_alone (memory_report r)) (sym is) ∙ ap is_alone wants
         ∙ stored_tells other last call answer stores t in
         absurd (true≢false both)
     call_alike old other new last alike small after too reply answer wants call plain (inr h) (inr k) =
@@ -340,7 +340,7 @@ module _ {K V S H : Type 0} (rules : Rules K V S) (offers : Offers K V S K) (eq 
 
     pub summing_alike : (cost : K → V → ℕ) (account : S → ℕ) (old other new last : State K V S H) → LookAlike old other
         → buckets old ≤ 16 → buckets new ≤ 16 → buckets last ≤ 16 → (reply answer : Reply K V)
-        → want_of reply ≡ want_of answer → (call : Call K V S) → HasPlainSearch (hash_of old.hasher) call
+        → memory_report reply ≡ memory_report answer → (call : Call K V S) → HasPlainSearch (hash_of old.hasher) call
         → SummingStep rules offers eq hash_of cost account old call reply new
         → SummingStep rules offers eq hash_of cost account other call answer last
         → (reply ≡ answer) × LookAlike new last
@@ -360,15 +360,15 @@ module _ {K V S H : Type 0} {rules : Rules K V S} {offers : Offers K V S K} {eq 
     (moves : (old new : State K V S H) (call : Call K V S) (reply : Reply K V) → IsStep old call reply new
     → AnyStep rules offers eq hash_of old new ⊎ (new ≡ old))
     (one_alike : (old other new last : State K V S H) → LookAlike old other → buckets old ≤ 16 → buckets new ≤ 16
-    → buckets last ≤ 16 → (reply answer : Reply K V) → want_of reply ≡ want_of answer → (call : Call K V S)
+    → buckets last ≤ 16 → (reply answer : Reply K V) → memory_report reply ≡ memory_report answer → (call : Call K V S)
     → HasPlainSearch (hash_of old.hasher) call → IsStep old call reply new → IsStep other call answer last
     → (reply ≡ answer) × LookAlike new last) where
   pub runs_alike : (hasher : H) (calls : List (Call K V S)) (old other new last : State K V S H)
       (replies answers : List (Reply K V)) → old.hasher ≡ hasher → LookAlike old other → buckets old ≤ 16
       → AllByRecursion (HasPlainSearch (hash_of hasher)) calls
       → IsRun IsStep (λ st. buckets st ≤ 16) old calls replies new
-      → IsRun IsStep (λ st. buckets st ≤ 16) other calls answers last → map want_of replies
-      ≡ map want_of answers → (replies ≡ answers) × LookAlike new last
+      → IsRun IsStep (λ st. buckets st ≤ 16) other calls answers last → map memory_report replies
+      ≡ map memory_report answers → (replies ≡ answers) × LookAlike new last
   runs_alike hasher [] old other new last [] [] built alike small plain same too wants =
       (refl, subst (λ st. LookAlike st last) (sym same) (subst (LookAlike old) (sym too) alike))
   runs_alike hasher [] old other new last (r ∷ rs) answers built alike small plain p q wants = absurd p

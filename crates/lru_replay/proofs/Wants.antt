@@ -6,28 +6,28 @@ use Rattle.lru_model.proofs.CallerLemmas.{is_memory}
 use Rattle.lru_model.specs.declared.results.ReserveError.{ReserveError}
 use Rattle.lru_model.specs.declared.results.ReserveError.TheVariants.{TooLarge, Refused, Memory}
 use Rattle.lru_replay.specs.Replies.{Reply, given, reserved, shrunk, insert_reply, made_reply}
-use Rattle.lru_replay.specs.Replies.{Want, found_all, runs_out, runs_out_with_pairs, want_of}
+use Rattle.lru_replay.specs.Replies.{MemoryReport, found_all, runs_out, runs_out_with_pairs, memory_report}
 
-pub head_same : {x y : Want} {xs ys : List Want} → x ∷ xs ≡ y ∷ ys → x ≡ y
+pub head_same : {x y : MemoryReport} {xs ys : List MemoryReport} → x ∷ xs ≡ y ∷ ys → x ≡ y
 head_same e = cc
 
-pub tail_same : {x y : Want} {xs ys : List Want} → x ∷ xs ≡ y ∷ ys → xs ≡ ys
+pub tail_same : {x y : MemoryReport} {xs ys : List MemoryReport} → x ∷ xs ≡ y ∷ ys → xs ≡ ys
 tail_same e = cc
 
 -- whether not all memory was found
-abbrev pub is_short : Want → Bool
+abbrev pub is_short : MemoryReport → Bool
 is_short found_all = false
 is_short runs_out = true
 is_short runs_out_with_pairs = true
 
 -- whether the answer says nothing else
-abbrev pub is_alone : Want → Bool
+abbrev pub is_alone : MemoryReport → Bool
 is_alone found_all = false
 is_alone runs_out = true
 is_alone runs_out_with_pairs = false
 
 abbrev pub wants_memory : {K V : Type 0} → Reply K V → Bool
-wants_memory reply = is_short (want_of reply)
+wants_memory reply = is_short (memory_report reply)
 
 pub given_wants : {K V : Type 0} (result : Result Bool AllocError) (out : List (K × V))
     → wants_memory (given result out) ≡ is_err result
@@ -35,7 +35,7 @@ given_wants (Ok b) out = refl
 given_wants (Err e) out = refl
 
 pub given_tells : {K V : Type 0} (result : Result Bool AllocError) (out : List (K × V))
-    → is_alone (want_of (given result out)) ≡ false
+    → is_alone (memory_report (given result out)) ≡ false
 given_tells (Ok b) out = refl
 given_tells (Err e) out = refl
 

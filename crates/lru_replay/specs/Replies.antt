@@ -10,7 +10,7 @@ use Rattle.lru_replay.specs.declared.calls.call.Answer.TheVariants as answers
 use Rattle.lru_replay.specs.declared.lines.figures.Figures.{Figures}
 
 pub data Reply (K V : Type 0) : Type 0 where
-  -- whether the key of an insert, a write, a promotion or a demotion is there, or that of a `Contains`
+  -- whether the key of an insert, a write, a promotion, a demotion or a `Contains` is there
   flag : Bool → Reply K V
   -- how an insert ended, and what it passed to its callback, in that order
   given : Result Bool AllocError → List (K × V) → Reply K V
@@ -35,22 +35,22 @@ pub data Reply (K V : Type 0) : Type 0 where
   cost_differs : Reply K V
 
 -- what a reply says of memory
-pub data Want : Type 0 where
+pub data MemoryReport : Type 0 where
   -- that all was found
-  found_all : Want
+  found_all : MemoryReport
   -- that the call ran out of memory
-  runs_out : Want
+  runs_out : MemoryReport
   -- that an insert ran out of memory, and the reply also lists the pairs that were passed to its callback
-  runs_out_with_pairs : Want
+  runs_out_with_pairs : MemoryReport
 
 module _ {K V : Type 0} where
   -- what it says of memory
-  abbrev pub want_of : Reply K V → Want
-  want_of no_memory = runs_out
-  want_of (reserved (Err Memory)) = runs_out
-  want_of (shrunk (Err e)) = runs_out
-  want_of (given (Err e) out) = runs_out_with_pairs
-  want_of reply = found_all
+  abbrev pub memory_report : Reply K V → MemoryReport
+  memory_report no_memory = runs_out
+  memory_report (reserved (Err Memory)) = runs_out
+  memory_report (shrunk (Err e)) = runs_out
+  memory_report (given (Err e) out) = runs_out_with_pairs
+  memory_report reply = found_all
 
   -- what an answer says
   abbrev pub said : Answer K V → Reply K V

@@ -12,7 +12,7 @@ ghost use Rattle.lru_replay.specs.CallRuns.{HasSmallBudget};
 ghost use Rattle.lru_replay.specs.LineRuns.{LineStep};
 ghost use Rattle.lru_replay.specs.ListRuns.{ListCallStep, ListSummingStep};
 ghost use Rattle.lru_replay.specs.Maps.{Map};
-ghost use Rattle.lru_replay.specs.Replies.{Reply, want_of};
+ghost use Rattle.lru_replay.specs.Replies.{Reply, memory_report};
 
 use schnellru::{
     ByCost, ByLength, ByMemoryUsage, Costed, Insertion, KeyHasher, Limiter, RandomState, Summing,
@@ -141,7 +141,7 @@ pub fn small_calls_are_alike<K: Eq + Hash, V, L: Insertion<K, V, K>, S: KeyHashe
         AllByRecursion (HasPlainSearch (S.hash_of old.hasher)) calls →
         IsRun (CallStep L.rules L.offers K.eq S.hash_of) (λ st. buckets st ≤ 16) old calls replies new →
         IsRun (CallStep L.rules L.offers K.eq S.hash_of) (λ st. buckets st ≤ 16) other calls answers last →
-        map want_of replies ≡ map want_of answers →
+        map memory_report replies ≡ map memory_report answers →
         (replies ≡ answers) × LookAlike new last }
 {
     laws::small_inserts_look_alike::<K, V, K, L, S>();
@@ -158,7 +158,7 @@ pub fn small_budgets_are_alike<K: Eq + Hash + Drop, V: Drop, S: KeyHasher<K>>()
         S.hash_of) (IsMap K.eq) old calls replies new →
         IsRun (CallStep ⟦<ByMemoryUsage as Limiter<K, V>>⟧.rules ⟦<ByMemoryUsage as Insertion<K, V, K>>⟧.offers K.eq
         S.hash_of) (IsMap K.eq) other calls answers last →
-        map want_of replies ≡ map want_of answers →
+        map memory_report replies ≡ map memory_report answers →
         (replies ≡ answers) × LookAlike new last }
 {
     laws::runs_keep_the_memory_usage::<K, V, S>();
@@ -175,7 +175,7 @@ pub fn small_summing_is_alike<K: Eq + Hash, V, L: Summing<K, V, K>, S: KeyHasher
         L.cost_of L.account) (λ st. buckets st ≤ 16) old calls replies new →
         IsRun (SummingStep L.rules L.offers K.eq S.hash_of
         L.cost_of L.account) (λ st. buckets st ≤ 16) other calls answers last →
-        map want_of replies ≡ map want_of answers →
+        map memory_report replies ≡ map memory_report answers →
         (replies ≡ answers) × LookAlike new last }
 {
     laws::small_inserts_look_alike::<K, V, K, L, S>();

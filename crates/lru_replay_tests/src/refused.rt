@@ -53,7 +53,7 @@ fn hog_that_meets(alloc: Global, requests: &[usize], met: usize) -> Result<Hog, 
 
 /// Makes four calls on a map of seven pairs, of which the first requests for memory are met: an insert for which a
 /// table of 8 buckets grows, a list, a drain, and a look-up. Returns whether the answers are as expected, and the cost
-/// is that of the pairs that are left. The links have 8 bytes, so an entry has 32.
+/// is the sum of the values that are left. The links have 8 bytes, so an entry has 32.
 fn is_as_expected(alloc: Global, met: usize, sums: bool) -> Result<bool, AllocError> {
     let mut map = map_of(alloc, ByCost::new(1000));
     insert_all(&mut map, 1..=7)?;

@@ -22,7 +22,7 @@ use Rattle.lru_replay.specs.declared.calls.call.Call.{Call}
 use Rattle.lru_replay.specs.declared.calls.call.Call.TheVariants as calls
 use Rattle.lru_replay.specs.CallRuns.{IsRun}
 use Rattle.lru_replay.specs.ListRuns.{ListCallStep, fronted}
-use Rattle.lru_replay.specs.Replies.{Reply, want_of, found_all, value, made_reply}
+use Rattle.lru_replay.specs.Replies.{Reply, memory_report, found_all, value, made_reply}
 use Rattle.lru_theory.specs.BudgetReferences.{offered}
 use Rattle.lru_theory.specs.References.{FoundMemory}
 use Rattle.lru_theory.proofs.BudgetLists.{key_cost, pair_of, spending, holding, popped, trimmed_is, found_is}
@@ -172,14 +172,14 @@ module _ {K V : Type 0} (cost : V → ℕ) (value_of : K → V) (n : ℕ) (fits 
     -- a reference that found memory
     call_holds : (call : Call K V Budget) (key : K) (keys : List K) (reply : Reply K V) (new : Left)
         → ListCallStep (by_cost cost) (charges cost) eq hash_of (held keys) call reply new
-        → offered call ≡ Some (pair key) → want_of reply ≡ found_all → costs key ≤ n
+        → offered call ≡ Some (pair key) → memory_report reply ≡ found_all → costs key ≤ n
         → spent costs keys ≤ n → new ≡ held (left_by key keys)
     call_holds (calls.Insert at v) key keys reply new (inl (Ok flag, h, is)) e found cheap few =
         insert_holds key keys flag new cheap few
         (subst (λ p. InsertsInList (by_cost cost) (charges cost) eq p.0 p.1 (held keys) (Ok flag) new)
         (same_Some (at, v) (pair key) e) h)
     call_holds (calls.Insert at v) key keys reply new (inl (Err x, h, is)) e found cheap few =
-        absurd (ran_out (sym (ap want_of is) ∙ found))
+        absurd (ran_out (sym (ap memory_report is) ∙ found))
     call_holds (calls.Insert at v) key keys reply new (inr (none, is, same)) e found cheap few = absurd none
     call_holds (calls.GetOrInsert at v) key keys reply new (inr (none, is, same)) e found cheap few = absurd none
     call_holds (calls.GetOrInsert at v) key keys reply new (inl h) e found cheap few =
@@ -194,7 +194,7 @@ module _ {K V : Type 0} (cost : V → ℕ) (value_of : K → V) (n : ℕ) (fits 
             (λ there. (reply ≡ value (Some there)) × (new ≡ fronted eq key (held keys)))
             → new ≡ held (left_by key keys)
         made None none (Ok flag, h, is) = insert_holds key keys flag new cheap few h
-        made None none (Err x, h, is) = absurd (ran_out (sym (ap want_of is) ∙ found))
+        made None none (Err x, h, is) = absurd (ran_out (sym (ap memory_report is) ∙ found))
         made (Some w) there (is, same) =
             let p = value_there (eq key) (map pair keys) w there in
             same ∙ fronted_holds key keys p.0 few p.1

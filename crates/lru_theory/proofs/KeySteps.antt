@@ -20,7 +20,7 @@ use Rattle.recency.specs.Recency.{IsExact, is_in}
 use Rattle.lru_replay.specs.declared.calls.call.Call.{Call}
 use Rattle.lru_replay.specs.declared.calls.call.Call.TheVariants as calls
 use Rattle.lru_replay.specs.CallRuns.{IsRun, CallStep}
-use Rattle.lru_replay.specs.Replies.{Reply, want_of, found_all, runs_out_with_pairs}
+use Rattle.lru_replay.specs.Replies.{Reply, memory_report, found_all, runs_out_with_pairs}
 use Rattle.lru_theory.specs.KeyCalls.{key_call, CallsOn}
 use Rattle.lru_theory.specs.References.{FoundMemory}
 use Rattle.lru_theory.proofs.ReferenceRuns.{head_of, tail_of}
@@ -99,7 +99,7 @@ module _ {K V H : Type 0} {eq : K → K → Bool} {hash_of : H → K → ℕ} (e
 
   call_keeps : (call : Call K V ℕ) (on : KeyCall K) (old : State K V ℕ H) (reply : Reply K V) (new : State K V ℕ H)
       → CallStep length_rules length_offers eq hash_of old call reply new → key_call call ≡ Some on
-      → want_of reply ≡ found_all → KeepsToLength old → IsSized new → Keeps eq on old new
+      → memory_report reply ≡ found_all → KeepsToLength old → IsSized new → Keeps eq on old new
   call_keeps (calls.Insert key v) on old reply new step e found keeps sized =
       subst (λ c. Keeps eq c old new) (call_same (refers key) on e)
       (from_refers key old new (call_refers exact known (calls.Insert key v) key old reply new step refl found keeps
@@ -113,9 +113,9 @@ module _ {K V H : Type 0} {eq : K → K → Bool} {hash_of : H → K → ℕ} (e
       (from_refers key old new (insert_refers exact known key v old flag new keeps sized
       (inserts key v (Ok flag) (plain_insert h)) (plain_insert h)))
   call_keeps (calls.InsertWith key v) on old reply new (inl (Err x, out, h, is)) e found keeps sized =
-      absurd (ran_out_with_pairs (sym (ap want_of is) ∙ found))
+      absurd (ran_out_with_pairs (sym (ap memory_report is) ∙ found))
   call_keeps (calls.InsertWith key v) on old reply new (inr (stores, is, same)) e found keeps sized =
-      absurd (ran_out (sym (ap want_of is) ∙ found))
+      absurd (ran_out (sym (ap memory_report is) ∙ found))
   call_keeps (calls.Get key) on old reply new (inl (is, same)) e found keeps sized =
       subst (λ c. Keeps eq c old new) (call_same (promotes key) on e)
       (steps (promotes key) old new keeps sized (gets (eq key) same)

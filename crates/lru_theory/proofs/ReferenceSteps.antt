@@ -24,7 +24,7 @@ use Rattle.lru_model.specs.Runs.{Step, inserts, makes_newest}
 use Rattle.lru_model.specs.State.{State, IsSized}
 use Rattle.recency.specs.Recency.{IsExact, is_in}
 use Rattle.lru_replay.specs.CallRuns.{CallStep}
-use Rattle.lru_replay.specs.Replies.{Reply, want_of, found_all, runs_out}
+use Rattle.lru_replay.specs.Replies.{Reply, memory_report, found_all, runs_out}
 use Rattle.lru_replay.specs.declared.calls.call.Call.{Call}
 use Rattle.lru_replay.specs.declared.calls.call.Call.TheVariants as calls
 use Rattle.lru_theory.specs.References.{referenced}
@@ -222,12 +222,12 @@ module _ {K V H : Type 0} {eq : K → K → Bool} {hash_of : H → K → ℕ} (e
   -- a reference that found memory
   pub call_refers : (call : Call K V ℕ) (key : K) (old : State K V ℕ H) (reply : Reply K V) (new : State K V ℕ H)
       → CallStep length_rules length_offers eq hash_of old call reply new → referenced call ≡ Some key
-      → want_of reply ≡ found_all → KeepsToLength old → IsSized new → Refers eq key old new
+      → memory_report reply ≡ found_all → KeepsToLength old → IsSized new → Refers eq key old new
   call_refers (calls.Insert at v) key old reply new (inl (Ok flag, h, is)) e found keeps sized =
       subst (λ k. Refers eq k old new) (same_Some at key e)
       (insert_refers at v old flag new keeps sized (inserts at v (Ok flag) h) h)
   call_refers (calls.Insert at v) key old reply new (inl (Err x, h, is)) e found keeps sized =
-      absurd (ran_out (sym (ap want_of is) ∙ found))
+      absurd (ran_out (sym (ap memory_report is) ∙ found))
   call_refers (calls.Insert at v) key old reply new (inr (none, is, same)) e found keeps sized = absurd none
   call_refers (calls.GetOrInsert at v) key old reply new (inl (result, got w there r same, is)) e found keeps sized =
       subst (λ k. Refers eq k old new) (same_Some at key e)
@@ -239,6 +239,6 @@ module _ {K V H : Type 0} {eq : K → K → Bool} {hash_of : H → K → ℕ} (e
       (insert_refers at w old flag new keeps sized (makes_newest v at (Ok flag) (inserted none w makes h)) h)
   call_refers (calls.GetOrInsert at v) key old reply new (inl (Err x, inserted none w makes h, is)) e found keeps
       sized =
-      absurd (ran_out (sym (ap want_of is) ∙ found))
+      absurd (ran_out (sym (ap memory_report is) ∙ found))
   call_refers (calls.GetOrInsert at v) key old reply new (inr (none, is, same)) e found keeps sized = absurd none
   call_refers call key old reply new step e found keeps sized = absurd (nothing e)

@@ -7,7 +7,7 @@ use Rattle.lru_model.specs.State.{State, IsMap}
 use Rattle.lru_replay.specs.declared.calls.call.Call.{Call}
 use Rattle.lru_replay.specs.declared.calls.call.Call.TheVariants as calls
 use Rattle.lru_replay.specs.CallRuns.{IsRun, CallStep}
-use Rattle.lru_replay.specs.Replies.{Reply, want_of, found_all}
+use Rattle.lru_replay.specs.Replies.{Reply, memory_report, found_all}
 
 -- the key that the call references: it inserts the key, or gets its value and inserts it if it is not there
 abbrev pub referenced : {K V S : Type 0} → Call K V S → Option K
@@ -17,7 +17,7 @@ referenced call = None
 
 -- no call ran out of memory
 abbrev pub FoundMemory : {K V : Type 0} → List (Reply K V) → Type 0
-FoundMemory = AllByRecursion (λ reply. want_of reply ≡ found_all)
+FoundMemory = AllByRecursion (λ reply. memory_report reply ≡ found_all)
 
 -- A run of calls that reference these keys, one after another, from an empty map with a maximum length. No call runs
 -- out of memory.

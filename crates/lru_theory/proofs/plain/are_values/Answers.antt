@@ -1,6 +1,6 @@
 use Rattle.std.proofs.Common.{take, get_or, sym, ap, ◌∙◌, subst}
 use Rattle.std.proofs.lemmas.List.{take_more}
-use Rattle.lru_replay.specs.Replies.{want_of, said, all_said}
+use Rattle.lru_replay.specs.Replies.{memory_report, said, all_said}
 use Rattle.lru_theory.specs.References.{FoundMemory}
 use Rattle.lru_theory.proofs.PlainRuns.{found_more}
 use Rattle.lru_theory.proofs.plain.are_values.Goals as goal
@@ -12,4 +12,4 @@ loop-answer-preserved c =
     let answer = c.answer-item.result in
     let is = sym c.answer-item.is ∙ c.in-Value.is in
     subst (λ xs. FoundMemory (all_said xs)) (sym (take_more items i answer c.loop-answer-test.true))
-    (found_more (take i items) (get_or items i answer) c.loop-answer.invariant (ap (λ a. want_of (said a)) is))
+    (found_more (take i items) (get_or items i answer) c.loop-answer.invariant (ap (λ a. memory_report (said a)) is))
