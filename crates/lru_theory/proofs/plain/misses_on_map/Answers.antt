@@ -16,7 +16,7 @@ returns c =
     let new = c.run_calls.new.map in
     let fresh = c.new-map.ensures in
     let length : old.limiter ≡ c.args.length = ap (λ st. st.limiter) fresh ∙ c.new.ensures in
-    let begun = c.maps_keep_to_their_length.ensures.begins c.new.result 32 (seeded (1 ∷ 2 ∷ 3 ∷ 4 ∷ []))
+    let begun = c.maps_keep_to_their_length.ensures.begins c.new.result 24 (seeded (1 ∷ 2 ∷ 3 ∷ 4 ∷ []))
     (omega (arith, c.new.ensures, c.requires.within)) (omega arith) in
     let run : References nat_eq _ keys old new = record {
       calls = c.in_ok-calls.calls.items;
