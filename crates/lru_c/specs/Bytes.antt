@@ -137,6 +137,8 @@ FindsMemory key ready = has_bytes key ready ≡ false → 1 ≤ room ready
 
 -- A put, and what it returns.
 pub data Puts (key value : List ℕ) (old : BytesMap) (code : ℕ) (new : BytesMap) : Type 0 where
+  -- The key alone is over the budget, and so cannot be there: nothing changes.
+  too_long : old.limiter.limit < length key → code ≡ 1 → new ≡ old → Puts key value old code new
   -- The entry alone is over the budget: it is not stored, and the key is removed.
   too_heavy : old.limiter.limit < weight (length key) (length value) → code ≡ 1 →
       (value_gone : Option Bytes) → Remove bytes_rules (names_bytes key) old value_gone new →

@@ -28,6 +28,10 @@ pub fn put(alloc: Global, map: &mut BytesMap, key: &[u8], value: &[u8]) -> u32
     ensures { Puts key.now value.now map.old result map.new }
 {
     let limit = map.limiter().limit();
+    // Not even hashed, so that a length far too great reads no memory.
+    if key.len() as u64 > limit {
+        return REJECTED;
+    }
     if weight_of(key.len(), value.len()) > limit {
         map.remove(&Named(key));
         return REJECTED;
