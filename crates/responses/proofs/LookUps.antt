@@ -18,6 +18,7 @@ use Rattle.lru_tenants.specs.declared.error.TenantError.{TenantError}
 use Rattle.responses.specs.LookUps.{fresh_at, looked_up, LooksUp}
 use Rattle.responses.specs.declared.cache.Response.{Response}
 use Rattle.std.specs.Prelude.{IfSome}
+use Rattle.lru_model.proofs.PairLists.NamedPairs.{no_pair}
 use Rattle.lru_model.proofs.CallerLemmas.{read_back, written-found, promoted-absent}
 
 ok≢err : {T E : Type 0} {x : T} {e : E} → Ok x ≡ Err e → ⊥
@@ -29,17 +30,6 @@ or-else x (Err e) = x
 
 ok-same : {T E : Type 0} {x y : T} → ◌≡◌ {A = Result T E} (Ok x) (Ok y) → x ≡ y
 ok-same {T} {E} {x} {y} p = ap (or-else x) p
-
--- a key whose value is found passes the test
-found-key : {K V : Type 0} (names : K → Bool) (xs : List (K × V)) (v : V) → lookup names xs ≡ Some v
-    → (k : K) × (names k ≡ true)
-found-key names [] v e = absurd (true≢false (sym (ap is_some e)))
-found-key {K} {V} names (x ∷ xs) v e = go (found-key names xs v) (names x.0) refl e
-  where
-    go : (lookup names xs ≡ Some v → (k : K) × (names k ≡ true)) → (is : Bool) → names x.0 ≡ is
-        → cond is (Some x.1) (lookup names xs) ≡ Some v → (k : K) × (names k ≡ true)
-    go later true is e = (x.0, is)
-    go later false is e = later e
 
 module _ {K V : Type 0} (names : K → Bool) where
   -- the pair of a value that is found passes the test
@@ -54,16 +44,6 @@ module _ {K V : Type 0} (names : K → Bool) where
       go later true is e = (x, refl, is)
       go later false is e = later e
 
-  -- if no value is found, no pair is
-  no-pair : (xs : List (K × V)) → lookup names xs ≡ None → lookup_entry names xs ≡ None
-  no-pair [] e = refl
-  no-pair (x ∷ xs) e = go (no-pair xs) (names x.0) e
-    where
-      go : (lookup names xs ≡ None → lookup_entry names xs ≡ None) → (is : Bool)
-          → cond is (Some x.1) (lookup names xs) ≡ None → cond is (Some x) (lookup_entry names xs) ≡ None
-      go later true e = absurd (true≢false (ap is_some e))
-      go later false e = later e
-
   -- a pair that became the newest is removed
   without-front : (xs : List (K × V)) (v : V) → lookup names xs ≡ Some v
       → without names (front names xs) ≡ without names xs
@@ -76,7 +56,7 @@ module _ {K : Type 0} (names : K → Bool) (now : ℕ) (xs : List (K × Response
   -- the list after a get that finds nothing, or a fresh response
   front-looked_up : (found : Option Response) → lookup names xs ≡ found → fresh_at now found ≡ found
       → front names xs ≡ looked_up names now xs
-  front-looked_up None is same = ap (λ o. after o (without names xs)) (no-pair names xs is)
+  front-looked_up None is same = ap (λ o. after o (without names xs)) (no_pair names xs is)
       ∙ sym (ap (λ o. cond (is_some (fresh_at now o)) (front names xs) (without names xs)) is)
   front-looked_up (Some v) is same =
       sym (ap (λ o. cond (is_some o) (front names xs) (without names xs)) (ap (fresh_at now) is ∙ same))
@@ -93,7 +73,7 @@ module _ {K V : Type 0} {eq : K → K → Bool} (laws : IsEquivalence eq) (names
   pub not-there : (xs : List (K × V)) (v : V) → lookup names xs ≡ Some v → IsDistinct eq (keys_of xs)
       → lookup names (remove_entry names xs) ≡ None
   not-there xs v found distinct =
-      let (k, is) = found-key names xs v found in
+      let (p, there, is) = found-pair names xs v found in let k = p.0 in
       ap (λ test. lookup test (remove_entry names xs)) (λ i y. one k y is i)
       ∙ lookup-remove_entry laws names one k xs distinct ∙ ap (λ b. cond b None (lookup (eq k) xs)) is
 
