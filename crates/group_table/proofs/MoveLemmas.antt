@@ -1,5 +1,5 @@
 -- Entries that move one by one into a fresh table.
-use Rattle.std.proofs.Common.{◌≡◌, ◌≢◌, ℕ, ◌+◌, ◌<◌, Bool, List, [], ◌∷◌, ◌++◌, length, get_or, set, Option, Some, None}
+use Rattle.std.proofs.Common.{◌≡◌, ◌≢◌, ℕ, ◌+◌, ◌<◌, List, [], ◌∷◌, ◌++◌, length, get_or, set, Option, Some, None}
 use Rattle.std.proofs.Common.{take, drop}
 use Rattle.std.proofs.Common.{ap, sym}
 use Rattle.std.proofs.Common.{◌∙◌, subst, arith, count_by, cond, is_some, true, get_or-set_same, get_or-set_other, inl}
@@ -47,7 +47,7 @@ module _ {T N : Type 0} (number : N → ℕ) (none : N) where
         keeps moved_hash_of (λ b entry e. gives b entry (same b ∙ e))
 
   -- one more entry moves
-  module _ (link : ℕ → N) (eq : N → N → Bool) (laws : IsLinkType number link none eq)
+  module _ (link : ℕ → N) (laws : IsLinkType number link none)
       (old more : ℕ → Option T) {new joined : List (Slot T)} {links : List N} (b : ℕ) {c hash : ℕ} {entry : T}
       (was : old b ≡ None) (is : more b ≡ Some entry) (others : (k : ℕ) → k ≢ b → more k ≡ old k)
       (within : b < length links) (below : c < number none) (joins : Joins new joined hash entry c)

@@ -1,5 +1,5 @@
 -- Entries take new places in the table where they stand: the turn of one.
-use Rattle.std.proofs.Common.{◌≡◌, ◌≢◌, ℕ, ◌+◌, ◌-◌, ◌<◌, ◌≤◌, ◌⊎◌, Bool, max, List, length, get_or, set}
+use Rattle.std.proofs.Common.{◌≡◌, ◌≢◌, ℕ, ◌+◌, ◌-◌, ◌<◌, ◌≤◌, ◌⊎◌, max, List, length, get_or, set}
 use Rattle.std.proofs.Common.{Option, Some, None, refl, ap, sym, ◌∙◌, subst, arith, inl, inr, count_by, is_some}
 use Rattle.std.proofs.Common.{get_or-set_same, get_or-set_other, length-set}
 use Rattle.std.proofs.lemmas.Bool.{cases_eq}
@@ -97,7 +97,7 @@ module _ {T N : Type 0} {number : N → ℕ} {none : N} {IsGiven : (ℕ → ℕ)
         in_control = omega (arith, in_placed reached, entries_within _ _ half.valid.laid_out);
       }
 
-  module _ (link : ℕ → N) (eq : N → N → Bool) (laws : IsLinkType number link none eq)
+  module _ (link : ℕ → N) (laws : IsLinkType number link none)
       (below : length whole < number none) (hash b tag : ℕ)
       (reached : IsFreeFor control half.placed hash b)
       (tag_is : tag ≡ hash_tag hash) (tag_fits : tag < 128)
@@ -134,7 +134,7 @@ module _ {T N : Type 0} {number : N → ℕ} {none : N} {IsGiven : (ℕ → ℕ)
     moves_then : Moves number none (place_at gone_then) (slots_of (written control half.placed b tag) placed_then)
         (set links old (link b))
     moves_then =
-        Moves-more number none link eq laws (place_at half.gone)
+        Moves-more number none link laws (place_at half.gone)
         (place_at gone_then) old was_out gone_there gone_elsewhere
         (omega (arith, half.links_length, same_length, in_whole))
         (omega (arith, in_placed reached, half.placed_length, same_length, below)) joins half.moves
@@ -211,7 +211,7 @@ module _ {T N : Type 0} {number : N → ℕ} {none : N} {IsGiven : (ℕ → ℕ)
               [ inl s ↦ inl (still_settled k w.0 w.1 s) | inr v ↦ inr (still_waiting k w.0 w.1 v) ]
         ];
         moves = moves_then;
-        hashes = λ hash_at given. KeepsHashes-more number none link eq laws (place_at half.gone)
+        hashes = λ hash_at given. KeepsHashes-more number none link laws (place_at half.gone)
             (place_at gone_then) old was_out gone_there gone_elsewhere
             (omega (arith, half.links_length, same_length, in_whole))
             (omega (arith, in_placed reached, half.placed_length, same_length, below)) joins half.moves hash_at
@@ -274,8 +274,8 @@ module _ {T N : Type 0} {number : N → ℕ} {none : N} {IsGiven : (ℕ → ℕ)
         at (Some waiting) is = (stood_next waiting is, IsHalfway-next waiting is)
 
 -- the first place that has not been passed, with an entry that a search for it reads among the first
-module _ {T N : Type 0} (number : N → ℕ) (none : N) (link : ℕ → N) (eq : N → N → Bool)
-    (laws : IsLinkType number link none eq) (IsGiven : (ℕ → ℕ) → Type 0)
+module _ {T N : Type 0} (number : N → ℕ) (none : N) (link : ℕ → N)
+    (laws : IsLinkType number link none) (IsGiven : (ℕ → ℕ) → Type 0)
     (whole now : List (Option T)) (control : List ℕ) (links : List N) (b : ℕ) (entry : T)
     (half : IsHalfway number none IsGiven whole now control links b)
     (within : count_by is_some whole ≤ full_capacity (length whole)) (below : length whole < number none)
@@ -308,6 +308,6 @@ module _ {T N : Type 0} (number : N → ℕ) (none : N) (link : ℕ → N) (eq :
         },
         byte,
       ) in
-      let last = IsHalfway-last whole b half_taken stood within link eq laws below
+      let last = IsHalfway-last whole b half_taken stood within link laws below
       hash b tag reached tag_is tag_fits gives free in
       rw (put_back, taken_length) at last

@@ -1,32 +1,29 @@
 -- What a width of links promises.
---     IsLinkType number link most eq      the laws of `LinkType`, if `MAX` is most
+--     IsLinkType number link most         the laws of `LinkType`, if `MAX` is most
 --     narrowest_most                      the number of `MAX` in the narrowest width
 --     numbers_are_links                   an unsigned number is a link that is its own number
-use Rattle.std.specs.Prelude.{◌≡◌, ◌≢◌, ◌≤◌, ◌<◌, ℕ, Bool, nat_eq, refl}
+use Rattle.std.specs.Prelude.{◌≡◌, ◌≢◌, ◌≤◌, ◌<◌, ℕ, refl}
 use Rattle.std.proofs.Common.{arith}
 
 -- the greatest number of eight bits, which the narrowest links have
 abbrev pub narrowest_most : ℕ
 narrowest_most = 255
 
-pub record IsLinkType {N : Type 0} (number : N → ℕ) (link : ℕ → N) (most : N) (eq : N → N → Bool) : Type 0 where
+pub record IsLinkType {N : Type 0} (number : N → ℕ) (link : ℕ → N) (most : N) : Type 0 where
   -- the link of a number below the number of `MAX` has that number
   pub number_of_link : (n : ℕ) → n < number most → number (link n) ≡ n
   -- so it is not `MAX`
   pub link_below : (n : ℕ) → n < number most → link n ≢ most
   -- links of equal numbers are equal
   pub equal_by_number : (a b : N) → number a ≡ number b → a ≡ b
-  -- and `==` compares the numbers
-  pub eq_by_number : (a b : N) → eq a b ≡ nat_eq (number a) (number b)
   -- a link has at least eight bits
   pub wide_enough : narrowest_most ≤ number most
 
 -- each number up to most is a link of its own, and most itself stands for no bucket
-pub numbers_are_links : (most : ℕ) → narrowest_most ≤ most → IsLinkType (λ n. n) (λ n. n) most nat_eq
+pub numbers_are_links : (most : ℕ) → narrowest_most ≤ most → IsLinkType (λ n. n) (λ n. n) most
 numbers_are_links most wide = record {
   number_of_link = λ n below. refl;
   link_below = λ n below same. let h : n ≡ most = same in absurd (omega arith);
   equal_by_number = λ a b same. same;
-  eq_by_number = λ a b. refl;
   wide_enough = wide;
 }

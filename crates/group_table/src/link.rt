@@ -2,14 +2,12 @@
 ghost use Rattle.std.specs.Prelude.{◌≡◌, ◌<◌, ℕ};
 ghost use Rattle.group_table.specs.Link.{IsLinkType};
 
-use std::fmt::Debug;
-
 /// The type of a link: the number of a bucket, below `MAX`, or `MAX` itself, which means no bucket.
 ///
 /// A table with links of type `N` has fewer than `N::MAX` buckets, so the width of the links limits its size. It is
 /// implemented for `u8`, `u16`, `u32` and `usize`. An impl of your own is a width too: it converts links to numbers and
 /// back, and proves the laws.
-pub trait LinkType: Copy + Eq + Debug {
+pub trait LinkType: Copy {
     /// No bucket. As a number, it is one more than the greatest number of a link, and at least 255.
     const MAX: Self;
 
@@ -31,9 +29,9 @@ pub trait LinkType: Copy + Eq + Debug {
     fn into_usize(self) -> usize
         ensures { result ≡ number self };
 
-    /// A number below the number of `MAX` comes back from its link, `==` compares the numbers, and no width is below 8
-    /// bits.
-    ghost laws: { IsLinkType number link MAX Self.PartialEq.eq };
+    /// A number below the number of `MAX` comes back from its link, links of equal numbers are equal, and no width is
+    /// below 8 bits.
+    ghost laws: { IsLinkType number link MAX };
 }
 
 impl LinkType for u8 {

@@ -30,8 +30,6 @@ use denote.Triple.Table.{framed}
 use Rattle.std.specs.Prelude.{Bool, Result}
 use Rattle.std.specs.HashMap.Lent.{HashMembers}
 use Rattle.std.specs.declared.hash.Hasher as hasher
-use Rattle.std.specs.declared.cmp.PartialEq as equality
-use Rattle.std.specs.declared.fmt.Debug as debug
 use Rattle.std.specs.contracts.option.Option as option
 use Rattle.std.specs.contracts.result.Result as result
 use Rattle.group_table.specs.declared.link.LinkType as link_type
@@ -49,7 +47,7 @@ Typed τ v = T (has_ty τ v) × WT v
 
 module _ {M : Type 1} {𝓤 : Ura M} (𝓛 : Logic 𝓤) (𝓜 : Model 𝓤 𝓛.H) (𝓡 : Running 𝓤 𝓛.H 𝓜) (K V L S N H E : RattleType)
     (LV : Laws V) (LE : Laws E) (key : HashMembers K.Denot) (limits : limiter.Ghosts L.Denot K.Denot V.Denot N.Denot)
-    (links : link_type.Ghosts N.Denot) (link_eq : equality.Ghosts N.Denot) (link_shown : debug.Ghosts N.Denot)
+    (links : link_type.Ghosts N.Denot)
     (hashed : HasherMembers S.Denot K.Denot H.Denot) (hash : hasher.Ghosts H.Denot)
     (m : MutBor (State K.Denot V.Denot L.Denot S.Denot))
     (Step : Result Bool E.Denot → State K.Denot V.Denot L.Denot S.Denot → Type 0) (κ : Lft) where
@@ -60,10 +58,10 @@ module _ {M : Type 1} {𝓤 : Ura M} (𝓛 : Logic 𝓤) (𝓜 : Model 𝓤 𝓛
   Gives = Res κ V E
 
   abbrev Or : Got.Denot → Fml
-  Or = lends_or K (param 1 V) L S N H key limits links link_eq link_shown hashed hash m Step
+  Or = lends_or K (param 1 V) L S N H key limits links hashed hash m Step
 
   abbrev Made : Gives.Denot → Fml
-  Made = lends_made K (param 1 V) L S N H key limits links link_eq link_shown hashed hash m Step
+  Made = lends_made K (param 1 V) L S N H key limits links hashed hash m Step
 
   abbrev 𝓣 : MachineTables 𝓤 𝓛.H 𝓜
   𝓣 = tables 𝓤 𝓛.H 𝓜 𝓡 𝓡.env
@@ -140,7 +138,7 @@ module _ {M : Type 1} {𝓤 : Ura M} (𝓛 : Logic 𝓤) (𝓜 : Model 𝓤 𝓛
         returns ! (look_at ! 0 refl) $ free_all ! refl $
         -- [the answer; the tokens that were taken; the others; what follows]
         move ! (1 ∷ 2 ∷ []) $ use2 𝓛 (raw tokens) gives $
-        move ! (2 ∷ []) $ use1 𝓛 (‵ (Made (lent_or_none x))) (ends 𝓛 K (param 1 V) L S N H key limits links link_eq
-        link_shown hashed hash m Step x) $
+        move ! (2 ∷ []) $ use1 𝓛 (‵ (Made (lent_or_none x)))
+        (ends 𝓛 K (param 1 V) L S N H key limits links hashed hash m Step x) $
         move ! (2 ∷ 0 ∷ []) $ join ! $ nothing ! $ nothing ! $ fjoin ! $ nothing ! $ fjoin ! $ nothing ! $ fjoin ! $
         join ! $ move ! (1 ∷ 0 ∷ []) $ join ! $ by ! (leave u (lent_or_none x)))))))))))))

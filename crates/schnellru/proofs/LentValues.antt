@@ -21,8 +21,6 @@ use denote.Struct.Laws.{mut_ref_laws}
 use Rattle.std.specs.Prelude.{Bool, Ok, Err, Result, OnErr}
 use Rattle.std.specs.HashMap.Lent.{HashMembers}
 use Rattle.std.specs.declared.hash.Hasher as hasher
-use Rattle.std.specs.declared.cmp.PartialEq as equality
-use Rattle.std.specs.declared.fmt.Debug as debug
 use Rattle.std.specs.contracts.option.Option as option
 use Rattle.std.specs.contracts.result.Result as result
 use Rattle.std.proofs.option.Option.TheLaws as option_laws
@@ -53,7 +51,7 @@ on_err_then (Err e) f h = f h
 -- what `lend_or_insert` lends is what `get_or_insert` lends
 module _ {M : Type 1} {𝓤 : Ura M} (𝓛 : Logic 𝓤) (K V L S N H : RattleType) (key : HashMembers K.Denot) (limits :
     limiter.Ghosts L.Denot K.Denot V.Denot N.Denot)
-    (links : link_type.Ghosts N.Denot) (link_eq : equality.Ghosts N.Denot) (link_shown : debug.Ghosts N.Denot) (hashed
+    (links : link_type.Ghosts N.Denot) (hashed
     : HasherMembers S.Denot K.Denot H.Denot) (hash : hasher.Ghosts H.Denot)
     (m : MutBor (State K.Denot V.Denot L.Denot S.Denot)) {E : Type 0} (Step : Result Bool E →
     State K.Denot V.Denot L.Denot S.Denot → Type 0) where
@@ -61,21 +59,21 @@ module _ {M : Type 1} {𝓤 : Ura M} (𝓛 : Logic 𝓤) (K V L S N H : RattleTy
   Map = State K.Denot V.Denot L.Denot S.Denot
 
   abbrev R : RattleType
-  R = map_row K V L S N H key limits links link_eq link_shown hashed hash
+  R = map_row K V L S N H key limits links hashed hash
 
   abbrev Or : Result (MutBor V.Denot) (NotLent E) → Fml
-  Or = lends_or K V L S N H key limits links link_eq link_shown hashed hash m Step
+  Or = lends_or K V L S N H key limits links hashed hash m Step
 
   abbrev With : Result (MutBor V.Denot) (NotLent E) → Map → V.Denot → Type 0
-  With r n w = Made K V L S N H key limits links link_eq link_shown hashed hash m Step (lent_or_none r) n w
+  With r n w = Made K V L S N H key limits links hashed hash m Step (lent_or_none r) n w
 
   abbrev Both : Result (MutBor V.Denot) (NotLent E) → Type 0
   Both r = (s : (V.Denot → Map) × Map) × ((w : V.Denot) → IsLent (lent_or_none r) →
       With r (s.0 w) w) × (NoneLent (lent_or_none r) →
-      LendsNone K V L S N H key limits links link_eq link_shown hashed hash m Step (lent_or_none r) s.1)
+      LendsNone K V L S N H key limits links hashed hash m Step (lent_or_none r) s.1)
 
   pub ends : (r : Result (MutBor V.Denot) (NotLent E)) →
-      ent 𝓤 (sem 𝓛 (Or r)) (sem 𝓛 (lends_made K V L S N H key limits links link_eq link_shown hashed hash m Step
+      ent 𝓤 (sem 𝓛 (Or r)) (sem 𝓛 (lends_made K V L S N H key limits links hashed hash m Step
       (lent_or_none r)))
   unfolding follows_by such_by
   ends (Ok x) = qed 𝓛 (‵ (Or (Ok x)) ∷ []) ∵ fpick ! (λ s.

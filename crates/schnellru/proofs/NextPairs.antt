@@ -47,7 +47,6 @@ use Rattle.std.specs.Prelude.{Option, None, Some, if◌then◌else◌, nat_lt, o
 use Rattle.std.specs.Map.Iter.{deref_pair_mut}
 use Rattle.std.specs.contracts.option.Option as option
 use Rattle.std.specs.declared.cmp.PartialEq as equality
-use Rattle.std.specs.declared.fmt.Debug as debug
 use Rattle.std.specs.declared.hash.Hash as hashing
 use Rattle.std.specs.declared.hash.Hasher as hasher
 use Rattle.std.specs.declared.hash.BuildHasher as builder
@@ -64,15 +63,15 @@ use Rattle.schnellru.proofs.LentPairs.{Lent, lent_val, lent_shows, true_of, fals
 module _ {M : Type 1} {𝓤 : Ura M} (𝓛 : Logic 𝓤) (𝓜 : Model 𝓤 𝓛.H) (𝓡 : Running 𝓤 𝓛.H 𝓜) (K V L S N H : RattleType)
     (LK : Laws K) (LV : Laws V) (LL : Laws L) (LS : Laws S) (LN : Laws N) (LH : Laws H)
     (kP : equality.Ghosts K.Denot) (kH : hashing.Ghosts K.Denot) (lL : limiter.Ghosts L.Denot K.Denot V.Denot N.Denot)
-    (nL : link_type.Ghosts N.Denot) (nP : equality.Ghosts N.Denot) (nD : debug.Ghosts N.Denot)
+    (nL : link_type.Ghosts N.Denot)
     (sK : key_hasher.Ghosts S.Denot K.Denot H.Denot) (sB : builder.Ghosts S.Denot H.Denot) (hH : hasher.Ghosts H.Denot)
     (bounds : List (Outlives 8)) where
   abbrev Walk : Type 0
-  Walk = IterMut K.Denot V.Denot L.Denot S.Denot N.Denot H.Denot kP kH lL nL nP nD sK sB hH
+  Walk = IterMut K.Denot V.Denot L.Denot S.Denot N.Denot H.Denot kP kH lL nL sK sB hH
 
   -- its type, whose lifetime is ℓ
   abbrev At : NamedLft → RattleType
-  At ℓ = W.the_row ℓ K V L S N H kP kH lL nL nP nD sK sB hH
+  At ℓ = W.the_row ℓ K V L S N H kP kH lL nL sK sB hH
 
   abbrev Row : Lfts 8 → RattleType
   Row κs = At (named_lft 8 1 tt κs)
@@ -164,7 +163,7 @@ module _ {M : Type 1} {𝓤 : Ura M} (𝓛 : Logic 𝓤) (𝓜 : Model 𝓤 𝓛
         proved 𝓛 T stayed Next 𝓜 𝓡 (Goes-spent_ref 𝓛 8 (0 ∷ []) tt (plain Row), tt) name code closed
         (λ κs. (mut_vals, tt)) (λ κs. (mut_Tells (named 0) κs.0 (Row κs), tt)) (λ κs qs os a _ are.
         let κ = κs.0 in let R = Row κs in let X = Two κs in let val = lent_val κ K V in
-        let low = laws.lowers (named_lft 8 1 tt κs) K V L S N H kP kH lL nL nP nD sK sB hH LK LV LL LS LN LH in
+        let low = laws.lowers (named_lft 8 1 tt κs) K V L S N H kP kH lL nL sK sB hH LK LV LL LS LN LH in
         let r = a.0 in let b = r.ref_ptr.0 in let o = r.ref_ptr.1 in let s = r.now in
         let y : End.Ghost = ((κs, qs, os, a, (mut_vals r, tt)), tt) in
         let Cell = λ (us : List Val). ‵ (cell_at full_share R.mir us b o) in

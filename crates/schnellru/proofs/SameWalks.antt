@@ -4,7 +4,6 @@ use Rattle.std.specs.Prelude.{slice_get}
 use Rattle.std.specs.Borrow.{MutBor}
 use Rattle.std.specs.Coded.{Coded-set, coded_option, coded_ℕ, le_prop}
 use Rattle.std.specs.declared.cmp.PartialEq as equality
-use Rattle.std.specs.declared.fmt.Debug as debug
 use Rattle.std.specs.declared.hash.Hash as hashing
 use Rattle.std.specs.declared.hash.Hasher as hasher
 use Rattle.std.specs.declared.hash.BuildHasher as builder
@@ -16,11 +15,11 @@ use Rattle.lru_model.specs.State.{State}
 use Rattle.schnellru.specs.declared.walk.iter_mut.IterMut.{IterMut}
 
 module _ {K V L S N H : Type 0} {equal : equality.Ghosts K} {input : hashing.Ghosts K} {limits : limiter.Ghosts L K V N}
-    {links : link_type.Ghosts N} {link_eq : equality.Ghosts N} {link_shown : debug.Ghosts N}
+    {links : link_type.Ghosts N}
     {keyed : key_hasher.Ghosts S K H} {build : builder.Ghosts S H} {hash : hasher.Ghosts H} where
   abbrev walk : (m : MutBor (State K V L S)) (start end : ℕ) (front back : Option ℕ) → end ≤ length m.now.table.places
       → front ≡ slice_get m.now.table.places start → back ≡ last_of end m.now.table.places
-      → IterMut K V L S N H equal input limits links link_eq link_shown keyed build hash
+      → IterMut K V L S N H equal input limits links keyed build hash
   walk m start end front back within first last = record {
     map = m;
     start = start;

@@ -4,7 +4,6 @@ use Rattle.std.specs.Prelude.{ℕ, ◌+◌, ◌-◌, ◌≤◌, [], length, slic
 use Rattle.std.specs.Borrow.{Fml, GName, RattleType, Bor, MutBor, follows, follows_if}
 use Rattle.std.specs.HashMap.Lent.{HashMembers}
 use Rattle.std.specs.declared.cmp.PartialEq as equality
-use Rattle.std.specs.declared.fmt.Debug as debug
 use Rattle.std.specs.declared.hash.Hash as hashing
 use Rattle.std.specs.declared.hash.Hasher as hasher
 use Rattle.std.specs.declared.hash.BuildHasher as builder
@@ -29,9 +28,9 @@ lent_name None = maybe.none
 
 -- of a walk, over the members of the traits that an `IterMut` relies on
 module _ {K V L S N H : Type 0} {equal : equality.Ghosts K} {input : hashing.Ghosts K} {limits : limiter.Ghosts L K V N}
-    {links : link_type.Ghosts N} {link_eq : equality.Ghosts N} {link_shown : debug.Ghosts N}
+    {links : link_type.Ghosts N}
     {keyed : key_hasher.Ghosts S K H} {build : builder.Ghosts S H} {hash : hasher.Ghosts H}
-    (walk : IterMut K V L S N H equal input limits links link_eq link_shown keyed build hash) where
+    (walk : IterMut K V L S N H equal input limits links keyed build hash) where
   -- the map now, and the ghost name of the reference to it
   abbrev pub walk_map : State K V L S
   walk_map = walk.map.now
@@ -51,7 +50,7 @@ module _ {K V L S N H : Type 0} {equal : equality.Ghosts K} {input : hashing.Gho
   walk_written at w = record walk.map { now = record walk.map.now { pairs = set_value_at walk.map.now.pairs at w } }
 
   -- the walk after it lent the first pair that was left, or the last, and w was written there
-  abbrev pub walk_after_first : V → IterMut K V L S N H equal input limits links link_eq link_shown keyed build hash
+  abbrev pub walk_after_first : V → IterMut K V L S N H equal input limits links keyed build hash
   walk_after_first w = record walk {
     map = walk_written walk.start w;
     start = walk.start + 1;
@@ -59,7 +58,7 @@ module _ {K V L S N H : Type 0} {equal : equality.Ghosts K} {input : hashing.Gho
     first = refl;
   }
 
-  abbrev pub walk_after_last : V → IterMut K V L S N H equal input limits links link_eq link_shown keyed build hash
+  abbrev pub walk_after_last : V → IterMut K V L S N H equal input limits links keyed build hash
   walk_after_last w = record walk {
     map = walk_written (walk.end - 1) w;
     end = walk.end - 1;
@@ -77,16 +76,16 @@ module _ {K V L S N H : Type 0} {equal : equality.Ghosts K} {input : hashing.Gho
 
 module _ (K V L S N H : RattleType) (key : HashMembers K.Denot)
     (limits : limiter.Ghosts L.Denot K.Denot V.Denot N.Denot)
-    (links : link_type.Ghosts N.Denot) (link_eq : equality.Ghosts N.Denot) (link_shown : debug.Ghosts N.Denot)
+    (links : link_type.Ghosts N.Denot)
     (hashed : HasherMembers S.Denot K.Denot H.Denot) (hash : hasher.Ghosts H.Denot) where
   abbrev pub walk_row : RattleType
   walk_row = the_row (record { mir = named 1; lft = [] }) K V L S N H (record { eq = key.eq })
-      (record { hash_input = key.hash_input }) limits links link_eq link_shown
+      (record { hash_input = key.hash_input }) limits links
       (record { hash_of = hashed.hash_of }) (record { build_hasher = hashed.build_hasher }) hash
 
   module _ (walk : MutBor (IterMut K.Denot V.Denot L.Denot S.Denot N.Denot H.Denot (record { eq = key.eq })
       (record { hash_input = key.hash_input }) limits
-      links link_eq link_shown (record { hash_of = hashed.hash_of })
+      links (record { hash_of = hashed.hash_of })
       (record { build_hasher = hashed.build_hasher }) hash)) where
     -- the first pair that was left is lent until r ends, if there is one
     abbrev pub lends_next : Option (Bor K.Denot × MutBor V.Denot) → Fml

@@ -40,8 +40,11 @@ pub const DEFAULT_ENTRY_BYTES: usize = 32;
 
 /// A hash map that keeps its entries in the order of their use, within the limit of a limiter.
 ///
-/// `get` and `insert` make an entry the newest. The limiter decides which entries are accepted, when the map is over
-/// its limit, so that the oldest entries are evicted, and how large the table may grow.
+/// `get` and `insert` make an entry the newest. The limiter decides which entries the map accepts, how large the table
+/// may grow, and when the map is over its limit: then the oldest entries are evicted.
+///
+/// In the examples of the calls, `map` has a limit of three entries and contains (1, 10), (2, 20) and (3, 30), of which
+/// the last is the newest, unless the example makes another map.
 ///
 /// ```
 /// let mut map = LruMap::new(alloc, ByLength::new(2), [1, 2, 3, 4], 16);
@@ -55,7 +58,7 @@ pub const DEFAULT_ENTRY_BYTES: usize = 32;
 /// # The bytes of an entry
 ///
 /// `with_limiter` computes the bytes of an entry, and `default` assumes 32. The other constructors take the number, as
-/// `entry_bytes`. `memory_usage` counts by it, and so do the sizes of tables that a limiter permits or refuses. An
+/// `entry_bytes`. The map computes `memory_usage`, and the sizes that it passes to `on_grow`, from this number. An
 /// entry contains a key, a value and two links of a type `N`, so the number is `size_of::<(N, N, (K, V))>()`. It is 24
 /// for `u64` keys, `u32` values and links of 32 bits, and 32 for `u64` keys and values and links of 64 bits.
 ///
@@ -150,7 +153,7 @@ impl<K: Eq + Hash, V, L: Limiter<K, V>, S: KeyHasher<K>> LruMap<K, V, L, S> {
     /// assert!(rt; map.insert(1, 10)?);
     /// ```
     ///
-    /// schnellru's constructors take a limiter alone.
+    /// After schnellru's `LruMap::new`, which takes a limiter alone.
     pub fn with_limiter(alloc: Global, limiter: L) -> Self
     where
         S: Default,
@@ -194,7 +197,7 @@ impl<K: Eq + Hash, V, L: Limiter<K, V>> LruMap<K, V, L, RandomState> {
     pub fn with_seed(alloc: Global, limiter: L, seed: [u64; 4], entry_bytes: usize) -> Self
         ensures { result ≡ empty_map limiter (seeded seed) entry_bytes (L.LinkType.number L.LinkType.MAX) }
     {
-        LruMap::new(alloc, limiter, seed, entry_bytes)
+        LruMap::with_hasher(alloc, limiter, RandomState::with_seeds(seed), entry_bytes)
     }
 }
 

@@ -18,7 +18,7 @@ ghost use Rattle.schnellru.specs.Inside.Searches.{FindsPair, FindsNoPair};
 ghost use Rattle.lru_model.specs.Lists.{first as first_bucket, last as last_bucket};
 ghost use Rattle.schnellru.specs.Inside.Chain.{bucket_after, bucket_before, pair_slots};
 
-use crate::ordered::chain::Chain;
+use crate::ordered::chain::{Chain, is_max};
 use group_table::{LinkType, Table};
 use lru_limits::{KeyHasher, LookupKey};
 use std::alloc::{AllocError, Global};
@@ -193,7 +193,7 @@ impl<K, V, N: LinkType> OrderedTable<K, V, N> {
     pub(crate) fn pair_mut(&mut self, b: usize) -> &mut Pair<K, V>
         requires { IsFull self.old.slots b }
         ensures* writes_back { sem 𝓛
-            (lends_pair K.row V.row N.row N.LinkType.own N.PartialEq N.Debug self.entry b result) }
+            (lends_pair K.row V.row N.row N.LinkType self.entry b result) }
         ensures pair { entry_at self.old.slots b ≡ Some (result.now.key, result.now.value) }
         ensures fits { (hash_of : K → ℕ) → KeysFit hash_of self.old.slots →
             (last : K × V) → hash_of last.0 ≡ hash_of result.now.key
@@ -368,7 +368,7 @@ fn bucket_of<N: LinkType>(link: N) -> Option<usize>
     ensures none { IfNone result (link ≡ N.MAX) }
     ensures some { IfSome result (λ b. (link ≢ N.MAX) × (b ≡ N.number link)) }
 {
-    if link == N::MAX {
+    if is_max(link) {
         None
     } else {
         Some(link.into_usize())

@@ -132,8 +132,8 @@ after-alone b (c ∷ []) d there e = elim (cases_eq c b) [
 after-alone b (c ∷ x ∷ xs) d there e = absurd
     (omega (arith, length-without b (c ∷ x ∷ xs) d there, ap length (no_last (without_bucket b (c ∷ x ∷ xs)) e)))
 
-module _ {N : Type 0} {number : N → ℕ} {link : ℕ → N} {none : N} {eq : N → N → Bool}
-    (laws : IsLinkType number link none eq) {K V : Type 0} where
+module _ {N : Type 0} {number : N → ℕ} {link : ℕ → N} {none : N}
+    (laws : IsLinkType number link none) {K V : Type 0} where
   module _ {slots : List (Slot (Entry K V N))} {newest oldest : N} {order : List ℕ}
       (chain : IsChain number link none slots newest oldest order) where
     last_below : (y : ℕ) → last_bucket order ≡ Some y → y < number none

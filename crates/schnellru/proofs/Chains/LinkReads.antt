@@ -25,21 +25,8 @@ last_some [] p e = absurd (omega arith)
 last_some (c ∷ []) p e = none-some c (sym e)
 last_some (c ∷ d ∷ ds) p e = last_some (d ∷ ds) (omega arith) e
 
-module _ {N : Type 0} {number : N → ℕ} {link : ℕ → N} {none : N} {eq : N → N → Bool}
-    (laws : IsLinkType number link none eq) where
-  pub equal_links : {a b : N} → eq a b ≡ true → a ≡ b
-  equal_links {a} {b} e = laws.equal_by_number a b (eqb-true _ _ (sym (laws.eq_by_number a b) ∙ e))
-
-  pub equal_by_test : {a b : N} → not (eq a b) ≡ false → a ≡ b
-  equal_by_test {a} {b} e = equal_links (not-false (eq a b) e)
-
-  pub unequal_links : {a b : N} → eq a b ≡ false → a ≢ b
-  unequal_links {a} {b} e same =
-      eqb-false (number a) (number b) (sym (laws.eq_by_number a b) ∙ e) (ap number same)
-
-  pub other_by_test : {a b : N} → not (eq a b) ≡ true → a ≢ b
-  other_by_test {a} {b} e = unequal_links (not-true (eq a b) e)
-
+module _ {N : Type 0} {number : N → ℕ} {link : ℕ → N} {none : N}
+    (laws : IsLinkType number link none) where
   -- the bucket that a link leads to
   leads_to : (o : Option ℕ) (l : N) → l ≡ link_to link none o → ((y : ℕ) → o ≡ Some y → y < number none)
       → (o ≡ None → ⊥) → o ≡ Some (number l)

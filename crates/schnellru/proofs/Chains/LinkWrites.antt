@@ -90,8 +90,8 @@ module _ {K V N : Type 0} (slots : List (Slot (Entry K V N))) (b : ℕ) (entry :
         to
     SetsOlder-written = set_link (λ x. x.older) (λ x. x.newer) _ (SetsLinks-written entry.newer to).pairs refl refl
 
-module _ {N : Type 0} {number : N → ℕ} {link : ℕ → N} {none : N} {eq : N → N → Bool}
-    (laws : IsLinkType number link none eq) where
+module _ {N : Type 0} {number : N → ℕ} {link : ℕ → N} {none : N}
+    (laws : IsLinkType number link none) where
   -- a link to a bucket below the number of none
   pub number-link_to : (o : Option ℕ) (x : ℕ) → o ≡ Some x → x < number none → number (link_to link none o) ≡ x
   number-link_to o x e p = rw e (laws.number_of_link x p)

@@ -140,8 +140,8 @@ module _ {N : Type 0} {number : N → ℕ} {none : N} {K V : Type 0} {start : Li
             ∙ w.rest b (omega arith) there;
       }
 
-module _ {N : Type 0} {number : N → ℕ} {link : ℕ → N} {none : N} {eq : N → N → Bool}
-    (laws : IsLinkType number link none eq) {K V : Type 0}
+module _ {N : Type 0} {number : N → ℕ} {link : ℕ → N} {none : N}
+    (laws : IsLinkType number link none) {K V : Type 0}
     {before start : List (Slot (Entry K V N))} {newest oldest : N} {order : List ℕ}
     (whole : IsWhole number link none before newest oldest order)
     {links : List N} (renumbers : Renumbers number none before start links) where

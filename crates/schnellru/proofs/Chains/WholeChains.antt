@@ -30,8 +30,8 @@ use Rattle.schnellru.proofs.OrderedTables.PairSlots.{entry_count-pair_slots, pai
 use Rattle.schnellru.proofs.Chains.LinkWrites.{chained_below}
 use Rattle.schnellru.proofs.OrderedTables.KeyHashes.{not_full}
 
-module _ {N : Type 0} {number : N → ℕ} {link : ℕ → N} {none : N} {eq : N → N → Bool}
-    (laws : IsLinkType number link none eq) {K V : Type 0} where
+module _ {N : Type 0} {number : N → ℕ} {link : ℕ → N} {none : N}
+    (laws : IsLinkType number link none) {K V : Type 0} where
   one_along : (n : ℕ) (slots : List (Slot (Entry K V N))) (from older : N) (at : Option (Entry K V N))
       → option_map (λ x. x.older) at ≡ Some older
       → unwrap_or (option_map (λ entry. number from ∷ along number n slots entry.older) at) [] ≡ number from

@@ -24,8 +24,8 @@ pub linked_room : {K V N : Type 0} (slots : List (Slot (Entry K V N))) → 0 < r
     → 0 < room (marks_of slots)
 linked_room slots some = rw (← marks_of-pair_slots slots) some
 
-module _ {N : Type 0} {number : N → ℕ} {link : ℕ → N} {none : N} {eq : N → N → Bool}
-    (laws : IsLinkType number link none eq) {K V : Type 0} {old new : Table (Entry K V N)} {newest oldest : N}
+module _ {N : Type 0} {number : N → ℕ} {link : ℕ → N} {none : N}
+    (laws : IsLinkType number link none) {K V : Type 0} {old new : Table (Entry K V N)} {newest oldest : N}
     {order : List ℕ} (whole : IsWhole number link none old.slots newest oldest order)
     {hash b : ℕ} {entry : Entry K V N} {pair : K × V} (is : pair_of entry ≡ pair)
     (places : Places old new hash entry b) (may : MayFill (marks_of old.slots) b) where

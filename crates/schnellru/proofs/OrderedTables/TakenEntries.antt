@@ -28,7 +28,7 @@ module _ {K V N : Type 0} (s0 s1 s2 : List (Slot (Entry K V N))) (b : ℕ) (remo
       rw same (KeysFit-removed hash_of _ _ b (is_full-pair_slots s0 b ∙ full) (Removes-pair_slots s0 s1 b removes)
       (Fits-pair_slots _ _ (kept _ (Fits-entries s0 _ fits))))
 
-  module _ {number : N → ℕ} {link : ℕ → N} {none : N} {eq : N → N → Bool} (laws : IsLinkType number link none eq)
+  module _ {number : N → ℕ} {link : ℕ → N} {none : N} (laws : IsLinkType number link none)
       {newest oldest newest' oldest' : N} {order : List ℕ} (whole : IsWhole number link none s0 newest oldest order)
       (full : IsFull s0 b) (chain : IsChain number link none s2 newest' oldest' (without_bucket b order)) where
     pub taken_whole : IsWhole number link none s2 newest' oldest' (along number (length s2) s2 newest')

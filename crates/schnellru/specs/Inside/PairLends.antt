@@ -1,8 +1,6 @@
 -- What an `OrderedTable` is after a `&mut` to one of its pairs was returned. No public clause cites this module.
 use Rattle.std.specs.Prelude.{ℕ}
 use Rattle.std.specs.Borrow.{Lends, Fml, RattleType, MutBor}
-use Rattle.std.specs.declared.cmp.PartialEq as equality
-use Rattle.std.specs.declared.fmt.Debug as debug
 use Rattle.group_table.specs.declared.link.LinkType as link_type
 use Rattle.schnellru.specs.Inside.OrderedTable.{OrderedTable, with_pair}
 use Rattle.schnellru.specs.declared.ordered.Pair.{Pair}
@@ -10,7 +8,7 @@ use Rattle.schnellru.specs.contracts.ordered.OrderedTable.{the_row as linked_row
 use Rattle.schnellru.specs.contracts.ordered.Pair.{the_row as pair_row}
 
 -- once the borrow r ends, the bucket has the last pair written through r
-abbrev pub lends_pair : (K V N : RattleType) → link_type.Ghosts N.Denot → equality.Ghosts N.Denot → debug.Ghosts N.Denot
+abbrev pub lends_pair : (K V N : RattleType) → link_type.Ghosts N.Denot
     → MutBor (OrderedTable K.Denot V.Denot) → ℕ → MutBor (Pair K.Denot V.Denot) → Fml
-lends_pair K V N links eq shown t b r = Lends (linked_row K V N links eq shown) (pair_row K V) t r
+lends_pair K V N links t b r = Lends (linked_row K V N links) (pair_row K V) t r
     (λ last. with_pair t.now b (last.key, last.value))

@@ -2,8 +2,6 @@
 -- is a value to lend.
 use Rattle.std.specs.Prelude.{◌≡◌, Bool, Option, Result}
 use Rattle.std.specs.Borrow.{Fml, RattleType, MutBor, LendsSoOk, follows_so}
-use Rattle.std.specs.declared.cmp.PartialEq as equality
-use Rattle.std.specs.declared.fmt.Debug as debug
 use Rattle.std.specs.HashMap.Lent.{HashMembers}
 use Rattle.std.specs.declared.hash.Hasher as hasher
 use Rattle.lru_limits.specs.Hashing.{HasherMembers}
@@ -17,7 +15,7 @@ use Rattle.schnellru.specs.declared.map.get_or_insert.NotLent.{NotLent}
 
 module _ (K V L S N H : RattleType) (key : HashMembers K.Denot)
     (limits : limiter.Ghosts L.Denot K.Denot V.Denot N.Denot)
-    (links : link_type.Ghosts N.Denot) (link_eq : equality.Ghosts N.Denot) (link_shown : debug.Ghosts N.Denot)
+    (links : link_type.Ghosts N.Denot)
     (hashed : HasherMembers S.Denot K.Denot H.Denot) (hash : hasher.Ghosts H.Denot)
     (m : MutBor (State K.Denot V.Denot L.Denot S.Denot)) {E : Type 0}
     (Step : Result Bool E → State K.Denot V.Denot L.Denot S.Denot → Type 0) where
@@ -33,11 +31,11 @@ module _ (K V L S N H : RattleType) (key : HashMembers K.Denot)
 
   -- what the map ends as, if the error of the result may say that the key is not there (`NotKept`)
   abbrev pub lends_or : Result (MutBor V.Denot) (NotLent E) → Fml
-  lends_or r = LendsSoOk (map_row K V L S N H key limits links link_eq link_shown hashed hash) V m r
+  lends_or r = LendsSoOk (map_row K V L S N H key limits links hashed hash) V m r
       (λ n w. Made (lent_or_none r) n w) (λ n. LendsNone (lent_or_none r) n)
 
   -- the same for a result that is `Ok None` if the key is not there
   abbrev pub lends_made : Result (Option (MutBor V.Denot)) E → Fml
-  lends_made r = follows_so (map_row K V L S N H key limits links link_eq link_shown hashed hash) V m.ghost_name
+  lends_made r = follows_so (map_row K V L S N H key limits links hashed hash) V m.ghost_name
       (name_lent r)
       (λ w n. IsLent r → Made r n w) (λ n. NoneLent r → LendsNone r n)

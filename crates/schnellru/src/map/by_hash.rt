@@ -15,10 +15,10 @@ impl<K: Eq + Hash, V, L: Limiter<K, V>, S: KeyHasher<K>> LruMap<K, V, L, S> {
     /// Lends the value of an entry that `is_eq` accepts, for writing, and makes the entry the newest. The limiter is
     /// not notified of what is written.
     ///
-    /// `is_eq` is called only with entries whose hashes agree with `hash` in the top 7 bits. Each of these is passed at
-    /// most once, until `is_eq` accepts one. It may accept an entry of another hash: let it compare keys. `None` says
-    /// that it rejected each entry of this hash, and that nothing has changed. A key's hash is what the map's own
-    /// hasher makes of the bytes that the key writes.
+    /// `is_eq` gets only entries whose hashes agree with `hash` in the top 7 bits: each at most once, and none after it
+    /// accepted one. It may accept an entry of another hash: let it compare keys. `None` says that it rejected each
+    /// entry of this hash, and that nothing has changed. The hash of a key is what `map.hasher().hash_named(&key)`
+    /// returns.
     ///
     /// Cost: `O(1)` expected, with one call of `is_eq` for each entry that it gets.
     ///
@@ -32,7 +32,7 @@ impl<K: Eq + Hash, V, L: Limiter<K, V>, S: KeyHasher<K>> LruMap<K, V, L, S> {
     pub fn get_by_hash<F: FnMut(&K, &V) -> bool>(&mut self, hash: u64, is_eq: F) -> Option<&mut V>
         requires callable { F.IsAlwaysCallable is_eq }
         ensures* writes_back { sem 𝓛 (lends_given K.row V.row L.row S.row L.LinkType.row S.Hasher.row K.Hash L.Limiter
-            L.LinkType.LinkType.own L.LinkType.PartialEq L.LinkType.Debug S.KeyHasher S.Hasher.Hasher self.entry
+            L.LinkType.LinkType S.KeyHasher S.Hasher.Hasher self.entry
             (GivesByHash K.eq (S.hash_of self.old.hasher) self.old.pairs hash F.FnMut is_eq) promoted result) }
         ensures none { IfNone result (GivesNoneByHash K.eq (S.hash_of self.old.hasher) self.old.pairs
             hash F.FnMut is_eq) }
@@ -84,7 +84,7 @@ impl<K: Eq + Hash, V, L: Limiter<K, V>, S: KeyHasher<K>> LruMap<K, V, L, S> {
     ) -> Option<&mut V>
         requires callable { F.IsAlwaysCallable is_eq }
         ensures* writes_back { sem 𝓛 (lends_given K.row V.row L.row S.row L.LinkType.row S.Hasher.row K.Hash L.Limiter
-            L.LinkType.LinkType.own L.LinkType.PartialEq L.LinkType.Debug S.KeyHasher S.Hasher.Hasher self.entry
+            L.LinkType.LinkType S.KeyHasher S.Hasher.Hasher self.entry
             (GivesByHash K.eq (S.hash_of self.old.hasher) self.old.pairs hash F.FnMut is_eq)
             (λ names st. st) result) }
         ensures none { IfNone result (GivesNoneByHash K.eq (S.hash_of self.old.hasher) self.old.pairs

@@ -13,7 +13,8 @@ use std::hash::Hash;
 ///
 /// Cost: `O(1)` if the lengths differ, else `O(n)` for n entries.
 ///
-/// After std's `Vec`; schnellru has no such impl.
+/// After `LinkedHashMap` of the crate `hashlink`; schnellru has no such impl. A `get` changes the order of use, so it
+/// may make equal maps unequal.
 impl<K: Eq + Hash, V: PartialEq, L: Limiter<K, V>, S: KeyHasher<K>> PartialEq
     for LruMap<K, V, L, S> {
     ghost use Rattle.std.specs.Prelude.{◌&&◌};

@@ -74,7 +74,8 @@ impl<K: Eq + Hash, V, L: Limiter<K, V>, S: KeyHasher<K>> LruMap<K, V, L, S> {
         sizes::bytes_of(self.entry_bytes, buckets)
     }
 
-    /// Returns the greatest `memory_usage` within a budget of a map whose entries have `entry_bytes` bytes, or 0.
+    /// Returns the greatest `memory_usage` within a budget that a map with `entry_bytes` bytes an entry can have, or 0
+    /// if no table fits.
     ///
     /// ```
     /// let usage = LruMap::<u32, u32, UnlimitedCompact>::memory_usage_for_memory_budget(512, 16);
@@ -82,6 +83,8 @@ impl<K: Eq + Hash, V, L: Limiter<K, V>, S: KeyHasher<K>> LruMap<K, V, L, S> {
     /// ```
     ///
     /// Cost: at most 62 steps.
+    ///
+    /// After schnellru's `LruMap::memory_usage_for_memory_budget`.
     pub fn memory_usage_for_memory_budget(budget: usize, entry_bytes: usize) -> usize
         ensures { IsGreatestUsage (L.LinkType.number L.LinkType.MAX) entry_bytes budget result }
     {
@@ -99,7 +102,7 @@ impl<K: Eq + Hash, V, L: Limiter<K, V>, S: KeyHasher<K>> LruMap<K, V, L, S> {
         &self.limiter
     }
 
-    /// Returns what builds the hashers of keys. With it, `hash_named` gives the hash of a key. Cost: `O(1)`.
+    /// Returns the hasher of the map. Its `hash_named` returns the hash of a key. Cost: `O(1)`.
     ///
     /// ```
     /// let hash = map.hasher().hash_named(&5);
@@ -129,8 +132,7 @@ impl<K: Eq + Hash, V, L: Limiter<K, V>, S: KeyHasher<K>> LruMap<K, V, L, S> {
     /// Cost: `O(1)`.
     pub fn limiter_mut(&mut self) -> &mut L
         ensures* writes_back { sem 𝓛 (lends_limiter K.row V.row L.row S.row L.LinkType.row S.Hasher.row K.Hash L.Limiter
-            L.LinkType.LinkType.own L.LinkType.PartialEq L.LinkType.Debug S.KeyHasher S.Hasher.Hasher self.entry
-            result) }
+            L.LinkType.LinkType S.KeyHasher S.Hasher.Hasher self.entry result) }
         ensures value { result.now ≡ self.old.limiter }
     {
         &mut self.limiter

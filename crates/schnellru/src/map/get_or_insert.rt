@@ -112,7 +112,7 @@ impl<K: Eq + Hash + Drop, V: Drop, L: Limiter<K, V>, S: KeyHasher<K>> LruMap<K, 
     fn lend_if_kept<E>(&mut self, kept: Result<bool, E>) -> Result<&mut V, NotLent<E>>
         requires { kept ≡ Ok true → 0 < length self.old.pairs }
         ensures* writes_back { sem 𝓛 (lends_or K.row V.row L.row S.row L.LinkType.row S.Hasher.row K.Hash L.Limiter
-            L.LinkType.LinkType.own L.LinkType.PartialEq L.LinkType.Debug S.KeyHasher S.Hasher.Hasher self.entry
+            L.LinkType.LinkType S.KeyHasher S.Hasher.Hasher self.entry
             (λ answer map. (answer ≡ kept) × (map ≡ self.old)) result) }
     {
         // Nothing at run time: it opens the map, whose invariant the clause speaks of.
@@ -134,7 +134,7 @@ impl<K: Eq + Hash + Drop, V: Drop, L: Limiter<K, V>, S: KeyHasher<K>> LruMap<K, 
         L: Insertion<K, V, I>,
         requires { lookup (I.names key) self.old.pairs ≡ None → F.pre make }
         ensures* writes_back { sem 𝓛 (lends_or K.row V.row L.row S.row L.LinkType.row S.Hasher.row K.Hash L.Limiter
-            L.LinkType.LinkType.own L.LinkType.PartialEq L.LinkType.Debug S.KeyHasher S.Hasher.Hasher self.entry
+            L.LinkType.LinkType S.KeyHasher S.Hasher.Hasher self.entry
             (GetsOrInserts L.rules L.offers I.names S.hash_of (F.post make) key self.old) result) }
     {
         let kept = self.ensure_newest(key, make);
@@ -169,7 +169,7 @@ impl<K: Eq + Hash + Drop, V: Drop, L: Limiter<K, V>, S: KeyHasher<K>> LruMap<K, 
         L: Insertion<K, V, I>,
         requires { lookup (I.names key) self.old.pairs ≡ None → F.pre make }
         ensures* writes_back { sem 𝓛 (lends_made K.row V.row L.row S.row L.LinkType.row S.Hasher.row K.Hash L.Limiter
-            L.LinkType.LinkType.own L.LinkType.PartialEq L.LinkType.Debug S.KeyHasher S.Hasher.Hasher self.entry
+            L.LinkType.LinkType S.KeyHasher S.Hasher.Hasher self.entry
             (GetsOrInserts L.rules L.offers I.names S.hash_of (F.post make) key self.old) result) }
     {
         let lent = self.lend_or_insert(key, make);
@@ -252,7 +252,7 @@ impl<K: Eq + Hash + Drop, V: Drop, L: Limiter<K, V>, S: KeyHasher<K>> LruMap<K, 
         L: Insertion<K, V, I>,
         requires { lookup (I.names key) self.old.pairs ≡ None → F.pre make }
         ensures* writes_back { sem 𝓛 (lends_or K.row V.row L.row S.row L.LinkType.row S.Hasher.row K.Hash L.Limiter
-            L.LinkType.LinkType.own L.LinkType.PartialEq L.LinkType.Debug S.KeyHasher S.Hasher.Hasher self.entry
+            L.LinkType.LinkType S.KeyHasher S.Hasher.Hasher self.entry
             (GetsOrInsertsIfMade L.rules L.offers I.names S.hash_of (F.post make) key self.old) result) }
     {
         let kept = self.ensure_newest_fallible(key, make);
@@ -283,7 +283,7 @@ impl<K: Eq + Hash + Drop, V: Drop, L: Limiter<K, V>, S: KeyHasher<K>> LruMap<K, 
         L: Insertion<K, V, I>,
         requires { lookup (I.names key) self.old.pairs ≡ None → F.pre make }
         ensures* writes_back { sem 𝓛 (lends_made K.row V.row L.row S.row L.LinkType.row S.Hasher.row K.Hash L.Limiter
-            L.LinkType.LinkType.own L.LinkType.PartialEq L.LinkType.Debug S.KeyHasher S.Hasher.Hasher self.entry
+            L.LinkType.LinkType S.KeyHasher S.Hasher.Hasher self.entry
             (GetsOrInsertsIfMade L.rules L.offers I.names S.hash_of (F.post make) key self.old) result) }
     {
         let lent = self.lend_or_insert_fallible(key, make);

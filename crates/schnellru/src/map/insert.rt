@@ -27,8 +27,8 @@ impl<K: Eq + Hash + Drop, V: Drop, L: Limiter<K, V>, S: KeyHasher<K>> LruMap<K, 
     /// If no bucket takes the entry then, a table with fewer than half of the entries that it may hold is rehashed, and
     /// any other grows. If there is no larger table, or the limiter refuses it, the oldest entries are evicted until a
     /// bucket is free, or until fewer than half are left and the table is rehashed. If there is no entry to evict, the
-    /// new one is not stored, and the result is false. If the key is there then, the oldest entries are evicted while
-    /// the limiter is over its limit.
+    /// new one is not stored, and the result is false. At the end, if the key is in the map, the oldest entries are
+    /// evicted while the limiter is over its limit.
     ///
     /// ```
     /// assert!(rt; map.insert(1, 10)?);
@@ -37,7 +37,7 @@ impl<K: Eq + Hash + Drop, V: Drop, L: Limiter<K, V>, S: KeyHasher<K>> LruMap<K, 
     /// ```
     ///
     /// Cost: `O(1)` expected, amortised over the inserts. An insert that grows the table moves all entries; over all
-    /// inserts these are at most two for each new entry.
+    /// inserts these are at most two for each new entry, and one for each entry that a shrink rehashed.
     ///
     /// # Errors
     ///
@@ -119,8 +119,9 @@ impl<K: Eq + Hash, V, L: Limiter<K, V>, S: KeyHasher<K>> LruMap<K, V, L, S> {
     /// The same as `insert_with`, and returns the value that the map does not keep, if the key is there: the old one,
     /// or the new one if the limiter rejects it, with what `on_replace` wrote to it.
     ///
-    /// The map drops no value: an entry that is evicted, rejected or not stored is passed to the callback. Only a new
-    /// key and its value that `on_insert` rejects are dropped, by the limiter.
+    /// The map drops nothing: an entry that is evicted, rejected or not stored is passed to the callback, and a value
+    /// that is replaced or rejected is returned. The limiter drops the offered key if the key is there, and the key and
+    /// the value if `on_insert` rejects them or runs out of memory.
     ///
     /// ```
     /// let inserted = map.insert_full(1, 11, &mut |_, _| {})?;

@@ -18,8 +18,8 @@ impl<K: Eq + Hash + Drop, V: Drop, L: Limiter<K, V>, S: KeyHasher<K>> LruMap<K, 
     /// order. Memory for these is taken before the map changes.
     ///
     /// ```
-    /// let (done, left) = map.insert_and_keep(5, 50)?;
-    /// assert!(rt; done == Ok(true) && left.as_slice() == [(2, 20)].as_slice());
+    /// let (done, left) = map.insert_and_keep(4, 40)?;
+    /// assert!(rt; done == Ok(true) && left.as_slice() == [(1, 10)].as_slice());
     /// ```
     ///
     /// Cost: as `insert`, and memory for one entry more than the map contains.

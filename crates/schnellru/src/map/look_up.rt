@@ -33,8 +33,8 @@ impl<K: Eq + Hash, V, L: Limiter<K, V>, S: KeyHasher<K>> LruMap<K, V, L, S> {
     #[inline(always)]
     pub fn get<Q: LookupKey<K>>(&mut self, key: &Q) -> Option<&mut V>
         ensures* writes_back { sem 𝓛 (lends_value K.row V.row L.row S.row L.LinkType.row S.Hasher.row K.Hash L.Limiter
-            L.LinkType.LinkType.own L.LinkType.PartialEq L.LinkType.Debug S.KeyHasher S.Hasher.Hasher
-            self.entry (Q.names key.now) (promoted (Q.names key.now) self.old) result) }
+            L.LinkType.LinkType S.KeyHasher S.Hasher.Hasher self.entry
+            (Q.names key.now) (promoted (Q.names key.now) self.old) result) }
         ensures value { option_copied_mut result ≡ lookup (Q.names key.now) self.old.pairs }
         ensures map { (new : State K V L S) → Get (Q.names key.now) self.old (option_copied_mut result) new
             → IsMap K.eq new }
@@ -61,8 +61,7 @@ impl<K: Eq + Hash, V, L: Limiter<K, V>, S: KeyHasher<K>> LruMap<K, V, L, S> {
     #[inline]
     pub fn get_key_value<Q: LookupKey<K>>(&mut self, key: &Q) -> Option<(&K, &V)>
         ensures* leaves { sem 𝓛 (ends_as K.row V.row L.row S.row L.LinkType.row S.Hasher.row K.Hash L.Limiter
-            L.LinkType.LinkType.own L.LinkType.PartialEq L.LinkType.Debug S.KeyHasher S.Hasher.Hasher
-            self.entry (promoted (Q.names key.now) self.old)) }
+            L.LinkType.LinkType S.KeyHasher S.Hasher.Hasher self.entry (promoted (Q.names key.now) self.old)) }
         ensures value { option_map deref_pair result ≡ lookup_entry (Q.names key.now) self.old.pairs }
         ensures map { IsMap K.eq (promoted (Q.names key.now) self.old) }
     {
@@ -140,8 +139,7 @@ impl<K: Eq + Hash, V, L: Limiter<K, V>, S: KeyHasher<K>> LruMap<K, V, L, S> {
     #[inline]
     pub fn newest_mut(&mut self) -> Option<&mut V>
         ensures* writes_back { sem 𝓛 (lends_newest K.row V.row L.row S.row L.LinkType.row S.Hasher.row K.Hash L.Limiter
-            L.LinkType.LinkType.own L.LinkType.PartialEq L.LinkType.Debug S.KeyHasher S.Hasher.Hasher
-            self.entry result) }
+            L.LinkType.LinkType S.KeyHasher S.Hasher.Hasher self.entry result) }
         ensures value { option_copied_mut result ≡ newest_value self.old.pairs }
         ensures map { (last : V) → IsMap K.eq (record self.old { pairs = set_newest self.old.pairs last }) }
     {
@@ -155,8 +153,7 @@ impl<K: Eq + Hash, V, L: Limiter<K, V>, S: KeyHasher<K>> LruMap<K, V, L, S> {
         requires { 0 < length self.old.pairs }
         ensures* writes_back { sem 𝓛
             (lends_newest_value K.row V.row L.row S.row L.LinkType.row S.Hasher.row K.Hash L.Limiter
-            L.LinkType.LinkType.own L.LinkType.PartialEq L.LinkType.Debug S.KeyHasher S.Hasher.Hasher
-            self.entry result) }
+            L.LinkType.LinkType S.KeyHasher S.Hasher.Hasher self.entry result) }
         ensures value { newest_value self.old.pairs ≡ Some result.now }
         ensures map { (last : V) → IsMap K.eq (record self.old { pairs = set_newest self.old.pairs last }) }
     {
@@ -185,7 +182,7 @@ impl<K: Eq + Hash, V, L: Limiter<K, V>, S: KeyHasher<K>> LruMap<K, V, L, S> {
     /// `String` keys are looked up by a `&str`, as `map.peek(&"a")`. Cost: `O(1)` expected.
     ///
     /// ```
-    /// assert_eq!(rt; map.peek(&1), Some(&20));
+    /// assert_eq!(rt; map.peek(&1), Some(&10));
     /// ```
     ///
     /// After schnellru's `LruMap::peek`.
@@ -232,8 +229,7 @@ impl<K: Eq + Hash, V, L: Limiter<K, V>, S: KeyHasher<K>> LruMap<K, V, L, S> {
     #[inline]
     pub fn peek_mut<Q: LookupKey<K>>(&mut self, key: &Q) -> Option<&mut V>
         ensures* writes_back { sem 𝓛 (lends_value K.row V.row L.row S.row L.LinkType.row S.Hasher.row K.Hash L.Limiter
-            L.LinkType.LinkType.own L.LinkType.PartialEq L.LinkType.Debug S.KeyHasher S.Hasher.Hasher
-            self.entry (Q.names key.now) self.old result) }
+            L.LinkType.LinkType S.KeyHasher S.Hasher.Hasher self.entry (Q.names key.now) self.old result) }
         ensures value { option_copied_mut result ≡ lookup (Q.names key.now) self.old.pairs }
         ensures map { (last : V) → IsMap K.eq (written (Q.names key.now) last self.old) }
     {

@@ -13,7 +13,8 @@ impl<K: Eq + Hash, V, L: Limiter<K, V>, S: KeyHasher<K>> LruMap<K, V, L, S> {
     /// Removes and returns the oldest entry, as the limiter leaves it, if there is one and the closure returns true for
     /// it. Otherwise nothing changes.
     ///
-    /// With a time stamp in the value, `while map.pop_oldest_if(..).is_some() {}` removes what was not used for long.
+    /// If each use writes the time into the value, `while map.pop_oldest_if(..).is_some() {}` removes the entries that
+    /// were not used since a given time.
     ///
     /// ```
     /// assert_eq!(rt; map.pop_oldest_if(|key, _| *key == 9), None);
@@ -45,7 +46,7 @@ impl<K: Eq + Hash, V, L: Limiter<K, V>, S: KeyHasher<K>> LruMap<K, V, L, S> {
     ///
     /// ```
     /// assert_eq!(rt; map.try_pop_oldest(|_, _| Err(7u8)), Err(7));
-    /// assert_eq!(rt; map.try_pop_oldest(|_, _| -> Result<(), u8> { Ok(()) }), Ok(Some((2, 20))));
+    /// assert_eq!(rt; map.try_pop_oldest(|_, _| -> Result<(), u8> { Ok(()) }), Ok(Some((1, 10))));
     /// ```
     ///
     /// Cost: `O(1)`, and one call of the closure.

@@ -13,8 +13,8 @@ use std::hash::Hash;
 /// ```
 #[derive(Clone, Copy, Debug, PartialEq, Eq)]
 pub struct MoveReport {
-    /// Entries that inserts moved, because the table grew or was rehashed. What `try_reserve` moves is not counted, nor
-    /// what `try_insert` moves, which reserves.
+    /// Entries that inserts moved, because the table grew or was rehashed. Entries that `try_reserve` moves are not
+    /// counted, nor entries that `try_insert` moves, because it reserves.
     pub moved: u64,
     /// New entries that inserts stored, `try_insert` included.
     pub placed: u64,

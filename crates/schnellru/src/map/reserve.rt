@@ -27,9 +27,9 @@ impl<K: Eq + Hash, V, L: Limiter<K, V>, S: KeyHasher<K>> LruMap<K, V, L, S> {
     ///
     /// # Errors
     ///
-    /// Each error leaves the entries and the table as they are. `TooLarge`: no table that the links can number holds so
-    /// many entries, or its bytes would pass `isize::MAX - 15`. `Refused`: the limiter refused the table. `Memory`: out
-    /// of memory. After `Refused` and `Memory` the limiter keeps what it noted when it was queried.
+    /// Each error leaves the entries and the table as they are. `TooLarge`: no table that the links can number holds
+    /// `len` + n entries, or its bytes would pass `isize::MAX - 15`. `Refused`: the limiter refused the table.
+    /// `Memory`: out of memory. After `Refused` and `Memory` the limiter keeps what it noted when it was queried.
     ///
     /// After schnellru's `LruMap::try_reserve`.
     pub fn try_reserve(&mut self, n: usize) -> Result<(), ReserveError>

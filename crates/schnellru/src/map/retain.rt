@@ -24,7 +24,7 @@ impl<K: Eq + Hash + Drop, V: Drop, L: Limiter<K, V>, S: KeyHasher<K>> LruMap<K, 
     ///
     /// Cost: `O(n)` for n entries. Each that stays becomes the newest for a moment.
     ///
-    /// After std's `HashMap::retain`; schnellru has no such call.
+    /// After std's `HashMap::retain`, whose closure may write the value; schnellru has no such call.
     pub fn retain<F: FnMut(&K, &V) -> bool>(&mut self, keep: F)
         requires callable { F.IsAlwaysCallable keep }
         ensures step { Retains F.FnMut L.rules keep self.old self.new }

@@ -14,6 +14,9 @@ impl<K: Eq + Hash + Drop, V: Drop, L: Admission<K, V> + Copy, S: KeyHasher<K>> L
     /// Inserts a new key with its value, as the newest entry, if nothing has to be evicted for it. Otherwise returns
     /// both. Then no entry is evicted, moves in the order of use, or changes its value.
     ///
+    /// While no growth is left it fills no deleted bucket, but reserves. So if the limiter refuses a larger table, it
+    /// may return an entry that `insert` would store without an eviction.
+    ///
     /// ```
     /// assert_eq!(rt; map.try_insert(4, 40), Err((4, 40)));
     /// map.pop_oldest();
@@ -25,7 +28,8 @@ impl<K: Eq + Hash + Drop, V: Drop, L: Admission<K, V> + Copy, S: KeyHasher<K>> L
     ///
     /// # Errors
     ///
-    /// An `Err` returns the key and the value, for one of five causes:
+    /// An `Err` returns the key and the value, for one of five causes, which it does not name; `contains` tells the
+    /// first from the others:
     ///
     /// - The key is there.
     /// - The limiter rejects the entry.

@@ -167,7 +167,7 @@ impl<K, V, N: LinkType> Chain<K, V, N> {
     {
         for old in 0..links.len() {
             let moved = links[old];
-            if moved != N::MAX {
+            if !is_max(moved) {
                 move_links(&mut self.table, moved.into_usize(), links);
             }
         }
@@ -230,9 +230,17 @@ fn moved_link<N: LinkType>(links: &[N], link: N) -> N
     requires fewer { length links.now ≤ N.number N.MAX }
     ensures { result ≡ moved_link N.number N.MAX links.now link }
 {
-    if link == N::MAX {
+    if is_max(link) {
         link
     } else {
         links[link.into_usize()]
     }
+}
+
+// Returns whether a link is `MAX`, which leads to no bucket.
+#[inline]
+pub(crate) fn is_max<N: LinkType>(link: N) -> bool
+    ensures { MatchBool result (link ≡ N.MAX) (link ≢ N.MAX) }
+{
+    link.into_usize() == N::MAX.into_usize()
 }

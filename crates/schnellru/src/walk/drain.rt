@@ -30,7 +30,7 @@ impl<'a, K: Eq + Hash + Drop, V: Drop, L: Limiter<K, V>, S: KeyHasher<K>> Drop
     for Drain<'a, K, V, L, S> {
     ghost use Rattle.lru_model.specs.Calls.{cleared};
 
-    /// Clears the map, even if no entry is left. Cost: `O(buckets)`.
+    /// Clears the map, even if no entry is left. Cost: as `LruMap::clear`.
     fn drop(self)
         ensures { self.exit.0.now ≡ cleared L.rules (drain_map self.entry) }
     {

@@ -16,7 +16,7 @@ use std::marker::Model;
 /// limiter leaves it. Dropping the iterator drops the other entries, of which the limiter is not notified.
 ///
 /// ```
-/// assert_eq!(rt; map.into_iter().next_back(), Some((2, 20)));
+/// assert_eq!(rt; map.into_iter().next_back(), Some((1, 10)));
 /// ```
 #[derive(Drop)]
 pub struct IntoIter<K: Eq + Hash, V, L: Limiter<K, V>, S: KeyHasher<K>> {

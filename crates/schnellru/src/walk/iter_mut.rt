@@ -64,8 +64,7 @@ impl<'a, K: Eq + Hash, V, L: Limiter<K, V>, S: KeyHasher<K>> IterMut<'a, K, V, L
     /// Cost: `O(1)`.
     pub fn next(&mut self) -> Option<(&K, &mut V)>
         ensures* writes_back { sem 𝓛 (lends_next K.row V.row L.row S.row L.LinkType.row S.Hasher.row K.Hash L.Limiter
-            L.LinkType.LinkType.own L.LinkType.PartialEq L.LinkType.Debug S.KeyHasher S.Hasher.Hasher self.entry
-            result) }
+            L.LinkType.LinkType S.KeyHasher S.Hasher.Hasher self.entry result) }
         ensures value { option_map deref_pair_mut result ≡ next_pair self.old }
     {
         if self.start < self.end {
@@ -84,8 +83,7 @@ impl<'a, K: Eq + Hash, V, L: Limiter<K, V>, S: KeyHasher<K>> IterMut<'a, K, V, L
     pub fn next_back(&mut self) -> Option<(&K, &mut V)>
         ensures* writes_back { sem 𝓛
             (lends_next_back K.row V.row L.row S.row L.LinkType.row S.Hasher.row K.Hash L.Limiter
-            L.LinkType.LinkType.own L.LinkType.PartialEq L.LinkType.Debug S.KeyHasher S.Hasher.Hasher self.entry
-            result) }
+            L.LinkType.LinkType S.KeyHasher S.Hasher.Hasher self.entry result) }
         ensures value { option_map deref_pair_mut result ≡ next_back_pair self.old }
     {
         if self.start < self.end {
@@ -105,8 +103,7 @@ impl<'a, K: Eq + Hash, V, L: Limiter<K, V>, S: KeyHasher<K>> IterMut<'a, K, V, L
     pub fn lend_next(&mut self) -> (&K, &mut V)
         requires some { walk_start self.old < walk_end self.old }
         ensures* writes_back { sem 𝓛 (lends_first K.row V.row L.row S.row L.LinkType.row S.Hasher.row K.Hash L.Limiter
-            L.LinkType.LinkType.own L.LinkType.PartialEq L.LinkType.Debug S.KeyHasher S.Hasher.Hasher self.entry
-            result) }
+            L.LinkType.LinkType S.KeyHasher S.Hasher.Hasher self.entry result) }
         ensures value { slice_get (walk_map self.old).pairs (walk_start self.old) ≡ Some (deref_pair_mut result) }
     {
         let at = self.start;
@@ -131,8 +128,7 @@ impl<'a, K: Eq + Hash, V, L: Limiter<K, V>, S: KeyHasher<K>> IterMut<'a, K, V, L
     pub fn lend_next_back(&mut self) -> (&K, &mut V)
         requires some { walk_start self.old < walk_end self.old }
         ensures* writes_back { sem 𝓛 (lends_last K.row V.row L.row S.row L.LinkType.row S.Hasher.row K.Hash L.Limiter
-            L.LinkType.LinkType.own L.LinkType.PartialEq L.LinkType.Debug S.KeyHasher S.Hasher.Hasher self.entry
-            result) }
+            L.LinkType.LinkType S.KeyHasher S.Hasher.Hasher self.entry result) }
         ensures value { slice_get (walk_map self.old).pairs (walk_end self.old - 1) ≡ Some (deref_pair_mut result) }
     {
         let at = self.end - 1;

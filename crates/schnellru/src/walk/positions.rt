@@ -46,8 +46,7 @@ impl<K: Eq + Hash, V, L: Limiter<K, V>, S: KeyHasher<K>> LruMap<K, V, L, S> {
         requires { slice_get self.old.table.places at ≡ Some b }
         ensures* writes_back { sem 𝓛
             (lends_value_at K.row V.row L.row S.row L.LinkType.row S.Hasher.row K.Hash L.Limiter
-            L.LinkType.LinkType.own L.LinkType.PartialEq L.LinkType.Debug S.KeyHasher S.Hasher.Hasher
-            self.entry at result) }
+            L.LinkType.LinkType S.KeyHasher S.Hasher.Hasher self.entry at result) }
         ensures value { slice_get self.old.pairs at ≡ Some (deref_pair_mut result) }
     {
         let pair = self.entries.pair_mut(b);

@@ -64,7 +64,7 @@ loop-b-preserved-then-is_read_first g c =
     let byte : 128 ≤ get_or c.loop-b.control c.loop-b.b 0 = rw (← c.byte.ensures) c.if-byte-lt-DELETED.false in
     let stood = stood_there g.N.LinkType.number g.N.LinkType.MAX _ whole _ _ _ c.loop-b.b half c.get.result.now byte
     c.get.ensures in
-    let stays = IsHalfway-stays g.N.LinkType.number g.N.LinkType.MAX g.N.LinkType.link _ g.met.N.LinkType.laws _ whole _
+    let stays = IsHalfway-stays g.N.LinkType.number g.N.LinkType.MAX g.N.LinkType.link g.met.N.LinkType.laws _ whole _
     _ _ c.loop-b.b c.get.result.now half c.requires.within c.requires.below byte c.get.ensures
     c.hash_of-hash.result c.tag_of.result
     (c.is_read_first.ensures.0 c.if-is_read_first.true) c.tag_of.ensures.value c.tag_of.ensures.tag
@@ -143,7 +143,7 @@ turns-preserved g c =
     let whole = c.args.entries.now in
     let put = put_into whole _ turn.1 turn.0 c.requires.within c.first_free-place.ensures in
     let next = IsInTurn-next whole _ turn.1 turn.0 c.requires.within
-    g.N.LinkType.link _ g.met.N.LinkType.laws c.requires.below l.hash c.first_free-place.result c.tag_of-in-Some.result
+    g.N.LinkType.link g.met.N.LinkType.laws c.requires.below l.hash c.first_free-place.result c.tag_of-in-Some.result
     put.reached c.tag_of-in-Some.ensures.value c.tag_of-in-Some.ensures.tag
     (l.invariant.hashed _ c.in-Some.is) in
     record {
@@ -175,7 +175,7 @@ turns-preserved-in-Some-next g c =
     let whole = c.args.entries.now in
     let put = put_into whole _ turn.1 turn.0 c.requires.within c.first_free-place.ensures in
     let next = IsInTurn-next whole _ turn.1 turn.0 c.requires.within
-    g.N.LinkType.link _ g.met.N.LinkType.laws c.requires.below l.hash c.first_free-place.result c.tag_of-in-Some.result
+    g.N.LinkType.link g.met.N.LinkType.laws c.requires.below l.hash c.first_free-place.result c.tag_of-in-Some.result
     put.reached c.tag_of-in-Some.ensures.value c.tag_of-in-Some.ensures.tag
     (l.invariant.hashed _ c.in-Some.is) in
     let then = rw (sym c.put-next.ensures.stood, c.in-Some-next.is) at next in

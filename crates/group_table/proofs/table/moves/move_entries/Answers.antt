@@ -67,10 +67,10 @@ loop-b-preserved g c =
             none_deleted = deleted_count-joined joins ∙ l.none_deleted;
             entries = entry_count-joined joins
                 ∙ omega (arith, l.entries, count_one whole at.b within (ap is_some there));
-            moves = Moves-more g.N.LinkType.number g.N.LinkType.MAX g.N.LinkType.link _ g.met.N.LinkType.laws _ _ at.b
+            moves = Moves-more g.N.LinkType.number g.N.LinkType.MAX g.N.LinkType.link g.met.N.LinkType.laws _ _ at.b
                 (none_yet whole at.b within) come (come_elsewhere whole at.b within) bound below joins l.moves;
             hashes =
-                λ hash_at gives. KeepsHashes-more g.N.LinkType.number g.N.LinkType.MAX g.N.LinkType.link _
+                λ hash_at gives. KeepsHashes-more g.N.LinkType.number g.N.LinkType.MAX g.N.LinkType.link
                 g.met.N.LinkType.laws _ _ at.b
                 (none_yet whole at.b within) come (come_elsewhere whole at.b within) bound below joins l.moves hash_at
                 (gives at.b _ _ there

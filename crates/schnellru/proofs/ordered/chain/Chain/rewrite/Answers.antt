@@ -1,11 +1,10 @@
 use Rattle.std.proofs.Common.{◌≡◌, refl, length, ap, sym, ◌∙◌, arith}
 use Rattle.std.specs.Prelude.{option_map}
 use Rattle.std.proofs.lemmas.List.{get_or_read}
-use Rattle.schnellru.proofs.Chains.LinkReads.{equal_by_test, other_by_test}
 use Rattle.schnellru.proofs.Chains.MovedChain.{newest_place, oldest_place, newer_place, older_place, full_by_link}
 use Rattle.schnellru.proofs.Chains.MovedChain.{MovedUpTo-none, MovedUpTo-passed, MovedUpTo-more, IsChain-moved}
 use Rattle.schnellru.proofs.ordered.chain.Chain.rewrite.Goals as goal
-use Rattle.schnellru.proofs.ordered.chain.Chain.rewrite.Goals.{then-ne, else-ne}
+use Rattle.schnellru.proofs.ordered.chain.Chain.rewrite.Goals.{then-not-is_max, else-not-is_max}
 
 pub loop-old-init : goal.loop-old-init
 loop-old-init g c = record { links = MovedUpTo-none; newest = refl; oldest = refl; insertions = refl }
@@ -15,8 +14,7 @@ pub move_links-requires-clause-newer : goal.move_links-requires-clause-newer
 move_links-requires-clause-newer g c l e =
     let link = get_or_read c.args.links.now c.loop-old.old c.index-links-old.result c.loop-old-test.true
     c.index-links-old.is g.N.LinkType.MAX in
-    let leads = rw link at
-    (other_by_test g.met.N.LinkType.laws (rw c.MAX.ensures at (sym c.ne.ensures ∙ c.if-ne.true))) in
+    let leads = rw link at c.if-not-is_max.ensures in
     let there = full_by_link c.requires.moved.3 c.loop-old.old leads in
     let place = c.into_usize.ensures ∙ ap g.N.LinkType.number link in
     let kept = ap (option_map (λ x. x.newer)) (c.loop-old.invariant.links.rest c.loop-old.old (omega arith) leads) in
@@ -27,8 +25,7 @@ pub move_links-requires-clause-older : goal.move_links-requires-clause-older
 move_links-requires-clause-older g c l e =
     let link = get_or_read c.args.links.now c.loop-old.old c.index-links-old.result c.loop-old-test.true
     c.index-links-old.is g.N.LinkType.MAX in
-    let leads = rw link at
-    (other_by_test g.met.N.LinkType.laws (rw c.MAX.ensures at (sym c.ne.ensures ∙ c.if-ne.true))) in
+    let leads = rw link at c.if-not-is_max.ensures in
     let there = full_by_link c.requires.moved.3 c.loop-old.old leads in
     let place = c.into_usize.ensures ∙ ap g.N.LinkType.number link in
     let kept = ap (option_map (λ x. x.older)) (c.loop-old.invariant.links.rest c.loop-old.old (omega arith) leads) in
@@ -40,10 +37,9 @@ loop-old-preserved g c =
     let before = c.loop-old.invariant in
     let link = get_or_read c.args.links.now c.loop-old.old c.index-links-old.result c.loop-old-test.true
     c.index-links-old.is g.N.LinkType.MAX in
-    elim c.if-ne.branch [
-      | then-ne w ↦
-          let leads = rw link at
-          (other_by_test g.met.N.LinkType.laws (rw c.MAX.ensures at (sym c.ne.ensures ∙ w.if-ne.true))) in
+    elim c.if-not-is_max.branch [
+      | then-not-is_max w ↦
+          let leads = rw link at w.if-not-is_max.ensures in
           let moves = rw (w.into_usize.ensures ∙ ap g.N.LinkType.number link) at w.move_links.ensures.links in
           rw w.self-is (record {
             links = MovedUpTo-more before.links c.requires.moved.3 leads moves;
@@ -51,9 +47,8 @@ loop-old-preserved g c =
             oldest = before.oldest;
             insertions = w.move_links.ensures.insertions ∙ before.insertions;
           })
-      | else-ne w ↦
-          let none = rw link at (equal_by_test g.met.N.LinkType.laws
-          (rw c.MAX.ensures at (sym c.ne.ensures ∙ w.if-ne.false))) in
+      | else-not-is_max w ↦
+          let none = rw link at w.if-not-is_max.ensures in
           rw w.self-is (record {
             links = MovedUpTo-passed before.links none;
             newest = before.newest;
