@@ -16,7 +16,7 @@ use Rattle.lru_replay.specs.Output.{reply_text, bad_text, Writes, Begins}
 use Rattle.lru_replay.specs.Replies.{Reply, no_memory}
 use Rattle.lru_replay.specs.Steps.{ReplyStep}
 
--- The pairs are stored before they are written, which takes memory: the pairs of an insert follow its answer.
+-- The command lists the pairs that its insert passes on before it writes them. The list takes memory.
 abbrev pub StoresFirst : Command → Type 0
 StoresFirst (commands.Put k v) = Unit {0}
 StoresFirst command = ⊥

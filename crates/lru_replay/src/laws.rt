@@ -21,7 +21,8 @@ use schnellru::{
 use std::hash::Hash;
 
 /// Over any calls the count of moved entries and the potential together rise by at most two for each entry that inserts
-/// store, while the count of stored entries goes on, and by one for each entry that shrinks rehash.
+/// store, and by one for each entry that shrinks rehash, while neither the count of stored entries nor the count of
+/// rehashed entries has reached `u64::MAX`.
 pub fn calls_pay_for_moves<K: Eq + Hash, V, L: Insertion<K, V, K>, S: KeyHasher<K>>()
     ensures rise { (old new : State K V L S) (calls : List (Call K V L)) (replies : List (Reply K V)) →
         IsRun (CallStep L.rules L.offers K.eq S.hash_of) (IsMap K.eq)

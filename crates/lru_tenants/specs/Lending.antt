@@ -3,8 +3,6 @@ use Rattle.std.specs.Prelude.{ℕ, Bool, Option, Result, Ok, Err, ⊤}
 use Rattle.std.specs.Borrow.{Fml, RattleType, Bor, MutBor, follows_so}
 use Rattle.std.specs.HashMap.Lent.{HashMembers}
 use Rattle.std.specs.Option.{option_copied}
-use Rattle.std.specs.declared.cmp.PartialEq as equality
-use Rattle.std.specs.declared.fmt.Debug as debug
 use Rattle.std.specs.declared.hash.Hasher as hasher
 use Rattle.group_table.specs.declared.link.LinkType as link_type
 use Rattle.lru_limits.specs.Hashing.{HasherMembers}
@@ -28,7 +26,7 @@ BudgetMembers K V L = record {
 
 module _ (N K V L S M H : RattleType) (name : HashMembers N.Denot) (key : HashMembers K.Denot)
     (limits : BudgetMembers K.Denot V.Denot L.Denot)
-    (links : link_type.Ghosts M.Denot) (link_eq : equality.Ghosts M.Denot) (link_shown : debug.Ghosts M.Denot)
+    (links : link_type.Ghosts M.Denot)
     (hashed : HasherMembers S.Denot K.Denot H.Denot) (hash : hasher.Ghosts H.Denot) where
   -- the cache's type, as the logic holds it
   abbrev pub cache_row : RattleType
@@ -40,7 +38,7 @@ module _ (N K V L S M H : RattleType) (name : HashMembers N.Denot) (key : HashMe
         made = limits.made;
         rebudgeted = limits.rebudgeted;
       }) (record { cost_of = limits.cost_of; account = limits.account }) (record { offers = limits.offers })
-      (record { rules = limits.rules }) links link_eq link_shown
+      (record { rules = limits.rules }) links
       (record { hash_of = hashed.hash_of }) (record { build_hasher = hashed.build_hasher }) hash
 
   -- it ends as one of which this holds

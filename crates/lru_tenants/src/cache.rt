@@ -209,9 +209,9 @@ impl<
 
     /// Inserts a key with a value, as the newest entry of the tenant. Returns whether the key is there then.
     ///
-    /// It is an `insert` into the map of the tenant: it rejects a value whose cost alone is above the budget, and
-    /// evicts the tenant's oldest entries until the sum of its costs is within the budget. If the key is there, a
-    /// rejected value removes its entry.
+    /// It is an `insert` into the map of the tenant. It rejects an entry that alone costs more than the budget, or that
+    /// would take the tenant's total past `u64::MAX`. Otherwise it evicts the tenant's oldest entries until the total
+    /// is within the budget. If the key is there and the new value is rejected, its entry is removed.
     ///
     /// ```
     /// assert_eq!(rt; cache.put(&1, 7, 2), Ok(true));
@@ -260,7 +260,7 @@ impl<
     /// assert_eq!(rt; (cache.clear(&1), cache.entries(&1), cache.cost(&1)), (Ok(()), Ok(0), Ok(0)));
     /// ```
     ///
-    /// Cost: `O(buckets)` of its table.
+    /// Cost: as `LruMap::clear`.
     ///
     /// # Errors
     ///

@@ -16,8 +16,8 @@ use std::hash::Hash;
 
 /// Carries out the calls on the cache, one after another, and returns one answer for each.
 ///
-/// The answers to a tenant depend on its own calls alone, whatever calls of others come between. An `open` can also be
-/// `OverTotal`, if the cache has a total limit.
+/// The answers to a tenant depend on its own calls alone, except that `open` may return `OverTotal` if the cache has a
+/// total limit, and that memory may run out.
 ///
 /// ```
 /// let calls = vec![in alloc; TenantCall::Open(1, 3), TenantCall::Put(1, 7, 1), TenantCall::Get(2, 7)]?;

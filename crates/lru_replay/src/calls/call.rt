@@ -2,7 +2,8 @@
 use schnellru::{MoveReport, ReserveError, Updated};
 use std::alloc::AllocError;
 
-/// A call of a run, which does what the call of the map with its name does. `docs/RUNS.md` has the special cases.
+/// A call of a run. It does what the call of the map with its name does, except `SetLimiter`: that one writes through
+/// `limiter_mut` and evicts nothing, while `LruMap::set_limiter` trims. `docs/RUNS.md` has the other special cases.
 ///
 /// ```
 /// let calls = vec![in alloc; Call::Insert(1, 10), Call::Get(1), Call::Peek(2)]?;
@@ -15,7 +16,8 @@ pub enum Call<K, V, L> {
     InsertWith(K, V),
     /// `get_or_insert`: returns the value of the key, which is inserted with this value if it is not there.
     GetOrInsert(K, V),
-    /// `update`: gives a key that is there this value, and its pair keeps its place.
+    /// `update`: offers a key that is there this value. Its pair keeps its place, or is removed if the limiter rejects
+    /// the value.
     Update(K, V),
     /// `get`: returns the value of the key, and makes its pair the newest.
     Get(K),
@@ -64,7 +66,7 @@ pub enum Call<K, V, L> {
     List,
     /// Returns the figures of the map.
     Stats,
-    /// Writes another limiter through `limiter_mut`.
+    /// Writes another limiter through `limiter_mut`, and evicts nothing.
     SetLimiter(L),
 }
 
@@ -94,7 +96,7 @@ pub enum Answer<K, V> {
     Pairs(Vec<(K, V)>),
     /// To `Trim`, `Clear` and `SetLimiter`: it is done.
     Done,
-    /// To `Reserve`: that there is room, or why not.
+    /// To `Reserve`: that there is growth left, or why not.
     Reserved(Result<(), ReserveError>),
     /// To `Shrink`: whether the table has fewer buckets now, or out of memory, and nothing has changed.
     Shrunk(Result<bool, AllocError>),
@@ -104,7 +106,7 @@ pub enum Answer<K, V> {
         len: usize,
         /// How many pairs the table holds for sure without growing.
         capacity: usize,
-        /// The bytes of the table.
+        /// The bytes of the table, as `memory_usage` counts them.
         memory: usize,
         /// How many entries inserts moved and stored, and how many shrinks rehashed.
         report: MoveReport,

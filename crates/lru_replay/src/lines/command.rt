@@ -68,7 +68,8 @@ fn after<'a>(line: &'a [u8], word: &[u8]) -> Option<&'a [u8]>
     line.strip_prefix(word)
 }
 
-/// Returns whether the word can begin a number: not with a sign, nor with a zero in front of another digit.
+/// Returns whether the word is not empty, does not begin with a plus, and is `0` alone if it begins with a zero.
+/// `parse` rejects all other words that are no number.
 fn starts_as_number(word: &[u8]) -> bool
     ensures yes { result ≡ true → StartsAsNumber word.now }
     ensures no { result ≡ false → StartsAsNumber word.now → ⊥ }
@@ -139,7 +140,7 @@ pub fn command_of(line: &[u8]) -> Option<Command>
     }
 }
 
-/// Returns the command that the line spells by a key and what is done with it, unless it is removed.
+/// Returns the command of a line that names one key, unless the command removes it.
 fn key_command_of(line: &[u8]) -> Option<Command>
     ensures some { IfSome result (λ command. SpellsCommand line.now command) }
     ensures none { IfNone result ((command : Command) → IsOfKey command → SpellsCommand line.now command → ⊥) }

@@ -54,7 +54,7 @@ pub struct Figures {
     pub len: usize,
     /// How many pairs the table holds for sure without growing.
     pub capacity: usize,
-    /// The bytes of the table.
+    /// The bytes of the table, as `memory_usage` counts them.
     pub memory: usize,
     /// How many entries inserts have moved.
     pub moved: u64,

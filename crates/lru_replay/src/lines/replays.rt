@@ -202,6 +202,14 @@ fn answer_and_flush<R: BufRead, W: Write>(
 ///
 /// In the contract, a reader's bytes and a writer's bytes are the whole streams, however they are cut into reads and
 /// writes. Of a reader or a writer whose type says nothing of its bytes, the contract says nothing.
+///
+/// Cost: as the calls. A line of any length is read in constant memory, and `put` requests memory for the entries that
+/// it writes.
+///
+/// # Errors
+///
+/// `Read`: a read failed. The lines that were read whole are answered, and the output is flushed. `Write`: a write or
+/// the flush failed. After a failed write no line is read, and nothing more is written.
 pub fn replay<R: BufRead, W: Write>(
     alloc: Global,
     reader: &mut R,

@@ -36,7 +36,7 @@ impl<
     ///
     /// # Errors
     ///
-    /// As `put`. `make` was called before `Memory`.
+    /// As `put`. If the error is `Memory`, the closure was called.
     pub fn get_or_put<F: FnOnce() -> V>(
         &mut self,
         name: &N,
@@ -45,8 +45,8 @@ impl<
     ) -> Result<Option<&V>, TenantError>
         requires { IfSome (tenant (N.eq name.now) self.old) (λ map. lookup (K.eq key) map.pairs ≡ None → F.pre make) }
         ensures* leaves { sem 𝓛 (ends_so N.row K.row V.row L.row S.row L.LinkType.row S.Hasher.row N.Hash K.Hash
-            L.Budgeted L.LinkType.LinkType.own L.LinkType.PartialEq L.LinkType.Debug S.KeyHasher S.Hasher.Hasher
-            self.entry (On N.eq name.now (GetsOrPuts L.rules L.offers L.budget_of K.eq S.hash_of (F.post make) key)
+            L.Budgeted L.LinkType.LinkType S.KeyHasher S.Hasher.Hasher self.entry
+            (On N.eq name.now (GetsOrPuts L.rules L.offers L.budget_of K.eq S.hash_of (F.post make) key)
             self.old (read result))) }
     {
         let Some(own) = self.tenants.get_mut(name) else {

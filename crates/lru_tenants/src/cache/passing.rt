@@ -79,7 +79,8 @@ impl<
     /// assert_eq!(rt; (rejected.kept, rejected.unkept), (false, Some(9)));
     /// ```
     ///
-    /// Cost: as `put_with`, with a second look-up of a key if the limiter has no room for its entry.
+    /// Cost: as `put_with`. If the key is there and the limiter would reject its entry as a new one, the key is looked
+    /// up twice.
     ///
     /// # Errors
     ///

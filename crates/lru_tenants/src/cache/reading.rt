@@ -41,8 +41,8 @@ impl<N: Eq + Hash, K: Eq + Hash, V, L: Budgeted<K, V>, S: KeyHasher<K> + Copy> T
     /// `NotOpen`: nothing has changed.
     pub fn get<Q: LookupKey<K>>(&mut self, name: &N, key: &Q) -> Result<Option<&V>, TenantError>
         ensures* leaves { sem 𝓛 (ends_so N.row K.row V.row L.row S.row L.LinkType.row S.Hasher.row N.Hash K.Hash
-            L.Budgeted L.LinkType.LinkType.own L.LinkType.PartialEq L.LinkType.Debug S.KeyHasher S.Hasher.Hasher
-            self.entry (On N.eq name.now (Gets (Q.names key.now)) self.old (read result))) }
+            L.Budgeted L.LinkType.LinkType S.KeyHasher S.Hasher.Hasher self.entry
+            (On N.eq name.now (Gets (Q.names key.now)) self.old (read result))) }
         ensures value { read result ≡ got (Q.names key.now) (tenant (N.eq name.now) self.old) }
     {
         let Some(map) = self.tenants.get_mut(name) else {
