@@ -1,4 +1,4 @@
-//! A page cache over each device on a file, beside a plain list of blocks.
+//! A page cache over each device on a file, compared with a plain list of blocks.
 use crate::CALLS;
 use lru_caches::{BlockDevice, FileDevice, HashedFileDevice, PageCache, Unclosed};
 use std::alloc::Global;

@@ -1,4 +1,4 @@
-//! A loader beside a list of the keys whose values it remembers.
+//! A loader compared with a list of the keys whose values it remembers.
 ghost use Rattle.std.specs.Prelude.{nat_eq};
 ghost use Rattle.lru_caches.specs.Answers.{AreAnswers, loads};
 

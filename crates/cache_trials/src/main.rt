@@ -26,7 +26,7 @@ type Trial = (&'static str, u64, u64);
 
 /// Tries memos, loaders and ordered maps.
 fn of_maps(alloc: Global) -> [Trial; 7] {
-    let numbers = recursion::tables_that_are_right(alloc);
+    let answers = recursion::answers(alloc);
     let entries = ordered::calls_that_agree(alloc);
     let references = leaks::references(alloc);
     let growths = refusals::of_ordered_maps(alloc);
@@ -34,7 +34,7 @@ fn of_maps(alloc: Global) -> [Trial; 7] {
     [
         ("calls on a memo", memos::calls_that_agree(alloc), CALLS),
         ("calls on a loader", loaders::calls_that_agree(alloc), CALLS),
-        ("Fibonacci numbers by memo tables", numbers, 4),
+        ("recursions with a memo table", answers, 1),
         ("calls on an ordered map", entries, CALLS),
         ("ordered maps that hold counted references", references, 2),
         ("growths of an ordered map without memory", growths, 4),
@@ -43,17 +43,15 @@ fn of_maps(alloc: Global) -> [Trial; 7] {
 }
 
 /// Tries page caches.
-fn of_pages(alloc: Global) -> [Trial; 5] {
+fn of_pages(alloc: Global) -> [Trial; 4] {
     let calls = pages::calls_that_agree(alloc);
     let copies = files::calls_that_agree_on_copies(alloc);
     let hashes = files::calls_that_agree_on_hashes(alloc);
-    let blocks = pages::blocks_after_a_failed_write_back(alloc);
     let growths = refusals::of_page_caches(alloc);
     [
         ("calls on a page cache", calls, CALLS),
         ("calls on a file with copies", copies, CALLS),
         ("calls on a file with hashes", hashes, CALLS),
-        ("blocks after a failed write-back", blocks, 3),
         ("growths of a page cache without memory", growths, 4),
     ]
 }

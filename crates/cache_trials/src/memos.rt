@@ -1,4 +1,4 @@
-//! A memo beside a list of the keys whose results it remembers.
+//! A memo compared with a list of the keys whose results it remembers.
 ghost use Rattle.std.specs.Prelude.{nat_eq};
 ghost use Rattle.lru_caches.specs.Answers.{AreAnswers};
 

@@ -1,4 +1,4 @@
-//! An ordered map beside a plain list of entries, oldest first.
+//! An ordered map compared with a plain list of entries, oldest first.
 use crate::CALLS;
 use lru_caches::OrderedMap;
 use std::alloc::Global;
@@ -61,32 +61,14 @@ fn insert(list: &mut List, key: u64, value: u64) -> Option<u64> {
     old
 }
 
-// Removes a key from both, and returns whether the values agree.
-fn removals_agree(map: &mut Map, list: &mut List, key: u64) -> bool {
-    match remove(list, key) {
-        Some(entry) => map.remove(&key) == Some(entry.1),
-        None => map.remove(&key).is_none(),
-    }
-}
-
-// Writes a value through a reference, and returns whether both have the key.
-fn writes_agree(map: &mut Map, list: &mut List, key: u64) -> bool {
-    if let Some(value) = map.get_mut(&key) {
-        *value = 7;
-    }
-    map.contains_key(&key) == replace(list, key, 7).is_some()
-}
-
 // Makes a random call, and returns whether both agree.
 fn calls_agree(map: &mut Map, list: &mut List, random: &mut Random) -> bool {
     let (key, value) = (random.below(24), random.below(1000));
     match random.below(64) {
-        ..=31 => map.insert(key, value).ok() == Some(insert(list, key, value)),
-        ..=39 => map.remove_entry(&key) == remove(list, key),
-        ..=47 => removals_agree(map, list, key),
-        ..=51 => map.pop_first() == take(list, 0),
-        ..=55 => map.pop_last() == take_newest(list),
-        ..=62 => writes_agree(map, list, key),
+        ..=37 => map.insert(key, value).ok() == Some(insert(list, key, value)),
+        ..=54 => map.remove_entry(&key) == remove(list, key),
+        ..=58 => map.pop_first() == take(list, 0),
+        ..=62 => map.pop_last() == take_newest(list),
         _ => {
             map.retain(|_, value| value % 2 == 1);
             list.retain(|entry| entry.1 % 2 == 1);

@@ -13,6 +13,7 @@ ghost use Rattle.std.specs.Prelude.{◌≡◌, ◌≢◌, ℕ, IfOk, OnOk};
 /// [`HashedFileDevice`]: crate::HashedFileDevice
 ///
 /// ```
+/// let calls_left = Cell::new(2);           // the third call fails
 /// let mut disk = Disk { blocks: [10, 11, 12, 13], calls_left: &calls_left };
 /// assert_eq!(rt; disk.write(1, &20), Ok(()));
 /// assert_eq!(rt; disk.read(1), Ok(20));

@@ -7,8 +7,8 @@
 //! insertion.
 #![tactic(auto)]
 
-mod append;
 mod device;
+mod empty;
 mod file_device;
 mod memo;
 mod ordered_map;

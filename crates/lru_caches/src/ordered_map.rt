@@ -10,7 +10,7 @@ ghost use Rattle.lru_model.specs.ByHash.{Asks};
 ghost use Rattle.lru_model.specs.Lists.{is_empty, first, last, without_first, without_last, without, lookup_entry};
 ghost use Rattle.lru_caches.specs.Ordered.{put};
 
-use crate::append::empty_map;
+use crate::empty::empty_map;
 use crate::ordered_map::entries::Entries;
 use crate::ordered_map::keys::{Keys, Values};
 use schnellru::{KeyHasher, LookupKey, LruMap, RandomState, Unlimited};
@@ -263,7 +263,7 @@ impl<K: Eq + Hash, V, S: KeyHasher<K>> OrderedMap<K, V, S> {
         Keys::new(self.iter())
     }
 
-    /// Returns an iterator over the values, by the order of their keys, oldest first.
+    /// Returns an iterator over the values, in the order of the entries, oldest first.
     ///
     /// ```
     /// assert!(rt; map.keys().next() == Some(&1) && map.values().next_back() == Some(&20));
@@ -365,7 +365,7 @@ impl<K: Eq + Hash + Drop, V: Drop, S: KeyHasher<K>> OrderedMap<K, V, S> {
     ///
     /// Cost: `O(len)`.
     ///
-    /// After std's `HashMap::retain`.
+    /// After std's `HashMap::retain`, whose closure may write the value.
     pub fn retain<F: FnMut(&K, &V) -> bool>(&mut self, keep: F)
         requires callable { F.IsAlwaysCallable keep }
         ensures kept { IsFiltered (Asks F.FnMut) keep self.old self.new }
@@ -380,7 +380,7 @@ impl<K: Eq + Hash + Drop, V: Drop, S: KeyHasher<K>> OrderedMap<K, V, S> {
     /// assert!(rt; map.is_empty());
     /// ```
     ///
-    /// Cost: `O(buckets)`, even if there are few entries.
+    /// Cost: as `LruMap::clear`.
     ///
     /// After std's `HashMap::clear`.
     pub fn clear(&mut self)

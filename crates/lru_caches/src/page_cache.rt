@@ -2,8 +2,8 @@
 ghost use Rattle.std.specs.Prelude.{◌≡◌, ◌≢◌, ◌≤◌, ℕ, [], length, max, IsTrue, ◌↔◌, IfOk, IfErr, OnOk, OnErr, IsOk};
 ghost use Rattle.lru_caches.specs.Pages.{shown, ShowsTheSame, IsCached, numbers, numbers_after};
 
-use crate::append::empty_map;
 use crate::device::BlockDevice;
+use crate::empty::empty_map;
 use crate::page_cache::pages::{
     Page, Pages, add_page, cached_block, make_room, overwrite, write_all_back,
 };
@@ -81,7 +81,7 @@ impl<B: Copy, D: BlockDevice<B>> PageCache<B, D, RandomState> {
     /// let mut cache = PageCache::new(alloc, disk, 2);
     /// ```
     pub fn new(alloc: Global, device: D, capacity: usize) -> Self
-        ensures shows { (n : ℕ) → shown D.seen D.blocks result n ≡ D.blocks device n }
+        ensures device { result.device ≡ device }
         ensures empty { result.pages ≡ [] }
         ensures capacity { result.capacity ≡ max 1 capacity }
     {
@@ -99,7 +99,7 @@ impl<B: Copy, D: BlockDevice<B>, S: KeyHasher<u64>> PageCache<B, D, S> {
     /// let mut cache = PageCache::with_hasher(alloc, disk, 2, seeded);
     /// ```
     pub fn with_hasher(alloc: Global, device: D, capacity: usize, hasher: S) -> Self
-        ensures shows { (n : ℕ) → shown D.seen D.blocks result n ≡ D.blocks device n }
+        ensures device { result.device ≡ device }
         ensures empty { result.pages ≡ [] }
         ensures capacity { result.capacity ≡ max 1 capacity }
     {
@@ -164,8 +164,9 @@ impl<B: Copy, D: BlockDevice<B>, S: KeyHasher<u64>> PageCache<B, D, S> {
     ///
     /// # Errors
     ///
-    /// `Device`: the read failed, or the write of the oldest page. `Memory`: out of memory for one page more; the
-    /// oldest page may have been evicted. There is no error if the page is cached.
+    /// `Device`: the read failed, or the oldest page could not be written back. `Memory`: out of memory for one page
+    /// more; the oldest page may have been evicted. In the last two cases the device has returned the block, but `read`
+    /// does not return what it cannot keep (`Loader::load` does). There is no error if the page is cached.
     pub fn read(&mut self, n: u64) -> Result<B, PageError<D::Error>>
         ensures block { IfOk result (λ block. D.seen block ≡ shown D.seen D.blocks self.old n) }
         ensures keeps { ShowsTheSame D.seen D.blocks self.old self.new }
@@ -185,6 +186,10 @@ impl<B: Copy, D: BlockDevice<B>, S: KeyHasher<u64>> PageCache<B, D, S> {
     }
 
     /// Replaces a block in the cache, and makes its page the newest. The device gets the block later.
+    ///
+    /// The cache accepts every number. If the device rejects this one, the page can never be written back: each `flush`
+    /// and `close` fails from then on, and so does each call that has to evict the page. Only `discard` ends such a
+    /// cache. Check a number that comes from outside before you write there.
     ///
     /// If the page is not cached and the cache is full, the oldest page is evicted for it, as by `read`.
     ///
@@ -235,6 +240,7 @@ impl<B: Copy, D: BlockDevice<B>, S: KeyHasher<u64>> PageCache<B, D, S> {
     pub fn flush(&mut self) -> Result<(), PageError<D::Error>>
         ensures keeps { ShowsTheSame D.seen D.blocks self.old self.new }
         ensures flushed { OnOk result ((n : ℕ) → D.blocks self.new.device n ≡ shown D.seen D.blocks self.old n) }
+        ensures dirty { OnErr result (self.new.round ≡ self.old.round) }
         ensures pages { self.new.pages ≡ self.old.pages }
         ensures capacity { self.new.capacity ≡ self.old.capacity }
     {
@@ -257,12 +263,16 @@ impl<B: Copy, D: BlockDevice<B>, S: KeyHasher<u64>> PageCache<B, D, S> {
     ///
     /// # Errors
     ///
-    /// The flush failed. The error contains the cache, which shows the same blocks as before.
+    /// The flush failed. The error contains the cache, which shows the same blocks as before. Its pages are the same,
+    /// each as dirty as before.
     pub fn close(mut self) -> Result<D, Unclosed<B, D, S>>
     where
         S: Drop,
         ensures closed { IfOk result (λ device. (n : ℕ) → D.blocks device n ≡ shown D.seen D.blocks self n) }
         ensures failed { IfErr result (λ unclosed. ShowsTheSame D.seen D.blocks self unclosed.cache) }
+        ensures pages { IfErr result (λ unclosed. unclosed.cache.pages ≡ self.pages) }
+        ensures dirty { IfErr result (λ unclosed. unclosed.cache.round ≡ self.round) }
+        ensures capacity { IfErr result (λ unclosed. unclosed.cache.capacity ≡ self.capacity) }
     {
         match self.flush() {
             Ok(()) => Ok(self.discard()),
@@ -298,7 +308,7 @@ impl<B: Copy, D: BlockDevice<B>, S: KeyHasher<u64>> PageCache<B, D, S> {
 /// Err(Unclosed { cache, error: _ }) => cache,
 /// ```
 pub struct Unclosed<B: Copy, D: BlockDevice<B>, S: KeyHasher<u64> = RandomState> {
-    /// The cache, which shows the same blocks as before.
+    /// The cache, which shows the same blocks as before, with the same pages.
     pub cache: PageCache<B, D, S>,
     /// Why the flush failed.
     pub error: PageError<D::Error>,

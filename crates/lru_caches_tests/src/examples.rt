@@ -46,7 +46,7 @@ fn of_the_page_cache(rt: HostRuntime) {
 
 #[test]
 fn of_the_device(rt: HostRuntime) {
-    let calls_left = Cell::new(2);
+    let calls_left = Cell::new(2); // the third call fails
     let mut disk = Disk {
         blocks: [10, 11, 12, 13],
         calls_left: &calls_left,

@@ -14,10 +14,10 @@ use std::marker::Model;
 
 /// A device of the blocks of a file, of `N` bytes each, that keeps a hash of 8 bytes for each block.
 ///
-/// Nothing is proved of the bytes that an operating system returns. So a read fails unless the hash of the file's block
-/// is the hash of the block that was written last, or that the file had when the device was made. Contracts see a block
-/// of such a device as its hash, so they do not tell two blocks with the same hash apart, and whoever looks for such
-/// blocks can find them. [`FileDevice`] compares whole blocks.
+/// Nothing is proved of the bytes that an operating system returns. A read fails if the file's block has another hash
+/// than the block that was written last, or, before the first write, than the block that `new` read. Contracts see a
+/// block of such a device as its hash, so they do not tell two blocks with the same hash apart, and whoever looks for
+/// such blocks can find them. [`FileDevice`] compares whole blocks.
 ///
 /// After a failed write the reads of that block may fail, until a write of it succeeds.
 ///

@@ -5,7 +5,6 @@ ghost use Rattle.std.specs.Map.{lookup, keys_of};
 ghost use Rattle.lru_model.specs.Lists.{without};
 ghost use Rattle.lru_caches.specs.Pages.{block_at, AreClean};
 
-use crate::append::append;
 use crate::device::BlockDevice;
 use crate::page_cache::PageError;
 use schnellru::{KeyHasher, LruMap, UnlimitedCompact};
@@ -175,7 +174,7 @@ pub(super) fn add_page<B: Copy, E, S: KeyHasher<u64>>(
     ensures added { OnOk result (map.new.pairs ≡ (n, page) ∷ map.old.pairs) }
     ensures stay { OnErr result (map.new.pairs ≡ map.old.pairs) }
 {
-    match append(map, n, page) {
+    match map.try_insert(n, page) {
         Ok(()) => Ok(()),
         Err(_) => Err(PageError::Memory),
     }
