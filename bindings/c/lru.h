@@ -51,13 +51,13 @@ struct lru {
 
 #define LRU_NONE {NULL}
 
-/* A value, if `found`. Otherwise `value` is 0 (tested). */
+/* A value, if `found`. Otherwise `value` is 0. */
 struct lru_found {
     uint64_t value;
     bool found;
 };
 
-/* An entry, if `found`. Otherwise `key` and `value` are 0 (tested). */
+/* An entry, if `found`. Otherwise `key` and `value` are 0. */
 struct lru_pair {
     uint64_t key;
     uint64_t value;
@@ -72,7 +72,7 @@ struct lru_entry {
 
 /* What an insert did. */
 struct lru_inserted {
-    uint64_t old_value; /* the old value of the key, if `replaced`; otherwise 0 (tested) */
+    uint64_t old_value; /* the old value of the key, if `replaced`; otherwise 0 */
     uint32_t code;      /* LRU_STORED, or why the key is not there: one of the codes below */
     bool replaced;      /* whether the key was there */
     bool evicted;       /* whether the oldest entry was evicted to make room */
@@ -80,7 +80,7 @@ struct lru_inserted {
 
 /* What lru_insert, lru_put and lru_bytes_put return. */
 #define LRU_STORED 0u        /* the key is there, and has the value */
-#define LRU_REJECTED 1u      /* the key is not there: no such entry fits the maximum length or the budget */
+#define LRU_REJECTED 1u      /* the key is not there, although no allocation failed: the entry does not fit */
 #define LRU_OUT_OF_MEMORY 2u /* there was no memory */
 #define LRU_NO_MAP 3u        /* the handle has no map */
 
@@ -202,8 +202,8 @@ void lru_bytes_free(struct lru_bytes *lru);
  * lru_bytes_pop_oldest before.
  *
  * LRU_REJECTED: the entry alone weighs more than the budget (tested). Then the value is not read, and the entry of the
- * key is removed, so no old value stays under the key. LRU_OUT_OF_MEMORY: all memory is taken first, so the entries and
- * their order are as they were. A key that is there takes memory for the two copies alone, and none for the table. */
+ * key is removed, so no old value stays under the key. LRU_OUT_OF_MEMORY: all memory is taken first, so nothing has
+ * changed. A key that is there takes memory for the two copies alone, and none for the table. */
 uint32_t lru_bytes_put(struct lru_bytes *lru, const uint8_t *key, size_t key_len, const uint8_t *value,
                        size_t value_len);
 

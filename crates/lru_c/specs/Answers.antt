@@ -11,21 +11,25 @@ use Rattle.lru_c.specs.declared.answers.Found.{Found}
 use Rattle.lru_c.specs.declared.answers.Inserted.{Inserted}
 use Rattle.lru_c.specs.declared.answers.Pair.{Pair}
 
--- the value, if there is one
-abbrev pub found_value : Found → Option ℕ
-found_value answer = if answer.found then Some answer.value else None
+-- what is returned of a value, if there is one
+abbrev pub found_of : Option ℕ → Found
+found_of None = record { value = 0; found = false }
+found_of (Some value) = record { value = value; found = true }
 
--- the pair, if there is one
-abbrev pub found_pair : Pair → Option (ℕ × ℕ)
-found_pair answer = if answer.found then Some (answer.key, answer.value) else None
+-- what is returned of a pair, if there is one
+abbrev pub pair_of : Option (ℕ × ℕ) → Pair
+pair_of None = record { key = 0; value = 0; found = false }
+pair_of (Some pair) = record { key = pair.0; value = pair.1; found = true }
+
+-- what an insert returns: its code, the old value, if there was one, and whether it evicted an entry
+abbrev pub inserted_of : ℕ → Option ℕ → Bool → Inserted
+inserted_of code None evicted = record { old_value = 0; code = code; replaced = false; evicted = evicted }
+inserted_of code (Some old_value) evicted =
+    record { old_value = old_value; code = code; replaced = true; evicted = evicted }
 
 -- the pair in this place, if one was noted there
 abbrev pub noted_pair : Bool → Entry → Option (ℕ × ℕ)
 noted_pair noted place = if noted then Some (place.key, place.value) else None
-
--- the old value, if there is one
-abbrev pub replaced_value : Inserted → Option ℕ
-replaced_value answer = if answer.replaced then Some answer.old_value else None
 
 -- the slots after the pairs were copied into them, as many as fit
 abbrev pub filled : List (ℕ × ℕ) → List Entry → List Entry
@@ -55,16 +59,15 @@ put_code (Ok true) = 0
 put_code (Ok false) = 1
 put_code (Err error) = 2
 
--- An insert: of the pairs that leave, the first of another key is written to a place, which else stays as it is. Of the
--- inserted key the old value is returned.
+-- An insert. The first pair of another key that is passed to the callback is written to a place; if there is none, the
+-- place stays as it is. The old value of the key is returned, if there was one.
 pub record Inserts (key value : ℕ) (old : Map) (answer : Inserted) (place left : Entry) (new : Map) : Type 0 where
   pub result : Result Bool AllocError
   pub passed : List (ℕ × ℕ)
   pub step : InsertPasses length_rules length_offers nat_eq hash_of key value old result passed new
   pub evicted : noted_pair answer.evicted left ≡ first_other key passed
   pub untouched : answer.evicted ≡ false → left ≡ place
-  pub replaced : replaced_value answer ≡ lookup (nat_eq key) old.pairs
-  pub code : answer.code ≡ put_code result
+  pub returned : answer ≡ inserted_of (put_code result) (lookup (nat_eq key) old.pairs) answer.evicted
 
 -- A call on a handle. Without a map nothing changes, and the call returns nothing. A map makes this step.
 pub data OnMap {M : Type 0} (returns_nothing : Type 0) (step : M → M → Type 0) (old new : Option M) : Type 0 where

@@ -137,15 +137,15 @@ FindsMemory key ready = has_bytes key ready ≡ false → 1 ≤ room ready
 
 -- A put, and what it returns.
 pub data Puts (key value : List ℕ) (old : BytesMap) (code : ℕ) (new : BytesMap) : Type 0 where
-  -- The key alone is over the budget, and so cannot be there: nothing changes.
+  -- The key alone is over the budget: nothing changes. (Such a key is not there, if the total is the sum of the weights
+  -- and within the budget.)
   too_long : old.limiter.limit < length key → code ≡ 1 → new ≡ old → Puts key value old code new
   -- The entry alone is over the budget: it is not stored, and the key is removed.
   too_heavy : old.limiter.limit < weight (length key) (length value) → code ≡ 1 →
       (value_gone : Option Bytes) → Remove bytes_rules (names_bytes key) old value_gone new →
       Puts key value old code new
-  -- There is no memory: the entries stay.
-  no_memory : weight (length key) (length value) ≤ old.limiter.limit → code ≡ 2 →
-      new.pairs ≡ old.pairs → new.limiter ≡ old.limiter →
+  -- There is no memory: nothing changes.
+  no_memory : weight (length key) (length value) ≤ old.limiter.limit → code ≡ 2 → new ≡ old →
       Puts key value old code new
   -- Copies are inserted into the map, after its table was made large enough for a new key.
   inserted : weight (length key) (length value) ≤ old.limiter.limit →

@@ -3,8 +3,6 @@ use Rattle.std.specs.Borrow.{RattleType, u8, usize}
 use Rattle.std.specs.contracts.alloc.Global as global
 use Rattle.std.specs.contracts.impls.GlobalAllocator.TheImpl as heap
 use Rattle.std.specs.contracts.option.Option as option
-use Rattle.std.specs.contracts.prelude.UsizeDebug.TheImpl as usize_debug
-use Rattle.std.specs.contracts.prelude.UsizePartialEq.TheImpl as usize_eq
 use Rattle.std.specs.contracts.vec.Vec as vec
 use denote.Param.{number}
 use Rattle.group_table.specs.contracts.link.UsizeLinkType.TheImpl as usize_link
@@ -25,8 +23,7 @@ abbrev pub bytes_row : RattleType
 bytes_row = lru_map.the_row bytes bytes (by_weight.the_row (number 64)) random_state.the_row usize
     default_hasher.the_row
     (record { eq = same_bytes }) (record { hash_input = input_of_bytes }) (record { rules = bytes_rules })
-    usize_link.ghosts usize_eq.ghosts usize_debug.ghosts
-    (record { hash_of = hash_of_bytes }) random_builds.ghosts default_hashes.ghosts
+    usize_link.ghosts (record { hash_of = hash_of_bytes }) random_builds.ghosts default_hashes.ghosts
 
 -- the type `Option<BytesMap>`
 abbrev pub maybe_bytes_row : RattleType

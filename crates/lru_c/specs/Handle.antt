@@ -5,8 +5,6 @@ use Rattle.std.specs.Box.Ownership.{box_owns}
 use Rattle.std.specs.declared.alloc.Global.{Global}
 use Rattle.std.specs.contracts.impls.GlobalAllocator.TheImpl as heap
 use Rattle.std.specs.contracts.option.Option as option
-use Rattle.std.specs.contracts.prelude.U32Debug.TheImpl as u32_debug
-use Rattle.std.specs.contracts.prelude.U32PartialEq.TheImpl as u32_eq
 use Rattle.std.specs.contracts.prelude.U64Hash.TheImpl as u64_hash
 use Rattle.std.specs.contracts.prelude.U64PartialEq.TheImpl as u64_eq
 use base.Fml.{feq}
@@ -34,7 +32,7 @@ hash_of = hash_by u64_hash.ghosts.hash_input random_builds.ghosts default_hashes
 -- the type `LruMap<u64, u64>`, as the logic holds it
 abbrev pub map_row : RattleType
 map_row = lru_map.the_row u64 u64 by_length.the_row random_state.the_row u32 default_hasher.the_row u64_eq.ghosts
-    u64_hash.ghosts (length_limits.ghosts u64 u64) u32_link.ghosts u32_eq.ghosts u32_debug.ghosts
+    u64_hash.ghosts (length_limits.ghosts u64 u64) u32_link.ghosts
     (record { hash_of = hash_of }) random_builds.ghosts default_hashes.ghosts
 
 -- the type `Option<LruMap<u64, u64>>`

@@ -1,12 +1,12 @@
 //! What the calls return to C: plain structs, since an `Option` cannot cross.
 ghost use Rattle.std.specs.Prelude.{◌≡◌, false};
-ghost use Rattle.lru_c.specs.Answers.{found_value, found_pair, noted_pair, replaced_value, noting_other, put_code};
+ghost use Rattle.lru_c.specs.Answers.{found_of, pair_of, inserted_of, noted_pair, noting_other, put_code};
 
 use std::alloc::AllocError;
 
 /// What a put returns if the key is in the map, with the value.
 pub const STORED: u32 = 0;
-/// What a put returns if the limiter rejected the entry. The key is not in the map.
+/// What a put returns if the key is not there afterwards although no allocation failed.
 pub const REJECTED: u32 = 1;
 /// What a put returns if there was no memory.
 pub const OUT_OF_MEMORY: u32 = 2;
@@ -62,7 +62,7 @@ pub struct Inserted {
 /// Returns the value for C.
 #[inline]
 pub fn as_found(value: Option<u64>) -> Found
-    ensures { found_value result ≡ value }
+    ensures { result ≡ found_of value }
 {
     match value {
         Some(value) => Found { value, found: true },
@@ -76,7 +76,7 @@ pub fn as_found(value: Option<u64>) -> Found
 /// Returns the entry for C.
 #[inline]
 pub fn as_pair(entry: Option<(u64, u64)>) -> Pair
-    ensures { found_pair result ≡ entry }
+    ensures { result ≡ pair_of entry }
 {
     match entry {
         Some((key, value)) => Pair {
@@ -95,9 +95,7 @@ pub fn as_pair(entry: Option<(u64, u64)>) -> Pair
 /// Returns for C what an insert did.
 #[inline]
 pub fn as_inserted(code: u32, old_value: Option<u64>, evicted: bool) -> Inserted
-    ensures code { result.code ≡ code }
-    ensures replaced { replaced_value result ≡ old_value }
-    ensures evicted { result.evicted ≡ evicted }
+    ensures { result ≡ inserted_of code old_value evicted }
 {
     match old_value {
         Some(old_value) => Inserted {

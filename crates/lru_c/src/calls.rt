@@ -1,11 +1,11 @@
 //! The calls on a map that return structs for C.
-ghost use Rattle.std.specs.Prelude.{◌≡◌, ℕ, nat_eq, false, List, None, IfOk, OnErr, IfSome};
+ghost use Rattle.std.specs.Prelude.{◌≡◌, ℕ, nat_eq, false, List, Option, None, IfOk, OnErr, IfSome};
 ghost use Rattle.lru_limits.specs.Limiters.{length_rules, length_offers};
 ghost use Rattle.lru_model.specs.Calls.{Remove, PopOldest, promoted};
 ghost use Rattle.lru_model.specs.Lists.{lookup, first, last};
 ghost use Rattle.lru_model.specs.Callbacks.{InsertPasses};
 ghost use Rattle.lru_model.specs.Inserts.{kept_of};
-ghost use Rattle.lru_c.specs.Answers.{found_value, found_pair, noted_pair, filled, fitting, first_other, Inserts};
+ghost use Rattle.lru_c.specs.Answers.{found_of, pair_of, noted_pair, filled, fitting, first_other, Inserts};
 ghost use Rattle.lru_c.specs.Handle.{hash_of};
 
 use crate::answers::{
@@ -49,7 +49,7 @@ fn insert_and_note(
 /// Returns the value of a key, whose entry becomes the newest.
 #[inline]
 pub fn get(map: &mut Map, key: u64) -> Found
-    ensures value { found_value result ≡ lookup (nat_eq key) map.old.pairs }
+    ensures value { result ≡ found_of (lookup (nat_eq key) map.old.pairs) }
     ensures promoted { map.new ≡ promoted (nat_eq key) map.old }
 {
     match map.get(&key) {
@@ -61,7 +61,7 @@ pub fn get(map: &mut Map, key: u64) -> Found
 /// Returns the value of a key. The order stays.
 #[inline]
 pub fn peek(map: &Map, key: u64) -> Found
-    ensures { found_value result ≡ lookup (nat_eq key) map.now.pairs }
+    ensures { result ≡ found_of (lookup (nat_eq key) map.now.pairs) }
 {
     match map.peek(&key) {
         Some(value) => as_found(Some(*value)),
@@ -72,7 +72,7 @@ pub fn peek(map: &Map, key: u64) -> Found
 /// Removes the entry of a key, and returns its value.
 #[inline]
 pub fn remove(map: &mut Map, key: u64) -> Found
-    ensures { Remove length_rules (nat_eq key) map.old (found_value result) map.new }
+    ensures { (value : Option ℕ) × (result ≡ found_of value) × Remove length_rules (nat_eq key) map.old value map.new }
 {
     as_found(map.remove(&key))
 }
@@ -80,7 +80,7 @@ pub fn remove(map: &mut Map, key: u64) -> Found
 /// Removes the oldest entry, and returns it.
 #[inline]
 pub fn pop_oldest(map: &mut Map) -> Pair
-    ensures { PopOldest length_rules map.old (found_pair result) map.new }
+    ensures { (pair : Option (ℕ × ℕ)) × (result ≡ pair_of pair) × PopOldest length_rules map.old pair map.new }
 {
     as_pair(map.pop_oldest())
 }
@@ -88,7 +88,7 @@ pub fn pop_oldest(map: &mut Map) -> Pair
 /// Returns the oldest entry. The order stays.
 #[inline]
 pub fn peek_oldest(map: &Map) -> Pair
-    ensures { found_pair result ≡ last map.now.pairs }
+    ensures { result ≡ pair_of (last map.now.pairs) }
 {
     match map.peek_oldest() {
         Some((key, value)) => as_pair(Some((*key, *value))),
@@ -99,7 +99,7 @@ pub fn peek_oldest(map: &Map) -> Pair
 /// Returns the newest entry. The order stays.
 #[inline]
 pub fn peek_newest(map: &Map) -> Pair
-    ensures { found_pair result ≡ first map.now.pairs }
+    ensures { result ≡ pair_of (first map.now.pairs) }
 {
     match map.peek_newest() {
         Some((key, value)) => as_pair(Some((*key, *value))),

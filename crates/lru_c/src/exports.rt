@@ -1,8 +1,9 @@
 //! The functions that C calls. `bindings/c/lru.h` declares them, without `alloc`, which passes nothing.
 //!
-//! A call on a handle without a map changes nothing, and returns that there is nothing. Only `lru_new` makes a map, and
-//! `lru_clone` drops the map of the copy.
-ghost use Rattle.std.specs.Prelude.{◌≡◌, ◌+◌, nat_eq, length, is_some, is_ok, Some, None, Result, Bool, true, false, ⊤};
+//! On a handle without a map, `lru_new` makes a map, and `lru_clone` drops the map of the copy. Every other call
+//! changes nothing, and returns that there is nothing.
+ghost use Rattle.std.specs.Prelude.{◌≡◌, ◌+◌, ℕ, nat_eq, length, is_some, is_ok, Option, Some, None};
+ghost use Rattle.std.specs.Prelude.{Result, Bool, true, false, ⊤};
 ghost use Rattle.std.specs.declared.alloc.AllocError.{AllocError};
 ghost use Rattle.lru_limits.specs.Limiters.{length_rules, length_offers};
 ghost use Rattle.lru_limits.specs.Mixing.{seeded};
@@ -14,8 +15,7 @@ ghost use Rattle.lru_model.specs.Shrinks.{Shrink};
 ghost use Rattle.lru_model.specs.Sizes.{max_of_32_bits, usage};
 ghost use Rattle.lru_model.specs.State.{empty_map, buckets, contents, room, Trims, IsWithin};
 ghost use Rattle.lru_model.specs.declared.results.ReserveError.{ReserveError};
-ghost use Rattle.lru_c.specs.Answers.{found_value, found_pair, replaced_value, filled, fitting};
-ghost use Rattle.lru_c.specs.Answers.{Inserts, OnMap, put_code};
+ghost use Rattle.lru_c.specs.Answers.{found_of, pair_of, inserted_of, filled, fitting, Inserts, OnMap, put_code};
 ghost use Rattle.lru_c.specs.Handle.{hash_of};
 
 use crate::answers::{
@@ -75,8 +75,7 @@ pub extern "C" fn lru_insert(
     value: u64,
     evicted: &mut Entry,
 ) -> Inserted
-    ensures { OnMap ((result.code ≡ 3) × (replaced_value result ≡ None) × (result.evicted ≡ false)
-        × (evicted.new ≡ evicted.old))
+    ensures { OnMap ((result ≡ inserted_of 3 None false) × (evicted.new ≡ evicted.old))
         (λ old new. Inserts key value old result evicted.old evicted.new new) lru.old.map lru.new.map }
 {
     match lru.take(alloc) {
@@ -89,7 +88,8 @@ pub extern "C" fn lru_insert(
     }
 }
 
-/// Inserts a key with a value, as the newest entry. Returns whether it is there, and not what left.
+/// Inserts a key with a value, as the newest entry. Returns `STORED`, `REJECTED`, `OUT_OF_MEMORY` or `NO_MAP`. The
+/// evicted entry is not reported; `lru_insert` reports it.
 #[unsafe(no_mangle)]
 pub extern "C" fn lru_put(alloc: Global, lru: &mut Lru, key: u64, value: u64) -> u32
     ensures { OnMap (result ≡ 3) (λ old new. (done : Result Bool AllocError) × (result ≡ put_code done)
@@ -108,9 +108,8 @@ pub extern "C" fn lru_put(alloc: Global, lru: &mut Lru, key: u64, value: u64) ->
 /// Returns the value of a key, whose entry becomes the newest.
 #[unsafe(no_mangle)]
 pub extern "C" fn lru_get(alloc: Global, lru: &mut Lru, key: u64) -> Found
-    ensures { OnMap (found_value result ≡ None)
-        (λ old new. (found_value result ≡ lookup (nat_eq key) old.pairs) × (new ≡ promoted (nat_eq key) old))
-        lru.old.map lru.new.map }
+    ensures { OnMap (result ≡ found_of None) (λ old new. (result ≡ found_of (lookup (nat_eq key) old.pairs))
+        × (new ≡ promoted (nat_eq key) old)) lru.old.map lru.new.map }
 {
     match lru.take(alloc) {
         Some(mut map) => {
@@ -125,8 +124,8 @@ pub extern "C" fn lru_get(alloc: Global, lru: &mut Lru, key: u64) -> Found
 /// Returns the value of a key. The map stays as it is.
 #[unsafe(no_mangle)]
 pub extern "C" fn lru_peek(alloc: Global, lru: &mut Lru, key: u64) -> Found
-    ensures { OnMap (found_value result ≡ None)
-        (λ old new. (found_value result ≡ lookup (nat_eq key) old.pairs) × (new ≡ old)) lru.old.map lru.new.map }
+    ensures { OnMap (result ≡ found_of None)
+        (λ old new. (result ≡ found_of (lookup (nat_eq key) old.pairs)) × (new ≡ old)) lru.old.map lru.new.map }
 {
     match lru.take(alloc) {
         Some(map) => {
@@ -157,9 +156,8 @@ pub extern "C" fn lru_contains(alloc: Global, lru: &mut Lru, key: u64) -> bool
 /// Makes the entry of a key the newest. Returns whether there is one.
 #[unsafe(no_mangle)]
 pub extern "C" fn lru_promote(alloc: Global, lru: &mut Lru, key: u64) -> bool
-    ensures { OnMap (result ≡ false)
-        (λ old new. (result ≡ is_some (lookup (nat_eq key) old.pairs)) × (new ≡ promoted (nat_eq key) old))
-        lru.old.map lru.new.map }
+    ensures { OnMap (result ≡ false) (λ old new. (result ≡ is_some (lookup (nat_eq key) old.pairs))
+        × (new ≡ promoted (nat_eq key) old)) lru.old.map lru.new.map }
 {
     match lru.take(alloc) {
         Some(mut map) => {
@@ -174,8 +172,8 @@ pub extern "C" fn lru_promote(alloc: Global, lru: &mut Lru, key: u64) -> bool
 /// Removes the entry of a key, and returns its value.
 #[unsafe(no_mangle)]
 pub extern "C" fn lru_remove(alloc: Global, lru: &mut Lru, key: u64) -> Found
-    ensures { OnMap (found_value result ≡ None)
-        (λ old new. Remove length_rules (nat_eq key) old (found_value result) new) lru.old.map lru.new.map }
+    ensures { OnMap (result ≡ found_of None) (λ old new. (value : Option ℕ) × (result ≡ found_of value)
+        × Remove length_rules (nat_eq key) old value new) lru.old.map lru.new.map }
 {
     match lru.take(alloc) {
         Some(mut map) => {
@@ -190,8 +188,8 @@ pub extern "C" fn lru_remove(alloc: Global, lru: &mut Lru, key: u64) -> Found
 /// Removes the oldest entry, and returns it.
 #[unsafe(no_mangle)]
 pub extern "C" fn lru_pop_oldest(alloc: Global, lru: &mut Lru) -> Pair
-    ensures { OnMap (found_pair result ≡ None)
-        (λ old new. PopOldest length_rules old (found_pair result) new) lru.old.map lru.new.map }
+    ensures { OnMap (result ≡ pair_of None) (λ old new. (pair : Option (ℕ × ℕ)) × (result ≡ pair_of pair)
+        × PopOldest length_rules old pair new) lru.old.map lru.new.map }
 {
     match lru.take(alloc) {
         Some(mut map) => {
@@ -206,8 +204,8 @@ pub extern "C" fn lru_pop_oldest(alloc: Global, lru: &mut Lru) -> Pair
 /// Returns the oldest entry. The map stays as it is.
 #[unsafe(no_mangle)]
 pub extern "C" fn lru_peek_oldest(alloc: Global, lru: &mut Lru) -> Pair
-    ensures { OnMap (found_pair result ≡ None)
-        (λ old new. (found_pair result ≡ last old.pairs) × (new ≡ old)) lru.old.map lru.new.map }
+    ensures { OnMap (result ≡ pair_of None)
+        (λ old new. (result ≡ pair_of (last old.pairs)) × (new ≡ old)) lru.old.map lru.new.map }
 {
     match lru.take(alloc) {
         Some(map) => {
@@ -222,8 +220,8 @@ pub extern "C" fn lru_peek_oldest(alloc: Global, lru: &mut Lru) -> Pair
 /// Returns the newest entry. The map stays as it is.
 #[unsafe(no_mangle)]
 pub extern "C" fn lru_peek_newest(alloc: Global, lru: &mut Lru) -> Pair
-    ensures { OnMap (found_pair result ≡ None)
-        (λ old new. (found_pair result ≡ first old.pairs) × (new ≡ old)) lru.old.map lru.new.map }
+    ensures { OnMap (result ≡ pair_of None)
+        (λ old new. (result ≡ pair_of (first old.pairs)) × (new ≡ old)) lru.old.map lru.new.map }
 {
     match lru.take(alloc) {
         Some(map) => {
@@ -371,13 +369,11 @@ pub extern "C" fn lru_set_max_length(alloc: Global, lru: &mut Lru, max_length: u
 }
 
 /// Makes a copy of the map: the same entries in the same order, with the same maximum length, seeds and capacity.
-/// Returns whether there was a map, and memory for the copy.
-///
-/// A map that the handle of the copy had is dropped.
+/// Returns whether there was a map, and memory for the copy. A map that the handle of the copy had is dropped.
 #[unsafe(no_mangle)]
 pub extern "C" fn lru_clone(alloc: Global, lru: &mut Lru, copy: &mut Lru) -> bool
     ensures kept { lru.new.map ≡ lru.old.map }
-    ensures made { result ≡ true → copy.new.map ≡ lru.old.map }
+    ensures made { result ≡ true → OnMap ⊥ (λ old new. new ≡ old) lru.old.map copy.new.map }
     ensures failed { result ≡ false → copy.new.map ≡ None }
 {
     copy.take(alloc);

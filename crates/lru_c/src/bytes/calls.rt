@@ -56,7 +56,7 @@ pub fn put(alloc: Global, map: &mut BytesMap, key: &[u8], value: &[u8]) -> u32
 fn get_ready_for(map: &mut BytesMap, key: &[u8]) -> bool
     ensures ready { result ≡ true → IsReady key.now map.old map.new }
     ensures finds { result ≡ true → FindsMemory key.now map.new }
-    ensures failed { result ≡ false → (map.new.pairs ≡ map.old.pairs) × (map.new.limiter ≡ map.old.limiter) }
+    ensures failed { result ≡ false → map.new ≡ map.old }
 {
     if map.contains(&Named(key)) {
         return true;

@@ -1,7 +1,7 @@
 //! The functions that C calls on a map of byte strings. `bindings/c/lru.h` declares them, without `alloc`.
 //!
-//! A call on a handle without a map changes nothing, and returns that there is nothing. Only `lru_bytes_new` makes a
-//! map, and `lru_bytes_clone` drops the map of the copy.
+//! On a handle without a map, `lru_bytes_new` makes a map, and `lru_bytes_clone` drops the map of the copy. Every other
+//! call changes nothing, and returns that there is nothing.
 ghost use Rattle.std.specs.Prelude.{◌≡◌, length, is_some, slice_get, Option, Some, None, true, false, ⊤};
 ghost use Rattle.lru_limits.specs.Mixing.{seeded};
 ghost use Rattle.lru_model.specs.Calls.{Remove, promoted, cleared};
@@ -58,7 +58,10 @@ pub extern "C" fn lru_bytes_free(alloc: Global, lru: &mut LruBytes)
 }
 
 /// Inserts a copy of the value under a copy of the key, as the newest entry, and evicts the oldest entries while the
-/// map is over its budget.
+/// map is over its budget. Returns a code, as `lru_put` does.
+///
+/// `REJECTED`: the entry alone weighs more than the budget, and the entry of the key was removed. `OUT_OF_MEMORY`:
+/// nothing has changed.
 #[unsafe(no_mangle)]
 pub extern "C" fn lru_bytes_put(alloc: Global, lru: &mut LruBytes, key: &[u8], value: &[u8]) -> u32
     ensures { OnMap (result ≡ 3) (λ old new. Puts key.now value.now old result new) lru.old.map lru.new.map }
@@ -233,7 +236,7 @@ pub extern "C" fn lru_bytes_len(alloc: Global, lru: &mut LruBytes) -> usize
     }
 }
 
-/// Returns the sum of the weights of the entries.
+/// Returns what the entries weigh together, by the count that the map keeps.
 #[unsafe(no_mangle)]
 pub extern "C" fn lru_bytes_cost(alloc: Global, lru: &mut LruBytes) -> u64
     ensures { OnMap (result ≡ 0) (λ old new. (result ≡ old.limiter.cost) × (new ≡ old)) lru.old.map lru.new.map }

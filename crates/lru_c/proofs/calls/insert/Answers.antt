@@ -1,4 +1,4 @@
-use Rattle.std.proofs.Common.{rules, sym, ◌∙◌, Ok, Err}
+use Rattle.std.proofs.Common.{rules, Ok, Err}
 use Rattle.lru_c.proofs.calls.insert.Goals as goal
 
 pub returns-in-Ok : goal.returns-in-Ok
@@ -8,8 +8,7 @@ returns-in-Ok c = let (passed, evicted, step) = c.in-Ok.ensures.passed in record
   step = step;
   evicted = search (rules, evicted);
   untouched = search rules;
-  replaced = c.as_inserted.ensures.replaced ∙ c.in-Ok.ensures.replaced;
-  code = search rules;
+  returned = search rules;
 }
 
 pub returns-in-Err : goal.returns-in-Err
@@ -19,6 +18,5 @@ returns-in-Err c = let (passed, evicted, step) = c.in-Err.ensures.passed in reco
   step = step;
   evicted = search (rules, evicted);
   untouched = search rules;
-  replaced = c.as_inserted-in-Err.ensures.replaced ∙ sym c.in-Err.ensures.out_of_memory;
-  code = search rules;
+  returned = search rules;
 }
