@@ -8,10 +8,11 @@ use Rattle.std.proofs.lemmas.List.Elements.{All-weaker}
 use Rattle.std.proofs.lemmas.Map.Views.{IfSome-lookup_from_All}
 use Rattle.std.proofs.lemmas.Bool.{true≢false}
 use Rattle.std.proofs.lemmas.Map.{lookup-remove_entry}
+use Rattle.lru_limits.specs.Budget.{Budget}
 use Rattle.lru_limits.specs.Rules.{Rules}
 use Rattle.lru_model.specs.Calls.{promoted, Remove}
 use Rattle.lru_model.specs.Lists.{lookup, lookup_entry, after, front, without}
-use Rattle.lru_model.specs.State.{State}
+use Rattle.lru_model.specs.State.{State, notified_of}
 use Rattle.lru_tenants.specs.Cache.{Cache, tenant, IsTenant, Leaves, On}
 use Rattle.lru_tenants.specs.TenantRuns.{Gets, IfOpen}
 use Rattle.lru_tenants.specs.declared.error.TenantError.{TenantError}
@@ -118,9 +119,10 @@ leaves-both {N} {K} {V} {L} {S} {eq} name mid-left left old mid new first second
     go other true is = refl
     go other false is = is
 
-module _ {K L S : Type 0} (names : K → Bool) (now : ℕ) where
+module _ {K S : Type 0} (names : K → Bool) (now : ℕ) where
   -- a get that finds nothing, or a fresh response
-  pub get-finds : (was : Option (State K Response L S)) (found : Option Response) (left : Option (State K Response L S))
+  pub get-finds : (was : Option (State K Response Budget S)) (found : Option Response)
+      (left : Option (State K Response Budget S))
       → Gets names was (Ok found) left → fresh_at now found ≡ found → LooksUp names now was (Ok found) left
   get-finds None found left (says, is) same = absurd (ok≢err says)
   get-finds (Some map) found left (says, is) same =
@@ -128,13 +130,14 @@ module _ {K L S : Type 0} (names : K → Bool) (now : ℕ) where
         promoted names map,
         ap Ok (sym same ∙ ap (fresh_at now) value),
         is,
-        front-looked_up names now map.pairs found (sym value) same,
+        ap (λ pairs. record (promoted names map) { pairs = pairs })
+            (front-looked_up names now map.pairs found (sym value) same),
         still-there names map found (sym value) ∙ sym same ∙ ap (fresh_at now) value,
       )
 
 -- so a look-up ends with the get
-pub on-finds : {N K L S : Type 0} {eq : N → N → Bool} (names : K → Bool) (now : ℕ) (host : N)
-    (old mid : Cache N K Response L S)
+pub on-finds : {N K S : Type 0} {eq : N → N → Bool} (names : K → Bool) (now : ℕ) (host : N)
+    (old mid : Cache N K Response Budget S)
     (answer : Result (Option Response) TenantError) (found : Option Response) → On eq host (Gets names) old answer mid
     → answer ≡ Ok found → fresh_at now found ≡ found → On eq host (LooksUp names now) old (Ok found) mid
 on-finds {eq = eq} names now host old mid answer found (left, gets, leaves) is same = (
@@ -144,18 +147,21 @@ on-finds {eq = eq} names now host old mid answer found (left, gets, leaves) is s
   leaves,
 )
 
-module _ {N K L S : Type 0} {eq : N → N → Bool} (equal : IsEquivalence eq) {keys : K → K → Bool}
+module _ {N K S : Type 0} {eq : N → N → Bool} (equal : IsEquivalence eq) {keys : K → K → Bool}
     (laws : IsEquivalence keys)
-    (names : K → Bool) (one : (x y : K) → names x ≡ true → names y ≡ keys x y) (now : ℕ) (rules : Rules K Response L)
-    (host : N) (old mid new : Cache N K Response L S) (response : Response) where
+    (names : K → Bool) (one : (x y : K) → names x ≡ true → names y ≡ keys x y) (now : ℕ)
+    (rules : Rules K Response Budget)
+    (host : N) (old mid new : Cache N K Response Budget S) (response : Response) where
   -- what the get of a response leaves
   got-it : On eq host (Gets names) old (Ok (Some response)) mid
-      → (map : State K Response L S) × (tenant (eq host) old ≡ Some map) × (lookup names map.pairs ≡ Some response)
+      → (map : State K Response Budget S) × (tenant (eq host) old ≡ Some map) × (lookup names map.pairs ≡ Some response)
       × (tenant (eq host) mid ≡ Some (promoted names map))
   got-it (left, gets, leaves) = go (tenant (eq host) old) refl gets
     where
-      go : (was : Option (State K Response L S)) → tenant (eq host) old ≡ was → Gets names was (Ok (Some response)) left
-          → (map : State K Response L S) × (tenant (eq host) old ≡ Some map) × (lookup names map.pairs ≡ Some response)
+      go : (was : Option (State K Response Budget S)) → tenant (eq host) old ≡ was
+          → Gets names was (Ok (Some response)) left
+          → (map : State K Response Budget S) × (tenant (eq host) old ≡ Some map)
+          × (lookup names map.pairs ≡ Some response)
           × (tenant (eq host) mid ≡ Some (promoted names map))
       go None is (says, stays) = absurd (ok≢err says)
       go (Some map) is (says, stays) = (
@@ -166,14 +172,24 @@ module _ {N K L S : Type 0} {eq : N → N → Bool} (equal : IsEquivalence eq) {
             ∙ ap (λ b. cond b left (tenant (eq host) old)) (equal.refl host) ∙ stays,
       )
 
+  -- the limiter may be notified of a removal, and keeps its limit then
+  abbrev pub KeepsLimit : Type 0
+  KeepsLimit = (limiter : Budget) (k : K) (v : Response)
+      → (rules.on_removed limiter k v).limiter ≡ record limiter { cost = (rules.on_removed limiter k v).limiter.cost }
+
+  limit-stays : KeepsLimit → (limiter : Budget) (gone : Option (K × Response))
+      → notified_of rules gone limiter ≡ record limiter { cost = (notified_of rules gone limiter).cost }
+  limit-stays keeps limiter None = refl
+  limit-stays keeps limiter (Some pair) = keeps limiter pair.0 pair.1
+
   -- a get that finds a stale response, and a removal
-  pub stale-removed : (removed : Option Response) (answer : Result (Option Response) TenantError)
+  pub stale-removed : KeepsLimit → (removed : Option Response) (answer : Result (Option Response) TenantError)
       → On eq host (Gets names) old answer mid → answer ≡ Ok (Some response)
       → fresh_at now (Some response) ≡ None
       → IfSome (tenant (eq host) mid) (λ map. IsDistinct keys (keys_of map.pairs))
       → On eq host (IfOpen (Remove rules names)) mid (Ok removed) new
       → On eq host (LooksUp names now) old (Ok None) new
-  stale-removed removed answer (first, does, kept) said stale distinct (left, removes, leaves) =
+  stale-removed keeps removed answer (first, does, kept) said stale distinct (left, removes, leaves) =
       let gets : On eq host (Gets names) old (Ok (Some response)) mid =
       (first, subst (λ a. Gets names (tenant (eq host) old) a first) said does, kept) in
       let (map, was, found, is) = got-it gets in
@@ -182,13 +198,19 @@ module _ {N K L S : Type 0} {eq : N → N → Bool} (equal : IsEquivalence eq) {
       let none = ap (λ st. lookup names st.pairs) remove.state.is
       ∙ not-there laws names one (promoted names map).pairs response (still-there names map (Some response) found)
       (subst (λ t. IfSome t (λ map. IsDistinct keys (keys_of map.pairs))) is distinct) in
-      let same : fresh_at now (lookup names map.pairs) ≡ None = ap (fresh_at now) found ∙ stale in (
+      let same : fresh_at now (lookup names map.pairs) ≡ None = ap (fresh_at now) found ∙ stale in
+      let list = stale-looked_up names now map.pairs response found same in
+      let limiter : notified_of rules (lookup_entry names (promoted names map).pairs) map.limiter
+      ≡ record map.limiter { cost = own.limiter.cost } =
+      limit-stays keeps map.limiter (lookup_entry names (promoted names map).pairs)
+      ∙ ap (λ notified. record map.limiter { cost = notified.cost })
+      (sym (ap (λ st. st.limiter) remove.state.is)) in (
         left,
         subst (λ t. LooksUp names now t (Ok None) left) (sym was) (
           own,
           ap Ok (sym same),
           now-is,
-          ap (λ st. st.pairs) remove.state.is ∙ stale-looked_up names now map.pairs response found same,
+          remove.state.is ∙ (λ i. record map { pairs = list i; limiter = limiter i; table = own.table }),
           none ∙ sym same,
         ),
         leaves-both host gets.0 left old mid new gets.2 leaves,

@@ -2,6 +2,7 @@
 --     names path      whether a path is the one that is looked up
 --     now             the time of the look-up
 use Rattle.std.specs.Prelude.{◌≡◌, ℕ, nat_lt, Bool, if◌then◌else◌, List, Option, Some, None, is_some, Result, Ok, Err}
+use Rattle.lru_limits.specs.Budget.{Budget}
 use Rattle.lru_model.specs.Lists.{lookup, front, without}
 use Rattle.lru_model.specs.State.{State}
 use Rattle.lru_tenants.specs.declared.error.TenantError.{TenantError}
@@ -15,13 +16,20 @@ fresh_at now (Some response) = if nat_lt now response.expires then Some response
 
 -- what it leaves of the list: a fresh response becomes the newest, and a stale one is removed; the others stay
 abbrev pub looked_up : {K : Type 0} → (K → Bool) → ℕ → List (K × Response) → List (K × Response)
-looked_up names now pairs = if is_some (fresh_at now (lookup names pairs)) then front names pairs else without names pairs
+looked_up names now pairs =
+    if is_some (fresh_at now (lookup names pairs)) then front names pairs else without names pairs
+
+-- what a host is afterwards: besides its list, only the total of its limiter and its table may have changed
+abbrev pub with_list : {K S : Type 0} → List (K × Response) → State K Response Budget S → State K Response Budget S
+    → State K Response Budget S
+with_list list left old =
+    record old { pairs = list; limiter = record old.limiter { cost = left.limiter.cost }; table = left.table }
 
 -- It returns the response that is there, if it is fresh. A stale one is not there any more.
-abbrev pub LooksUp : {K L S : Type 0} → (K → Bool) → ℕ → Option (State K Response L S)
-    → Result (Option Response) TenantError → Option (State K Response L S) → Type 0
+abbrev pub LooksUp : {K S : Type 0} → (K → Bool) → ℕ → Option (State K Response Budget S)
+    → Result (Option Response) TenantError → Option (State K Response Budget S) → Type 0
 LooksUp names now None answer new = (answer ≡ Err NotOpen) × (new ≡ None)
-LooksUp {K} {L} {S} names now (Some old) answer new = (left : State K Response L S)
+LooksUp {K} {S} names now (Some old) answer new = (left : State K Response Budget S)
     × (answer ≡ Ok (fresh_at now (lookup names old.pairs))) × (new ≡ Some left)
-    × (left.pairs ≡ looked_up names now old.pairs)
+    × (left ≡ with_list (looked_up names now old.pairs) left old)
     × (lookup names left.pairs ≡ fresh_at now (lookup names old.pairs))

@@ -1,7 +1,10 @@
 //! A cache of responses that expire, with counts for each host.
-ghost use Rattle.std.specs.Prelude.{◌<◌, IfOk, IfSome, string_eq};
+ghost use Rattle.std.specs.Prelude.{◌≡◌, ◌<◌, ◌⊎◌, Err, IfOk, OnErr, IfSome, string_bytes, string_eq};
+ghost use Rattle.std.specs.declared.string.String.{String};
+ghost use Rattle.std.specs.declared.alloc.Global.{Global};
 ghost use Rattle.lru_limits.specs.Texts.{names_text};
 ghost use Rattle.lru_tenants.specs.Cache.{On};
+ghost use Rattle.lru_tenants.specs.declared.error.TenantError.TheVariants.{Memory};
 ghost use Rattle.responses.specs.LookUps.{LooksUp};
 
 use lru_tenants::{ByWeight, Costed, TenantCache, TenantError};
@@ -27,7 +30,8 @@ impl Costed for Response {
     }
 }
 
-/// How many look-ups of a host found a fresh response, how many did not, and how many entries were evicted.
+/// How many look-ups of a host found a fresh response, how many did not, and how many entries were evicted, or removed
+/// because their new response was rejected.
 #[derive(Clone, Copy, Default)]
 pub struct Counts {
     pub hits: u64,
@@ -35,7 +39,7 @@ pub struct Counts {
     pub evictions: u64,
 }
 
-type Responses = TenantCache<String, String, Response, ByWeight<64>>;
+type Responses = TenantCache<String, String, Response, ByWeight<OVERHEAD>>;
 
 /// Returns the response of a host for a path, if there is one that is fresh. A stale one is removed.
 fn fresh_response(
@@ -60,7 +64,10 @@ fn fresh_response(
 }
 
 /// Copies a text.
-fn owned(alloc: Global, text: &str) -> Result<String, TenantError> {
+fn owned(alloc: Global, text: &str) -> Result<String, TenantError>
+    ensures copy { IfOk result (λ copy. string_bytes copy ≡ text.now) }
+    ensures memory { OnErr result (result ≡ Err Memory) }
+{
     match String::from_str(alloc, text) {
         Ok(text) => Ok(text),
         Err(_) => Err(TenantError::Memory),
@@ -79,7 +86,7 @@ impl ResponseCache {
     pub fn new(alloc: Global) -> ResponseCache {
         ResponseCache {
             alloc,
-            entries: TenantCache::with_hasher(alloc, RandomState::with_seeds([1, 2, 3, 4]), 80),
+            entries: TenantCache::with_hasher(alloc, RandomState::with_seeds([1, 2, 3, 4]), 56),
             counts: BTreeMap::new(alloc),
         }
     }
@@ -90,7 +97,9 @@ impl ResponseCache {
     }
 
     /// Adds to the counts of a host.
-    fn count(&mut self, host: &String, hits: u64, misses: u64, evictions: u64) {
+    fn count(&mut self, host: &String, hits: u64, misses: u64, evictions: u64)
+        ensures entries { self.new.entries ≡ self.old.entries }
+    {
         if let Some(counts) = self.counts.get_mut(host) {
             counts.hits = counts.hits.saturating_add(hits);
             counts.misses = counts.misses.saturating_add(misses);
@@ -128,7 +137,8 @@ impl ResponseCache {
         Ok(("budget set", evicted))
     }
 
-    /// Stores a response. Returns whether it is there then, in a word, and how many entries were evicted.
+    /// Stores a response. Returns whether it is there then, in a word, and how many entries were evicted, or removed
+    /// because their new response was rejected.
     pub fn put(
         &mut self,
         host: &str,
@@ -142,9 +152,11 @@ impl ResponseCache {
             path,
             response,
             &mut |_, _| evicted = evicted.saturating_add(1),
-        )?;
+        );
+        // Without memory the callback got the new entry too.
+        let evicted = evicted.saturating_sub(stored.is_err() as u64);
         self.count(&name, 0, 0, evicted);
-        Ok((if stored { "stored" } else { "refused" }, evicted))
+        Ok((if stored? { "stored" } else { "rejected" }, evicted))
     }
 
     /// Returns the response of a host for a path, if there is one that is fresh, and counts the look-up.
@@ -155,6 +167,9 @@ impl ResponseCache {
         now: u64,
     ) -> Result<Option<Response>, TenantError>
         ensures fresh { IfOk result (λ found. IfSome found (λ response. now < response.expires)) }
+        ensures finds { ((result ≡ Err Memory) × (self.new.entries ≡ self.old.entries))
+            ⊎ ((name : String Global) × (string_bytes name ≡ host.now)
+            × On string_eq name (LooksUp (names_text path.now) now) self.old.entries result self.new.entries) }
     {
         let name = owned(self.alloc, host)?;
         let found = fresh_response(&mut self.entries, &name, path, now)?;

@@ -16,7 +16,7 @@ fn number(word: &str) -> Option<u64> {
     word.parse().ok()
 }
 
-/// Returns the two words of a text, if it has two.
+/// Returns the first word of a text, and the rest after it, which is empty if there is one word.
 fn two(text: &str) -> (&str, &str) {
     text.split_once(' ').unwrap_or((text, ""))
 }

@@ -153,13 +153,13 @@ fn opened(cache: &mut Cache, tenants: u64) -> u64 {
 
 fn main(rt: HostRuntime) -> io::Result<()> {
     let alloc = rt.alloc();
-    let mut cache = TenantCache::with_hasher(alloc, RandomState::with_seeds([1, 2, 3, 4]), 48);
+    let mut cache = TenantCache::with_hasher(alloc, RandomState::with_seeds([1, 2, 3, 4]), 32);
     let agree = agreeing(alloc, &mut cache, 100_000);
     println!(rt;
         "{} tenants open, {agree} of 100000 answers agree",
         cache.len()
     )?;
-    let mut cache = TenantCache::with_hasher(alloc, RandomState::with_seeds([1, 2, 3, 4]), 48);
+    let mut cache = TenantCache::with_hasher(alloc, RandomState::with_seeds([1, 2, 3, 4]), 32);
     let right = opened(&mut cache, 100_000);
     println!(rt; "{right} of 100000 tenants have their entry")
 }

@@ -21,7 +21,7 @@ pub returns-clause-finds : goal.returns-clause-finds
 returns-clause-finds c =
     stale-removed string_eq_equiv string_eq_equiv (names_text c.args.path.now)
     ((names_text-lawful (λ bytes. bytes)).one c.args.path.now) c.args.now _ c.args.host.now
-    c.args.entries.now _ _ c.in-Some.response _ (read c.get.result) c.get.follows.holds-at-none
+    c.args.entries.now _ _ c.in-Some.response (λ limiter k v. refl) _ (read c.get.result) c.get.follows.holds-at-none
     (ap read c.in_ok-get.was ∙ ap Ok (sym c.copied.ensures ∙ c.in-Some.is))
     (stale-from c.args.now c.in-Some.response c.if-now-response.false)
     (distinct-keys c.get.follows.lender-at-none (string_eq c.args.host.now) c.len-len.ensures.tenants)
