@@ -79,22 +79,6 @@ pub fn shrink<L: Limiter<u64, u64>, S: BuildHasher>(
     map.shrink_to_fit()
 }
 
-/// Whether the pairs are the pairs of these numbers, from the newest down to the oldest one.
-pub fn counts_down<L: Limiter<u64, u64>, S: BuildHasher>(
-    map: &LruMap<u64, u64, L, S>,
-    newest: u64,
-    oldest: u64,
-) -> bool {
-    let mut next = newest;
-    for (key, value) in map.iter() {
-        if *key != next || *value != next.wrapping_mul(10) {
-            return false;
-        }
-        next = next.wrapping_sub(1);
-    }
-    next == oldest.wrapping_sub(1)
-}
-
 /// Whether these are the pairs, newest first. It takes no memory.
 pub fn is_list<L: Limiter<u64, u64>, S: BuildHasher>(
     map: &LruMap<u64, u64, L, S>,
@@ -108,13 +92,6 @@ pub fn is_list<L: Limiter<u64, u64>, S: BuildHasher>(
         at = at.saturating_add(1);
     }
     at == pairs.len()
-}
-
-/// The number of pairs, the guaranteed capacity, and the bytes of the table.
-pub fn figures<K: Eq + Hash, V, L: Limiter<K, V>, S: BuildHasher>(
-    map: &LruMap<K, V, L, S>,
-) -> (usize, usize, usize) {
-    (map.len(), map.guaranteed_capacity(), map.memory_usage())
 }
 
 /// How many entries inserts moved and placed.

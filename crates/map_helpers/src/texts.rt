@@ -6,15 +6,6 @@ use test_helpers::{Counting, InsertKey};
 /// A map of texts, under a limiter that counts the keys that it makes of texts.
 pub type Texts = LruMap<String, u32, Counting>;
 
-/// Whether the keys are these, newest first.
-pub fn has_keys(map: &Texts, keys: &[&str]) -> bool {
-    map.len() == keys.len()
-        && map
-            .iter()
-            .zip(keys)
-            .all(|((key, _), text)| key.as_str() == *text)
-}
-
 /// A map of these texts, the last one newest.
 pub fn texts_of(alloc: Global, texts: &[&str]) -> Result<Texts, AllocError> {
     let mut map: Texts = LruMap::new(alloc, Counting::default(), [1, 2, 3, 4], 16);

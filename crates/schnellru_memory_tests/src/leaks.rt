@@ -1,9 +1,9 @@
 //! Memory that is given back. All other memory is taken, so calls that lose a block run out of memory before long.
 use map_helpers::{insert, insert_all, map_of, remove_all, reserve, shrink};
-use schnellru::{ByMemoryUsage, LruMap, Storing, UnlimitedCompact};
+use schnellru::{ByMemoryUsage, LruMap, UnlimitedCompact};
 use std::alloc::{AllocError, Global};
 use std::test::Fail;
-use test_helpers::{Hog, LastByte, OF_HASH_28, Within, check};
+use test_helpers::{Hog, LastByte, OF_HASH_28, check};
 
 /// The only memory that is left. A cycle of calls that loses 16 bytes uses it up within the cycles.
 const SPARE: usize = 1 << 16;
@@ -51,20 +51,20 @@ fn rehashed(map: &mut HashedBy) -> Option<()> {
 }
 
 /// Calls that the limiter refuses, and a drain.
-fn refused(map: &mut LruMap<u64, u64, Storing<Within>>) -> Option<bool> {
+fn refused(map: &mut Sized) -> Option<()> {
     insert_all(map, 1..=5).ok()?;
-    let is_refused = reserve(map, 2).is_err();
+    let _ = reserve(map, 2);
     drop(map.drain().next());
-    Some(is_refused)
+    Some(())
 }
 
 /// The same calls on maps that are dropped afterwards, with and without pairs.
-fn dropped(alloc: Global) -> Option<bool> {
+fn dropped(alloc: Global) -> Option<()> {
     let mut map = LruMap::with_hasher(alloc, ByMemoryUsage::new(560), LastByte(0), 16);
     rehashed(&mut map)?;
     let mut none = map_of(alloc, ByMemoryUsage::new(83));
-    let is_stored = insert(&mut none, 1).ok()?;
-    Some(refused(&mut map_of(alloc, Storing(Within::new(84))))? && !is_stored)
+    insert(&mut none, 1).ok()?;
+    refused(&mut map_of(alloc, ByMemoryUsage::new(84)))
 }
 
 /// How many of the cycles do not run out of memory, if only this much is left.
@@ -74,7 +74,7 @@ fn cycles_made(alloc: Global, (cycles, spare): (u32, usize), n: u64) -> Result<u
     hog.release();
     let mut made = 0u32;
     for _ in 0..cycles {
-        let is_made = grown_and_shrunk(&mut map, n).is_some() && dropped(alloc) == Some(true);
+        let is_made = grown_and_shrunk(&mut map, n).is_some() && dropped(alloc).is_some();
         made = made.wrapping_add(is_made as u32);
     }
     Ok(made)

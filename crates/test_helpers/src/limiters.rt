@@ -1,5 +1,5 @@
 //! Limiters of maps from numbers to numbers, which count how they are called. Put each into a map as `Storing(..)`.
-ghost use Rattle.std.specs.Prelude.{◌≡◌, ◌+◌, true, false, not, if◌then◌else◌, min, nat_le};
+ghost use Rattle.std.specs.Prelude.{◌≡◌, ◌+◌, true, false, not, if◌then◌else◌, min};
 ghost use Rattle.lru_limits.specs.Limiters.{no_rules};
 ghost use Rattle.lru_limits.specs.Stores.{answers};
 
@@ -93,64 +93,6 @@ impl Limiter<u64, u64> for Alternating {
         self.asked = self.asked.saturating_add(1);
         self.bytes = new_memory_usage;
         permits
-    }
-}
-
-/// Permits tables of at most `most` bytes, and keeps what it was called with.
-#[derive(Clone, Copy, Debug)]
-pub struct Within {
-    /// The bytes of the greatest table that it permits.
-    pub most: usize,
-    /// How many pairs were removed.
-    pub removed: u32,
-    /// The last one.
-    pub last: (u64, u64),
-    /// How often it was asked whether the table may grow.
-    pub asked: u32,
-}
-
-impl Within {
-    /// A limiter that was not called yet.
-    pub fn new(most: usize) -> Within
-        ensures { result ≡ record { most = most; removed = 0; last = (0, 0); asked = 0 } }
-    {
-        Within {
-            most,
-            removed: 0,
-            last: (0, 0),
-            asked: 0,
-        }
-    }
-}
-
-impl Limiter<u64, u64> for Within {
-    type LinkType = u32;
-
-    ghost rules = { record {
-      is_over_the_limit = λ s length. false;
-      on_removed = λ s k v. record {
-        limiter = record s { removed = min (s.removed + 1) 4294967295; last = (k, v) };
-        key = k;
-        value = v;
-      };
-      on_cleared = λ s. s;
-      on_grow = λ s bytes. answers (record s { asked = min (s.asked + 1) 4294967295 }) (nat_le bytes s.most);
-    } };
-
-    fn is_over_the_limit(&self, _length: usize) -> bool {
-        false
-    }
-
-    fn on_removed(&mut self, key: &mut u64, value: &mut u64) {
-        self.removed = self.removed.saturating_add(1);
-        self.last = (*key, *value);
-    }
-
-    fn on_cleared(&mut self) {}
-
-    fn on_grow(&mut self, new_memory_usage: usize) -> bool {
-        self.asked = self.asked.saturating_add(1);
-        new_memory_usage <= self.most
     }
 }
 
