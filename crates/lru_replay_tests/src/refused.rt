@@ -7,38 +7,35 @@ use std::mem::size_of;
 use std::test::Fail;
 use test_helpers::{Hog, check};
 
-/// The bytes of the answers to four calls.
-const ANSWERS: usize = 4 * size_of::<Answer<u64, u64>>();
+/// The bytes of the answers to three calls.
+const ANSWERS: usize = 3 * size_of::<Answer<u64, u64>>();
 
 /// The bytes of a list of eight pairs.
 const LIST: usize = 128;
 
-/// Whether the calls were made, the pair was inserted, the pairs were listed, and then drained, and whether a key is
-/// found afterwards.
-type Facts = (bool, bool, bool, bool, bool);
+/// Whether the calls were made, the pair was inserted, and the pairs were listed, and then drained.
+type Facts = (bool, bool, bool, bool);
 
 fn facts_of(answers: Option<Vec<Answer<u64, u64>>>) -> Facts {
     match answers.as_ref().map(|answers| answers.as_slice()) {
-        Some([inserted, listed, drained, found]) => (
+        Some([inserted, listed, drained]) => (
             true,
             *inserted == Answer::Flag(true),
             matches!(listed, Answer::Pairs(_)),
             matches!(drained, Answer::Pairs(_)),
-            *found == Answer::Value(Some(10)),
         ),
-        _ => (false, false, false, false, false),
+        _ => (false, false, false, false),
     }
 }
 
-/// What is expected if this many requests are met: for the answers, for the growth, for the list, and for the drain. A
-/// call that ran out of memory changed nothing.
+/// What is expected if this many requests are met: for the answers, for the growth, for the list, and for the drain.
 fn expected(met: usize) -> Facts {
     match met {
-        0 => (false, false, false, false, false),
-        1..=3 => (true, false, false, false, true),
-        4 => (true, true, false, false, true),
-        5 => (true, true, true, false, true),
-        _ => (true, true, true, true, false),
+        0 => (false, false, false, false),
+        1..=3 => (true, false, false, false),
+        4 => (true, true, false, false),
+        5 => (true, true, true, false),
+        _ => (true, true, true, true),
     }
 }
 
@@ -51,14 +48,14 @@ fn hog_that_meets(alloc: Global, requests: &[usize], met: usize) -> Result<Hog, 
     Ok(hog)
 }
 
-/// Makes four calls on a map of seven pairs, of which the first requests for memory are met: an insert for which a
-/// table of 8 buckets grows, a list, a drain, and a look-up. Returns whether the answers are as expected, and the cost
-/// is the sum of the values that are left. The links have 8 bytes, so an entry has 32.
+/// Makes three calls on a map of seven pairs, of which the first requests for memory are met: an insert for which a
+/// table of 8 buckets grows, a list, and a drain. Returns whether the answers are as expected. The links have 8 bytes,
+/// so an entry has 32.
 fn is_as_expected(alloc: Global, met: usize, sums: bool) -> Result<bool, AllocError> {
     let mut map = map_of(alloc, ByCost::new(1000));
     insert_all(&mut map, 1..=7)?;
     let drain = Call::Drain { front: 8, back: 0 };
-    let calls = vec![in alloc; Call::Insert(8, 80), Call::List, drain, Call::Get(1)]?;
+    let calls = vec![in alloc; Call::Insert(8, 80), Call::List, drain]?;
     let hog = hog_that_meets(alloc, &[ANSWERS, 512, 32, 64, LIST, LIST], met)?;
     let answers = if sums {
         run_summing(alloc, &mut map, calls).ok()
@@ -67,12 +64,7 @@ fn is_as_expected(alloc: Global, met: usize, sums: bool) -> Result<bool, AllocEr
     };
     let all = hog.took_all();
     drop(hog);
-    let cost = match met {
-        0..=3 => 280,
-        4..=5 => 360,
-        _ => 0,
-    };
-    Ok(!all | ((facts_of(answers) == expected(met)) & (map.limiter().cost() == cost)))
+    Ok(!all | (facts_of(answers) == expected(met)))
 }
 
 #[test]
