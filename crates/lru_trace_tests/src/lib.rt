@@ -1,4 +1,4 @@
-//! Tests of `lru_trace` and `lru_theory`: the one pass compared with a map for each size, the report, and memory.
+//! Tests of `lru_trace`: a curve, the report, and memory. `lru_replay_tests` compares curves with maps.
 #![tactic(auto)]
 
 #[cfg(test)]
