@@ -1,5 +1,3 @@
-pub mod Chains
-pub mod OrderedTables
 pub mod Maps
 mod SameWalks
 mod OutlivedLifetimes

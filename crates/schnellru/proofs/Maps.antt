@@ -8,3 +8,9 @@ pub mod HeldMaps
 pub mod ClearedMaps
 pub mod MovedPairs
 pub mod ShrunkMaps
+pub mod Landings
+pub mod Writes
+pub mod NewestPair
+pub mod LastPair
+pub mod TakenPairs
+pub mod Replacements

@@ -1,10 +1,4 @@
-pub mod OrderedTable
-pub mod Chain
-pub mod PairLends
 pub mod Holds
 pub mod Steps
-pub mod Rest
-pub mod Searches
-pub mod Copies
 pub mod Passing
 pub mod Fields

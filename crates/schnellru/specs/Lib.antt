@@ -1,4 +1,3 @@
-pub mod EntrySize
 pub mod Inside
 pub mod Lending
 pub mod Drains

@@ -20,7 +20,6 @@ macro_rules! nowhere {
 }
 
 mod map;
-mod ordered;
 mod sizes;
 mod walk;
 
@@ -36,4 +35,5 @@ pub use walk::drain::Drain;
 pub use walk::into_iter::IntoIter;
 pub use walk::iter_mut::IterMut;
 pub use walk::keys::{Keys, Values};
-pub use walk::{Iter, Walk};
+pub use ordered_table::Walk;
+pub use walk::Iter;

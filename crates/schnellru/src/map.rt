@@ -3,10 +3,10 @@
 ghost use Rattle.std.specs.Prelude.{◌≡◌, []};
 ghost use Rattle.lru_limits.specs.Mixing.{seeded};
 ghost use Rattle.lru_model.specs.Sizes.{default_entry_bytes, max_of_32_bits};
-ghost use Rattle.schnellru.specs.EntrySize.{entry_size};
+ghost use Rattle.ordered_table.specs.EntrySize.{entry_size};
 ghost use Rattle.lru_model.specs.State.{State, empty_map};
 
-use crate::ordered::OrderedTable;
+use ordered_table::OrderedTable;
 use lru_limits::{ByLength, ByMemoryUsage, KeyHasher, Limiter, RandomState};
 use std::alloc::Global;
 use std::hash::Hash;

@@ -1,19 +1,13 @@
 //! Walking the entries of a map in their order of use.
-ghost use Rattle.std.specs.Prelude.{◌≡◌, ◌<◌, ◌^◌, length, slice_get, position, option_map, Some, IfSome, ⊤};
-ghost use Rattle.std.specs.Iterator.{at_most, UpTo};
-ghost use Rattle.std.specs.Iterator.SizeHint.{IsWithinCount};
-ghost use Rattle.std.specs.Map.Iter.{ShowsInOrder, ShowsInReverse, TakesFirst, TakesLast, deref_pair};
+ghost use Rattle.std.specs.Prelude.{◌≡◌, ◌<◌, ◌^◌, length, slice_get, position, option_map};
+ghost use Rattle.std.specs.Map.Iter.{ShowsInOrder, ShowsInReverse, deref_pair};
 ghost use Rattle.lru_model.specs.State.{IsMap};
 
 use crate::map::LruMap;
-use crate::ordered::OrderedTable;
 use group_table::LinkType;
 use lru_limits::{KeyHasher, Limiter, LookupKey};
-use std::alloc::AllocError;
-use std::fmt;
+use ordered_table::Walk;
 use std::hash::Hash;
-use std::iter::FusedIterator;
-use std::marker::Model;
 
 pub(crate) mod drain;
 pub(crate) mod into_iter;
@@ -29,116 +23,6 @@ mod positions;
 ///
 /// After schnellru's `Iter`.
 pub type Iter<'a, K, V, L> = Walk<'a, K, V, <L as Limiter<K, V>>::LinkType>;
-
-/// An iterator over the entries of a map, newest first, from both ends. It depends on the map's limiter only by the
-/// type of its links.
-///
-/// ```
-/// let mut total = 0u64;
-/// for (key, value) in &map {
-///     total = total.wrapping_add(key.wrapping_mul(*value));
-/// }
-/// ```
-#[derive(Drop)]
-pub struct Walk<'a, K, V, N: LinkType> {
-    entries: &'a OrderedTable<K, V, N>,
-    front: Option<usize>,
-    back: Option<usize>,
-    left: usize,
-}
-
-impl<'a, K, V, N: LinkType> Model for Walk<'a, K, V, N> {
-    ghost use Rattle.std.specs.Prelude.{List};
-    ghost use Rattle.schnellru.specs.Inside.Rest.{rest_of, IsRest};
-
-    ghost Value = { List (K × V) };
-
-    ghost view = { λ a. rest_of a.entries.now a.front a.left };
-
-    ghost invariant = { λ a. IsRest a.entries.now a.front a.back a.left };
-}
-
-impl<'a, K, V, N: LinkType> Iterator for Walk<'a, K, V, N> {
-    type Item = (&'a K, &'a V);
-
-    ghost next_gives = { TakesFirst deref_pair };
-
-    ghost remaining = { λ s. at_most (length s) };
-
-    #[inline]
-    fn next(&mut self) -> Option<(&'a K, &'a V)> {
-        if self.left == 0 {
-            return None;
-        }
-        let b = self.front?;
-        let pair = self.entries.pair(b);
-        self.front = self.entries.older(b);
-        self.left -= 1;
-        Some((&pair.key, &pair.value))
-    }
-
-    /// Returns exactly how many entries are left, as `len` does.
-    fn size_hint(&self) -> (usize, Option<usize>)
-        ensures lower { IsWithinCount result.0 (at_most (length self.now)) }
-        ensures upper { IfSome result.1 (UpTo (at_most (length self.now))) }
-        ensures exact { result ≡ (length self.now, Some (length self.now)) }
-    {
-        (self.left, Some(self.left))
-    }
-}
-
-impl<'a, K, V, N: LinkType> DoubleEndedIterator for Walk<'a, K, V, N> {
-    ghost next_back_gives = { TakesLast deref_pair };
-
-    #[inline]
-    fn next_back(&mut self) -> Option<(&'a K, &'a V)> {
-        if self.left == 0 {
-            return None;
-        }
-        let b = self.back?;
-        let pair = self.entries.pair(b);
-        self.back = self.entries.newer(b);
-        self.left -= 1;
-        Some((&pair.key, &pair.value))
-    }
-}
-
-impl<'a, K, V, N: LinkType> ExactSizeIterator for Walk<'a, K, V, N> {
-    fn len(&self) -> usize {
-        self.left
-    }
-}
-
-impl<'a, K, V, N: LinkType> FusedIterator for Walk<'a, K, V, N> {}
-
-/// The clone returns the entries that are left of the walk. Cost: `O(1)`, and no memory.
-impl<'a, K, V, N: LinkType> Clone for Walk<'a, K, V, N> {
-    ghost is_clone = { λ s r. r ≡ s };
-
-    ghost is_infallible = { λ _. ⊤ };
-
-    fn clone(&self) -> Result<Walk<'a, K, V, N>, AllocError> {
-        Ok(Walk {
-            entries: self.entries,
-            front: self.front,
-            back: self.back,
-            left: self.left,
-        })
-    }
-}
-
-/// Shows the entries that are left, newest first, as `[(2, 20), (1, 10)]`.
-impl<'a, K: fmt::Debug, V: fmt::Debug, N: LinkType> fmt::Debug for Walk<'a, K, V, N> {
-    fn fmt<W: fmt::Write>(&self, f: &mut fmt::Formatter<W>) -> fmt::Result {
-        let left = Walk {
-            entries: self.entries,
-            front: self.front,
-            back: self.back,
-            left: self.left,
-        };
-        f.debug_list().entries(left).finish()
-    }
-}
 
 impl<K: Eq + Hash, V, L: Limiter<K, V>, S: KeyHasher<K>> LruMap<K, V, L, S> {
     /// Returns an iterator over the entries, newest first. The order stays.
@@ -159,12 +43,7 @@ impl<K: Eq + Hash, V, L: Limiter<K, V>, S: KeyHasher<K>> LruMap<K, V, L, S> {
         ensures map { IsMap K.eq self.now }
         ensures fits { length self.now.pairs < 2 ^ 64 }
     {
-        Walk {
-            entries: &self.entries,
-            front: self.entries.first(),
-            back: self.entries.last(),
-            left: self.entries.len(),
-        }
+        self.entries.iter()
     }
 
     /// Returns the entry at this index in the order of use, counted from 0, the newest. The order stays.

@@ -5,12 +5,12 @@ use Rattle.group_table.specs.Sizes.{full_capacity}
 use Rattle.group_table.specs.Bucket.{Mark, empty, marks_of, room}
 use Rattle.group_table.proofs.BucketLemmas.{length-marks_of}
 use Rattle.lru_limits.specs.Rules.{Rules}
-use Rattle.schnellru.specs.Inside.OrderedTable.{OrderedTable, IsLinked, KeysFit, pairs_of, entries_in}
+use Rattle.ordered_table.specs.OrderedTable.{OrderedTable, IsLinked, KeysFit, pairs_of, entries_in}
 use Rattle.lru_model.specs.State.{buckets}
 use Rattle.lru_model.specs.Calls.{cleared}
 use Rattle.schnellru.specs.Inside.Fields.{Fields}
 use Rattle.schnellru.specs.Inside.Holds.{counts_of, state_of, Holds}
-use Rattle.schnellru.proofs.OrderedTables.Clears.{marks_of-cleared}
+use Rattle.ordered_table.proofs.Tables.Clears.{marks_of-cleared}
 use Rattle.lru_model.proofs.PairLists.DistinctKeys.{none_distinct, AreDistinct}
 use Rattle.schnellru.proofs.Maps.HeldMaps.{sized_same}
 use Rattle.lru_model.proofs.Theorems.CallChanges.{room_cleared}

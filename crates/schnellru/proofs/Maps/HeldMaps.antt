@@ -6,12 +6,12 @@ use Rattle.group_table.specs.Bucket.{Mark, marks_of, room, room_at, is_used, buc
 use Rattle.group_table.proofs.BucketLemmas.{length-marks_of, entry_count-marks_of}
 use Rattle.lru_model.specs.Sizes.{usage}
 use Rattle.lru_model.specs.State.{Contents, IsSized, GivesBack, Leaves}
-use Rattle.schnellru.specs.Inside.OrderedTable.{OrderedTable, IsLinked, KeysFit, pairs_of}
+use Rattle.ordered_table.specs.OrderedTable.{OrderedTable, IsLinked, KeysFit, pairs_of}
 use Rattle.schnellru.specs.Inside.Fields.{Fields}
 use Rattle.schnellru.specs.Inside.Holds.{state_of, Holds}
 use Rattle.lru_model.proofs.PairLists.DistinctKeys.{AreDistinct}
 use Rattle.lru_model.proofs.Theorems.PaidMoves.{leaves_paid}
-use Rattle.schnellru.proofs.OrderedTables.BucketPairs.{pairs-length}
+use Rattle.ordered_table.proofs.Tables.BucketPairs.{pairs-length}
 
 module _ {K V S H : Type 0} (fields : Fields S H) where
   pub sized_by : (t : OrderedTable K V) → IsLinked t → (length t.slots ≡ 0) ⊎ (length t.slots < fields.max)

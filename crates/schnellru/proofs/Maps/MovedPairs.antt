@@ -7,11 +7,11 @@ use Rattle.group_table.proofs.BucketLemmas.{length-marks_of}
 use Rattle.group_table.proofs.ChangeLemmas.{placings-moved}
 use Rattle.lru_model.specs.Sizes.{usage}
 use Rattle.lru_model.specs.State.{MovesTo}
-use Rattle.schnellru.specs.Inside.OrderedTable.{OrderedTable, IsLinked, KeysFit, pairs_of}
+use Rattle.ordered_table.specs.OrderedTable.{OrderedTable, IsLinked, KeysFit, pairs_of}
 use Rattle.schnellru.specs.Inside.Fields.{Fields}
 use Rattle.schnellru.specs.Inside.Holds.{counts_of, state_of, Holds}
 use Rattle.lru_model.proofs.PairLists.DistinctKeys.{AreDistinct}
-use Rattle.schnellru.proofs.OrderedTables.BucketPairs.{pairs-length}
+use Rattle.ordered_table.proofs.Tables.BucketPairs.{pairs-length}
 use Rattle.schnellru.proofs.Maps.HeldMaps.{sized_by}
 
 module _ {K V S H : Type 0} (t u : OrderedTable K V) (count : ℕ) (linked : IsLinked t) (next : IsLinked u)

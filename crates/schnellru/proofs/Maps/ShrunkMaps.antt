@@ -8,12 +8,12 @@ use Rattle.group_table.proofs.BucketLemmas.{length-marks_of}
 use Rattle.lru_model.specs.Sizes.{usage}
 use Rattle.lru_model.specs.State.{MovesTo, IsSized, buckets}
 use Rattle.lru_model.specs.Shrinks.{shrink_counted}
-use Rattle.schnellru.specs.Inside.OrderedTable.{OrderedTable, IsLinked, KeysFit, pairs_of}
+use Rattle.ordered_table.specs.OrderedTable.{OrderedTable, IsLinked, KeysFit, pairs_of}
 use Rattle.schnellru.specs.Inside.Fields.{Fields}
 use Rattle.schnellru.specs.Inside.Holds.{state_of, Holds}
 use Rattle.lru_model.proofs.PairLists.DistinctKeys.{AreDistinct}
 use Rattle.lru_model.proofs.TableSizes.Budgets.{usage_fewer}
-use Rattle.schnellru.proofs.OrderedTables.BucketPairs.{pairs-length}
+use Rattle.ordered_table.proofs.Tables.BucketPairs.{pairs-length}
 use Rattle.schnellru.proofs.Maps.HeldMaps.{sized_by}
 use Rattle.schnellru.proofs.Maps.MovedPairs.{moves_to}
 use Rattle.lru_model.proofs.Theorems.PaidMoves.{paid_after}

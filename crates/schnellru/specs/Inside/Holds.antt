@@ -5,7 +5,7 @@ use Rattle.group_table.specs.Change.{placings}
 use Rattle.group_table.specs.Table.{Insertions}
 use Rattle.lru_model.specs.State.{State, TableState, Counts, IsMap}
 use Rattle.schnellru.specs.Inside.Fields.{Fields}
-use Rattle.schnellru.specs.Inside.OrderedTable.{OrderedTable, IsLinked, KeysFit, pairs_of}
+use Rattle.ordered_table.specs.OrderedTable.{OrderedTable, IsLinked, KeysFit, pairs_of}
 
 -- What a map counts: the table counts its insertions, and the fields contain the other counts.
 abbrev pub counts_of : {S H : Type 0} → Insertions → Fields S H → Counts

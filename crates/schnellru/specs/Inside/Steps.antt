@@ -8,7 +8,7 @@ use Rattle.lru_model.specs.State.{State, Leaves, contents, notified_of}
 use Rattle.lru_model.specs.Calls.{left_of}
 use Rattle.lru_model.specs.Inserts.{replacement, unkept_of, with_removed}
 use Rattle.lru_model.specs.Updates.{with_updated}
-use Rattle.schnellru.specs.Inside.OrderedTable.{OrderedTable, with_pair, without_bucket}
+use Rattle.ordered_table.specs.OrderedTable.{OrderedTable, with_pair, without_bucket}
 
 -- The limiter accepted the new value for the pair in a bucket, which keeps its place.
 pub record IsReplaced {K V S : Type 0} (by : Replaced K V S) (b : ℕ) (old new : OrderedTable K V) (limiter : S)

@@ -6,7 +6,7 @@ ghost use Rattle.lru_model.specs.Calls.{promoted, demoted, RemoveEntry};
 
 use crate::map::LruMap;
 use crate::map::leave::take_out;
-use crate::ordered::Pair;
+use ordered_table::Pair;
 use lru_limits::{KeyHasher, Limiter, LookupKey};
 use std::hash::Hash;
 

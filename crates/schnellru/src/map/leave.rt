@@ -7,12 +7,12 @@ ghost use Rattle.lru_model.specs.Calls.{left_of, Remove, RemoveEntry, PopOldest,
 ghost use Rattle.lru_model.specs.Inserts.{make_room};
 ghost use Rattle.lru_model.specs.Callbacks.{noting, noted};
 ghost use Rattle.lru_model.specs.MayTake.{MayTakeEach};
-ghost use Rattle.schnellru.specs.Inside.OrderedTable.{IsLinked, KeysFit};
+ghost use Rattle.ordered_table.specs.OrderedTable.{IsLinked, KeysFit};
 ghost use Rattle.schnellru.specs.Inside.Passing.{Passes};
 ghost use Rattle.schnellru.specs.Inside.Steps.{IsTakenOut};
 
 use crate::map::LruMap;
-use crate::ordered::OrderedTable;
+use ordered_table::OrderedTable;
 use lru_limits::{KeyHasher, Limiter, LookupKey};
 use std::hash::Hash;
 

@@ -1,7 +1,7 @@
 //! Offering the limiter a new value for a key that is there.
 ghost use Rattle.std.specs.Prelude.{◌≡◌, ℕ, true, false, length, Some, IsTrue};
 ghost use Rattle.group_table.specs.Bucket.{entry_at};
-ghost use Rattle.schnellru.specs.Inside.OrderedTable.{IsLinked, KeysFit};
+ghost use Rattle.ordered_table.specs.OrderedTable.{IsLinked, KeysFit};
 ghost use Rattle.lru_model.specs.Inserts.{replacement, unkept_of};
 ghost use Rattle.lru_model.specs.Lists.{lookup_entry};
 ghost use Rattle.lru_model.specs.MayTake.{MayTakeRejected};
@@ -12,7 +12,7 @@ ghost use Rattle.schnellru.specs.Inside.Passing.{Passes, PassesRemoved};
 
 use crate::map::LruMap;
 use crate::map::leave::take_out;
-use crate::ordered::OrderedTable;
+use ordered_table::OrderedTable;
 use lru_limits::{Insertion, KeyHasher, Limiter, LookupKey};
 use std::hash::Hash;
 use std::mem;

@@ -6,7 +6,7 @@ ghost use Rattle.std.specs.Map.{keys_of, values_of};
 ghost use Rattle.std.specs.Map.Iter.{ShowsInOrder, TakesFirst, TakesLast, deref};
 
 use crate::map::LruMap;
-use crate::walk::Walk;
+use ordered_table::Walk;
 use group_table::LinkType;
 use lru_limits::{KeyHasher, Limiter};
 use std::alloc::AllocError;

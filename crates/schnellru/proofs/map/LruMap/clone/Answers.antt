@@ -1,7 +1,7 @@
 use Rattle.std.proofs.Common.{sym, ◌∙◌}
 use Rattle.lru_model.specs.Clones.{IsPairClone}
 use Rattle.schnellru.specs.Inside.Holds.{counts_of, state_of}
-use Rattle.schnellru.specs.Inside.OrderedTable.{pairs_of}
+use Rattle.ordered_table.specs.OrderedTable.{pairs_of}
 use Rattle.schnellru.specs.Inside.Fields.{fields_of}
 use Rattle.schnellru.proofs.Maps.HeldMaps.{copied_holds}
 use Rattle.lru_model.proofs.PairLists.DistinctKeys.{distinct_same}

@@ -1,7 +1,7 @@
 use Rattle.group_table.specs.Bucket.{bucket_at}
 use Rattle.group_table.proofs.SearchLemmas.{entry_by_full}
-use Rattle.schnellru.proofs.OrderedTables.LastPair.{demoted_state, demoted_holds}
-use Rattle.schnellru.proofs.OrderedTables.Searches.{pair_of_place}
+use Rattle.schnellru.proofs.Maps.LastPair.{demoted_state, demoted_holds}
+use Rattle.ordered_table.proofs.Tables.Searches.{pair_of_place}
 use Rattle.schnellru.proofs.map.LruMap.demote_at.Goals as goal
 
 pub demote-requires : goal.demote-requires

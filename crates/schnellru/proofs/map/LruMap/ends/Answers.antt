@@ -1,7 +1,7 @@
 use Rattle.std.proofs.Common.{ap, sym, ◌∙◌}
 use Rattle.lru_model.specs.Lists.{last_of}
-use Rattle.schnellru.proofs.OrderedTables.BucketPairs.{pairs-length}
-use Rattle.schnellru.proofs.OrderedTables.Places.{first_at, last_at}
+use Rattle.ordered_table.proofs.Tables.BucketPairs.{pairs-length}
+use Rattle.ordered_table.proofs.Tables.Places.{first_at, last_at}
 use Rattle.schnellru.proofs.map.LruMap.ends.Goals as goal
 
 pub returns-clause-newest : goal.returns-clause-newest

@@ -1,5 +1,5 @@
-use Rattle.schnellru.proofs.OrderedTables.Searches.{found_place, not_found}
-use Rattle.schnellru.proofs.OrderedTables.KeyHashes.{if_none}
+use Rattle.ordered_table.proofs.Tables.Searches.{found_place, not_found}
+use Rattle.ordered_table.proofs.Tables.KeyHashes.{if_none}
 use Rattle.schnellru.proofs.map.LruMap.find_hashed.Goals as goal
 
 pub returns-clause-found : goal.returns-clause-found

@@ -1,6 +1,6 @@
 use Rattle.std.proofs.Common.{arith, sym, ◌∙◌, refl}
 use Rattle.lru_model.specs.Lists.{set_value_at}
-use Rattle.schnellru.proofs.OrderedTables.Places.{got_in}
+use Rattle.ordered_table.proofs.Tables.Places.{got_in}
 use Rattle.schnellru.proofs.Maps.WrittenPairs.{written_none, written_more, written_all, length-set, get_none}
 use Rattle.std.proofs.lemmas.Option.{slice_get_past}
 use Rattle.schnellru.proofs.Maps.WrittenPairs.{with_others}

@@ -1,11 +1,11 @@
 use Rattle.std.proofs.Common.{Some, None, refl, sym, ap, ◌∙◌, subst, unwrap_or, ◌≡◌, true}
 use Rattle.lru_model.specs.Lists.{lookup_entry, place_of}
-use Rattle.schnellru.proofs.OrderedTables.BucketPairs.{pair_found}
-use Rattle.schnellru.proofs.OrderedTables.Searches.{pair_of_place}
+use Rattle.ordered_table.proofs.Tables.BucketPairs.{pair_found}
+use Rattle.ordered_table.proofs.Tables.Searches.{pair_of_place}
 use Rattle.lru_model.proofs.PairLists.NamedPlaces.{front_place, front_found, named_value, no_named_value}
 use Rattle.lru_model.proofs.States.Promotions.{get_is_map}
 use Rattle.lru_model.specs.Calls.{written}
-use Rattle.schnellru.proofs.OrderedTables.Writes.{kept_holds, kept_state, same_follow}
+use Rattle.schnellru.proofs.Maps.Writes.{kept_holds, kept_state, same_follow}
 use Rattle.schnellru.proofs.map.LruMap.get.Goals as goal
 
 pub returns-in_err-b : goal.returns-in_err-b

@@ -4,12 +4,12 @@ use Rattle.lru_model.specs.ByHash.{GivesByHash}
 use Rattle.lru_model.specs.State.{IsMap}
 use Rattle.lru_model.specs.Calls.{written}
 use Rattle.lru_model.specs.Lists.{lookup_entry, place_of}
-use Rattle.schnellru.proofs.OrderedTables.ByHash.{gives_by_hash, gives_none_by_hash}
-use Rattle.schnellru.proofs.OrderedTables.BucketPairs.{pair_found, place_found}
-use Rattle.schnellru.proofs.OrderedTables.Searches.{pair_of_place}
+use Rattle.ordered_table.proofs.Tables.ByHash.{gives_by_hash, gives_none_by_hash}
+use Rattle.ordered_table.proofs.Tables.BucketPairs.{pair_found, place_found}
+use Rattle.ordered_table.proofs.Tables.Searches.{pair_of_place}
 use Rattle.lru_model.proofs.PairLists.NamedPlaces.{front_place, front_found}
 use Rattle.lru_model.proofs.States.Promotions.{equal_is_map, written_is_map}
-use Rattle.schnellru.proofs.OrderedTables.Writes.{kept_holds, kept_state}
+use Rattle.schnellru.proofs.Maps.Writes.{kept_holds, kept_state}
 use Rattle.schnellru.proofs.map.LruMap.get_by_hash.Goals as goal
 
 pub returns-in_err-b : goal.returns-in_err-b

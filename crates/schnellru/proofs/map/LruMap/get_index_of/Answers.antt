@@ -1,7 +1,7 @@
 use Rattle.std.proofs.Common.{◌≡◌, ℕ, ◌+◌, zero, suc, slice_get, position, Some, None, ap, sym, ◌∙◌, arith}
 use Rattle.std.proofs.lemmas.Option.{slice_get_within}
 use Rattle.lru_model.specs.Lists.{last_of}
-use Rattle.schnellru.proofs.OrderedTables.Places.{got_in}
+use Rattle.ordered_table.proofs.Tables.Places.{got_in}
 use Rattle.schnellru.proofs.Maps.WrittenPairs.{get_none}
 use Rattle.lru_model.proofs.PairLists.Positions.{placed, nowhere}
 use Rattle.schnellru.proofs.map.LruMap.get_index_of.Goals as goal

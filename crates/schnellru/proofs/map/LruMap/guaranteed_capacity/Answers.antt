@@ -1,7 +1,7 @@
 use Rattle.std.proofs.Common.{arith, length}
 use Rattle.group_table.specs.Bucket.{marks_of}
 use Rattle.lru_model.proofs.TableSizes.Growth.{full_capacity-at_most}
-use Rattle.schnellru.proofs.OrderedTables.BucketPairs.{pairs-length}
+use Rattle.ordered_table.proofs.Tables.BucketPairs.{pairs-length}
 use Rattle.schnellru.proofs.map.LruMap.guaranteed_capacity.Goals as goal
 
 pub overflow_add-result : goal.overflow_add-result

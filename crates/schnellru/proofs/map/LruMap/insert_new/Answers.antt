@@ -1,11 +1,11 @@
 use Rattle.std.proofs.Common.{Some, None, refl, ap, sym, ◌∙◌, subst}
-use Rattle.schnellru.specs.Inside.OrderedTable.{pairs_of}
+use Rattle.ordered_table.specs.OrderedTable.{pairs_of}
 use Rattle.schnellru.specs.Inside.Holds.{state_of}
 use Rattle.lru_model.specs.Inserts.{no_memory_to_admit, not_admitted, admitted}
 use Rattle.lru_model.specs.Callbacks.{noted}
 use Rattle.schnellru.specs.Inside.Fields.{fields_of}
-use Rattle.schnellru.proofs.OrderedTables.BucketPairs.{pairs-length}
-use Rattle.schnellru.proofs.OrderedTables.Searches.{lookup_alike}
+use Rattle.ordered_table.proofs.Tables.BucketPairs.{pairs-length}
+use Rattle.ordered_table.proofs.Tables.Searches.{lookup_alike}
 use Rattle.schnellru.proofs.map.LruMap.insert_new.Goals as goal
 
 pub insert_pair-requires-clause-hash : goal.insert_pair-requires-clause-hash

@@ -1,17 +1,7 @@
-use Rattle.std.proofs.Common.{ap, length}
-use Rattle.std.proofs.iter.runs.Sources.{from_front, from_back}
-use Rattle.std.specs.Map.Iter.{deref_pair, TakesFirst, TakesLast}
-use Rattle.schnellru.proofs.OrderedTables.WalkRests.{rest-whole}
+use Rattle.std.proofs.Common.{subst, sym, ◌<◌, ◌^◌}
+use Rattle.ordered_table.proofs.Tables.BucketPairs.{pairs-length}
 use Rattle.schnellru.proofs.map.LruMap.iter.Goals as goal
 
-pub returns-clause-runs : goal.returns-clause-runs
-returns-clause-runs g c = from_front (TakesFirst deref_pair) deref_pair (λ s. s) (λ s t h. ap length h.0) (λ s x t h. h)
-
-pub returns-clause-runs_back : goal.returns-clause-runs_back
-returns-clause-runs_back g c =
-    from_back (TakesLast deref_pair) deref_pair (λ s. s) (λ s t h. ap length h.0) (λ s x t h. h)
-
-pub invariant_of-result : goal.invariant_of-result
-invariant_of-result g c =
-    let t = c.self.inside.entries in
-    rw (c.first.ensures.first, c.last.ensures.last, c.len.ensures.len) (rest-whole t c.self.invariant.linked)
+pub returns-clause-fits : goal.returns-clause-fits
+returns-clause-fits g c = rw (← c.self.view_is)
+    (subst (λ n. n < 2 ^ 64) (sym (pairs-length c.self.inside.entries c.iter.ensures.linked)) c.iter.ensures.fits)

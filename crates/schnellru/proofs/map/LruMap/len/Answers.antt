@@ -1,5 +1,5 @@
 use Rattle.std.proofs.Common.{sym, ◌∙◌}
-use Rattle.schnellru.proofs.OrderedTables.BucketPairs.{pairs-length}
+use Rattle.ordered_table.proofs.Tables.BucketPairs.{pairs-length}
 use Rattle.schnellru.proofs.map.LruMap.len.Goals as goal
 
 pub returns-clause-len : goal.returns-clause-len

@@ -1,7 +1,7 @@
 use Rattle.std.proofs.Common.{◌≡◌, ◌+◌, true, [], ◌∷◌, ◌++◌, length, ap, sym, ◌∙◌, subst}
 use Rattle.lru_model.specs.State.{contents, Leaves}
 use Rattle.lru_model.specs.Callbacks.{noting, noted}
-use Rattle.schnellru.proofs.OrderedTables.BucketPairs.{pairs-length}
+use Rattle.ordered_table.proofs.Tables.BucketPairs.{pairs-length}
 use Rattle.lru_model.proofs.States.CallablePairs.{oldest_callable, rest_callable_with}
 use Rattle.schnellru.proofs.Maps.NotedStates.{takes_more, noted_pop, make_room-over, make_room-within, make_room-empty}
 use Rattle.lru_model.proofs.States.LeavingPairs.{leaves_self}

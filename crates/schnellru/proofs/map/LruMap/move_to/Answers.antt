@@ -2,7 +2,7 @@ use Rattle.std.proofs.Common.{sym, ◌∙◌, ap, length, arith}
 use Rattle.std.proofs.lemmas.Bool.{false≢true}
 use Rattle.group_table.proofs.BucketLemmas.{length-marks_of}
 use Rattle.lru_model.proofs.TableSizes.Growth.{usage_addressable}
-use Rattle.schnellru.proofs.OrderedTables.BucketPairs.{pairs-length}
+use Rattle.ordered_table.proofs.Tables.BucketPairs.{pairs-length}
 use Rattle.schnellru.proofs.Maps.MovedPairs.{moves_to, moves_holds}
 use Rattle.schnellru.proofs.map.LruMap.move_to.Goals as goal
 

@@ -1,5 +1,5 @@
 use Rattle.std.proofs.Common.{◌∙◌}
-use Rattle.schnellru.proofs.OrderedTables.Places.{before_at}
+use Rattle.ordered_table.proofs.Tables.Places.{before_at}
 use Rattle.schnellru.proofs.map.LruMap.newer.Goals as goal
 
 pub returns : goal.returns

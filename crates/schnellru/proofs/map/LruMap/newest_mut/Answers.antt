@@ -1,7 +1,7 @@
 use Rattle.std.proofs.Common.{refl, sym, ◌∙◌, subst}
 use Rattle.lru_model.specs.State.{IsMap}
-use Rattle.schnellru.proofs.OrderedTables.NewestPair.{newest_state, newest_holds, newest_is}
-use Rattle.schnellru.proofs.OrderedTables.Writes.{same_follow}
+use Rattle.schnellru.proofs.Maps.NewestPair.{newest_state, newest_holds, newest_is}
+use Rattle.schnellru.proofs.Maps.Writes.{same_follow}
 use Rattle.schnellru.proofs.map.LruMap.newest_mut.Goals as goal
 
 pub invariant_of-self-lent : goal.invariant_of-self-lent

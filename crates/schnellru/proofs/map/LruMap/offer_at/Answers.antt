@@ -1,14 +1,14 @@
 use Rattle.std.proofs.Common.{◌≡◌, ℕ, length, sym, ◌∙◌, subst, true}
 use Rattle.schnellru.specs.Inside.Passing.{PassesRemoved}
 use Rattle.schnellru.specs.Inside.Holds.{state_of}
-use Rattle.schnellru.specs.Inside.OrderedTable.{pairs_of}
+use Rattle.ordered_table.specs.OrderedTable.{pairs_of}
 use Rattle.schnellru.specs.Inside.Steps.{IsReplaced, IsRemoved}
 use Rattle.lru_model.specs.Inserts.{unkept_of}
 use Rattle.schnellru.specs.Inside.Fields.{fields_of}
 use Rattle.schnellru.proofs.Maps.NotedStates.{noted_offer}
-use Rattle.schnellru.proofs.OrderedTables.BucketPairs.{pairs-length, pair_found}
-use Rattle.schnellru.proofs.OrderedTables.Replacements.{replaced_leaves, removed_leaves, offered_holds}
-use Rattle.schnellru.proofs.OrderedTables.Searches.{pair_of_place}
+use Rattle.ordered_table.proofs.Tables.BucketPairs.{pairs-length, pair_found}
+use Rattle.schnellru.proofs.Maps.Replacements.{replaced_leaves, removed_leaves, offered_holds}
+use Rattle.ordered_table.proofs.Tables.Searches.{pair_of_place}
 use Rattle.std.proofs.lemmas.Option.{same_Some}
 use Rattle.lru_model.specs.MayTake.{MayTakeRejected}
 use Rattle.schnellru.proofs.map.LruMap.offer_at.Goals as goal

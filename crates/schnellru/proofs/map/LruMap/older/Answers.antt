@@ -1,6 +1,6 @@
 use Rattle.std.proofs.Common.{◌∙◌, ap, suc, arith, ◌+◌, ◌≡◌}
 use Rattle.std.specs.Prelude.{slice_get}
-use Rattle.schnellru.proofs.OrderedTables.Places.{after_at}
+use Rattle.ordered_table.proofs.Tables.Places.{after_at}
 use Rattle.schnellru.proofs.map.LruMap.older.Goals as goal
 
 pub returns : goal.returns

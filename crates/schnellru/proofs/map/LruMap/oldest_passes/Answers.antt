@@ -1,5 +1,5 @@
 use Rattle.std.proofs.Common.{refl}
-use Rattle.schnellru.proofs.OrderedTables.BucketPairs.{oldest_full, oldest_is}
+use Rattle.ordered_table.proofs.Tables.BucketPairs.{oldest_full, oldest_is}
 use Rattle.schnellru.proofs.map.LruMap.oldest_passes.Goals as goal
 
 pub pair-pair-requires : goal.pair-pair-requires

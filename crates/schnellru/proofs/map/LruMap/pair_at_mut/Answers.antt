@@ -1,9 +1,9 @@
 use Rattle.std.proofs.Common.{refl, ap, ◌∙◌}
 use Rattle.schnellru.specs.Inside.Holds.{state_of}
-use Rattle.schnellru.specs.Inside.OrderedTable.{pairs_of}
-use Rattle.schnellru.proofs.OrderedTables.BucketPairs.{all_full}
-use Rattle.schnellru.proofs.OrderedTables.Places.{got_in, pair_at, at_set}
-use Rattle.schnellru.proofs.OrderedTables.Writes.{kept_holds, kept_state}
+use Rattle.ordered_table.specs.OrderedTable.{pairs_of}
+use Rattle.ordered_table.proofs.Tables.BucketPairs.{all_full}
+use Rattle.ordered_table.proofs.Tables.Places.{got_in, pair_at, at_set}
+use Rattle.schnellru.proofs.Maps.Writes.{kept_holds, kept_state}
 use Rattle.schnellru.specs.Inside.Fields.{fields_of}
 use Rattle.schnellru.proofs.map.LruMap.pair_at_mut.Goals as goal
 

@@ -1,6 +1,6 @@
 use Rattle.std.proofs.Common.{sym, ◌∙◌}
-use Rattle.schnellru.proofs.OrderedTables.BucketPairs.{pair_found}
-use Rattle.schnellru.proofs.OrderedTables.Searches.{pair_of_place}
+use Rattle.ordered_table.proofs.Tables.BucketPairs.{pair_found}
+use Rattle.ordered_table.proofs.Tables.Searches.{pair_of_place}
 use Rattle.schnellru.proofs.map.LruMap.pair_in.Goals as goal
 
 pub pair-requires : goal.pair-requires

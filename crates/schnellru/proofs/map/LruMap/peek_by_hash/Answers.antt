@@ -1,7 +1,7 @@
 use Rattle.std.proofs.Common.{◌≡◌, sym, ap, ◌∙◌, subst, unwrap_or}
 use Rattle.lru_model.specs.ByHash.{GivesByHash}
-use Rattle.schnellru.specs.Inside.OrderedTable.{pairs_of}
-use Rattle.schnellru.proofs.OrderedTables.ByHash.{gives_by_hash, gives_none_by_hash}
+use Rattle.ordered_table.specs.OrderedTable.{pairs_of}
+use Rattle.ordered_table.proofs.Tables.ByHash.{gives_by_hash, gives_none_by_hash}
 use Rattle.schnellru.proofs.map.LruMap.peek_by_hash.Goals as goal
 
 pub returns-in_err-b-clause-none : goal.returns-in_err-b-clause-none

@@ -1,9 +1,9 @@
 use Rattle.std.proofs.Common.{◌≡◌, refl, sym, ap, ◌∙◌, subst, unwrap_or}
 use Rattle.lru_model.specs.ByHash.{GivesByHash}
-use Rattle.schnellru.specs.Inside.OrderedTable.{pairs_of}
-use Rattle.schnellru.proofs.OrderedTables.ByHash.{gives_by_hash, gives_none_by_hash}
+use Rattle.ordered_table.specs.OrderedTable.{pairs_of}
+use Rattle.ordered_table.proofs.Tables.ByHash.{gives_by_hash, gives_none_by_hash}
 use Rattle.lru_model.proofs.States.Promotions.{written_is_map}
-use Rattle.schnellru.proofs.OrderedTables.Writes.{kept_holds, kept_state}
+use Rattle.schnellru.proofs.Maps.Writes.{kept_holds, kept_state}
 use Rattle.schnellru.proofs.map.LruMap.peek_by_hash_mut.Goals as goal
 
 pub returns-in_err-b : goal.returns-in_err-b

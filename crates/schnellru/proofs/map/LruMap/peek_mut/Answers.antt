@@ -1,10 +1,10 @@
 use Rattle.std.proofs.Common.{refl, sym, ap, ◌∙◌, subst, unwrap_or, ◌≡◌, true}
-use Rattle.schnellru.specs.Inside.OrderedTable.{pairs_of}
-use Rattle.schnellru.proofs.OrderedTables.BucketPairs.{value_found}
-use Rattle.schnellru.proofs.OrderedTables.Searches.{pair_of_place}
+use Rattle.ordered_table.specs.OrderedTable.{pairs_of}
+use Rattle.ordered_table.proofs.Tables.BucketPairs.{value_found}
+use Rattle.ordered_table.proofs.Tables.Searches.{pair_of_place}
 use Rattle.lru_model.proofs.PairLists.NamedPlaces.{no_named_value}
 use Rattle.lru_model.proofs.States.Promotions.{written_is_map}
-use Rattle.schnellru.proofs.OrderedTables.Writes.{kept_holds, kept_state, same_follow}
+use Rattle.schnellru.proofs.Maps.Writes.{kept_holds, kept_state, same_follow}
 use Rattle.schnellru.proofs.map.LruMap.peek_mut.Goals as goal
 
 pub returns-in_err-b : goal.returns-in_err-b

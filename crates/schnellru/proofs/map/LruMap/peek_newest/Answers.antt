@@ -1,5 +1,5 @@
 use Rattle.std.proofs.Common.{sym, ◌∙◌}
-use Rattle.schnellru.proofs.OrderedTables.BucketPairs.{newest_is}
+use Rattle.ordered_table.proofs.Tables.BucketPairs.{newest_is}
 use Rattle.schnellru.proofs.map.LruMap.peek_newest.Goals as goal
 
 pub returns : goal.returns

@@ -2,9 +2,9 @@ use Rattle.std.proofs.Common.{subst, sym}
 use Rattle.std.specs.Prelude.{Contains}
 use Rattle.group_table.specs.Bucket.{bucket_at}
 use Rattle.group_table.proofs.SearchLemmas.{entry_by_full}
-use Rattle.schnellru.proofs.OrderedTables.NewestPair.{promoted_state, promoted_holds}
+use Rattle.schnellru.proofs.Maps.NewestPair.{promoted_state, promoted_holds}
 use Rattle.lru_model.proofs.PairLists.Members.{Contains-here}
-use Rattle.schnellru.proofs.OrderedTables.Searches.{pair_of_place}
+use Rattle.ordered_table.proofs.Tables.Searches.{pair_of_place}
 use Rattle.schnellru.proofs.map.LruMap.promote_at.Goals as goal
 
 pub promote-requires : goal.promote-requires

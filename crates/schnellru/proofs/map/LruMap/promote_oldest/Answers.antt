@@ -1,7 +1,7 @@
 use Rattle.group_table.specs.Bucket.{bucket_at}
 use Rattle.group_table.proofs.SearchLemmas.{entry_by_full}
-use Rattle.schnellru.proofs.OrderedTables.BucketPairs.{oldest_full}
-use Rattle.schnellru.proofs.OrderedTables.NewestPair.{promoted_holds, oldest_promoted}
+use Rattle.ordered_table.proofs.Tables.BucketPairs.{oldest_full}
+use Rattle.schnellru.proofs.Maps.NewestPair.{promoted_holds, oldest_promoted}
 use Rattle.schnellru.proofs.map.LruMap.promote_oldest.Goals as goal
 
 pub promote-requires : goal.promote-requires

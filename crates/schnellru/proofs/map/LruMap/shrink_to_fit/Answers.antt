@@ -6,9 +6,9 @@ use Rattle.group_table.specs.Change.{count_up}
 use Rattle.group_table.proofs.BucketLemmas.{length-marks_of}
 use Rattle.lru_model.specs.State.{buckets, MovesTo}
 use Rattle.lru_model.specs.Shrinks.{shrink_counted, kept, shrunk, no_memory_to_shrink}
-use Rattle.schnellru.specs.Inside.OrderedTable.{pairs_of}
+use Rattle.ordered_table.specs.OrderedTable.{pairs_of}
 use Rattle.schnellru.specs.Inside.Holds.{state_of, Holds}
-use Rattle.schnellru.proofs.OrderedTables.BucketPairs.{pairs-length}
+use Rattle.ordered_table.proofs.Tables.BucketPairs.{pairs-length}
 use Rattle.schnellru.specs.Inside.Fields.{fields_of}
 use Rattle.lru_model.proofs.States.Reservations.{some_there}
 use Rattle.lru_model.proofs.States.SomeShrink.{none_needed}

@@ -6,7 +6,7 @@ use Rattle.schnellru.specs.Inside.Holds.{state_of}
 use Rattle.schnellru.specs.Inside.Fields.{fields_of}
 use Rattle.lru_model.proofs.States.Outcomes.{on_err}
 use Rattle.lru_model.proofs.States.Placements.{fills_within, no_place_bucket}
-use Rattle.schnellru.proofs.OrderedTables.Landings.{lands_placed, lands_fills, lands_holds}
+use Rattle.schnellru.proofs.Maps.Landings.{lands_placed, lands_fills, lands_holds}
 use Rattle.schnellru.proofs.map.LruMap.store_in_bucket.Goals as goal
 
 pub invariant_of-self-2 : goal.invariant_of-self-2

@@ -5,7 +5,7 @@ use Rattle.schnellru.specs.Inside.Holds.{state_of, table_state}
 use Rattle.lru_model.proofs.TableSizes.FilledBuckets.{fills_exact}
 use Rattle.schnellru.specs.Inside.Fields.{fields_of}
 use Rattle.lru_model.proofs.States.Placements.{fills_within}
-use Rattle.schnellru.proofs.OrderedTables.Landings.{lands_placed, lands_fills, lands_holds}
+use Rattle.schnellru.proofs.Maps.Landings.{lands_placed, lands_fills, lands_holds}
 use Rattle.schnellru.proofs.map.LruMap.store_in_room.Goals as goal
 
 pub invariant_of-self : goal.invariant_of-self

@@ -1,9 +1,9 @@
 use Rattle.std.proofs.Common.{◌≡◌, true, refl, sym, ap, ◌∙◌, subst, unwrap_or}
-use Rattle.schnellru.proofs.OrderedTables.BucketPairs.{pair_found, others_are}
-use Rattle.schnellru.proofs.OrderedTables.Searches.{pair_of_place}
-use Rattle.schnellru.proofs.OrderedTables.TakenPairs.{taken_pairs, taken_left, taken_notified, taken_leaves}
-use Rattle.schnellru.proofs.OrderedTables.TakenPairs.{taken_frees}
-use Rattle.schnellru.proofs.OrderedTables.TakenPairs.{taken_holds}
+use Rattle.ordered_table.proofs.Tables.BucketPairs.{pair_found, others_are}
+use Rattle.ordered_table.proofs.Tables.Searches.{pair_of_place}
+use Rattle.schnellru.proofs.Maps.TakenPairs.{taken_pairs, taken_left, taken_notified, taken_leaves}
+use Rattle.schnellru.proofs.Maps.TakenPairs.{taken_frees}
+use Rattle.schnellru.proofs.Maps.TakenPairs.{taken_holds}
 use Rattle.schnellru.proofs.map.LruMap.take_at.Goals as goal
 
 pub take_out-requires-clause-full : goal.take_out-requires-clause-full

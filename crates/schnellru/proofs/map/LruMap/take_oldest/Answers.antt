@@ -1,8 +1,8 @@
-use Rattle.schnellru.proofs.OrderedTables.BucketPairs.{oldest_full, oldest_is, others_oldest}
+use Rattle.ordered_table.proofs.Tables.BucketPairs.{oldest_full, oldest_is, others_oldest}
 use Rattle.std.proofs.Common.{sym, ◌∙◌}
-use Rattle.schnellru.proofs.OrderedTables.TakenPairs.{taken_pairs, taken_left, taken_notified, taken_leaves}
-use Rattle.schnellru.proofs.OrderedTables.TakenPairs.{taken_frees}
-use Rattle.schnellru.proofs.OrderedTables.TakenPairs.{taken_holds}
+use Rattle.schnellru.proofs.Maps.TakenPairs.{taken_pairs, taken_left, taken_notified, taken_leaves}
+use Rattle.schnellru.proofs.Maps.TakenPairs.{taken_frees}
+use Rattle.schnellru.proofs.Maps.TakenPairs.{taken_holds}
 use Rattle.schnellru.proofs.map.LruMap.take_oldest.Goals as goal
 
 pub take_out-requires-clause-full : goal.take_out-requires-clause-full

@@ -3,7 +3,7 @@ use Rattle.std.specs.List.{IsDistinct}
 use Rattle.group_table.specs.Sizes.{full_capacity}
 use Rattle.group_table.specs.Bucket.{marks_of, room}
 use Rattle.lru_model.specs.Sizes.{usage}
-use Rattle.schnellru.specs.Inside.OrderedTable.{entries_in}
+use Rattle.ordered_table.specs.OrderedTable.{entries_in}
 use Rattle.lru_model.proofs.PairLists.DistinctKeys.{AreDistinct}
 use Rattle.schnellru.proofs.Maps.HeldMaps.{sized_by}
 use Rattle.schnellru.proofs.map.LruMap.with_hasher.Goals as goal

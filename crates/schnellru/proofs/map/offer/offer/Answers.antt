@@ -3,7 +3,7 @@ use Rattle.std.specs.Fn.{Called}
 use Rattle.std.proofs.lemmas.Option.{same_Some}
 use Rattle.schnellru.specs.Inside.Steps.{IsRemoved}
 use Rattle.schnellru.specs.Inside.Passing.{PassesRemoved}
-use Rattle.schnellru.proofs.OrderedTables.Replacements.{is_removed, left_as_notified}
+use Rattle.schnellru.proofs.Maps.Replacements.{is_removed, left_as_notified}
 use Rattle.lru_model.specs.MayTake.{MayTakeRejected}
 use Rattle.lru_model.proofs.States.CallablePairs.{here, one_callable}
 use Rattle.schnellru.proofs.map.offer.offer.Goals as goal

@@ -1,0 +1,101 @@
+-- What is read of a table whose links keep the order of its full buckets.
+use Rattle.std.proofs.Common.{◌≡◌, ◌≢◌, ℕ, ◌<◌, Bool, true, false, List, [], ◌∷◌, length, Option, Some, None, refl, ap}
+use Rattle.std.proofs.Common.{sym, ◌∙◌, arith}
+use Rattle.std.specs.Prelude.{Contains, IfSome, IfNone, not}
+use Rattle.std.proofs.lemmas.Bool.{eqb-true, eqb-false, not-true, not-false}
+use Rattle.std.proofs.lemmas.Option.{none-some}
+use Rattle.group_table.specs.Link.{IsLinkType}
+use Rattle.group_table.specs.Bucket.{Slot, IsFull, entry_at}
+use Rattle.ordered_table.specs.declared.ordered.Entry.{Entry}
+use Rattle.ordered_table.specs.OrderedTable.{without_bucket}
+use Rattle.lru_model.specs.Lists.{first as first_bucket, last as last_bucket}
+use Rattle.ordered_table.specs.Chain.{bucket_after, bucket_before, link_to, pair_slots}
+use Rattle.ordered_table.specs.Chain.{IsChain, IsWhole}
+use Rattle.ordered_table.proofs.Chains.Orders.{after_in, before_in, first_in, last_in, before-alone, after-last}
+use Rattle.ordered_table.proofs.Chains.Neighbours.{newest_again}
+use Rattle.ordered_table.proofs.Tables.PairSlots.{is_full-pair_slots}
+use Rattle.ordered_table.proofs.Chains.LinkWrites.{end_by_link, chained_below, newer_link, older_link}
+
+first_some : (order : List ℕ) → 0 < length order → first_bucket order ≡ None → ⊥
+first_some [] p e = absurd (omega arith)
+first_some (c ∷ cs) p e = none-some c (sym e)
+
+last_some : (order : List ℕ) → 0 < length order → last_bucket order ≡ None → ⊥
+last_some [] p e = absurd (omega arith)
+last_some (c ∷ []) p e = none-some c (sym e)
+last_some (c ∷ d ∷ ds) p e = last_some (d ∷ ds) (omega arith) e
+
+module _ {N : Type 0} {number : N → ℕ} {link : ℕ → N} {none : N}
+    (laws : IsLinkType number link none) where
+  -- the bucket that a link leads to
+  leads_to : (o : Option ℕ) (l : N) → l ≡ link_to link none o → ((y : ℕ) → o ≡ Some y → y < number none)
+      → (o ≡ None → ⊥) → o ≡ Some (number l)
+  leads_to None l e bounds some = absurd (some refl)
+  leads_to (Some y) l e bounds some = ap Some (sym (ap number e ∙ laws.number_of_link y (bounds y refl)))
+
+  read_link : (r o : Option ℕ) (l : N) → l ≡ link_to link none o → ((y : ℕ) → o ≡ Some y → y < number none)
+      → IfNone r (l ≡ none) → IfSome r (λ b. (l ≢ none) × (b ≡ number l)) → r ≡ o
+  read_link None o l e bounds at_none at_some = sym (end_by_link laws o bounds (sym e ∙ at_none))
+  read_link (Some b) o l e bounds at_none at_some =
+      ap Some at_some.1 ∙ sym (leads_to o l e bounds (λ is. at_some.0 (e ∙ ap (link_to link none) is)))
+
+  module _ {K V : Type 0} {slots : List (Slot (Entry K V N))} {newest oldest : N} {order : List ℕ}
+      (whole : IsWhole number link none slots newest oldest order) where
+    pub newest_shown : (r : Option ℕ) → IfNone r (newest ≡ none)
+        → IfSome r (λ b. (newest ≢ none) × (b ≡ number newest)) → r ≡ first_bucket order
+    newest_shown r = read_link r (first_bucket order) newest whole.chain.newest_first
+        (λ y e. chained_below whole.chain y (first_in order y e))
+
+    pub last_shown : (r : Option ℕ) → IfNone r (oldest ≡ none) → IfSome r (λ b. (oldest ≢ none) × (b ≡ number oldest))
+        → r ≡ last_bucket order
+    last_shown r = read_link r (last_bucket order) oldest whole.chain.oldest_last
+        (λ y e. chained_below whole.chain y (last_in order y e))
+
+    pub first_shown : 0 < length order → first_bucket order ≡ Some (number newest)
+    first_shown p = leads_to (first_bucket order) newest whole.chain.newest_first
+        (λ y e. chained_below whole.chain y (first_in order y e)) (first_some order p)
+
+    pub oldest_shown : 0 < length order → last_bucket order ≡ Some (number oldest)
+    oldest_shown p = leads_to (last_bucket order) oldest whole.chain.oldest_last
+        (λ y e. chained_below whole.chain y (last_in order y e)) (last_some order p)
+
+    -- the last bucket has no older one
+    pub none_older : (b : ℕ) → last_bucket order ≡ Some b → (entry : Entry K V N) → entry_at slots b ≡ Some entry
+        → entry.older ≡ none
+    none_older b last entry is = older_link laws whole.chain b (last_in order b last) entry is
+        ∙ ap (link_to link none) (after-last b order whole.chain.distinct last)
+
+    module _ (b : ℕ) (full : IsFull (pair_slots slots) b) where
+      pub full_entry : IsFull slots b
+      full_entry = sym (is_full-pair_slots slots b) ∙ full
+
+      pub inside : Contains order b
+      inside = whole.all b full_entry
+
+      module _ (entry : Entry K V N) (is : entry_at slots b ≡ Some entry) where
+        pub older_shown : (r : Option ℕ) → IfNone r (entry.older ≡ none)
+            → IfSome r (λ c. (entry.older ≢ none) × (c ≡ number entry.older)) → r ≡ bucket_after b order
+        older_shown r at_none at_some =
+            read_link r (bucket_after b order) entry.older (older_link laws whole.chain b inside entry is)
+            (λ y e. chained_below whole.chain y (after_in b y order e)) at_none at_some
+
+        pub newer_shown : (r : Option ℕ) → IfNone r (entry.newer ≡ none)
+            → IfSome r (λ c. (entry.newer ≢ none) × (c ≡ number entry.newer)) → r ≡ bucket_before b order
+        newer_shown r at_none at_some =
+            read_link r (bucket_before b order) entry.newer (newer_link laws whole.chain b inside entry is)
+            (λ y e. chained_below whole.chain y (before_in b y order whole.chain.distinct e)) at_none at_some
+
+        -- the bucket with no newer one is the newest already
+        pub newest_already : entry.newer ≡ none → order ≡ b ∷ without_bucket b order
+        newest_already e = newest_again b order whole.chain.distinct inside (end_by_link laws (bucket_before b order)
+            (λ y k. chained_below whole.chain y (before_in b y order whole.chain.distinct k))
+            (sym (newer_link laws whole.chain b inside entry is) ∙ e))
+
+        -- if a bucket that has a newer one leaves, the chain still has a newest one
+        pub newest_left : {slots' : List (Slot (Entry K V N))} {newest' oldest' : N} → entry.newer ≢ none
+            → IsChain number link none slots' newest' oldest' (without_bucket b order) → newest' ≢ none
+        newest_left newer left e =
+            let alone = end_by_link laws (first_bucket (without_bucket b order))
+            (λ y k. chained_below left y (first_in (without_bucket b order) y k)) (sym left.newest_first ∙ e) in
+            newer (newer_link laws whole.chain b inside entry is
+            ∙ ap (link_to link none) (before-alone b order whole.chain.distinct inside alone))

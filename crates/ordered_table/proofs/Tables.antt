@@ -1,0 +1,14 @@
+pub mod OrderCuts
+pub mod BucketPairs
+pub mod TakenEntries
+pub mod AskedPairs
+pub mod Clears
+pub mod Searches
+pub mod PairSlots
+pub mod PlacedEntries
+pub mod KeyHashes
+pub mod Relocations
+pub mod WalkRests
+pub mod ByHash
+pub mod Copies
+pub mod Places

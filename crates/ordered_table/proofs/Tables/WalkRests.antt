@@ -1,0 +1,195 @@
+-- What is left of a walk over a linked table.
+use Rattle.std.proofs.Common.{◌≡◌, ℕ, ◌-◌, ◌<◌, List, [], ◌∷◌, ◌++◌, length, take, Option, Some, None, refl, sym, ap}
+use Rattle.std.proofs.Common.{◌∙◌, subst, arith, eq-eqb, ne_eqb, append-nil}
+use Rattle.std.specs.Prelude.{◌≢◌, AllPairs, Contains, option_to_list}
+use Rattle.std.specs.List.{AllByRecursion}
+use Rattle.std.proofs.lemmas.List.{append_assoc, take_at, length-append}
+use Rattle.std.proofs.lemmas.Option.{none-some, same_Some}
+use Rattle.group_table.specs.Bucket.{IsFull, entry_at}
+use Rattle.ordered_table.specs.OrderedTable.{OrderedTable, IsLinked, entries_in}
+use Rattle.lru_model.specs.Lists.{first as first_bucket, last as last_bucket}
+use Rattle.ordered_table.specs.Chain.{bucket_after, bucket_before}
+use Rattle.ordered_table.specs.Rest.{from_bucket, rest_of, IsRest}
+use Rattle.lru_model.proofs.PairLists.Members.{Contains-here, Contains-later}
+use Rattle.ordered_table.proofs.Chains.Orders.{distinct_head, distinct_tail, before_from}
+use Rattle.ordered_table.proofs.Chains.Orders.{before_is, last_from, last_is}
+use Rattle.ordered_table.proofs.Tables.BucketPairs.{entries-length, all_full, AreFull}
+use Rattle.ordered_table.proofs.Tables.OrderCuts.{entries-append}
+
+-- a bucket behind others is in the list
+in_behind : (xs : List ℕ) (b : ℕ) (ys : List ℕ) → Contains (xs ++ b ∷ ys) b
+in_behind [] b ys = Contains-here b ys
+in_behind (x ∷ xs) b ys = Contains-later x b (xs ++ b ∷ ys) (in_behind xs b ys)
+
+apart_behind : (x : ℕ) (xs : List ℕ) (b : ℕ) (ys : List ℕ) → AllPairs ◌≢◌ (x ∷ xs ++ b ∷ ys) → x ≢ b
+apart_behind x xs b ys d e = distinct_head x (xs ++ b ∷ ys) d
+    (subst (Contains (xs ++ b ∷ ys)) (sym e) (in_behind xs b ys))
+
+-- from the first of the last buckets on
+from_cut : (xs ys : List ℕ) → AllPairs ◌≢◌ (xs ++ ys) → from_bucket (first_bucket ys) (xs ++ ys) ≡ ys
+from_cut xs [] d = refl
+from_cut [] (y ∷ ys) d = rw (eq-eqb y y refl) refl
+from_cut (x ∷ xs) (y ∷ ys) d = rw (ne_eqb x y (apart_behind x xs y ys d))
+    (from_cut xs (y ∷ ys) (distinct_tail x (xs ++ y ∷ ys) d))
+
+after_cut : (xs : List ℕ) (b : ℕ) (ys : List ℕ) → AllPairs ◌≢◌ (xs ++ b ∷ ys) → bucket_after b (xs ++ b ∷ ys)
+    ≡ first_bucket ys
+after_cut [] b ys d = rw (eq-eqb b b refl) refl
+after_cut (x ∷ xs) b ys d = rw (ne_eqb x b (apart_behind x xs b ys d))
+    (after_cut xs b ys (distinct_tail x (xs ++ b ∷ ys) d))
+
+before_cut_from : (prev : Option ℕ) (xs : List ℕ) (b : ℕ) (ys : List ℕ) → AllPairs ◌≢◌ (xs ++ b ∷ ys)
+    → before_from prev b (xs ++ b ∷ ys) ≡ last_from prev xs
+before_cut_from prev [] b ys d = rw (eq-eqb b b refl) refl
+before_cut_from prev (x ∷ xs) b ys d = rw (ne_eqb x b (apart_behind x xs b ys d))
+    (before_cut_from (Some x) xs b ys (distinct_tail x (xs ++ b ∷ ys) d))
+
+before_cut : (xs : List ℕ) (b : ℕ) (ys : List ℕ) → AllPairs ◌≢◌ (xs ++ b ∷ ys) → bucket_before b (xs ++ b ∷ ys)
+    ≡ last_bucket xs
+before_cut xs b ys d = before_is b (xs ++ b ∷ ys) d ∙ before_cut_from None xs b ys d ∙ sym (last_is xs)
+
+-- the last of some buckets behind others
+last_behind : (xs : List ℕ) (y : ℕ) (ys : List ℕ) → last_bucket (xs ++ y ∷ ys) ≡ last_bucket (y ∷ ys)
+last_behind [] y ys = refl
+last_behind (x ∷ []) y ys = refl
+last_behind (x ∷ z ∷ zs) y ys = last_behind (z ∷ zs) y ys
+
+last_split : (b : ℕ) (xs : List ℕ) → last_bucket xs ≡ Some b → (ys : List ℕ) × (xs ≡ ys ++ b ∷ [])
+last_split b [] e = absurd (none-some b e)
+last_split b (x ∷ []) e = ([], ap (λ c. c ∷ []) (same_Some x b e))
+last_split b (x ∷ y ∷ ys) e = let r = last_split b (y ∷ ys) e in (x ∷ r.0, ap (λ l. x ∷ l) r.1)
+
+last_none : (xs : List ℕ) → last_bucket xs ≡ None → 0 < length xs → ⊥
+last_none [] e some = absurd (omega (arith, some))
+last_none (x ∷ []) e some = none-some x (sym e)
+last_none (x ∷ y ∷ ys) e some = last_none (y ∷ ys) e (omega arith)
+
+module _ (P : ℕ → Type 0) where
+  all_behind : (xs ys : List ℕ) → AllByRecursion P (xs ++ ys) → AllByRecursion P ys
+  all_behind [] ys h = h
+  all_behind (x ∷ xs) ys h = all_behind xs ys h.1
+
+  all_front : (xs ys : List ℕ) → AllByRecursion P (xs ++ ys) → AllByRecursion P xs
+  all_front [] ys h = tt
+  all_front (x ∷ xs) ys h = (h.0, all_front xs ys h.1)
+
+module _ {K V : Type 0} (t : OrderedTable K V) where
+  -- the whole order is left
+  pub rest-whole : IsLinked t → IsRest t (first_bucket t.order) (last_bucket t.order) (length t.order)
+  rest-whole linked = record {
+    linked = linked;
+    before = [];
+    middle = t.order;
+    after = [];
+    order = sym (append-nil t.order);
+    count = refl;
+    first = ap first_bucket (sym (append-nil t.order));
+    last = refl;
+  }
+
+  module _ (front back : Option ℕ) (left : ℕ) (rest : IsRest t front back left) where
+    whole_distinct : AllPairs ◌≢◌ (rest.before ++ (rest.middle ++ rest.after))
+    whole_distinct = subst (AllPairs ◌≢◌) rest.order rest.linked.distinct
+
+    pub rest-is : rest_of t front left ≡ entries_in t.slots rest.middle
+    rest-is = ap (entries_in t.slots) (
+        ap (λ o. take left (from_bucket o t.order)) rest.first
+        ∙ ap (λ l. take left (from_bucket (first_bucket (rest.middle ++ rest.after)) l)) rest.order
+        ∙ ap (take left) (from_cut rest.before (rest.middle ++ rest.after) whole_distinct)
+        ∙ take_at rest.middle rest.after left rest.count)
+
+    middle_full : AreFull t.slots rest.middle
+    middle_full =
+        let full : ℕ → Type 0 = λ b. IsFull t.slots b in
+        all_front full rest.middle rest.after
+        (all_behind full rest.before (rest.middle ++ rest.after)
+        (subst (AreFull t.slots) rest.order (all_full t.slots t.order rest.linked.only)))
+
+    pub rest-length : length (rest_of t front left) ≡ left
+    rest-length = ap length rest-is ∙ entries-length t.slots rest.middle middle_full ∙ rest.count
+
+  module _ (front back : Option ℕ) (left : ℕ) (rest : IsRest t front back left) (some : 0 < left) where
+    back_is : back ≡ last_bucket rest.middle
+    back_is = rest.last ∙ go rest.middle rest.count
+      where
+        go : (ms : List ℕ) → length ms ≡ left → last_bucket (rest.before ++ ms) ≡ last_bucket ms
+        go [] c = absurd (omega (arith, c, some))
+        go (m ∷ ms) c = last_behind rest.before m ms
+
+    -- there is a bucket behind
+    pub back-some : back ≡ None → ⊥
+    back-some none = last_none rest.middle (sym back_is ∙ none) (omega (arith, rest.count, some))
+
+    module _ (b : ℕ) where
+      -- the first that is left
+      module _ (at : front ≡ Some b) where
+        cut_front : (ms : List ℕ) × (rest.middle ≡ b ∷ ms)
+        cut_front = go rest.middle rest.count (sym rest.first ∙ at)
+          where
+            go : (ms : List ℕ) → length ms ≡ left → first_bucket (ms ++ rest.after) ≡ Some b → (ns : List ℕ)
+                × (ms ≡ b ∷ ns)
+            go [] c e = absurd (omega (arith, c, some))
+            go (m ∷ ms) c e = (ms, ap (λ x. x ∷ ms) (same_Some m b e))
+
+        front_order : t.order ≡ rest.before ++ b ∷ (cut_front.0 ++ rest.after)
+        front_order = rest.order ∙ ap (λ l. rest.before ++ (l ++ rest.after)) cut_front.1
+
+        pub front-full : IsFull t.slots b
+        front-full = (subst (AreFull t.slots) cut_front.1 (middle_full front back left rest)).0
+
+        pub front-next : IsRest t (bucket_after b t.order) back (left - 1)
+        front-next = record {
+          linked = rest.linked;
+          before = rest.before ++ b ∷ [];
+          middle = cut_front.0;
+          after = rest.after;
+          order = front_order ∙ sym (append_assoc rest.before (b ∷ []) (cut_front.0 ++ rest.after));
+          count = omega (arith, rest.count, ap length cut_front.1);
+          first = ap (bucket_after b) front_order ∙ after_cut rest.before b (cut_front.0 ++ rest.after)
+              (subst (AllPairs ◌≢◌) front_order rest.linked.distinct);
+          last = rest.last ∙ ap (λ l. last_bucket (rest.before ++ l)) cut_front.1
+              ∙ ap last_bucket (sym (append_assoc rest.before (b ∷ []) cut_front.0));
+        }
+
+        pub front-cut : (p : K × V) → entry_at t.slots b ≡ Some p → rest_of t front left ≡ p
+            ∷ rest_of t (bucket_after b t.order) (left - 1)
+        unfolding cut_front front-next
+        front-cut p there = rest-is front back left rest ∙ ap (entries_in t.slots) cut_front.1
+            ∙ ap (λ o. option_to_list o ++ entries_in t.slots cut_front.0) there
+            ∙ ap (λ l. p ∷ l) (sym (rest-is (bucket_after b t.order) back (left - 1) front-next))
+
+      -- the last that is left
+      module _ (at : back ≡ Some b) where
+        cut_back : (ms : List ℕ) × (rest.middle ≡ ms ++ b ∷ [])
+        cut_back = last_split b rest.middle (sym back_is ∙ at)
+
+        back_order : t.order ≡ (rest.before ++ cut_back.0) ++ b ∷ rest.after
+        back_order = rest.order ∙ ap (λ l. rest.before ++ (l ++ rest.after)) cut_back.1
+            ∙ ap (λ l. rest.before ++ l) (append_assoc cut_back.0 (b ∷ []) rest.after)
+            ∙ sym (append_assoc rest.before cut_back.0 (b ∷ rest.after))
+
+        pub back-full : IsFull t.slots b
+        back-full = (all_behind (λ c. IsFull t.slots c) cut_back.0 (b ∷ [])
+            (subst (AreFull t.slots) cut_back.1 (middle_full front back left rest))).0
+
+        pub back-next : IsRest t front (bucket_before b t.order) (left - 1)
+        back-next = record {
+          linked = rest.linked;
+          before = rest.before;
+          middle = cut_back.0;
+          after = b ∷ rest.after;
+          order = back_order ∙ append_assoc rest.before cut_back.0 (b ∷ rest.after);
+          count = omega (arith, rest.count, ap length cut_back.1, length-append cut_back.0 (b ∷ []));
+          first = rest.first ∙ ap (λ l. first_bucket (l ++ rest.after)) cut_back.1
+              ∙ ap first_bucket (append_assoc cut_back.0 (b ∷ []) rest.after);
+          last = ap (bucket_before b) back_order ∙ before_cut (rest.before ++ cut_back.0) b rest.after
+              (subst (AllPairs ◌≢◌) back_order rest.linked.distinct);
+        }
+
+        pub back-cut : (p : K × V) → entry_at t.slots b ≡ Some p → rest_of t front left ≡ rest_of t front (left - 1)
+            ++ p ∷ []
+        unfolding cut_back back-next
+        back-cut p there = rest-is front back left rest ∙ ap (entries_in t.slots) cut_back.1
+            ∙ entries-append t.slots cut_back.0 (b ∷ [])
+            ∙ ap (λ o. entries_in t.slots cut_back.0 ++ (option_to_list o ++ [])) there
+            ∙ ap (λ l. l ++ p ∷ []) (sym (rest-is front (bucket_before b t.order) (left - 1) back-next))

@@ -1,0 +1,142 @@
+-- How links keep an order of buckets: each entry contains the numbers of its two neighbours. No public clause cites
+-- this module.
+use Rattle.std.specs.Prelude.{◌≡◌, ◌≢◌, ◌⊎◌, ℕ, zero, suc, ◌<◌, slice_index_or, List, [], ◌∷◌, length, map, nat_eq}
+use Rattle.std.specs.Prelude.{if◌then◌else◌, Option, Some, None, option_map, unwrap_or, Contains, AllPairs}
+use Rattle.group_table.specs.Bucket.{empty, deleted, full, Slot, IsFull, bucket_at, entry_at, entry_count}
+use Rattle.group_table.specs.Relocation.{Renumbers}
+use Rattle.lru_model.specs.Lists.{first, last}
+use Rattle.ordered_table.specs.declared.ordered.Entry.{Entry}
+use Rattle.ordered_table.specs.declared.ordered.chain.Chain.{Chain}
+
+-- the bucket after this one in the order, if there is one
+abbrev pub bucket_after : ℕ → List ℕ → Option ℕ
+bucket_after b [] = None
+bucket_after b (c ∷ cs) = if nat_eq c b then first cs else bucket_after b cs
+
+-- the bucket before this one in the order, if there is one
+abbrev pub bucket_before : ℕ → List ℕ → Option ℕ
+bucket_before b [] = None
+bucket_before b (c ∷ []) = None
+bucket_before b (c ∷ d ∷ ds) = if nat_eq d b then Some c else bucket_before b (d ∷ ds)
+
+-- the buckets with their pairs, without the links
+abbrev pub pair_slot : {K V N : Type 0} → Slot (Entry K V N) → Slot (K × V)
+pair_slot empty = empty
+pair_slot deleted = deleted
+pair_slot (full held) = full (record { tag = held.tag; entry = (held.entry.pair.key, held.entry.pair.value) })
+
+abbrev pub pair_slots : {K V N : Type 0} → List (Slot (Entry K V N)) → List (Slot (K × V))
+pair_slots slots = map pair_slot slots
+
+module _ {N : Type 0} (link : ℕ → N) (none : N) where
+  -- the link to a bucket, or to none
+  abbrev pub link_to : Option ℕ → N
+  link_to None = none
+  link_to (Some b) = link b
+
+-- the first n buckets from a link on, each followed by its older neighbour
+abbrev pub along : {K V N : Type 0} → (N → ℕ) → ℕ → List (Slot (Entry K V N)) → N → List ℕ
+along number zero slots from = []
+along number (suc n) slots from = unwrap_or (option_map (λ entry. number from ∷ along number n slots entry.older)
+    (entry_at slots (number from))) []
+
+module _ {K V N : Type 0} where
+  -- the link of the entry in a bucket to its newer neighbour, and the link to its older one
+  abbrev pub newer_at : List (Slot (Entry K V N)) → ℕ → Option N
+  newer_at slots b = option_map (λ entry. entry.newer) (entry_at slots b)
+
+  abbrev pub older_at : List (Slot (Entry K V N)) → ℕ → Option N
+  older_at slots b = option_map (λ entry. entry.older) (entry_at slots b)
+
+  -- the entry in a bucket has these links now, and nothing else has changed
+  pub record SetsLinks (old new : List (Slot (Entry K V N))) (b : ℕ) (newer older : N) : Type 0 where
+    pub pairs : pair_slots new ≡ pair_slots old
+    pub newer_there : newer_at new b ≡ Some newer
+    pub older_there : older_at new b ≡ Some older
+    pub others : (c : ℕ) → c ≢ b → entry_at new c ≡ entry_at old c
+
+module _ {K V N : Type 0} (number : N → ℕ) where
+  -- The link `kind` of the entry at a link, if there is one, has been set to `to`. The link `other` of each entry, and
+  -- the links of all other entries, have stayed.
+  pub record SetsLink (kind other : Entry K V N → N) (old new : List (Slot (Entry K V N))) (at to : N) : Type 0 where
+    pub pairs : pair_slots new ≡ pair_slots old
+    pub there : IsFull old (number at) → option_map kind (entry_at new (number at)) ≡ Some to
+    pub others : (b : ℕ) → b ≢ number at → option_map kind (entry_at new b) ≡ option_map kind (entry_at old b)
+    pub stays : (b : ℕ) → option_map other (entry_at new b) ≡ option_map other (entry_at old b)
+
+  abbrev pub SetsNewer : (old new : List (Slot (Entry K V N))) (at to : N) → Type 0
+  SetsNewer = SetsLink (λ entry. entry.newer) (λ entry. entry.older)
+
+  abbrev pub SetsOlder : (old new : List (Slot (Entry K V N))) (at to : N) → Type 0
+  SetsOlder = SetsLink (λ entry. entry.older) (λ entry. entry.newer)
+
+module _ {N : Type 0} (number : N → ℕ) (none : N) (links : List N) where
+  -- the link to where the bucket of a link has moved
+  abbrev pub moved_link : N → N
+  moved_link l = slice_index_or links (number l) none
+
+  -- the link is `none`, or leads to a bucket for which `links` contains the new number
+  abbrev pub HasPlace : N → Type 0
+  HasPlace l = (l ≡ none) ⊎ (number l < length links)
+
+  -- the entry in a bucket has links to where its neighbours have moved, and nothing else has changed
+  pub record MovesLinks {K V : Type 0} (old new : List (Slot (Entry K V N))) (b : ℕ) : Type 0 where
+    pub pairs : pair_slots new ≡ pair_slots old
+    pub newer_there : newer_at new b ≡ option_map moved_link (newer_at old b)
+    pub older_there : older_at new b ≡ option_map moved_link (older_at old b)
+    pub others : (c : ℕ) → c ≢ b → entry_at new c ≡ entry_at old c
+
+-- the end of a chain is `to` now if the link `at` is `none`, and stays otherwise
+pub record SetsEnd {N : Type 0} (none old new at to : N) : Type 0 where
+  pub ends : at ≡ none → new ≡ to
+  pub stays : at ≢ none → new ≡ old
+
+module _ {K V N : Type 0} (number : N → ℕ) (link : ℕ → N) (none : N) where
+  -- The links keep an order of some full buckets: its ends, and the neighbours of each bucket. They reach every bucket.
+  pub record IsChain (slots : List (Slot (Entry K V N))) (newest oldest : N) (order : List ℕ) : Type 0 where
+    pub reached : length slots < number none
+    pub distinct : AllPairs ◌≢◌ order
+    pub only : (b : ℕ) → Contains order b → IsFull slots b
+    pub newest_first : newest ≡ link_to link none (first order)
+    pub oldest_last : oldest ≡ link_to link none (last order)
+    pub newer : (b : ℕ) → Contains order b → newer_at slots b ≡ Some (link_to link none (bucket_before b order))
+    pub older : (b : ℕ) → Contains order b → older_at slots b ≡ Some (link_to link none (bucket_after b order))
+
+  -- all full buckets are in the chain
+  pub record IsWhole (slots : List (Slot (Entry K V N))) (newest oldest : N) (order : List ℕ) : Type 0 where
+    pub chain : IsChain slots newest oldest order
+    pub all : (b : ℕ) → IsFull slots b → Contains order b
+    pub count : entry_count slots ≡ length order
+
+  -- A bucket with these links is about to be taken out of the chain of these buckets. Its entry may be gone from the
+  -- slots already; all other entries are there.
+  pub record IsGap (slots : List (Slot (Entry K V N))) (newest oldest : N) (order : List ℕ) (b : ℕ) (newer older : N)
+      : Type 0 where
+    pub before : List (Slot (Entry K V N))
+    pub chain : IsChain before newest oldest order
+    pub there : Contains order b
+    pub newer_is : newer_at before b ≡ Some newer
+    pub older_is : older_at before b ≡ Some older
+    pub same : length slots ≡ length before
+    pub others : (c : ℕ) → c ≢ b → bucket_at slots c ≡ bucket_at before c
+
+  -- the links of a chain keep this order
+  abbrev pub KeepsOrder : Chain K V N → List ℕ → Type 0
+  KeepsOrder chain = IsChain chain.table.slots chain.newest chain.oldest
+
+  -- a bucket with these links is about to be taken out of a chain with this order
+  abbrev pub HasGap : Chain K V N → List ℕ → ℕ → N → N → Type 0
+  HasGap chain = IsGap chain.table.slots chain.newest chain.oldest
+
+  -- the links keep an order of some buckets, and this one is among them
+  abbrev pub InChain : Chain K V N → ℕ → Type 0
+  InChain chain b = (order : List ℕ) × KeepsOrder chain order × Contains order b
+
+  -- the links keep an order of some buckets, and this one is not among them
+  abbrev pub OutOfChain : Chain K V N → ℕ → Type 0
+  OutOfChain chain b = (order : List ℕ) × KeepsOrder chain order × (Contains order b → ⊥)
+
+  -- the entries have moved into the slots, still with the links that they had in the table before
+  abbrev pub Moved : Chain K V N → List N → Type 0
+  Moved chain links = (before : List (Slot (Entry K V N))) × (order : List ℕ)
+      × IsWhole before chain.newest chain.oldest order × Renumbers number none before chain.table.slots links

@@ -1,0 +1,7 @@
+pub mod OrderedTable
+pub mod Chain
+pub mod PairLends
+pub mod Rest
+pub mod Searches
+pub mod Copies
+pub mod EntrySize
