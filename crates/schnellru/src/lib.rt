@@ -31,9 +31,9 @@ pub use lru_limits::{
 pub use lru_model::{GetOrInsertError, Inserted, ReserveError, Updated, laws};
 pub use map::report::MoveReport;
 pub use map::{DEFAULT_ENTRY_BYTES, LruMap};
+pub use ordered_table::Walk;
+pub use walk::Iter;
 pub use walk::drain::Drain;
 pub use walk::into_iter::IntoIter;
 pub use walk::iter_mut::IterMut;
 pub use walk::keys::{Keys, Values};
-pub use ordered_table::Walk;
-pub use walk::Iter;

@@ -6,8 +6,8 @@ ghost use Rattle.lru_model.specs.Sizes.{default_entry_bytes, max_of_32_bits};
 ghost use Rattle.ordered_table.specs.EntrySize.{entry_size};
 ghost use Rattle.lru_model.specs.State.{State, empty_map};
 
-use ordered_table::OrderedTable;
 use lru_limits::{ByLength, ByMemoryUsage, KeyHasher, Limiter, RandomState};
+use ordered_table::OrderedTable;
 use std::alloc::Global;
 use std::hash::Hash;
 use std::marker::Model;
@@ -197,7 +197,7 @@ impl<K: Eq + Hash, V, L: Limiter<K, V>> LruMap<K, V, L, RandomState> {
     pub fn with_seed(alloc: Global, limiter: L, seed: [u64; 4], entry_bytes: usize) -> Self
         ensures { result ≡ empty_map limiter (seeded seed) entry_bytes (L.LinkType.number L.LinkType.MAX) }
     {
-        LruMap::with_hasher(alloc, limiter, RandomState::with_seeds(seed), entry_bytes)
+        LruMap::new(alloc, limiter, seed, entry_bytes)
     }
 }
 

@@ -1,5 +1,5 @@
 -- An entry went into the first free bucket of a table, and was then linked in front of the chain of the others.
-use Rattle.std.proofs.Common.{◌≡◌, ℕ, ◌+◌, ◌<◌, Bool, List, ◌∷◌, length, Some, ap, ◌∙◌, slice_set}
+use Rattle.std.proofs.Common.{◌≡◌, ℕ, ◌+◌, ◌<◌, List, ◌∷◌, length, Some, ap, ◌∙◌, slice_set}
 use Rattle.std.proofs.lemmas.List.{get_or-set_same}
 use Rattle.std.specs.Prelude.{Contains, option_map}
 use Rattle.group_table.specs.Link.{IsLinkType}

@@ -1,5 +1,5 @@
 -- An entry was taken out of the table, and its bucket out of the chain: what is left, seen as pairs.
-use Rattle.std.proofs.Common.{◌≡◌, ℕ, ◌+◌, Bool, List, length, ◌∙◌}
+use Rattle.std.proofs.Common.{◌≡◌, ℕ, ◌+◌, List, length, ◌∙◌}
 use Rattle.group_table.specs.Link.{IsLinkType}
 use Rattle.group_table.specs.Bucket.{Slot, IsFull, marks_of, room, room_at}
 use Rattle.group_table.specs.Change.{Removes}

@@ -6,8 +6,8 @@ ghost use Rattle.lru_model.specs.Calls.{promoted, demoted, RemoveEntry};
 
 use crate::map::LruMap;
 use crate::map::leave::take_out;
-use ordered_table::Pair;
 use lru_limits::{KeyHasher, Limiter, LookupKey};
+use ordered_table::Pair;
 use std::hash::Hash;
 
 impl<K: Eq + Hash, V, L: Limiter<K, V>, S: KeyHasher<K>> LruMap<K, V, L, S> {

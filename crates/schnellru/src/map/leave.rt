@@ -12,8 +12,8 @@ ghost use Rattle.schnellru.specs.Inside.Passing.{Passes};
 ghost use Rattle.schnellru.specs.Inside.Steps.{IsTakenOut};
 
 use crate::map::LruMap;
-use ordered_table::OrderedTable;
 use lru_limits::{KeyHasher, Limiter, LookupKey};
+use ordered_table::OrderedTable;
 use std::hash::Hash;
 
 impl<K: Eq + Hash, V, L: Limiter<K, V>, S: KeyHasher<K>> LruMap<K, V, L, S> {

@@ -12,8 +12,8 @@ ghost use Rattle.schnellru.specs.Inside.Passing.{Passes, PassesRemoved};
 
 use crate::map::LruMap;
 use crate::map::leave::take_out;
-use ordered_table::OrderedTable;
 use lru_limits::{Insertion, KeyHasher, Limiter, LookupKey};
+use ordered_table::OrderedTable;
 use std::hash::Hash;
 use std::mem;
 

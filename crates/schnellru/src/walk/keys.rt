@@ -6,9 +6,9 @@ ghost use Rattle.std.specs.Map.{keys_of, values_of};
 ghost use Rattle.std.specs.Map.Iter.{ShowsInOrder, TakesFirst, TakesLast, deref};
 
 use crate::map::LruMap;
-use ordered_table::Walk;
 use group_table::LinkType;
 use lru_limits::{KeyHasher, Limiter};
+use ordered_table::Walk;
 use std::alloc::AllocError;
 use std::hash::Hash;
 use std::iter::FusedIterator;
