@@ -8,6 +8,7 @@ ghost use Rattle.std.specs.Borrow.{sem};
 ghost use Rattle.schnellru.specs.Lending.Answers.{lent_or_none};
 
 use crate::map::LruMap;
+use crate::map::leave::discard;
 use lru_limits::{Insertion, KeyHasher, Limiter, LookupKey};
 use lru_model::GetOrInsertError;
 use std::alloc::AllocError;
@@ -103,7 +104,7 @@ impl<K: Eq + Hash + Drop, V: Drop, L: Limiter<K, V>, S: KeyHasher<K>> LruMap<K, 
                 self.promote_at(b);
                 Ok(true)
             }
-            None => self.insert_new(hash, key, make(), &mut |_, _| {}),
+            None => self.insert_new(hash, key, make(), &mut discard),
         }
     }
 
@@ -234,7 +235,7 @@ impl<K: Eq + Hash + Drop, V: Drop, L: Limiter<K, V>, S: KeyHasher<K>> LruMap<K, 
                     Ok(value) => value,
                     Err(error) => return Err(GetOrInsertError::Caller(error)),
                 };
-                match self.insert_new(hash, key, value, &mut |_, _| {}) {
+                match self.insert_new(hash, key, value, &mut discard) {
                     Ok(kept) => Ok(kept),
                     Err(_refused) => Err(GetOrInsertError::Memory),
                 }

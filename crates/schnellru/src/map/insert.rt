@@ -12,6 +12,7 @@ ghost use Rattle.lru_model.specs.Callbacks.{noting, noting_offers, noted, Called
 ghost use Rattle.schnellru.specs.Inside.Passing.{Passes};
 
 use crate::map::LruMap;
+use crate::map::leave::discard;
 use lru_limits::{Insertion, KeyHasher, Limiter, LookupKey};
 use lru_model::Inserted;
 use std::alloc::AllocError;
@@ -63,7 +64,7 @@ impl<K: Eq + Hash + Drop, V: Drop, L: Limiter<K, V>, S: KeyHasher<K>> LruMap<K, 
         ensures keeps { OnErr result (IsFront self.new.pairs self.old.pairs) }
         ensures map { IsMap K.eq self.new }
     {
-        self.insert_with(key, value, &mut |_, _| {})
+        self.insert_with(key, value, &mut discard)
     }
 }
 

@@ -220,3 +220,6 @@ pub(super) fn notify<K, V, L: Limiter<K, V>>(limiter: &mut L, pair: (K, V)) -> (
     limiter.on_removed(&mut key, &mut value);
     (key, value)
 }
+
+// The callback of the calls that pass nothing on. It drops what they evict, remove or do not store.
+pub(crate) fn discard<K: Drop, V: Drop>(_: K, _: V) {}

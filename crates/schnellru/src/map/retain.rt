@@ -8,6 +8,7 @@ ghost use Rattle.lru_model.specs.Retains.{Retains, RetainPasses};
 ghost use Rattle.lru_model.specs.State.{IsMap};
 
 use crate::map::LruMap;
+use crate::map::leave::discard;
 use lru_limits::{KeyHasher, Limiter};
 use std::hash::Hash;
 
@@ -30,7 +31,7 @@ impl<K: Eq + Hash + Drop, V: Drop, L: Limiter<K, V>, S: KeyHasher<K>> LruMap<K, 
         ensures step { Retains F.FnMut L.rules keep self.old self.new }
         ensures map { IsMap K.eq self.new }
     {
-        self.retain_with(keep, &mut |_, _| {});
+        self.retain_with(keep, &mut discard);
     }
 }
 

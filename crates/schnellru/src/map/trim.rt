@@ -5,6 +5,7 @@ ghost use Rattle.lru_model.specs.Callbacks.{CalledWith, TrimPasses};
 ghost use Rattle.lru_model.specs.MayTake.{MayTakeEach};
 
 use crate::map::LruMap;
+use crate::map::leave::discard;
 use lru_limits::{KeyHasher, Limiter};
 use std::hash::Hash;
 use std::mem;
@@ -28,7 +29,7 @@ impl<K: Eq + Hash + Drop, V: Drop, L: Limiter<K, V>, S: KeyHasher<K>> LruMap<K, 
         ensures within { IsWithin L.rules (contents self.new) }
         ensures map { IsMap K.eq self.new }
     {
-        self.trim_with(&mut |_, _| {});
+        self.trim_with(&mut discard);
     }
 
     /// Sets another limiter, and evicts the oldest entries while it is over its limit. Returns the old limiter.
@@ -50,7 +51,7 @@ impl<K: Eq + Hash + Drop, V: Drop, L: Limiter<K, V>, S: KeyHasher<K>> LruMap<K, 
         ensures within { IsWithin L.rules (contents self.new) }
         ensures map { IsMap K.eq self.new }
     {
-        self.set_limiter_with(limiter, &mut |_, _| {})
+        self.set_limiter_with(limiter, &mut discard)
     }
 }
 

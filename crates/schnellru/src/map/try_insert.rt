@@ -7,6 +7,7 @@ ghost use Rattle.lru_model.specs.Runs.{Step, Run};
 ghost use Rattle.lru_model.specs.TryInserts.{TryInsert, IsReady, IsUnready, can_store};
 
 use crate::map::LruMap;
+use crate::map::leave::discard;
 use lru_limits::{Admission, KeyHasher};
 use std::hash::Hash;
 
@@ -125,7 +126,7 @@ impl<K: Eq + Hash + Drop, V: Drop, L: Admission<K, V> + Copy, S: KeyHasher<K>> L
         requires storable { can_store L.terms L.rules key value (contents self.old) ≡ true }
         ensures { Insert L.rules L.offers K.eq S.hash_of key value self.old (Ok true) self.new }
     {
-        match self.insert_new(hash, key, value, &mut |_, _| {}) {
+        match self.insert_new(hash, key, value, &mut discard) {
             Ok(_) => {}
             Err(_) => nowhere!(),
         }

@@ -7,6 +7,7 @@ ghost use Rattle.lru_model.specs.State.{IsMap, contents};
 ghost use Rattle.lru_model.specs.Updates.{Update, UpdatePasses};
 
 use crate::map::LruMap;
+use crate::map::leave::discard;
 use lru_limits::{Insertion, KeyHasher, Limiter, LookupKey};
 use lru_model::Updated;
 use std::hash::Hash;
@@ -32,7 +33,7 @@ impl<K: Eq + Hash + Drop, V: Drop, L: Limiter<K, V>, S: KeyHasher<K>> LruMap<K, 
         ensures step { Update L.rules L.offers I.names key value self.old result self.new }
         ensures map { IsMap K.eq self.new }
     {
-        self.update_with(key, value, &mut |_, _| {})
+        self.update_with(key, value, &mut discard)
     }
 }
 
