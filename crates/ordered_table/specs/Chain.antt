@@ -5,19 +5,9 @@ use Rattle.std.specs.Prelude.{if◌then◌else◌, Option, Some, None, option_ma
 use Rattle.group_table.specs.Bucket.{empty, deleted, full, Slot, IsFull, bucket_at, entry_at, entry_count}
 use Rattle.group_table.specs.Relocation.{Renumbers}
 use Rattle.lru_model.specs.Lists.{first, last}
+use Rattle.ordered_table.specs.OrderedTable.{bucket_after, bucket_before}
 use Rattle.ordered_table.specs.declared.ordered.Entry.{Entry}
 use Rattle.ordered_table.specs.declared.ordered.chain.Chain.{Chain}
-
--- the bucket after this one in the order, if there is one
-abbrev pub bucket_after : ℕ → List ℕ → Option ℕ
-bucket_after b [] = None
-bucket_after b (c ∷ cs) = if nat_eq c b then first cs else bucket_after b cs
-
--- the bucket before this one in the order, if there is one
-abbrev pub bucket_before : ℕ → List ℕ → Option ℕ
-bucket_before b [] = None
-bucket_before b (c ∷ []) = None
-bucket_before b (c ∷ d ∷ ds) = if nat_eq d b then Some c else bucket_before b (d ∷ ds)
 
 -- the buckets with their pairs, without the links
 abbrev pub pair_slot : {K V N : Type 0} → Slot (Entry K V N) → Slot (K × V)

@@ -1,6 +1,8 @@
--- A table whose full buckets are in an order, newest first. No public clause cites this module.
+-- A table whose full buckets are in an order, newest first.
 use Rattle.std.specs.Prelude.{◌≡◌, ◌≢◌, ℕ, ◌+◌, List, [], ◌∷◌, ◌++◌, length, filter, not, nat_eq, slice_set, option_map}
+use Rattle.std.specs.Prelude.{Option, Some, None, if◌then◌else◌}
 use Rattle.std.specs.Prelude.{option_to_list, unwrap_or, Contains, AllPairs}
+use Rattle.lru_model.specs.Lists.{first}
 use Rattle.group_table.specs.Bucket.{Slot, IsFull, entry_at, entry_count, bucket_at, refilled, marks_of, room}
 use Rattle.group_table.specs.Bucket.{room_at}
 use Rattle.group_table.specs.Probe.{filled, IsFirstFree}
@@ -19,6 +21,17 @@ pub record OrderedTable (K V : Type 0) : Type 0 where
 -- the buckets without this one
 abbrev pub without_bucket : ℕ → List ℕ → List ℕ
 without_bucket b order = filter (λ c. not (nat_eq c b)) order
+
+-- the bucket after this one in the order, if there is one
+abbrev pub bucket_after : ℕ → List ℕ → Option ℕ
+bucket_after b [] = None
+bucket_after b (c ∷ cs) = if nat_eq c b then first cs else bucket_after b cs
+
+-- the bucket before this one in the order, if there is one
+abbrev pub bucket_before : ℕ → List ℕ → Option ℕ
+bucket_before b [] = None
+bucket_before b (c ∷ []) = None
+bucket_before b (c ∷ d ∷ ds) = if nat_eq d b then Some c else bucket_before b (d ∷ ds)
 
 -- the entries of these buckets
 abbrev pub entries_in : {T : Type 0} → List (Slot T) → List ℕ → List T

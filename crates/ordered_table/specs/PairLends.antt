@@ -1,4 +1,4 @@
--- What an `OrderedTable` is after a `&mut` to one of its pairs was returned. No public clause cites this module.
+-- What an `OrderedTable` is after a `&mut` to one of its pairs was returned.
 use Rattle.std.specs.Prelude.{ℕ}
 use Rattle.std.specs.Borrow.{Lends, Fml, RattleType, MutBor}
 use Rattle.group_table.specs.declared.link.LinkType as link_type

@@ -1,4 +1,4 @@
--- For which buckets of a linked table a search by a hash calls its closure. No public clause cites this module.
+-- For which buckets of a linked table a search by a hash calls its closure.
 use Rattle.std.specs.Prelude.{◌≡◌, ℕ, Bool, true, false, List, [], ◌∷◌, ◌++◌, Some, Contains}
 use Rattle.std.specs.List.{FoldsTo}
 use Rattle.std.specs.Borrow.{Bor}

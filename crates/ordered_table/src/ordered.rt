@@ -1,29 +1,27 @@
 //! `OrderedTable`. Each entry has links to its newer and its older neighbour, so a promotion or a removal walks nowhere.
-ghost use Rattle.std.specs.Prelude.{◌≡◌, ◌≢◌, ℕ, ◌+◌, ◌^◌, ◌<◌, ◌≤◌, false, [], ◌∷◌, ◌++◌, length, Some, None, IfSome};
-ghost use Rattle.std.specs.Prelude.{IfNone, IfOk, OnOk, OnErr, IsOk, IsTrue, replicate};
+ghost use Rattle.std.specs.Prelude.{◌≡◌, ◌≢◌, ℕ, ◌+◌, ◌<◌, false, [], ◌∷◌, ◌++◌, length, Some, None, IfSome};
+ghost use Rattle.std.specs.Prelude.{IfNone, IsTrue, replicate};
 ghost use Rattle.std.specs.Borrow.{sem};
-ghost use Rattle.group_table.specs.Sizes.{IsBucketCount, full_capacity};
-ghost use Rattle.group_table.specs.Bucket.{empty, marks_of, IsFull, entry_at, entry_count, room, room_at};
-ghost use Rattle.group_table.specs.Change.{Removes, no_insertions, some_moved};
-ghost use Rattle.group_table.specs.Relocation.{Renumbers, KeepsHashes};
-ghost use Rattle.group_table.specs.Table.{IsTable};
-ghost use Rattle.lru_limits.specs.Hashing.{hash_by};
-ghost use Rattle.ordered_table.specs.OrderedTable.{IsLinked, KeysFit, pairs_of, without_bucket, with_pair, hash_in};
+ghost use Rattle.group_table.specs.Bucket.{empty, marks_of, IsFull, entry_at, room, room_at};
+ghost use Rattle.group_table.specs.Change.{Removes, no_insertions};
+ghost use Rattle.ordered_table.specs.OrderedTable.{IsLinked, KeysFit, without_bucket, with_pair};
 ghost use Rattle.ordered_table.specs.EntrySize.{entry_size};
 ghost use Rattle.lru_model.specs.ByHash.{Asks};
 ghost use Rattle.ordered_table.specs.Searches.{FindsPair, FindsNoPair};
 ghost use Rattle.lru_model.specs.Lists.{first as first_bucket, last as last_bucket};
-ghost use Rattle.ordered_table.specs.Chain.{bucket_after, bucket_before, pair_slots};
+ghost use Rattle.ordered_table.specs.Chain.{pair_slots};
+ghost use Rattle.ordered_table.specs.OrderedTable.{bucket_after, bucket_before};
 
 use crate::ordered::chain::{Chain, is_max};
 use group_table::{LinkType, Table};
-use lru_limits::{KeyHasher, LookupKey};
-use std::alloc::{AllocError, Global};
-use std::hash::{BuildHasher, Hash};
+use lru_limits::LookupKey;
+use std::alloc::Global;
+use std::hash::Hash;
 use std::marker::Model;
 
 mod chain;
 mod copy;
+mod moves;
 mod place;
 
 /// A key and a value of a table.
@@ -331,68 +329,6 @@ impl<K: Eq + Hash, V, N: LinkType> OrderedTable<K, V, N> {
         self.chain
             .table
             .find(hash, |entry| key.is_key(&entry.pair.key))
-    }
-
-    /// Moves all pairs into a table of `buckets` buckets, in the same order. If the number of buckets stays, so does the
-    /// table.
-    ///
-    /// Cost: `O(buckets)` of both tables, and a hash for each pair.
-    ///
-    /// # Errors
-    ///
-    /// Out of memory; never for no buckets, nor for a table without pairs that keeps its number of buckets. Nothing has
-    /// changed then.
-    pub fn move_to<S: KeyHasher<K>>(&mut self, buckets: usize, hasher: &S) -> Result<(), AllocError>
-        requires count { IsBucketCount buckets }
-        requires addressable { buckets + 16 < 2 ^ 63 }
-        requires below { buckets < N.number N.MAX }
-        requires within { entry_count self.old.slots ≤ full_capacity buckets }
-        ensures buckets { OnOk result (length self.new.slots ≡ buckets) }
-        ensures pairs { pairs_of self.new ≡ pairs_of self.old }
-        ensures room { OnOk result (room (marks_of self.new.slots) + length self.old.order ≡ full_capacity buckets) }
-        ensures insertions { OnOk result (
-            self.new.insertions ≡ some_moved self.old.insertions (length self.old.order)) }
-        ensures fits { OnOk result (KeysFit (S.hash_of hasher.now) self.new.slots) }
-        ensures linked { IsLinked self.new }
-        ensures unchanged { OnErr result (self.new ≡ self.old) }
-        ensures succeeds { length self.old.order ≡ 0 → length self.old.slots ≡ buckets → IsOk result }
-        ensures gives_back { buckets ≡ 0 → IsOk result }
-    {
-        let links = renumber_entries(&mut self.chain.table, buckets, hasher)?;
-        self.chain.rewrite(links.as_slice());
-        Ok(())
-    }
-}
-
-// Moves the entries into a table of `buckets` buckets, or rehashes them in this one, if it has as many. Returns where
-// each is now.
-fn renumber_entries<K: Eq + Hash, V, N: LinkType, S: BuildHasher>(
-    table: &mut Table<Entry<K, V, N>>,
-    buckets: usize,
-    hasher: &S,
-) -> Result<Vec<N>, AllocError>
-    requires count { IsBucketCount buckets }
-    requires addressable { buckets + 16 < 2 ^ 63 }
-    requires below { buckets < N.number N.MAX }
-    requires within { entry_count table.old.slots ≤ full_capacity buckets }
-    ensures buckets { OnOk result (length table.new.slots ≡ buckets) }
-    ensures renumbered { IfOk result (λ links. Renumbers N.number N.MAX table.old.slots table.new.slots links.items) }
-    ensures entries { OnOk result (entry_count table.new.slots ≡ entry_count table.old.slots) }
-    ensures room { OnOk result (room (marks_of table.new.slots) + entry_count table.old.slots ≡ full_capacity buckets) }
-    ensures insertions { OnOk result (
-        table.new.insertions ≡ some_moved table.old.insertions (entry_count table.old.slots)) }
-    ensures hashes { IfOk result (λ links.
-        KeepsHashes N.number N.MAX (entry_at table.old.slots) table.new.slots links.items
-        (hash_in (hash_by K.hash_input S.BuildHasher S.Hasher.Hasher hasher.now) (pair_slots table.old.slots))) }
-    ensures table { IsTable (marks_of table.new.slots) }
-    ensures unchanged { OnErr result (table.new ≡ table.old) }
-    ensures succeeds { entry_count table.old.slots ≡ 0 → length table.old.slots ≡ buckets → IsOk result }
-    ensures gives_back { buckets ≡ 0 → IsOk result }
-{
-    if buckets == table.buckets() {
-        table.rehash(|entry| hasher.hash_one(&entry.pair.key))
-    } else {
-        table.relocate(buckets, |entry| hasher.hash_one(&entry.pair.key))
     }
 }
 

@@ -14,7 +14,7 @@ use std::marker::Model;
 
 /// An iterator over the pairs of a table or a map, newest first, from both ends.
 ///
-/// It is the same type for all limiters with links of a type.
+/// It depends on the limiter of a map only by the type of its links.
 ///
 /// ```
 /// let mut walk = table.iter();

@@ -1,6 +1,6 @@
 //! `LruMap`. A contract sees a map as a `State`: its pairs, newest first, with its limiter, its hasher, the state of
 //! each bucket of its table, and its counts.
-ghost use Rattle.std.specs.Prelude.{◌≡◌, []};
+ghost use Rattle.std.specs.Prelude.{◌≡◌};
 ghost use Rattle.lru_limits.specs.Mixing.{seeded};
 ghost use Rattle.lru_model.specs.Sizes.{default_entry_bytes, max_of_32_bits};
 ghost use Rattle.ordered_table.specs.EntrySize.{entry_size};

@@ -8,7 +8,8 @@ use Rattle.group_table.specs.Bucket.{Slot, IsFull, entry_at}
 use Rattle.ordered_table.specs.declared.ordered.Entry.{Entry}
 use Rattle.ordered_table.specs.OrderedTable.{without_bucket}
 use Rattle.lru_model.specs.Lists.{first as first_bucket, last as last_bucket}
-use Rattle.ordered_table.specs.Chain.{bucket_after, bucket_before, link_to, pair_slots}
+use Rattle.ordered_table.specs.Chain.{link_to, pair_slots}
+use Rattle.ordered_table.specs.OrderedTable.{bucket_after, bucket_before}
 use Rattle.ordered_table.specs.Chain.{IsChain, IsWhole}
 use Rattle.ordered_table.proofs.Chains.Orders.{after_in, before_in, first_in, last_in, before-alone, after-last}
 use Rattle.ordered_table.proofs.Chains.Neighbours.{newest_again}

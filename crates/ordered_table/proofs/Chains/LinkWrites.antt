@@ -14,7 +14,8 @@ use Rattle.group_table.proofs.ChangeLemmas.{length-removed, bucket_at-removed_ot
 use Rattle.ordered_table.specs.declared.ordered.Entry.{Entry}
 use Rattle.ordered_table.specs.OrderedTable.{without_bucket}
 use Rattle.lru_model.specs.Lists.{first as first_bucket, last as last_bucket}
-use Rattle.ordered_table.specs.Chain.{bucket_after, bucket_before, link_to, newer_at}
+use Rattle.ordered_table.specs.Chain.{link_to, newer_at}
+use Rattle.ordered_table.specs.OrderedTable.{bucket_after, bucket_before}
 use Rattle.ordered_table.specs.Chain.{older_at, SetsLinks, SetsLink, SetsNewer, SetsOlder, SetsEnd, IsChain}
 use Rattle.ordered_table.specs.Chain.{IsGap, pair_slots}
 use Rattle.lru_model.proofs.PairLists.Members.{Contains-cases}

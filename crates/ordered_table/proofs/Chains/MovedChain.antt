@@ -13,7 +13,8 @@ use Rattle.group_table.proofs.BucketLemmas.{full_lt, count_by-pos}
 use Rattle.group_table.proofs.SearchLemmas.{entry_by_full, full_by_entry}
 use Rattle.ordered_table.specs.declared.ordered.Entry.{Entry}
 use Rattle.lru_model.specs.Lists.{first as first_bucket, last as last_bucket}
-use Rattle.ordered_table.specs.Chain.{bucket_after, bucket_before, link_to, pair_slots}
+use Rattle.ordered_table.specs.Chain.{link_to, pair_slots}
+use Rattle.ordered_table.specs.OrderedTable.{bucket_after, bucket_before}
 use Rattle.ordered_table.specs.Chain.{newer_at, older_at, moved_link, HasPlace, MovesLinks, IsChain, IsWhole}
 use Rattle.ordered_table.proofs.Chains.Orders.{after_in, before_in, first_in, last_in}
 use Rattle.ordered_table.proofs.Chains.Neighbours.{first-moved, last-moved, Contains-moved, distinct-moved, MovesApart}

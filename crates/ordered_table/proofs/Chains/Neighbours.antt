@@ -5,7 +5,7 @@ use Rattle.std.specs.Prelude.{Contains, AllPairs, nat_eq, option_map}
 use Rattle.std.proofs.lemmas.Bool.{cases_eq}
 use Rattle.std.proofs.lemmas.Option.{none-some, same_Some}
 use Rattle.lru_model.specs.Lists.{first as first_bucket, last as last_bucket}
-use Rattle.ordered_table.specs.Chain.{bucket_after, bucket_before}
+use Rattle.ordered_table.specs.OrderedTable.{bucket_after, bucket_before}
 use Rattle.ordered_table.specs.OrderedTable.{without_bucket}
 use Rattle.lru_model.proofs.PairLists.Members.{Contains-cases, Contains-here, Contains-later, Contains-nil}
 use Rattle.ordered_table.proofs.Chains.Orders.{other_than}

@@ -9,7 +9,7 @@ use Rattle.std.proofs.lemmas.List.Kept.{AllPairs-cons, AllPairs-filter}
 use Rattle.std.specs.List.{AllByRecursion}
 use Rattle.lru_model.specs.Lists.{first as first_bucket, last as last_bucket}
 use Rattle.lru_model.proofs.PairLists.Members.{Contains-here, Contains-later, Contains-cases, Contains-nil}
-use Rattle.ordered_table.specs.Chain.{bucket_after, bucket_before}
+use Rattle.ordered_table.specs.OrderedTable.{bucket_after, bucket_before}
 use Rattle.ordered_table.specs.OrderedTable.{without_bucket}
 
 -- what is in a list is none that is not

@@ -19,7 +19,8 @@ use Rattle.ordered_table.specs.declared.ordered.Entry.{Entry}
 use Rattle.ordered_table.specs.declared.ordered.Pair.{Pair}
 use Rattle.ordered_table.specs.OrderedTable.{OrderedTable, IsLinked, without_bucket, with_pair}
 use Rattle.lru_model.specs.Lists.{first as first_bucket}
-use Rattle.ordered_table.specs.Chain.{bucket_after, link_to, pair_slots, older_at, along, IsChain}
+use Rattle.ordered_table.specs.Chain.{link_to, pair_slots, older_at, along, IsChain}
+use Rattle.ordered_table.specs.OrderedTable.{bucket_after}
 use Rattle.ordered_table.specs.Chain.{IsWhole}
 use Rattle.lru_model.proofs.PairLists.Members.{Contains-here, Contains-later}
 use Rattle.ordered_table.proofs.Chains.Orders.{other_than, distinct_head, distinct_tail}

@@ -11,7 +11,7 @@ use Rattle.group_table.specs.Bucket.{Slot, entry_at, bucket_at}
 use Rattle.group_table.proofs.SearchLemmas.{entry_by_full}
 use Rattle.lru_model.specs.Lists.{set_value_at, last_of, place_of}
 use Rattle.lru_model.specs.Lists.{first as first_bucket, last as last_bucket}
-use Rattle.ordered_table.specs.Chain.{bucket_after, bucket_before}
+use Rattle.ordered_table.specs.OrderedTable.{bucket_after, bucket_before}
 use Rattle.ordered_table.specs.OrderedTable.{entries_in}
 use Rattle.lru_model.proofs.PairLists.Members.{Contains-here, Contains-later}
 use Rattle.ordered_table.proofs.Chains.Orders.{distinct_head, distinct_tail}

@@ -8,7 +8,7 @@ use Rattle.std.proofs.lemmas.Option.{none-some, same_Some}
 use Rattle.group_table.specs.Bucket.{IsFull, entry_at}
 use Rattle.ordered_table.specs.OrderedTable.{OrderedTable, IsLinked, entries_in}
 use Rattle.lru_model.specs.Lists.{first as first_bucket, last as last_bucket}
-use Rattle.ordered_table.specs.Chain.{bucket_after, bucket_before}
+use Rattle.ordered_table.specs.OrderedTable.{bucket_after, bucket_before}
 use Rattle.ordered_table.specs.Rest.{from_bucket, rest_of, IsRest}
 use Rattle.lru_model.proofs.PairLists.Members.{Contains-here, Contains-later}
 use Rattle.ordered_table.proofs.Chains.Orders.{distinct_head, distinct_tail, before_from}

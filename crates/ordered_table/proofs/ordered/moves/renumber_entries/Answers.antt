@@ -2,7 +2,7 @@ use Rattle.std.proofs.Common.{◌≡◌, rules, sym, ◌∙◌}
 use Rattle.lru_limits.specs.Hashing.{hash_by}
 use Rattle.lru_model.proofs.States.Outcomes.{if_ok}
 use Rattle.ordered_table.proofs.Tables.Relocations.{hash_in-pair_slots}
-use Rattle.ordered_table.proofs.ordered.renumber_entries.Goals as goal
+use Rattle.ordered_table.proofs.ordered.moves.renumber_entries.Goals as goal
 
 pub returns-then-buckets-clause-hashes : goal.returns-then-buckets-clause-hashes
 returns-then-buckets-clause-hashes g c =
