@@ -13,7 +13,7 @@ done
 cd "$(dirname "$0")"
 out=$(mktemp -d)
 trap 'rm -rf "$out"' EXIT
-(cd ../crates/bench_layers && rt lib) >"$out/log" 2>&1 || { cat "$out/log"; exit 1; }
+(cd ../crates/bench_loads && rt lib) >"$out/log" 2>&1 || { cat "$out/log"; exit 1; }
 kit=$(dirname "$(dirname "$(readlink -f "$(command -v rt)")")")
 names=(schnellru lru) flags=()
 for i in "${!crates[@]}"; do
@@ -24,7 +24,7 @@ for i in "${!crates[@]}"; do
 done
 rustc --edition 2024 -C opt-level=3 -C target-cpu=x86-64-v2 -C codegen-units=1 --check-cfg 'cfg(schnellru, lru)' \
     rust/loads.rs -o "$out/loads" "${flags[@]}" \
-    -L ../crates/bench_layers/out -l static=bench_layers -C link-arg="$kit/c/liblibc_c.a"
+    -L ../crates/bench_loads/out -l static=bench_loads -C link-arg="$kit/c/liblibc_c.a"
 # What is freed stays in the heap of the process, so that no map takes the page faults of the one before it.
 [ "${words[0]:-}" = memory ] || export MALLOC_MMAP_MAX_=0 MALLOC_TRIM_THRESHOLD_=$((1 << 40))
 "$out/loads" "${words[@]}"

@@ -9,7 +9,7 @@ cd "$(dirname "$0")"
 out=$(mktemp -d)
 trap 'rm -rf "$out"' EXIT
 kit=$(dirname "$(dirname "$(readlink -f "$(command -v rt)")")")
-for crate in lru_c bench_layers; do
+for crate in lru_c bench_loads; do
     (cd "../crates/$crate" && rt lib) >"$out/log" 2>&1 || { cat "$out/log"; exit 1; }
     cp "../crates/$crate/out/lib$crate.a" "$out"
 done
@@ -30,6 +30,6 @@ codegen-units = 1
 END
 if [ -d "$checkout/../.cargo" ]; then cp -r "$checkout/../.cargo" "$out/loads"; fi
 export JEERDURIAN_LIB=$out CARGO_TARGET_DIR=$out/target
-export RUSTFLAGS="-C target-cpu=x86-64-v2 -L native=$out -l static=bench_layers"
+export RUSTFLAGS="-C target-cpu=x86-64-v2 -L native=$out -l static=bench_loads"
 (cd "$out/loads" && cargo build --release --offline) >"$out/log" 2>&1 || { cat "$out/log"; exit 1; }
 python3 bench/loads.py "$out/target/release/loads" "${@:2}"

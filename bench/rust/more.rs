@@ -5,12 +5,9 @@ unsafe extern "C" {
     fn rattle_texts(length: u32, texts: *const u8, bytes: usize, rounds: u64) -> u64;
     fn rattle_large_values(length: u32, keys: *const u64, count: usize) -> u64;
     fn rattle_costs(limit: u64, keys: *const u64, count: usize) -> u64;
-    fn rattle_map_rounds(kind: u8, count: u64, rounds: u64) -> u64;
+    fn rattle_walks(count: u64, rounds: u64) -> u64;
+    fn rattle_copies(count: u64, rounds: u64) -> u64;
 }
-
-// The rounds of `rattle_map_rounds`.
-const WALKS: u8 = 2;
-const COPIES: u8 = 4;
 
 const WIDTH: usize = 16;
 const KEYS: u64 = 50_000;
@@ -183,7 +180,7 @@ fn loads<'a>(texts: &'a [u8], keys: &'a [u64]) -> Vec<Load<'a>> {
             10,
             vec![
                 ("schnellru", Box::new(walks_of_crate)),
-                ("here", Box::new(|rounds| unsafe { rattle_map_rounds(WALKS, MANY, rounds) })),
+                ("here", Box::new(|rounds| unsafe { rattle_walks(MANY, rounds) })),
             ],
         ),
         (
@@ -192,7 +189,7 @@ fn loads<'a>(texts: &'a [u8], keys: &'a [u64]) -> Vec<Load<'a>> {
             5,
             vec![
                 ("schnellru", Box::new(clones_of_crate)),
-                ("here", Box::new(|rounds| unsafe { rattle_map_rounds(COPIES, MANY, rounds) })),
+                ("here", Box::new(|rounds| unsafe { rattle_copies(MANY, rounds) })),
             ],
         ),
     ]

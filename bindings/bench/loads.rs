@@ -5,7 +5,7 @@ use std::hint::black_box;
 use std::time::Instant;
 
 extern "C" {
-    // Of crates/bench_layers: the whole load inside Rattle.
+    // Of crates/bench_loads: the whole load inside Rattle.
     fn rattle_load(length: u32, kinds: *const u8, count: usize, keys: *const u64, same: usize) -> u64;
 }
 

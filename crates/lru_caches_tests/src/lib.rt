@@ -7,3 +7,5 @@ mod callers;
 mod disk;
 #[cfg(test)]
 mod examples;
+#[cfg(test)]
+mod trials;

@@ -37,7 +37,6 @@ use totals::is_above;
 /// assert_eq!(rt; cache.put(&1, 7, 2), Ok(true));
 /// assert_eq!(rt; cache.cost(&1), Ok(2));
 /// ```
-#[derive(Drop)]
 pub struct TenantCache<
     N: Eq + Hash,
     K: Eq + Hash,
@@ -69,6 +68,27 @@ impl<N: Eq + Hash, K: Eq + Hash, V, L: Budgeted<K, V>, S: KeyHasher<K> + Copy> M
     } };
 
     ghost invariant = { λ c. Holds K.eq L.cost_of L.account L.budget_of c.tenants c.hasher c.budgets c.total_limit };
+}
+
+// Not derived, because each crate that drops a cache would then prove the drop of each field again.
+impl<
+    N: Eq + Hash + Drop,
+    K: Eq + Hash + Drop,
+    V: Drop,
+    L: Budgeted<K, V> + Drop,
+    S: KeyHasher<K> + Copy,
+> Drop for TenantCache<N, K, V, L, S> {
+    fn drop(self) {
+        let TenantCache {
+            tenants,
+            hasher: _,
+            entry_bytes: _,
+            budgets: _,
+            total_limit: _,
+            alloc: _,
+        } = self;
+        drop(tenants);
+    }
 }
 
 impl<N: Eq + Hash, K: Eq + Hash + Drop, V: Costed + Drop> TenantCache<N, K, V> {

@@ -7,3 +7,5 @@ mod callers;
 mod examples;
 #[cfg(test)]
 mod memory;
+#[cfg(test)]
+mod trials;

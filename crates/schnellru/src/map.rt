@@ -75,7 +75,6 @@ pub const DEFAULT_ENTRY_BYTES: usize = 32;
 /// memory if keys and values are small too.
 ///
 /// After schnellru's `LruMap`.
-#[derive(Drop)]
 pub struct LruMap<K: Eq + Hash, V, L: Limiter<K, V> = ByLength, S: KeyHasher<K> = RandomState> {
     pub(crate) entries: OrderedTable<K, V, L::LinkType>,
     limiter: L,
@@ -96,6 +95,25 @@ impl<K: Eq + Hash, V, L: Limiter<K, V>, S: KeyHasher<K>> Model for LruMap<K, V, 
     ghost view = { λ m. state_of m.entries (fields_of m (L.LinkType.number L.LinkType.MAX)) };
 
     ghost invariant = { λ m. Holds K.eq S.hash_of m.entries (fields_of m (L.LinkType.number L.LinkType.MAX)) };
+}
+
+// Not derived, because each crate that drops a map would then prove the drop of each field again.
+impl<K: Eq + Hash + Drop, V: Drop, L: Limiter<K, V> + Drop, S: KeyHasher<K> + Drop> Drop
+    for LruMap<K, V, L, S> {
+    fn drop(self) {
+        let LruMap {
+            entries,
+            limiter,
+            hasher,
+            entry_bytes: _,
+            moved: _,
+            shrunk: _,
+            alloc: _,
+        } = self;
+        drop(entries);
+        drop(limiter);
+        drop(hasher);
+    }
 }
 
 impl<K: Eq + Hash, V, L: Limiter<K, V>, S: KeyHasher<K>> LruMap<K, V, L, S> {

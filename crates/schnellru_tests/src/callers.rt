@@ -89,7 +89,7 @@ fn put_within(map: &mut LruMap<u64, u64>, key: u64, value: u64) -> Result<bool, 
     map.insert(key, value)
 }
 
-/// Puts a value in place of that of another key. The limiter goes on to hold the sum of the values.
+/// Removes a key and inserts another one. The limiter still holds the sum of the values.
 fn exchange(
     map: &mut LruMap<u64, u64, ByCost>,
     old: u64,
@@ -106,8 +106,8 @@ fn exchange(
     map.insert(new, value)
 }
 
-/// Inserts a pair, and shows the callback what leaves. If the pair is in the map then, the pairs that are left, and
-/// then those that the callback was shown, oldest last, are that pair and the others in their order: nothing is lost.
+/// Inserts an entry, and passes what leaves to the callback. If the insert returns true, nothing is lost: the entries
+/// of the map, and then those that were passed, oldest last, are the new entry and the others in their order.
 #[tactic(auto, using(lru_model::proofs::CallbackLemmas::may_take_always))]
 fn put_and_show<F: FnMut(u64, u64)>(
     map: &mut LruMap<u64, u64>,

@@ -1,0 +1,115 @@
+//! Loads on texts, large values and costs, walks and copies.
+use schnellru::{ByCost, ByLength, LruMap, UnlimitedCompact};
+use std::alloc::Global;
+
+/// The bytes of each text.
+const WIDTH: usize = 16;
+
+/// The text of these bytes.
+#[inline]
+fn text_of(bytes: &[u8]) -> &str {
+    str::from_utf8(bytes).unwrap_or("")
+}
+
+/// A map of at most `length` texts, with their numbers.
+fn map_of_texts(alloc: Global, length: u32, texts: &[u8]) -> LruMap<String, u64> {
+    let mut map = LruMap::new(alloc, ByLength::new(length), [1, 2, 3, 4], 40);
+    let mut number = 0u64;
+    for text in texts.chunks(WIDTH) {
+        if let Ok(text) = String::from_str(alloc, text_of(text)) {
+            let _ = map.insert(text, number);
+        }
+        number = number.wrapping_add(1);
+    }
+    map
+}
+
+/// Inserts the texts, and gets each by a `&str`, in each of `rounds` rounds. Returns a sum over the values.
+#[unsafe(no_mangle)]
+pub extern "C" fn rattle_texts(alloc: Global, length: u32, texts: &[u8], rounds: u64) -> u64 {
+    let mut map = map_of_texts(alloc, length, texts);
+    let mut sum = 0u64;
+    for _ in 0..rounds {
+        for text in texts.chunks(WIDTH) {
+            if let Some(value) = map.get(&text_of(text)) {
+                sum = sum.wrapping_mul(31).wrapping_add(*value);
+            }
+        }
+    }
+    sum
+}
+
+/// Inserts values of 100 bytes into a map of at most `length` entries, and gets each. Returns a sum over their last
+/// bytes.
+#[unsafe(no_mangle)]
+pub extern "C" fn rattle_large_values(alloc: Global, length: u32, keys: &[u64]) -> u64 {
+    let mut map: LruMap<u64, [u8; 100]> = LruMap::new(
+        alloc,
+        ByLength::new(length),
+        [1, 2, 3, 4],
+        120,
+    );
+    let mut sum = 0u64;
+    for key in keys {
+        let _ = map.insert(*key, [key.to_le_bytes()[0]; 100]);
+    }
+    for key in keys {
+        if let Some(value) = map.get(key) {
+            sum = sum.wrapping_mul(31).wrapping_add(value[99] as u64);
+        }
+    }
+    sum
+}
+
+/// Inserts a value of 1 to 64 under each key, and evicts what is over the limit of the sum. Returns 31 times the number
+/// of entries that are left, plus their cost.
+#[unsafe(no_mangle)]
+pub extern "C" fn rattle_costs(alloc: Global, limit: u64, keys: &[u64]) -> u64 {
+    let mut map: LruMap<u64, u64, ByCost> = LruMap::new(
+        alloc,
+        ByCost::new(limit),
+        [1, 2, 3, 4],
+        32,
+    );
+    for key in keys {
+        let _ = map.insert(*key, key % 64 + 1);
+    }
+    (map.len() as u64)
+        .wrapping_mul(31)
+        .wrapping_add(map.limiter().cost())
+}
+
+/// A map of the keys below a count.
+fn filled(alloc: Global, count: u64) -> LruMap<u64, u64, UnlimitedCompact> {
+    let mut map = LruMap::new(alloc, UnlimitedCompact, [1, 2, 3, 4], 16);
+    for key in 0..count {
+        let _ = map.insert(key, key);
+    }
+    map
+}
+
+/// Walks over a map of the keys below a count, newest first, in each of `rounds` rounds. Returns a sum over the values.
+#[unsafe(no_mangle)]
+pub extern "C" fn rattle_walks(alloc: Global, count: u64, rounds: u64) -> u64 {
+    let map = filled(alloc, count);
+    let mut sum = 0u64;
+    for _ in 0..rounds {
+        for (_, value) in map.iter() {
+            sum = sum.wrapping_mul(31).wrapping_add(*value);
+        }
+    }
+    sum
+}
+
+/// Copies a map of the keys below a count in each of `rounds` rounds. Returns a sum over the lengths.
+#[unsafe(no_mangle)]
+pub extern "C" fn rattle_copies(alloc: Global, count: u64, rounds: u64) -> u64 {
+    let map = filled(alloc, count);
+    let mut sum = 0u64;
+    for _ in 0..rounds {
+        if let Ok(copy) = map.clone() {
+            sum = sum.wrapping_add(copy.len() as u64);
+        }
+    }
+    sum
+}

@@ -1,9 +1,0 @@
-use Rattle.std.proofs.Common.{◌≡◌, nat_eq}
-use Rattle.lru_caches.specs.Answers.{AreAnswers}
-use Rattle.cache_trials.proofs.memos.count.Given as goal
-
-abbrev pub invariant-loop : goal.invariant-loop
-invariant-loop g l = record {
-  function : l.memo.function ≡ l.fn.memo.function;
-  known : AreAnswers nat_eq (goal.F-post g l.memo.function) l.memo.known;
-}
