@@ -1,10 +1,11 @@
 //! Getting a value, which is put if its key is not there.
-ghost use Rattle.std.specs.Prelude.{◌≡◌, None, IfSome};
+ghost use Rattle.std.specs.Prelude.{◌≡◌, None, Some, Ok, Err, IfSome};
 ghost use Rattle.std.specs.Borrow.{sem};
 ghost use Rattle.lru_model.specs.Lists.{lookup};
 ghost use Rattle.lru_tenants.specs.Cache.{tenant, On};
 ghost use Rattle.lru_tenants.specs.GetOrPuts.{GetsOrPuts};
 ghost use Rattle.lru_tenants.specs.Lending.{read};
+ghost use Rattle.lru_tenants.specs.declared.error.TenantError.TheVariants.{NotOpen};
 
 use crate::cache::TenantCache;
 use crate::error::TenantError;
@@ -48,6 +49,9 @@ impl<
             L.Budgeted L.LinkType.LinkType S.KeyHasher S.Hasher.Hasher self.entry
             (On N.eq name.now (GetsOrPuts L.rules L.offers L.budget_of K.eq S.hash_of (F.post make) key)
             self.old (read result))) }
+        ensures not_open { tenant (N.eq name.now) self.old ≡ None → read result ≡ Err NotOpen }
+        ensures there { IfSome (tenant (N.eq name.now) self.old) (λ map.
+            IfSome (lookup (K.eq key) map.pairs) (λ value. read result ≡ Ok (Some value))) }
     {
         let Some(own) = self.tenants.get_mut(name) else {
             return Err(TenantError::NotOpen);

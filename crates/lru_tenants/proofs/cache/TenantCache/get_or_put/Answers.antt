@@ -2,7 +2,8 @@ use Rattle.std.proofs.Common.{◌≡◌, true, false, None, Ok, Err, sym, refl, 
 use Rattle.lru_tenants.specs.GetOrPuts.{GetsOrPuts, newest_answer}
 use Rattle.lru_tenants.specs.Lending.{read}
 use Rattle.lru_tenants.specs.declared.error.TenantError.TheVariants.{NotOpen, Memory}
-use Rattle.lru_tenants.proofs.Changes.{on-same, on-written}
+use Rattle.lru_tenants.proofs.Changes.{on-same}
+use Rattle.lru_tenants.proofs.GetOrPuts.{ends}
 use Rattle.lru_tenants.proofs.Kept.{kept-written}
 use Rattle.lru_tenants.proofs.cache.TenantCache.get_or_put.Goals as goal
 
@@ -18,7 +19,7 @@ returns-in_default g c =
             _ None
             (sym c.in_default.ensures.value) (refl, refl),
       ),
-      record { leaves = tt },
+      record { leaves = tt; not_open = λ _. refl; there = rw (← c.in_default.ensures.value) tt },
     )
 
 pub invariant_of-self-in_default-get_or_insert : goal.invariant_of-self-in_default-get_or_insert
@@ -31,24 +32,16 @@ invariant_of-self-in_default-get_or_insert g c = let u = c.get_or_insert.new.map
 pub returns-in_default-get_or_insert : goal.returns-in_default-get_or_insert
 returns-in_default-get_or_insert g c = let u = c.get_or_insert.new.map in
     rw (← c.self.view_is) (
-      (
-        refl,
-        λ _. tt,
-        on-written g.N.PartialEq.eq c.args.name.now c.self.inside.tenants (c.get_mut.follows.lender u)
-            c.in-Some.own.now u (sym c.in-Some.ensures.value) (c.get_mut.follows.holds u)
-            (GetsOrPuts g.L.Limiter.rules g.L.Insertion.offers g.L.Budgeted.budget_of
-            g.K.PartialEq.eq g.S.KeyHasher.hash_of (g.F.FnOnce.post c.args.make tt) c.args.key) (Err Memory) (
-              u,
-              record {
-                result = Err c.in_default-get_or_insert.field-0;
-                step = c.in_default-get_or_insert.ensures.step;
-                budget = c.in_default-get_or_insert.ensures.budget;
-                said = refl;
-              },
-              refl,
-            ),
-      ),
-      record { leaves = tt },
+    let ended = ends g.L.Limiter.rules g.L.Insertion.offers g.L.Budgeted.budget_of g.K.PartialEq.eq
+    g.S.KeyHasher.hash_of (g.F.FnOnce.post c.args.make tt) c.args.key (Err Memory) g.N.PartialEq.eq
+    c.args.name.now c.self.inside.tenants (c.get_mut.follows.lender u) c.in-Some.own.now u
+    (sym c.in-Some.ensures.value) (c.get_mut.follows.holds u) (record {
+      result = Err c.in_default-get_or_insert.field-0;
+      step = c.in_default-get_or_insert.ensures.step;
+      budget = c.in_default-get_or_insert.ensures.budget;
+      said = refl;
+    }) in
+    ((refl, λ _. tt, ended.on), record { leaves = tt; not_open = ended.not_open; there = ended.there })
     )
 
 pub invariant_of-self-then-not-there : goal.invariant_of-self-then-not-there
@@ -60,26 +53,18 @@ invariant_of-self-then-not-there g c = let u = c.get_or_insert.new.map in
 
 pub returns-then-not-there : goal.returns-then-not-there
 returns-then-not-there g c = let u = c.get_or_insert.new.map in
+    let e : c.in-Ok.there ≡ false = grind (arith, c.if-not-there.true) in
     rw (← c.self.view_is) (
-      (
-        refl,
-        λ _. tt,
-        on-written g.N.PartialEq.eq c.args.name.now c.self.inside.tenants (c.get_mut.follows.lender u)
-            c.in-Some.own.now u (sym c.in-Some.ensures.value) (c.get_mut.follows.holds u)
-            (GetsOrPuts g.L.Limiter.rules g.L.Insertion.offers g.L.Budgeted.budget_of
-            g.K.PartialEq.eq g.S.KeyHasher.hash_of (g.F.FnOnce.post c.args.make tt) c.args.key) (Ok None) (
-              u,
-              record {
-                result = Ok c.in-Ok.there;
-                step = c.in-Ok.ensures.step;
-                budget = c.in-Ok.ensures.budget;
-                said = let e : c.in-Ok.there ≡ false = grind (arith, c.if-not-there.true) in
-                    sym (ap (λ b. newest_answer (Ok b) u) e);
-              },
-              refl,
-            ),
-      ),
-      record { leaves = tt },
+    let ended = ends g.L.Limiter.rules g.L.Insertion.offers g.L.Budgeted.budget_of g.K.PartialEq.eq
+    g.S.KeyHasher.hash_of (g.F.FnOnce.post c.args.make tt) c.args.key (Ok None) g.N.PartialEq.eq
+    c.args.name.now c.self.inside.tenants (c.get_mut.follows.lender u) c.in-Some.own.now u
+    (sym c.in-Some.ensures.value) (c.get_mut.follows.holds u) (record {
+      result = Ok c.in-Ok.there;
+      step = c.in-Ok.ensures.step;
+      budget = c.in-Ok.ensures.budget;
+      said = sym (ap (λ b. newest_answer (Ok b) u) e);
+    }) in
+    ((refl, λ _. tt, ended.on), record { leaves = tt; not_open = ended.not_open; there = ended.there })
     )
 
 pub invariant_of-self-2 : goal.invariant_of-self-2
@@ -91,25 +76,16 @@ invariant_of-self-2 g c = let u = c.get_or_insert.new.map in
 
 pub returns : goal.returns
 returns g c = let u = c.get_or_insert.new.map in
+    let e : c.in-Ok.there ≡ true = grind (arith, c.if-not-there.false) in
     rw (← c.self.view_is) (
-      (
-        refl,
-        λ _. tt,
-        on-written g.N.PartialEq.eq c.args.name.now c.self.inside.tenants (c.get_mut.follows.lender u)
-            c.in-Some.own.now u (sym c.in-Some.ensures.value) (c.get_mut.follows.holds u)
-            (GetsOrPuts g.L.Limiter.rules g.L.Insertion.offers g.L.Budgeted.budget_of
-            g.K.PartialEq.eq g.S.KeyHasher.hash_of (g.F.FnOnce.post c.args.make tt) c.args.key)
-            (read (Ok c.newest.result)) (
-              u,
-              record {
-                result = Ok c.in-Ok.there;
-                step = c.in-Ok.ensures.step;
-                budget = c.in-Ok.ensures.budget;
-                said = let e : c.in-Ok.there ≡ true = grind (arith, c.if-not-there.false) in
-                    ap Ok c.newest.ensures ∙ sym (ap (λ b. newest_answer (Ok b) u) e);
-              },
-              refl,
-            ),
-      ),
-      record { leaves = tt },
+    let ended = ends g.L.Limiter.rules g.L.Insertion.offers g.L.Budgeted.budget_of g.K.PartialEq.eq
+    g.S.KeyHasher.hash_of (g.F.FnOnce.post c.args.make tt) c.args.key (read (Ok c.newest.result))
+    g.N.PartialEq.eq c.args.name.now c.self.inside.tenants (c.get_mut.follows.lender u) c.in-Some.own.now u
+    (sym c.in-Some.ensures.value) (c.get_mut.follows.holds u) (record {
+      result = Ok c.in-Ok.there;
+      step = c.in-Ok.ensures.step;
+      budget = c.in-Ok.ensures.budget;
+      said = ap Ok c.newest.ensures ∙ sym (ap (λ b. newest_answer (Ok b) u) e);
+    }) in
+    ((refl, λ _. tt, ended.on), record { leaves = tt; not_open = ended.not_open; there = ended.there })
     )

@@ -1,0 +1,65 @@
+-- The answer of a get that puts, if the tenant is not open or the key is there.
+use Rattle.std.proofs.Common.{◌≡◌, ℕ, Bool, List, Option, Some, None, Result, Ok, Err, refl, sym, ap, ◌∙◌, subst}
+use Rattle.std.proofs.lemmas.Option.{none-some}
+use Rattle.std.specs.HashMap.{HashMap, WritesThrough, get_by}
+use Rattle.std.specs.Prelude.{IfSome, option_map}
+use Rattle.std.specs.declared.alloc.AllocError.{AllocError}
+use Rattle.lru_limits.specs.Rules.{Rules, Offers}
+use Rattle.lru_model.specs.GetOrInserts.{MakesNewest, got, inserted}
+use Rattle.lru_model.specs.Lists.{first, after, front, lookup, lookup_entry, without}
+use Rattle.lru_model.specs.State.{State}
+use Rattle.lru_model.proofs.CallerLemmas.{lookup-entry}
+use Rattle.lru_tenants.proofs.Changes.{cache_of, on-written}
+use Rattle.lru_tenants.specs.Cache.{Cache, tenant, On}
+use Rattle.lru_tenants.specs.GetOrPuts.{GetsOrPuts, MakesInto, newest_answer}
+use Rattle.lru_tenants.specs.declared.error.TenantError.{TenantError}
+use Rattle.lru_tenants.specs.declared.error.TenantError.TheVariants.{NotOpen}
+
+module _ {K V : Type 0} (names : K → Bool) where
+  -- the value that a look-up finds is that of the pair that it brings to the front
+  front-value : (xs : List (K × V)) (w : V) → lookup names xs ≡ Some w
+      → option_map (λ pair. pair.1) (first (front names xs)) ≡ Some w
+  front-value xs w found = go (lookup_entry names xs) (sym (lookup-entry names xs) ∙ found)
+    where
+      go : (o : Option (K × V)) → option_map (λ pair. pair.1) o ≡ Some w
+          → option_map (λ pair. pair.1) (first (after o (without names xs))) ≡ Some w
+      go None e = absurd (none-some w e)
+      go (Some pair) e = e
+
+module _ {K V L S : Type 0} (rules : Rules K V L) (offers : Offers K V L K) (budget_of : L → ℕ) (eq : K → K → Bool)
+    (hash_of : S → K → ℕ) (makes : V → Type 0) (key : K) (answer : Result (Option V) TenantError) where
+  -- the answer, if the key is there
+  abbrev pub GetsValue : State K V L S → Type 0
+  GetsValue map = IfSome (lookup (eq key) map.pairs) (λ w. answer ≡ Ok (Some w))
+
+  gets_value : (map left : State K V L S) → MakesInto rules offers budget_of eq hash_of makes key map answer left
+      → GetsValue map
+  gets_value map left into = go (lookup (eq key) map.pairs) refl into.result into.step into.said
+    where
+      go : (o : Option V) → lookup (eq key) map.pairs ≡ o → (result : Result Bool AllocError)
+          → MakesNewest rules offers eq hash_of makes key map result left → answer ≡ newest_answer result left
+          → IfSome o (λ w. answer ≡ Ok (Some w))
+      go None e result step said = tt
+      go (Some w) e result (got v found ok is) said = said ∙ ap (λ r. newest_answer r left) ok
+          ∙ ap (λ st. Ok (option_map (λ pair. pair.1) (first st.pairs))) is
+          ∙ ap Ok (front-value (eq key) map.pairs w e)
+      go (Some w) e result (inserted none v may step) said = absurd (none-some w (sym none ∙ e))
+
+  module _ {N : Type 0} (same : N → N → Bool) (name : N) where
+    -- what is left of the cache, and the answer
+    pub record Ends (old new : Cache N K V L S) : Type 0 where
+      pub on : On same name (GetsOrPuts rules offers budget_of eq hash_of makes key) old answer new
+      pub not_open : tenant (same name) old ≡ None → answer ≡ Err NotOpen
+      pub there : IfSome (tenant (same name) old) GetsValue
+
+    module _ {hasher : S} {entry_bytes : ℕ} {limit : Option ℕ} (old new : HashMap N (State K V L S) S) where
+      pub ends : (was left : State K V L S) → get_by (same name) old ≡ Some was
+          → WritesThrough same (same name) old left new
+          → MakesInto rules offers budget_of eq hash_of makes key was answer left
+          → Ends (cache_of old hasher entry_bytes limit) (cache_of new hasher entry_bytes limit)
+      ends was left is writes into = record {
+        on = on-written same name old new was left is writes
+            (GetsOrPuts rules offers budget_of eq hash_of makes key) answer (left, into, refl);
+        not_open = λ none. absurd (none-some was (sym none ∙ is));
+        there = subst (λ t. IfSome t GetsValue) (sym is) (gets_value was left into);
+      }
