@@ -156,15 +156,20 @@ fn a_closed_tenant_gives_its_memory_back(rt: HostRuntime) -> Result<(), Fail> {
     Ok(())
 }
 
+// A name that is not stored, one of a tenant that is closed, and one of a tenant that is open when the cache ends.
 #[test]
 fn names_are_dropped(rt: HostRuntime) -> Result<(), Fail> {
     let name = Rc::new(rt.alloc(), 1u64)?;
     let first = name.clone()?;
     let second = name.clone()?;
+    let third = name.clone()?;
     let mut cache: TenantCache<Rc<u64>, u64, u64> = TenantCache::new(rt.alloc(), [1, 2, 3, 4], 16);
     let _ = cache.open(first, 2);
     let _ = cache.open(second, 2);
     let _ = cache.close(&name);
-    check!(rt; Rc::strong_count(&name) == 1);
+    let closed = Rc::strong_count(&name);
+    let _ = cache.open(third, 2);
+    drop(cache);
+    check!(rt; (closed, Rc::strong_count(&name)) == (2, 1));
     Ok(())
 }
