@@ -3,10 +3,11 @@
 //!
 //! The definitions are in `specs/`: `State` is what a contract sees of a map, and `Runs` what one call makes of it
 //! (`Step`), whichever call it is. The theorems are the contracts of the functions of [`laws`]; they hold of every body
-//! that meets the contracts. The crate has no map: its only code is the types that calls return.
+//! that meets the contracts. The crate has no map: its only code is the types that calls return, and [`sizes`].
 #![tactic(auto)]
 
 pub mod laws;
 mod results;
+pub mod sizes;
 
-pub use results::{GetOrInsertError, Inserted, ReserveError, Updated};
+pub use results::{GetOrInsertError, Inserted, MoveReport, ReserveError, Updated};

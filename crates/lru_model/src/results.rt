@@ -80,3 +80,20 @@ pub enum GetOrInsertError<E> {
     #[error("the closure failed")]
     Caller(E),
 }
+
+/// How many entries the inserts of a map have moved, how many new ones they have stored, and how many entries its
+/// shrinks have rehashed.
+///
+/// ```
+/// assert_eq!(rt; map.move_report(), MoveReport { moved: 0, placed: 3, shrunk: 0 });
+/// ```
+#[derive(Clone, Copy, Debug, PartialEq, Eq)]
+pub struct MoveReport {
+    /// Entries that inserts moved, because the table grew or was rehashed. Entries that `try_reserve` moves are not
+    /// counted, nor entries that `try_insert` moves, because it reserves.
+    pub moved: u64,
+    /// New entries that inserts stored, `try_insert` included.
+    pub placed: u64,
+    /// Entries that `shrink_to_fit` rehashed.
+    pub shrunk: u64,
+}

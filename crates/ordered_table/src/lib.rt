@@ -2,7 +2,7 @@
 //!
 //! [`OrderedTable`] moves a pair to either end of the order, and takes one out of it, in constant time. It knows no
 //! limit and calls no limiter: `LruMap` of `schnellru` adds both, and its counts. [`Walk`] walks the order from both
-//! ends.
+//! ends, [`Keys`] and [`Values`] a part of each pair.
 #![tactic(auto)]
 
 mod ordered;
@@ -10,3 +10,4 @@ mod walk;
 
 pub use ordered::{OrderedTable, Pair};
 pub use walk::Walk;
+pub use walk::keys::{Keys, Values};

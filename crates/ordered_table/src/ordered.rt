@@ -21,6 +21,8 @@ use std::marker::Model;
 
 mod chain;
 mod copy;
+mod equal;
+mod index;
 mod moves;
 mod place;
 
@@ -56,9 +58,16 @@ pub(crate) struct Entry<K, V, N> {
 /// }
 /// assert!(rt; table.iter().next() == Some((&1, &10)));
 /// ```
-#[derive(Drop)]
 pub struct OrderedTable<K, V, N: LinkType> {
     chain: Chain<K, V, N>,
+}
+
+// Not derived, because each crate that drops a table would then prove the drop of each part again.
+impl<K: Drop, V: Drop, N: LinkType> Drop for OrderedTable<K, V, N> {
+    fn drop(self) {
+        let OrderedTable { chain } = self;
+        drop(chain);
+    }
 }
 
 impl<K, V, N: LinkType> Model for OrderedTable<K, V, N> {

@@ -12,6 +12,8 @@ use std::fmt;
 use std::iter::FusedIterator;
 use std::marker::Model;
 
+pub(crate) mod keys;
+
 /// An iterator over the pairs of a table or a map, newest first, from both ends.
 ///
 /// It depends on the limiter of a map only by the type of its links.

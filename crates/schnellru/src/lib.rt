@@ -20,7 +20,6 @@ macro_rules! nowhere {
 }
 
 mod map;
-mod sizes;
 mod walk;
 
 pub use lru_limits::{
@@ -28,12 +27,10 @@ pub use lru_limits::{
     Insertion, KeyHasher, Limiter, LinkType, LookupKey, RandomState, Storing, Summing, Unlimited,
     UnlimitedCompact,
 };
-pub use lru_model::{GetOrInsertError, Inserted, ReserveError, Updated, laws};
-pub use map::report::MoveReport;
+pub use lru_model::{GetOrInsertError, Inserted, MoveReport, ReserveError, Updated, laws};
 pub use map::{DEFAULT_ENTRY_BYTES, LruMap};
-pub use ordered_table::Walk;
+pub use ordered_table::{Keys, Values, Walk};
 pub use walk::Iter;
 pub use walk::drain::Drain;
 pub use walk::into_iter::IntoIter;
 pub use walk::iter_mut::IterMut;
-pub use walk::keys::{Keys, Values};

@@ -25,7 +25,7 @@ mod leave;
 mod look_up;
 mod offer;
 mod pop_if;
-pub(crate) mod report;
+mod report;
 pub(crate) mod reserve;
 mod resize;
 mod retain;

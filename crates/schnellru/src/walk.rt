@@ -1,18 +1,18 @@
 //! Walking the entries of a map in their order of use.
 ghost use Rattle.std.specs.Prelude.{◌≡◌, ◌<◌, ◌^◌, length, slice_get, position, option_map};
-ghost use Rattle.std.specs.Map.Iter.{ShowsInOrder, ShowsInReverse, deref_pair};
+ghost use Rattle.std.specs.Map.{keys_of, values_of};
+ghost use Rattle.std.specs.Map.Iter.{ShowsInOrder, ShowsInReverse, deref, deref_pair};
 ghost use Rattle.lru_model.specs.State.{IsMap};
 
 use crate::map::LruMap;
 use group_table::LinkType;
 use lru_limits::{KeyHasher, Limiter, LookupKey};
-use ordered_table::Walk;
+use ordered_table::{Keys, Values, Walk};
 use std::hash::Hash;
 
 pub(crate) mod drain;
 pub(crate) mod into_iter;
 pub(crate) mod iter_mut;
-pub(crate) mod keys;
 mod positions;
 
 /// The iterator over a map under this limiter. A function over the iterators of all limiters takes a `Walk`.
@@ -46,6 +46,38 @@ impl<K: Eq + Hash, V, L: Limiter<K, V>, S: KeyHasher<K>> LruMap<K, V, L, S> {
         self.entries.iter()
     }
 
+    /// Returns an iterator over the keys, newest first. The order stays.
+    ///
+    /// ```
+    /// assert!(rt; map.keys().next() == Some(&3) && map.keys().next_back() == Some(&1));
+    /// ```
+    ///
+    /// Cost: `O(1)`, and so is each step of the walk from either end.
+    ///
+    /// After std's `HashMap::keys`; schnellru has no such call.
+    pub fn keys(&self) -> Keys<'_, K, V, L::LinkType>
+        ensures rest { result ≡ keys_of self.now.pairs }
+        ensures runs { ShowsInOrder (deref {X = K}) }
+    {
+        self.entries.keys()
+    }
+
+    /// Returns an iterator over the values, newest first. The order stays.
+    ///
+    /// ```
+    /// assert!(rt; map.values().next() == Some(&30) && map.values().len() == 3);
+    /// ```
+    ///
+    /// Cost: `O(1)`, and so is each step of the walk from either end.
+    ///
+    /// After std's `HashMap::values`; schnellru has no such call.
+    pub fn values(&self) -> Values<'_, K, V, L::LinkType>
+        ensures rest { result ≡ values_of self.now.pairs }
+        ensures runs { ShowsInOrder (deref {X = V}) }
+    {
+        self.entries.values()
+    }
+
     /// Returns the entry at this index in the order of use, counted from 0, the newest. The order stays.
     ///
     /// ```
@@ -76,15 +108,8 @@ impl<K: Eq + Hash, V, L: Limiter<K, V>, S: KeyHasher<K>> LruMap<K, V, L, S> {
     pub fn get_index_of<Q: LookupKey<K>>(&self, key: &Q) -> Option<usize>
         ensures { result ≡ position (λ pair. Q.names key.now pair.0) self.now.pairs }
     {
-        let mut b = self.find(key)?;
-        // Nothing at run time: it shows the proof that an index fits.
-        let _ = self.len();
-        let mut index = 0;
-        'links: while let Some(newer) = self.newer(b) {
-            b = newer;
-            index += 1;
-        }
-        Some(index)
+        let b = self.find(key)?;
+        Some(self.entries.index_of(b))
     }
 }
 

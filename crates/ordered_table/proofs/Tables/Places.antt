@@ -1,5 +1,5 @@
 -- The pairs of a linked table by their places in the order, counted from the newest on.
-use Rattle.std.proofs.Common.{◌≡◌, ◌≢◌, ℕ, zero, suc, Bool, true, false, cond, List, [], ◌∷◌, ◌++◌, length, Some}
+use Rattle.std.proofs.Common.{◌≡◌, ◌≢◌, ◌≤◌, ℕ, zero, suc, Bool, true, false, cond, List, [], ◌∷◌, ◌++◌, length, Some}
 use Rattle.std.proofs.Common.{None, refl}
 use Rattle.std.proofs.Common.{sym, ap, ◌∙◌, subst, arith, ne_eqb, eq-eqb}
 use Rattle.std.specs.Prelude.{Contains, AllPairs, option_to_list, slice_get}
@@ -23,6 +23,23 @@ pub got_in : {T : Type 0} (xs : List T) (i : ℕ) (x : T) → slice_get xs i ≡
 got_in [] i x e = absurd (none-some x e)
 got_in (y ∷ ys) zero x e = (0, omega arith, same_Some y x e)
 got_in (y ∷ ys) (suc i) x e = Contains-later y x ys (got_in ys i x e)
+
+-- a position without an element is past the end
+pub get_none : {X : Type 0} (xs : List X) (at : ℕ) → slice_get xs at ≡ None → length xs ≤ at
+get_none [] at none = omega arith
+get_none (x ∷ xs) zero none = absurd (none-some x (sym none))
+get_none (x ∷ xs) (suc at) none = omega (arith, get_none xs at none)
+
+-- in a list without duplicates an element has one position
+pub same_position : (order : List ℕ) (i j b : ℕ) → AllPairs ◌≢◌ order → slice_get order i ≡ Some b
+    → slice_get order j ≡ Some b → i ≡ j
+same_position [] i j b d e f = absurd (none-some b e)
+same_position (c ∷ cs) zero zero b d e f = refl
+same_position (c ∷ cs) zero (suc j) b d e f =
+    absurd (distinct_head c cs d (subst (Contains cs) (sym (same_Some c b e)) (got_in cs j b f)))
+same_position (c ∷ cs) (suc i) zero b d e f =
+    absurd (distinct_head c cs d (subst (Contains cs) (sym (same_Some c b f)) (got_in cs i b e)))
+same_position (c ∷ cs) (suc i) (suc j) b d e f = ap suc (same_position cs i j b (distinct_tail c cs d) e f)
 
 -- the first bucket, and the last
 pub first_at : (order : List ℕ) → first_bucket order ≡ slice_get order 0

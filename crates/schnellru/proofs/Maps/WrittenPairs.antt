@@ -92,12 +92,6 @@ length-set [] at w = refl
 length-set (pair ∷ pairs) zero w = refl
 length-set (pair ∷ pairs) (suc at) w = ap suc (length-set pairs at w)
 
--- a position without a pair is beyond all pairs
-pub get_none : {X : Type 0} (xs : List X) (at : ℕ) → slice_get xs at ≡ None → length xs ≤ at
-get_none [] at none = omega arith
-get_none (x ∷ xs) zero none = absurd (none-some x (sym none))
-get_none (x ∷ xs) (suc at) none = omega (arith, get_none xs at none)
-
 -- a map that differs in its pairs alone, with other pairs
 pub with_others : {K V S H : Type 0} (st old : State K V S H) (pairs : List (K × V)) → st ≡ record old
     { pairs = st.pairs }

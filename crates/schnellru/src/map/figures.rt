@@ -6,9 +6,9 @@ ghost use Rattle.lru_model.specs.Sizes.{usage, IsGreatestUsage};
 ghost use Rattle.lru_model.specs.State.{IsMap, buckets, room};
 
 use crate::map::LruMap;
-use crate::sizes;
 use group_table::LinkType;
 use lru_limits::{KeyHasher, Limiter};
+use lru_model::sizes;
 use std::fmt;
 use std::hash::Hash;
 

@@ -3,24 +3,8 @@ ghost use Rattle.std.specs.Prelude.{◌≡◌, ◌+◌, ◌*◌, ◌≤◌};
 
 use crate::map::LruMap;
 use lru_limits::{KeyHasher, Limiter};
+use lru_model::MoveReport;
 use std::hash::Hash;
-
-/// How many entries the inserts of a map have moved, how many new ones they have stored, and how many entries its
-/// shrinks have rehashed.
-///
-/// ```
-/// assert_eq!(rt; map.move_report(), MoveReport { moved: 0, placed: 3, shrunk: 0 });
-/// ```
-#[derive(Clone, Copy, Debug, PartialEq, Eq)]
-pub struct MoveReport {
-    /// Entries that inserts moved, because the table grew or was rehashed. Entries that `try_reserve` moves are not
-    /// counted, nor entries that `try_insert` moves, because it reserves.
-    pub moved: u64,
-    /// New entries that inserts stored, `try_insert` included.
-    pub placed: u64,
-    /// Entries that `shrink_to_fit` rehashed.
-    pub shrunk: u64,
-}
 
 impl<K: Eq + Hash, V, L: Limiter<K, V>, S: KeyHasher<K>> LruMap<K, V, L, S> {
     /// Returns how many entries inserts have moved and stored since the map was made, and how many `shrink_to_fit` has

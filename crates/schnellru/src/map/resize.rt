@@ -8,9 +8,9 @@ ghost use Rattle.lru_model.specs.State.{buckets, potential, MovesTo, IsAhead, Is
 ghost use Rattle.lru_model.specs.Place.{table_for};
 
 use crate::map::LruMap;
-use crate::sizes::larger_table;
 use group_table::LinkType;
 use lru_limits::{KeyHasher, Limiter};
+use lru_model::sizes::larger_table;
 use std::alloc::AllocError;
 use std::hash::Hash;
 

@@ -1,7 +1,8 @@
 use Rattle.std.proofs.Common.{arith, sym, ◌∙◌, refl}
 use Rattle.lru_model.specs.Lists.{set_value_at}
 use Rattle.ordered_table.proofs.Tables.Places.{got_in}
-use Rattle.schnellru.proofs.Maps.WrittenPairs.{written_none, written_more, written_all, length-set, get_none}
+use Rattle.ordered_table.proofs.Tables.Places.{get_none}
+use Rattle.schnellru.proofs.Maps.WrittenPairs.{written_none, written_more, written_all, length-set}
 use Rattle.std.proofs.lemmas.Option.{slice_get_past}
 use Rattle.schnellru.proofs.Maps.WrittenPairs.{with_others}
 use Rattle.schnellru.proofs.map.LruMap.for_each_mut.Goals.{in-Some, in_default}

@@ -1,8 +1,5 @@
-use Rattle.std.proofs.Common.{◌≡◌, ℕ, ◌+◌, zero, suc, slice_get, position, Some, None, ap, sym, ◌∙◌, arith}
-use Rattle.std.proofs.lemmas.Option.{slice_get_within}
-use Rattle.lru_model.specs.Lists.{last_of}
-use Rattle.ordered_table.proofs.Tables.Places.{got_in}
-use Rattle.schnellru.proofs.Maps.WrittenPairs.{get_none}
+use Rattle.std.proofs.Common.{◌≡◌, Some, slice_get, ap, sym, ◌∙◌, subst}
+use Rattle.ordered_table.proofs.Tables.Places.{got_in, same_position}
 use Rattle.lru_model.proofs.PairLists.Positions.{placed, nowhere}
 use Rattle.schnellru.proofs.map.LruMap.get_index_of.Goals as goal
 
@@ -11,30 +8,16 @@ returns-in_err-b g c =
     c.from_residual.ensures
     ∙ sym (nowhere (g.Q.LookupKey.names c.args.key.now) c.args.self.now.pairs c.in_err-b.ensures.none)
 
-pub links-init : goal.links-init
-links-init g c =
-    let st = c.args.self.now in
-    let (k, at, there) = placed (g.Q.LookupKey.names c.args.key.now) c.in_ok-b.b st.pairs st.table.places
-    c.in_ok-b.ensures.found in
-    (k, there, at ∙ ap Some (omega arith))
-
-pub newer-requires : goal.newer-requires
-newer-requires g c =
-    let (i, there, at) = c.links.invariant in
-    got_in c.args.self.now.table.places i c.links.b there
+pub index_of-requires : goal.index_of-requires
+index_of-requires g c =
+    c.self.invariant.linked.only c.in_ok-b.b (rw (← c.self.view_is) at c.in_ok-b.ensures.there)
 
 pub returns : goal.returns
 returns g c =
-    let (i, there, at) = c.links.invariant in
-    go i there at (sym (c.newer.ensures i there) ∙ c.in_default.is)
-  where
-    go : (i : ℕ) → slice_get c.args.self.now.table.places i ≡ Some c.links.b
-        → position (λ pair. g.Q.LookupKey.names c.args.key.now pair.0) c.args.self.now.pairs ≡ Some (i + c.links.index)
-        → last_of i c.args.self.now.table.places ≡ None
-        → Some c.links.index ≡ position (λ pair. g.Q.LookupKey.names c.args.key.now pair.0) c.args.self.now.pairs
-    go zero there at none = sym (at ∙ ap Some (omega arith))
-    go (suc n) there at none = absurd (omega (
-      arith,
-      get_none c.args.self.now.table.places n none,
-      slice_get_within c.args.self.now.table.places (suc n) c.links.b there,
-    ))
+    let st = c.args.self.now in
+    let (i, at, there) = placed (g.Q.LookupKey.names c.args.key.now) c.in_ok-b.b st.pairs st.table.places
+    c.in_ok-b.ensures.found in
+    sym (at ∙ ap Some (same_position c.self.inside.entries.order i c.index_of.result c.in_ok-b.b
+    c.self.invariant.linked.distinct
+    (subst (λ st. slice_get st.table.places i ≡ Some c.in_ok-b.b) (sym c.self.view_is) there)
+    c.index_of.ensures.index))

@@ -1,4 +1,5 @@
-//! What a table takes in bytes, and the table that a map grows into.
+//! What the table of a map takes in bytes, by the bytes of an entry that the map counts, and the table that it grows
+//! into. Each function costs `O(1)`; the map's own calls show what they return.
 ghost use Rattle.std.specs.Prelude.{◌≡◌, ◌-◌, ◌/◌, ◌^◌, ◌<◌, ◌≤◌};
 ghost use Rattle.group_table.specs.Sizes.{IsBucketCount, full_capacity};
 ghost use Rattle.lru_model.specs.Sizes.{bytes_of, usage, IsGreatestUsage, target, larger};
@@ -7,9 +8,9 @@ use group_table::{buckets_for_capacity, full_capacity};
 
 const MOST_BYTES: usize = isize::MAX as usize - 15;
 
-// The bytes of a table of n buckets, if there can be such a table.
-#[tactic(auto, unfolding(lru_model::specs::Sizes::usage))]
-pub(crate) fn usage(entry_bytes: usize, buckets: usize) -> Option<usize>
+/// Returns the bytes of a table of this number of buckets, or `None` if there can be no such table.
+#[tactic(auto, unfolding(crate::specs::Sizes::usage))]
+pub fn usage(entry_bytes: usize, buckets: usize) -> Option<usize>
     ensures { result ≡ usage entry_bytes buckets }
 {
     if buckets == 0 {
@@ -24,18 +25,18 @@ pub(crate) fn usage(entry_bytes: usize, buckets: usize) -> Option<usize>
     }
 }
 
-// The bytes of an existing table.
-pub(crate) fn bytes_of(entry_bytes: usize, buckets: usize) -> usize
+/// Returns the bytes of a table that exists. It has buckets.
+pub fn bytes_of(entry_bytes: usize, buckets: usize) -> usize
     requires { bytes_of entry_bytes buckets ≤ 2 ^ 63 - 16 }
     ensures { result ≡ bytes_of entry_bytes buckets }
 {
     (entry_bytes * buckets + 15) / 16 * 16 + buckets + 16
 }
 
-// The buckets and the bytes of the table into which a table grows that is to hold `pairs` pairs, more than half of what
-// it may hold now.
-#[tactic(auto, unfolding(lru_model::specs::Sizes::target))]
-pub(crate) fn larger_table(
+/// Returns the buckets and the bytes of the table into which a table grows that is to hold `pairs` pairs, which are more
+/// than half of what it may hold now. `None` says that there is no such table.
+#[tactic(auto, unfolding(crate::specs::Sizes::target))]
+pub fn larger_table(
     max: usize,
     entry_bytes: usize,
     buckets: usize,
@@ -56,8 +57,8 @@ pub(crate) fn larger_table(
     Some((count, bytes))
 }
 
-// The greatest usage within the budget of a table of 4, 8, 16, .. buckets that links can number, or 0.
-pub(crate) fn usage_within(max: usize, entry_bytes: usize, budget: usize) -> usize
+/// Returns the greatest usage within the budget of a table of 4, 8, 16, .. buckets that links can number, or 0.
+pub fn usage_within(max: usize, entry_bytes: usize, budget: usize) -> usize
     ensures { IsGreatestUsage max entry_bytes budget result }
 {
     let mut best = 0;

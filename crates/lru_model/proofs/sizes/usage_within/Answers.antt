@@ -4,10 +4,10 @@ use Rattle.std.proofs.Math.Pow.{pow_mono}
 use Rattle.std.proofs.lemmas.Option.{same_Some, none-some}
 use Rattle.lru_model.specs.Sizes.{usage}
 use Rattle.lru_model.proofs.TableSizes.Budgets.{IsBest, best_none, best_takes, best_stays, best_of_all}
-use Rattle.schnellru.proofs.sizes.usage_within.Goals as goal
-use Rattle.schnellru.proofs.sizes.usage_within.Goals.{then-buckets-max+in-Some+then-bytes-budget}
-use Rattle.schnellru.proofs.sizes.usage_within.Goals.{then-buckets-max+in-Some+else-bytes-budget}
-use Rattle.schnellru.proofs.sizes.usage_within.Goals.{then-buckets-max+in_default, else-buckets-max}
+use Rattle.lru_model.proofs.sizes.usage_within.Goals as goal
+use Rattle.lru_model.proofs.sizes.usage_within.Goals.{then-buckets-max+in-Some+then-bytes-budget}
+use Rattle.lru_model.proofs.sizes.usage_within.Goals.{then-buckets-max+in-Some+else-bytes-budget}
+use Rattle.lru_model.proofs.sizes.usage_within.Goals.{then-buckets-max+in_default, else-buckets-max}
 
 pub loop-k-init : goal.loop-k-init
 loop-k-init c = best_none c.args.max c.args.entry_bytes c.args.budget

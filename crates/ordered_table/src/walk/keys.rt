@@ -1,20 +1,19 @@
-//! Walking the keys or the values of a map in their order of use.
+//! Walking the keys or the values of a table in their order.
 ghost use Rattle.std.specs.Prelude.{◌≡◌, length, Some, IfSome, ⊤};
 ghost use Rattle.std.specs.Iterator.{at_most, UpTo};
 ghost use Rattle.std.specs.Iterator.SizeHint.{IsWithinCount};
 ghost use Rattle.std.specs.Map.{keys_of, values_of};
 ghost use Rattle.std.specs.Map.Iter.{ShowsInOrder, TakesFirst, TakesLast, deref};
+ghost use Rattle.ordered_table.specs.OrderedTable.{pairs_of};
 
-use crate::map::LruMap;
+use crate::ordered::OrderedTable;
+use crate::walk::Walk;
 use group_table::LinkType;
-use lru_limits::{KeyHasher, Limiter};
-use ordered_table::Walk;
 use std::alloc::AllocError;
-use std::hash::Hash;
 use std::iter::FusedIterator;
 use std::marker::Model;
 
-/// An iterator over the keys of a map, newest first, from both ends.
+/// An iterator over the keys of a table or a map, newest first, from both ends.
 ///
 /// ```
 /// assert!(rt; map.keys().next() == Some(&3) && map.keys().next_back() == Some(&1));
@@ -89,7 +88,7 @@ impl<'a, K, V, N: LinkType> Clone for Keys<'a, K, V, N> {
     }
 }
 
-/// An iterator over the values of a map, newest first, from both ends.
+/// An iterator over the values of a table or a map, newest first, from both ends.
 ///
 /// ```
 /// assert!(rt; map.values().next() == Some(&30) && map.values().len() == 3);
@@ -164,18 +163,12 @@ impl<'a, K, V, N: LinkType> Clone for Values<'a, K, V, N> {
     }
 }
 
-impl<K: Eq + Hash, V, L: Limiter<K, V>, S: KeyHasher<K>> LruMap<K, V, L, S> {
+impl<K, V, N: LinkType> OrderedTable<K, V, N> {
     /// Returns an iterator over the keys, newest first. The order stays.
     ///
-    /// ```
-    /// assert!(rt; map.keys().next() == Some(&3) && map.keys().next_back() == Some(&1));
-    /// ```
-    ///
     /// Cost: `O(1)`, and so is each step of the walk from either end.
-    ///
-    /// After std's `HashMap::keys`; schnellru has no such call.
-    pub fn keys(&self) -> Keys<'_, K, V, L::LinkType>
-        ensures rest { result ≡ keys_of self.now.pairs }
+    pub fn keys(&self) -> Keys<'_, K, V, N>
+        ensures rest { result ≡ keys_of (pairs_of self.now) }
         ensures runs { ShowsInOrder (deref {X = K}) }
     {
         Keys { walk: self.iter() }
@@ -183,15 +176,9 @@ impl<K: Eq + Hash, V, L: Limiter<K, V>, S: KeyHasher<K>> LruMap<K, V, L, S> {
 
     /// Returns an iterator over the values, newest first. The order stays.
     ///
-    /// ```
-    /// assert!(rt; map.values().next() == Some(&30) && map.values().len() == 3);
-    /// ```
-    ///
     /// Cost: `O(1)`, and so is each step of the walk from either end.
-    ///
-    /// After std's `HashMap::values`; schnellru has no such call.
-    pub fn values(&self) -> Values<'_, K, V, L::LinkType>
-        ensures rest { result ≡ values_of self.now.pairs }
+    pub fn values(&self) -> Values<'_, K, V, N>
+        ensures rest { result ≡ values_of (pairs_of self.now) }
         ensures runs { ShowsInOrder (deref {X = V}) }
     {
         Values { walk: self.iter() }

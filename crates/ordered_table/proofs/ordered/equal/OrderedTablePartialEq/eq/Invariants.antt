@@ -1,13 +1,14 @@
 use Rattle.std.proofs.Common.{◌≡◌, ◌&&◌, length}
 use Rattle.std.specs.Cmp.Lexicographic.{pointwise}
-use Rattle.schnellru.proofs.map.equal.LruMapPartialEq.eq.Given as goal
+use Rattle.ordered_table.specs.OrderedTable.{pairs_of}
+use Rattle.ordered_table.proofs.ordered.equal.OrderedTablePartialEq.eq.Given as goal
 
 -- the entries that are left are as many in both, and are equal if and only if all are
 abbrev pub invariant-entries : goal.invariant-entries
 invariant-entries g l =
     (length l.ours ≡ length l.theirs)
     × (pointwise (λ p q. g.K.PartialEq.eq p.0 q.0 && g.V.PartialEq.eq p.1 q.1) l.ours l.theirs
-    ≡ pointwise (λ p q. g.K.PartialEq.eq p.0 q.0 && g.V.PartialEq.eq p.1 q.1) l.self.pairs l.other.pairs)
+    ≡ pointwise (λ p q. g.K.PartialEq.eq p.0 q.0 && g.V.PartialEq.eq p.1 q.1) (pairs_of l.self) (pairs_of l.other))
 
 abbrev pub decreases-entries : goal.decreases-entries
 decreases-entries g l = length l.ours
