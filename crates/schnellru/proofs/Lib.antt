@@ -1,5 +1,6 @@
 pub mod Maps
 mod SameWalks
+mod WalkEnds
 mod OutlivedLifetimes
 mod LentPairs
 mod NextPairs

@@ -90,10 +90,8 @@ impl<K: Eq + Hash, V, L: Limiter<K, V>, S: KeyHasher<K>> LruMap<K, V, L, S> {
     pub fn get_index(&self, index: usize) -> Option<(&K, &V)>
         ensures { option_map deref_pair result ≡ slice_get self.now.pairs index }
     {
-        if index >= self.len() {
-            return None;
-        }
-        self.iter().nth(index)
+        let pair = self.entries.pair(self.entries.at_index(index)?);
+        Some((&pair.key, &pair.value))
     }
 
     /// Returns the index of a key in the order of use, counted from 0, the newest. The order stays.

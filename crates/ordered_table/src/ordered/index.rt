@@ -1,11 +1,28 @@
-//! The index of a bucket in the order.
-ghost use Rattle.std.specs.Prelude.{◌≡◌, ◌<◌, ◌^◌, slice_get, Some};
+//! The buckets by their index in the order.
+ghost use Rattle.std.specs.Prelude.{◌≡◌, ◌<◌, ◌^◌, slice_get, Some, IfSome};
 ghost use Rattle.group_table.specs.Bucket.{IsFull};
 
 use crate::ordered::OrderedTable;
 use group_table::LinkType;
 
 impl<K, V, N: LinkType> OrderedTable<K, V, N> {
+    /// Returns the bucket at this index in the order, counted from 0, the newest, if there is one.
+    ///
+    /// Cost: `O(index)`, and `O(1)` if there is none.
+    pub fn at_index(&self, index: usize) -> Option<usize>
+        ensures at { result ≡ slice_get self.now.order index }
+        ensures full { IfSome result (IsFull self.now.slots) }
+    {
+        if index >= self.len() {
+            return None;
+        }
+        let mut at = self.first();
+        'links: for _ in 0..index {
+            at = self.older(at?);
+        }
+        at
+    }
+
     /// Returns the index of a full bucket in the order, counted from 0, the newest.
     ///
     /// Cost: `O(index)`.

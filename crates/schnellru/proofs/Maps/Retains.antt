@@ -1,7 +1,7 @@
 -- A retain in progress, and one more call of its closure.
 use Rattle.std.proofs.Common.{◌≡◌, ℕ, ◌-◌, ◌<◌, Bool, true, false, Some, List, [], ◌∷◌, ◌++◌, length, refl, ap, sym}
 use Rattle.std.proofs.Common.{◌∙◌, subst, arith, append-nil}
-use Rattle.std.proofs.lemmas.List.{append_assoc}
+use Rattle.std.proofs.lemmas.List.{append_assoc, length-append}
 use Rattle.std.proofs.lemmas.Option.{same_Some}
 use Rattle.std.specs.Prelude.{map}
 use Rattle.std.specs.Borrow.{Bor}
@@ -69,6 +69,12 @@ module _ {K V S H F G : Type 0} (rules : Rules K V S) (closure : Mut F (Bor K ×
     pub pairs : st.pairs ≡ (after_asked asked).pairs ++ rest
     pub notified : ◌≡◌ {A = S × List (K × V)} (st.limiter, passed) (after_asked asked).limiter
     pub leaves : Leaves (noted [] old) (contents (noted passed st)) (noted passed st)
+
+  -- while some are to be asked, the map has pairs
+  pub some_retained : (left : ℕ) (st : State K V S H) (f : F) (g : G) → IsRetainedTo left st f g → 0 < left
+      → 0 < length st.pairs
+  some_retained left st f g so more =
+      omega (arith, ap length so.pairs, length-append (after_asked so.asked).pairs so.rest, so.many, more)
 
   pub retains_none : IsRetainedTo (length old.pairs) old keep sink
   retains_none = record {

@@ -14,9 +14,11 @@ pub links-init : goal.links-init
 links-init g c =
     let order = c.args.self.now.order in let linked = c.len.ensures.linked in
     let (i, within, is) = linked.all c.args.b c.requires in
-    let there : slice_get order i ≡ Some c.args.b = slice_get-get_or order i c.args.b within ∙ ap Some is in
-    (i, c.newer-newer.ensures.newer ∙ before_at order i c.args.b linked.distinct there,
-    subst (λ j. slice_get order j ≡ Some c.args.b) (omega arith) there)
+    let there : slice_get order i ≡ Some c.args.b = slice_get-get_or order i c.args.b within ∙ ap Some is in (
+      i,
+      c.newer-newer.ensures.newer ∙ before_at order i c.args.b linked.distinct there,
+      subst (λ j. slice_get order j ≡ Some c.args.b) (omega arith) there,
+    )
 
 pub newer-newer-requires-in-Some : goal.newer-newer-requires-in-Some
 newer-newer-requires-in-Some g c =
@@ -38,9 +40,11 @@ links-smaller g c =
 pub links-preserved : goal.links-preserved
 links-preserved g c =
     let order = c.args.self.now.order in let (i, is, there) = c.links.invariant in
-    let (n, at, found) = before order i c.in-Some.found (sym is ∙ c.in-Some.is) in
-    (n, c.newer-newer-in-Some.ensures.newer ∙ before_at order n c.in-Some.found c.len.ensures.linked.distinct found,
-    subst (λ j. slice_get order j ≡ Some c.args.b) (omega (arith, at)) there)
+    let (n, at, found) = before order i c.in-Some.found (sym is ∙ c.in-Some.is) in (
+      n,
+      c.newer-newer-in-Some.ensures.newer ∙ before_at order n c.in-Some.found c.len.ensures.linked.distinct found,
+      subst (λ j. slice_get order j ≡ Some c.args.b) (omega (arith, at)) there,
+    )
 
 pub returns : goal.returns
 returns g c = let (i, is, there) = c.links.invariant in record { index = go i (sym is ∙ c.in_default.is) there }

@@ -4,7 +4,8 @@ use Rattle.lru_model.specs.Lists.{last, without_last, after}
 use Rattle.lru_model.proofs.CallbackLemmas.{takes_always}
 use Rattle.lru_model.proofs.States.CallablePairs.{fewer_callable, covers_promoted, length-promoted}
 use Rattle.lru_model.proofs.States.CallablePairs.{oldest_callable, rest_callable}
-use Rattle.schnellru.proofs.Maps.Retains.{IsRetainedTo, retains_none, retains_more, removes_more, retains_all}
+use Rattle.schnellru.proofs.Maps.Retains.{IsRetainedTo, some_retained, retains_none, retains_more, removes_more}
+use Rattle.schnellru.proofs.Maps.Retains.{retains_all}
 use Rattle.lru_model.proofs.Theorems.PlainInserts.{plain_retains}
 use Rattle.schnellru.proofs.map.LruMap.retain_with.Goals as goal
 
@@ -65,3 +66,20 @@ sink-requires g c = oldest_callable g.L.Limiter.rules g.G.FnMut c.pairs.self c.t
 pub returns-clause-callable : goal.returns-clause-callable
 returns-clause-callable g c = let (passed, taken, step) = returns-clause-passed g c in
     takes_always g.G.FnMut passed c.args.sink.now c.pairs.sink taken
+
+pub oldest_passes-requires-clause-some : goal.oldest_passes-requires-clause-some
+oldest_passes-requires-clause-some g c =
+    some_retained g.L.Limiter.rules g.F.FnMut g.G.FnMut c.args.self.now c.args.keep c.args.sink.now c.pairs.left
+    c.pairs.self c.pairs.keep c.pairs.sink c.pairs.invariant.asked (omega (arith, c.pairs-test.true))
+
+pub promote_oldest-requires : goal.promote_oldest-requires
+promote_oldest-requires g c =
+    some_retained g.L.Limiter.rules g.F.FnMut g.G.FnMut c.args.self.now c.args.keep c.args.sink.now c.pairs.left
+    c.pairs.self c.pairs.keep c.pairs.sink c.pairs.invariant.asked (omega (arith, c.pairs-test.true))
+
+pub take_oldest-key-requires : goal.take_oldest-key-requires
+take_oldest-key-requires g c =
+    some_retained g.L.Limiter.rules g.F.FnMut g.G.FnMut c.args.self.now c.args.keep c.args.sink.now c.pairs.left
+    c.pairs.self c.pairs.keep c.pairs.sink c.pairs.invariant.asked (omega (arith, c.pairs-test.true))
+
+
