@@ -1,8 +1,9 @@
 //! Searches by a hash, with a closure that recognises the entry.
-ghost use Rattle.std.specs.Prelude.{IfSome, IfNone};
+ghost use Rattle.std.specs.Prelude.{◌≡◌, Contains, Some, IfSome, IfNone};
 ghost use Rattle.std.specs.Borrow.{sem};
 ghost use Rattle.lru_model.specs.ByHash.{GivesByHash, GivesNoneByHash};
-ghost use Rattle.lru_model.specs.State.{IsMap};
+ghost use Rattle.lru_model.specs.Lists.{lookup_entry};
+ghost use Rattle.lru_model.specs.State.{IsMap, place_in};
 ghost use Rattle.lru_model.specs.Calls.{promoted, written};
 
 use crate::map::LruMap;
@@ -38,7 +39,7 @@ impl<K: Eq + Hash, V, L: Limiter<K, V>, S: KeyHasher<K>> LruMap<K, V, L, S> {
             hash F.FnMut is_eq) }
         ensures map { (key : K) (last : V) → IsMap K.eq (written (K.eq key) last (promoted (K.eq key) self.old)) }
     {
-        let b = self.entries.find_by(hash, is_eq)?;
+        let b = self.find_by(hash, is_eq)?;
         self.promote_at(b);
         Some(&mut self.entries.pair_mut(b).value)
     }
@@ -60,8 +61,8 @@ impl<K: Eq + Hash, V, L: Limiter<K, V>, S: KeyHasher<K>> LruMap<K, V, L, S> {
         ensures none { IfNone result (GivesNoneByHash K.eq (S.hash_of self.now.hasher) self.now.pairs
             hash F.FnMut is_eq) }
     {
-        let b = self.entries.find_by(hash, is_eq)?;
-        Some(&self.entries.pair(b).value)
+        let b = self.find_by(hash, is_eq)?;
+        Some(&self.pair_in(b).value)
     }
 
     /// Lends the value of an entry that `is_eq` accepts, for writing. The order stays. The limiter is not notified of
@@ -91,7 +92,22 @@ impl<K: Eq + Hash, V, L: Limiter<K, V>, S: KeyHasher<K>> LruMap<K, V, L, S> {
             hash F.FnMut is_eq) }
         ensures map { (key : K) (last : V) → IsMap K.eq (written (K.eq key) last self.old) }
     {
-        let b = self.entries.find_by(hash, is_eq)?;
+        let b = self.find_by(hash, is_eq)?;
         Some(&mut self.entries.pair_mut(b).value)
+    }
+
+    // Returns the bucket of the entry that `is_eq` accepts, if there is one.
+    fn find_by<F: FnMut(&K, &V) -> bool>(&self, hash: u64, is_eq: F) -> Option<usize>
+        requires callable { F.IsAlwaysCallable is_eq }
+        ensures found { IfSome result (λ b. (pair : K × V)
+            × GivesByHash K.eq (S.hash_of self.now.hasher) self.now.pairs hash F.FnMut is_eq pair
+            × (lookup_entry (K.eq pair.0) self.now.pairs ≡ Some pair)
+            × (place_in (K.eq pair.0) self.now ≡ Some b)) }
+        ensures there { IfSome result (Contains self.now.table.places) }
+        ensures none { IfNone result (GivesNoneByHash K.eq (S.hash_of self.now.hasher) self.now.pairs
+            hash F.FnMut is_eq) }
+        ensures map { IsMap K.eq self.now }
+    {
+        self.entries.find_by(hash, is_eq)
     }
 }
