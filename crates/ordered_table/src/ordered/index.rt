@@ -32,7 +32,8 @@ impl<K, V, N: LinkType> OrderedTable<K, V, N> {
     {
         // Nothing at run time: it shows the proof that an index fits.
         let _ = self.len();
-        let (mut newer, mut index) = (self.newer(b), 0);
+        let mut newer = self.newer(b);
+        let mut index = 0;
         'links: while let Some(found) = newer {
             newer = self.newer(found);
             index += 1;

@@ -1,5 +1,5 @@
 -- A retain in progress, and one more call of its closure.
-use Rattle.std.proofs.Common.{◌≡◌, ℕ, ◌-◌, ◌<◌, Bool, true, false, Some, List, [], ◌∷◌, ◌++◌, length, refl, ap, sym}
+use Rattle.std.proofs.Common.{◌≡◌, ℕ, ◌-◌, ◌<◌, ◌≤◌, Bool, true, false, Some, List, [], ◌∷◌, ◌++◌, length, refl, ap, sym}
 use Rattle.std.proofs.Common.{◌∙◌, subst, arith, append-nil}
 use Rattle.std.proofs.lemmas.List.{append_assoc, length-append}
 use Rattle.std.proofs.lemmas.Option.{same_Some}
@@ -70,11 +70,10 @@ module _ {K V S H F G : Type 0} (rules : Rules K V S) (closure : Mut F (Bor K ×
     pub notified : ◌≡◌ {A = S × List (K × V)} (st.limiter, passed) (after_asked asked).limiter
     pub leaves : Leaves (noted [] old) (contents (noted passed st)) (noted passed st)
 
-  -- while some are to be asked, the map has pairs
-  pub some_retained : (left : ℕ) (st : State K V S H) (f : F) (g : G) → IsRetainedTo left st f g → 0 < left
-      → 0 < length st.pairs
-  some_retained left st f g so more =
-      omega (arith, ap length so.pairs, length-append (after_asked so.asked).pairs so.rest, so.many, more)
+  -- the map has the pairs that are to be asked
+  pub many_retained : (left : ℕ) (st : State K V S H) (f : F) (g : G) → IsRetainedTo left st f g → left ≤ length st.pairs
+  many_retained left st f g so =
+      omega (arith, ap length so.pairs, length-append (after_asked so.asked).pairs so.rest, so.many)
 
   pub retains_none : IsRetainedTo (length old.pairs) old keep sink
   retains_none = record {

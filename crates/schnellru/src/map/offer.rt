@@ -1,5 +1,5 @@
 //! Offering the limiter a new value for a key that is there.
-ghost use Rattle.std.specs.Prelude.{◌≡◌, ℕ, true, false, length, Some, IsTrue};
+ghost use Rattle.std.specs.Prelude.{◌≡◌, ℕ, true, false, length, Some, Contains, IsTrue};
 ghost use Rattle.group_table.specs.Bucket.{entry_at};
 ghost use Rattle.ordered_table.specs.OrderedTable.{IsLinked, KeysFit};
 ghost use Rattle.lru_model.specs.Inserts.{replacement, unkept_of};
@@ -38,6 +38,7 @@ impl<K: Eq + Hash, V, L: Limiter<K, V>, S: KeyHasher<K>> LruMap<K, V, L, S> {
         ensures passed { Passes F.FnMut sink.old sink.new (λ before after. IsOffered (noting L.rules)
             (noting_offers L.offers) I.names key value (noted before self.old) result (noted after self.new)) }
         ensures kept { result.0 ≡ true → sink.new ≡ sink.old }
+        ensures there { result.0 ≡ true → Contains self.new.table.places b }
     {
         offer(&mut self.entries, &mut self.limiter, b, key, value, sink)
     }

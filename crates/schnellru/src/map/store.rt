@@ -1,6 +1,6 @@
 //! Storing a new pair: in a free bucket, or after the table was rehashed, has grown, or the oldest pairs were evicted.
 //! Nothing here requires `K: Drop` or `V: Drop`, so a body that forgets a pair does not compile.
-ghost use Rattle.std.specs.Prelude.{◌≡◌, ℕ, ◌+◌, ◌-◌, ◌*◌, ◌/◌, ◌<◌, ◌≤◌, [], ◌∷◌, length, true, None, Some};
+ghost use Rattle.std.specs.Prelude.{◌≡◌, ℕ, ◌+◌, ◌-◌, ◌*◌, ◌/◌, ◌<◌, ◌≤◌, [], ◌∷◌, length, true, None, Some, List};
 ghost use Rattle.std.specs.Prelude.{Ok, OnOk, OnErr, IfErr, IsOk};
 ghost use Rattle.group_table.specs.Sizes.{IsPowerFromFour, full_capacity};
 ghost use Rattle.lru_model.specs.Lists.{lookup_entry};
@@ -191,7 +191,7 @@ impl<K: Eq + Hash, V, L: Limiter<K, V>, S: KeyHasher<K>> LruMap<K, V, L, S> {
 
     // Notifies the limiter of a pair that was not stored, and passes what it left of the pair to the callback.
     fn pass_unstored<F: FnMut(K, V)>(&mut self, pair: (K, V), sink: &mut F)
-        requires callable { MayTakeEach L.rules F.FnMut (pair ∷ []) sink.old }
+        requires callable { (others : List (K × V)) × MayTakeEach L.rules F.FnMut (pair ∷ others) sink.old }
         ensures passed { Passes F.FnMut sink.old sink.new (λ before after. noted after self.new ≡ unstored
             (noting L.rules) pair (noted before self.old)) }
     {

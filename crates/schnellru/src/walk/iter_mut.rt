@@ -199,12 +199,14 @@ impl<K: Eq + Hash, V, L: Limiter<K, V>, S: KeyHasher<K>> LruMap<K, V, L, S> {
         ensures step { WritesAll F.FnMut f self.old self.new }
         ensures map { IsMap K.eq self.new }
     {
+        // Nothing at run time: it shows the proof that a position fits.
+        let _ = self.len();
         let (mut next, _) = self.ends();
-        'pairs: for at in 0..self.len() {
-            if let Some(b) = next {
-                next = self.older(b);
-                self.write_at(at, b, &mut f);
-            }
+        let mut at = 0;
+        'pairs: while let Some(b) = next {
+            next = self.older(b);
+            self.write_at(at, b, &mut f);
+            at += 1;
         }
         // Nothing at run time: it opens the map, whose invariant is the clause `map`.
         let _ = &self.entries;

@@ -24,3 +24,7 @@ returns-clause-none g c =
     rw (← c.self.view_is) (if_none c.find_by.result
     (gives_none_by_hash m.entries holds.linked g.met.K.Eq.laws holds.map.distinct hash_of holds.fits c.args.hash
     g.F.FnMut c.args.is_eq) c.find_by.ensures.none)
+
+pub returns-clause-there : goal.returns-clause-there
+returns-clause-there g c =
+    rw (← c.self.view_is) (IfSome_then c.find_by.result c.find_by.ensures.full c.self.invariant.linked.all)

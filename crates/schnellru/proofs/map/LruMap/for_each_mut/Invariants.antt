@@ -1,5 +1,5 @@
 -- The first `at` pairs have been written, and `next` is the bucket of the one after them.
-use Rattle.std.proofs.Common.{◌≡◌, length}
+use Rattle.std.proofs.Common.{◌≡◌, ◌-◌, length}
 use Rattle.std.specs.Prelude.{slice_get}
 use denote.Param.Always.{always_mut}
 use Rattle.schnellru.proofs.Maps.WrittenPairs.{IsWrittenTo}
@@ -14,3 +14,6 @@ invariant-pairs g l = record {
   places : length l.self.table.places ≡ length l.self.pairs;
   many : length l.self.pairs ≡ length l.fn.self.pairs;
 }
+
+abbrev pub decreases-pairs : goal.decreases-pairs
+decreases-pairs g l = length l.fn.self.pairs - l.at

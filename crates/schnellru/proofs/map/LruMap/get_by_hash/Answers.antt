@@ -64,3 +64,7 @@ returns g c =
         map = λ key last. written_is_map _ _ last (equal_is_map laws key _ c.find_by.ensures.map);
       },
     )
+
+pub pair_mut-requires : goal.pair_mut-requires
+pair_mut-requires g c =
+    c.self.invariant.linked.only c.in_ok-b.b (rw (← c.self.view_is) at c.promote_at.ensures.there)

@@ -1,5 +1,4 @@
 use Rattle.std.proofs.Common.{Ok, [], refl, ap, ◌∙◌, subst, sym}
-use Rattle.std.specs.Prelude.{Contains}
 use Rattle.lru_model.specs.Callbacks.{noting, noted}
 use Rattle.lru_model.specs.Inserts.{replaced, not_replaced, with_replaced}
 use Rattle.lru_model.specs.State.{contents}
@@ -21,11 +20,6 @@ returns-then-not-accepted-clause-passed g c = λ first before taken.
 pub returns-then-not-accepted-clause-unkept : goal.returns-then-not-accepted-clause-unkept
 returns-then-not-accepted-clause-unkept g c =
     offered_unkept (c.offer_at-accepted.ensures.passed c.args.sink.now [] refl).2
-
-pub promote_at-requires : goal.promote_at-requires
-promote_at-requires g c = subst (λ places. Contains places c.in-Some.b)
-    (sym ((c.offer_at-accepted.ensures.passed c.args.sink.now [] refl).2.place c.if-not-accepted.false))
-    c.in-Some.ensures.there
 
 pub evict_over_limit-kept-requires-clause-some : goal.evict_over_limit-kept-requires-clause-some
 evict_over_limit-kept-requires-clause-some g c =

@@ -11,6 +11,9 @@ use Rattle.schnellru.proofs.Maps.Replacements.{replaced_leaves, removed_leaves, 
 use Rattle.ordered_table.proofs.Tables.Searches.{pair_of_place}
 use Rattle.std.proofs.lemmas.Option.{same_Some}
 use Rattle.lru_model.specs.MayTake.{MayTakeRejected}
+use Rattle.std.specs.Prelude.{Contains}
+use Rattle.group_table.specs.Bucket.{bucket_at}
+use Rattle.group_table.proofs.SearchLemmas.{full_by_entry}
 use Rattle.schnellru.proofs.map.LruMap.offer_at.Goals as goal
 
 pub offer-requires-clause-there : goal.offer-requires-clause-there
@@ -80,3 +83,11 @@ offer-requires-clause-callable g c = λ pair at.
     subst (λ n. MayTakeRejected g.L.Limiter.rules g.F.FnMut
     (g.L.Insertion.offers.on_replace m.limiter n pair.0 c.args.key pair.1 c.args.value) c.args.sink.now)
     (pairs-length t holds.linked) ((rw (← c.self.view_is) at c.requires.callable) pair found)
+
+pub returns-clause-there : goal.returns-clause-there
+returns-clause-there g c =
+    let t = c.self.inside.entries in let holds = c.self.invariant in let b = c.args.b in
+    let (was, at, named) = pair_of_place t holds.linked (g.I.LookupKey.names c.args.key) g.met.K.Eq.laws
+    (g.met.I.LookupKey.laws.one c.args.key) holds.map.distinct b (rw (← c.self.view_is) at c.requires.found) in
+    λ yes. subst (λ order. Contains order b) (sym (c.offer.ensures.replaced yes was at).order)
+    (holds.linked.all b (full_by_entry (bucket_at t.slots b) was at))

@@ -6,9 +6,9 @@ use Rattle.schnellru.proofs.Maps.NotedStates.{takes_more, noted_unstored}
 use Rattle.schnellru.proofs.map.LruMap.pass_unstored.Goals as goal
 
 pub sink-requires : goal.sink-requires
-sink-requires g c = let left = c.notify-key.result in
-    one_callable g.L.Limiter.rules g.F.FnMut (c.args.pair ∷ []) c.self.inside.limiter c.args.pair left
-    (here c.args.pair []) c.notify-key.ensures.pair c.args.sink.now c.requires.callable
+sink-requires g c = let left = c.notify-key.result in let (others, callable) = c.requires.callable in
+    one_callable g.L.Limiter.rules g.F.FnMut (c.args.pair ∷ others) c.self.inside.limiter c.args.pair left
+    (here c.args.pair others) c.notify-key.ensures.pair c.args.sink.now callable
 
 pub returns : goal.returns
 returns g c =

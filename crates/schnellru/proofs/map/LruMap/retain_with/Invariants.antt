@@ -1,4 +1,5 @@
 -- The closure was called with all pairs but the newest `left`. The pairs that it rejected were passed to the callback.
+use Rattle.std.proofs.Common.{◌≤◌, length}
 use denote.Param.Always.{always_mut}
 use Rattle.lru_model.specs.MayTake.{MayTakeEach}
 use Rattle.schnellru.proofs.Maps.Retains.{IsRetainedTo}
@@ -7,6 +8,7 @@ use Rattle.schnellru.proofs.map.LruMap.retain_with.Given as goal
 abbrev pub invariant-pairs : goal.invariant-pairs
 invariant-pairs g l = record {
   keep : always_mut g.F.FnMut l.keep;
+  many : l.left ≤ length l.self.pairs;
   callable : MayTakeEach g.L.Limiter.rules g.G.FnMut l.self.pairs l.sink;
   asked : IsRetainedTo g.L.Limiter.rules g.F.FnMut g.G.FnMut l.fn.self l.fn.keep l.fn.sink l.left l.self l.keep l.sink;
 }

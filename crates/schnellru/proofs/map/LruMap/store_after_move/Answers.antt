@@ -4,7 +4,6 @@ use Rattle.lru_model.specs.State.{room}
 use Rattle.lru_model.specs.Place.{IsPlaced, unstored}
 use Rattle.lru_model.specs.Callbacks.{noting, noted}
 use Rattle.lru_model.specs.MayTake.{MayTakeEach}
-use Rattle.lru_model.proofs.States.CallablePairs.{first_callable}
 use Rattle.schnellru.proofs.Maps.NotedStates.{noted_placed}
 use Rattle.lru_model.proofs.TableSizes.Growth.{full_capacity-some}
 use Rattle.schnellru.proofs.map.LruMap.store_after_move.Goals as goal
@@ -35,12 +34,6 @@ returns-in-Err-clause-passed g c =
       away ∙ ap (λ st. unstored (noting g.L.Limiter.rules) c.args.pair (noted before st))
           c.in-Err.ensures.unchanged,
     )
-
-pub pass_unstored-requires : goal.pass_unstored-requires
-pass_unstored-requires g c = record {
-  callable = first_callable g.L.Limiter.rules g.F.FnMut c.args.pair c.args.self.now.pairs c.args.sink.now
-      c.requires.callable;
-}
 
 pub returns-in-Ok-clause-callable : goal.returns-in-Ok-clause-callable
 returns-in-Ok-clause-callable g c = λ yes.

@@ -1,7 +1,6 @@
 use Rattle.std.proofs.Common.{refl, sym, ◌∙◌}
 use Rattle.std.proofs.lemmas.List.{nil_from_length}
 use Rattle.lru_model.specs.Place.{nothing_to_evict}
-use Rattle.lru_model.proofs.States.CallablePairs.{first_callable}
 use Rattle.lru_model.proofs.PairLists.Emptiness.{empty-length}
 use Rattle.schnellru.proofs.map.LruMap.store_without_growth.Goals as goal
 
@@ -12,9 +11,3 @@ returns-then-is_empty-clause-passed g c =
     λ first before taken.
     let (after, had, away) = c.pass_unstored.ensures.passed first before taken in
     (after, had, nothing_to_evict none refl away)
-
-pub pass_unstored-requires : goal.pass_unstored-requires
-pass_unstored-requires g c = record {
-  callable = first_callable g.L.Limiter.rules g.F.FnMut c.args.pair c.args.self.now.pairs c.args.sink.now
-      c.requires.callable;
-}
