@@ -18,6 +18,7 @@ use std::alloc::AllocError;
 use std::hash::Hash;
 
 // An insert into the map of a tenant, whose budget stays. What leaves is passed to the callback.
+#[tactic(auto, using(lru_model::proofs::CallbackLemmas::may_take_always))]
 pub(crate) fn insert<
     K: Eq + Hash + Drop,
     V: Drop,
@@ -42,6 +43,7 @@ pub(crate) fn insert<
 }
 
 // An insert that returns the value that the map does not keep, a rejected one too.
+#[tactic(auto, using(lru_model::proofs::CallbackLemmas::may_take_always))]
 pub(crate) fn insert_full<
     K: Eq + Hash + Drop,
     V: Drop,
@@ -154,6 +156,7 @@ pub(crate) fn clear<K: Eq + Hash + Drop, V: Drop, L: Budgeted<K, V>, S: KeyHashe
 }
 
 // Sets the budget. Passes the entries that are evicted for it to the callback.
+#[tactic(auto, using(lru_model::proofs::CallbackLemmas::may_take_always))]
 pub(crate) fn set_budget<
     K: Eq + Hash + Drop,
     V: Drop,

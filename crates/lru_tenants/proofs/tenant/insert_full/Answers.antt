@@ -39,9 +39,3 @@ returns-clause-tenant g c =
       within = c.calls_keep_the_budget.ensures.total old new step c.requires.tenant.sum c.requires.tenant.within;
       small = omega (arith, c.calls_keep_the_budget.ensures.budget old new step, c.requires.tenant.small);
     }
-
-pub insert_full-requires : goal.insert_full-requires
-insert_full-requires g c = record {
-  callable = always_inserted g.L.Limiter.rules g.F.FnMut g.L.Insertion.offers g.K.PartialEq.eq c.args.key c.args.value
-      (contents c.args.map.now) c.args.sink.now c.requires.callable;
-}

@@ -39,9 +39,3 @@ returns-clause-budget g c =
     c.trim_with.ensures.step in
     c.calls_keep_the_budget.ensures.budget old new (trims step)
     ∙ g.met.L.Budgeted.laws.set_budget c.args.budget c.args.map.now.limiter
-
-pub trim_with-requires : goal.trim_with-requires
-trim_with-requires g c = record {
-  callable = λ before h pair fewer all taken passed.
-      may_take_always g.F.FnMut c.args.sink.now before h pair c.requires.callable taken;
-}
