@@ -1,6 +1,6 @@
 pub mod Maps
 mod SameWalks
-mod WalkEnds
+mod Positions
 mod OutlivedLifetimes
 mod LentPairs
 mod NextPairs

@@ -97,6 +97,7 @@ impl<K: Eq + Hash, V, L: Limiter<K, V>, S: KeyHasher<K>> LruMap<K, V, L, S> {
     }
 
     // Returns the bucket of the entry that `is_eq` accepts, if there is one.
+    #[inline]
     fn find_by<F: FnMut(&K, &V) -> bool>(&self, hash: u64, is_eq: F) -> Option<usize>
         requires callable { F.IsAlwaysCallable is_eq }
         ensures found { IfSome result (λ b. (pair : K × V)

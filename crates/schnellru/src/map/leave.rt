@@ -141,7 +141,7 @@ impl<K: Eq + Hash, V, L: Limiter<K, V>, S: KeyHasher<K>> LruMap<K, V, L, S> {
     // Evicts the oldest pair, if the limiter would be over its limit with one more.
     #[inline]
     pub(super) fn make_room<F: FnMut(K, V)>(&mut self, sink: &mut F)
-        requires callable { MayTakeEach L.rules F.FnMut self.old.pairs sink.old }
+        requires callable { (pair : K × V) × MayTakeEach L.rules F.FnMut (pair ∷ self.old.pairs) sink.old }
         ensures passed { Passes F.FnMut sink.old sink.new (λ before after. Leaves (noted before self.old)
             (make_room (noting L.rules) (contents (noted before self.old))) (noted after self.new)) }
         ensures callable { (pair : K × V) → MayTakeEach L.rules F.FnMut (pair ∷ self.old.pairs) sink.old →

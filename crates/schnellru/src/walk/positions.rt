@@ -1,5 +1,5 @@
 //! The bucket of each pair by its position, counted from the newest, which iterators need.
-ghost use Rattle.std.specs.Prelude.{◌≡◌, ℕ, ◌+◌, length, slice_get, Some, Contains};
+ghost use Rattle.std.specs.Prelude.{◌≡◌, ℕ, ◌+◌, length, slice_get, Some, IfSome, Contains};
 ghost use Rattle.std.specs.Borrow.{sem};
 ghost use Rattle.std.specs.Map.Iter.{deref_pair_mut};
 ghost use Rattle.lru_model.specs.Lists.{last_of};
@@ -17,6 +17,7 @@ impl<K: Eq + Hash, V, L: Limiter<K, V>, S: KeyHasher<K>> LruMap<K, V, L, S> {
         ensures newest { result.0 ≡ slice_get self.now.table.places 0 }
         ensures oldest { result.1 ≡ last_of (length self.now.pairs) self.now.table.places }
         ensures places { length self.now.table.places ≡ length self.now.pairs }
+        ensures there { IfSome result.0 (Contains self.now.table.places) }
     {
         (self.entries.first(), self.entries.last())
     }
@@ -25,8 +26,9 @@ impl<K: Eq + Hash, V, L: Limiter<K, V>, S: KeyHasher<K>> LruMap<K, V, L, S> {
     #[inline]
     pub(crate) fn older(&self, b: usize) -> Option<usize>
         requires { Contains self.now.table.places b }
-        ensures { (i : ℕ) → slice_get self.now.table.places i ≡ Some b →
+        ensures next { (i : ℕ) → slice_get self.now.table.places i ≡ Some b →
             result ≡ slice_get self.now.table.places (i + 1) }
+        ensures there { IfSome result (Contains self.now.table.places) }
     {
         self.entries.older(b)
     }

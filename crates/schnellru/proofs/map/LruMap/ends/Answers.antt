@@ -2,6 +2,7 @@ use Rattle.std.proofs.Common.{ap, sym, ◌∙◌}
 use Rattle.lru_model.specs.Lists.{last_of}
 use Rattle.ordered_table.proofs.Tables.BucketPairs.{pairs-length}
 use Rattle.ordered_table.proofs.Tables.Places.{first_at, last_at}
+use Rattle.schnellru.proofs.Positions.{some_in}
 use Rattle.schnellru.proofs.map.LruMap.ends.Goals as goal
 
 pub returns-clause-newest : goal.returns-clause-newest
@@ -15,3 +16,7 @@ returns-clause-oldest g c =
 
 pub returns-clause-places : goal.returns-clause-places
 returns-clause-places g c = rw (← c.self.view_is) (sym (pairs-length c.self.inside.entries c.self.invariant.linked))
+
+pub returns-clause-there : goal.returns-clause-there
+returns-clause-there g c = let order = c.self.inside.entries.order in
+    rw (← c.self.view_is) (some_in order 0 c.first.result (c.first.ensures.first ∙ first_at order))

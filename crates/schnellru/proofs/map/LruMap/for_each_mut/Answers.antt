@@ -1,6 +1,5 @@
 use Rattle.std.proofs.Common.{arith, sym, ◌∙◌, refl}
 use Rattle.lru_model.specs.Lists.{set_value_at}
-use Rattle.ordered_table.proofs.Tables.Places.{got_in}
 use Rattle.ordered_table.proofs.Tables.Places.{get_none}
 use Rattle.schnellru.proofs.Maps.WrittenPairs.{written_none, written_more, written_all, length-set}
 use Rattle.std.proofs.lemmas.Option.{slice_get_past, slice_get_within}
@@ -11,22 +10,20 @@ pub pairs-init : goal.pairs-init
 pairs-init g c = record {
   callable = c.requires.callable;
   next = c.ends-next.ensures.newest;
+  there = c.ends-next.ensures.there;
   written = written_none g.F.FnMut c.args.self.now.pairs c.args.f;
   state = refl;
   places = c.ends-next.ensures.places;
   many = refl;
 }
 
-pub older-next-requires : goal.older-next-requires
-older-next-requires g c =
-    got_in c.pairs.self.table.places c.pairs.at c.in-Some.b (sym c.pairs.invariant.next ∙ c.in-Some.is)
-
 pub pairs-preserved : goal.pairs-preserved
 pairs-preserved g c =
     let i = c.pairs.invariant in let (pair, value, there, writes, same) = c.write_at.ensures.writes in
     rw same (record {
       callable = c.write_at.ensures.callable;
-      next = c.older-next.ensures c.pairs.at (sym i.next ∙ c.in-Some.is);
+      next = c.older-next.ensures.next c.pairs.at (sym i.next ∙ c.in-Some.is);
+      there = c.older-next.ensures.there;
       written = written_more g.F.FnMut c.args.self.now.pairs c.args.f c.pairs.at c.pairs.self.pairs c.pairs.f
           i.written
           pair value c.write_at.new.f there writes;

@@ -1,5 +1,5 @@
 use Rattle.std.proofs.Common.{◌≡◌, Some, slice_get, ap, sym, ◌∙◌, subst}
-use Rattle.ordered_table.proofs.Tables.Places.{got_in, same_position}
+use Rattle.ordered_table.proofs.Tables.Places.{same_position}
 use Rattle.lru_model.proofs.PairLists.Positions.{placed, nowhere}
 use Rattle.schnellru.proofs.map.LruMap.get_index_of.Goals as goal
 

@@ -5,7 +5,6 @@ use Rattle.lru_model.specs.Callbacks.{noted}
 use Rattle.schnellru.proofs.Maps.NotedStates.{noted_placed}
 use Rattle.lru_model.proofs.States.NewKeys.{stays_new}
 use Rattle.lru_model.specs.MayTake.{MayTakeEach}
-use Rattle.lru_model.proofs.States.CallablePairs.{later_callable}
 use Rattle.schnellru.proofs.map.LruMap.insert_pair.Goals as goal
 
 pub insert_without_growth-requires-clause-hash : goal.insert_without_growth-requires-clause-hash
@@ -57,12 +56,6 @@ returns g c = record {
       (noted_placed mid c.args.pair (buckets ready) (room new) 0 ready new stored.placed) in
       let left = ap Ok c.evict_over_limit.ensures.left in
       (after, in_all, (noted mid ready, way, (placed, noted mid new, put, (left, trimmed))));
-}
-
-pub make_room-requires : goal.make_room-requires
-make_room-requires g c = record {
-  callable = later_callable g.L.Limiter.rules g.F.FnMut c.args.pair c.args.self.now.pairs c.args.sink.now
-      c.requires.callable;
 }
 
 pub insert_without_growth-requires-clause-callable : goal.insert_without_growth-requires-clause-callable

@@ -2,7 +2,7 @@ use Rattle.std.proofs.Common.{◌≡◌, ◌+◌, true, [], ◌∷◌, ◌++◌,
 use Rattle.lru_model.specs.State.{contents, Leaves}
 use Rattle.lru_model.specs.Callbacks.{noting, noted}
 use Rattle.ordered_table.proofs.Tables.BucketPairs.{pairs-length}
-use Rattle.lru_model.proofs.States.CallablePairs.{oldest_callable, rest_callable_with}
+use Rattle.lru_model.proofs.States.CallablePairs.{oldest_callable_with, rest_callable_with}
 use Rattle.schnellru.proofs.Maps.NotedStates.{takes_more, noted_pop, make_room-over, make_room-within, make_room-empty}
 use Rattle.lru_model.proofs.States.LeavingPairs.{leaves_self}
 use Rattle.lru_model.specs.Inserts.{make_room}
@@ -47,8 +47,9 @@ returns-else-not-is_empty-clause-passed g c =
     )
 
 pub sink-requires : goal.sink-requires
-sink-requires g c = oldest_callable g.L.Limiter.rules g.F.FnMut c.args.self.now c.take_oldest-key.new.self
-    c.take_oldest-key.result c.take_oldest-key.ensures.step c.args.sink.now c.requires.callable
+sink-requires g c = let (pair, callable) = c.requires.callable in
+    oldest_callable_with g.L.Limiter.rules g.F.FnMut c.args.self.now c.take_oldest-key.new.self
+    c.take_oldest-key.result c.take_oldest-key.ensures.step pair c.args.sink.now callable
 
 pub returns-then-is_over_the_limit-clause-callable : goal.returns-then-is_over_the_limit-clause-callable
 returns-then-is_over_the_limit-clause-callable g c = λ pair. rest_callable_with g.L.Limiter.rules g.F.FnMut

@@ -1,4 +1,4 @@
-use Rattle.std.proofs.Common.{◌≡◌, true, sym, ◌∙◌, subst}
+use Rattle.std.proofs.Common.{◌≡◌, sym, ◌∙◌, subst}
 use Rattle.std.proofs.lemmas.Option.{same_Some}
 use Rattle.lru_model.specs.ByHash.{GivesByHash}
 use Rattle.schnellru.proofs.map.LruMap.peek_by_hash.Goals as goal
