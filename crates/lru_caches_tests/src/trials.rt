@@ -5,13 +5,13 @@ mod files;
 mod leaks;
 mod loaders;
 mod memos;
-mod ordered;
 mod page_calls;
 mod pages;
 mod recursion;
 mod refusals;
 
 use leaks::CACHES;
+use lru_caches::OrderedMap;
 use test_helpers::check;
 
 /// How many calls are compared in each trial.
@@ -22,11 +22,19 @@ fn calls_agree_with_plain_models(rt: HostRuntime) {
     let alloc = rt.alloc();
     check!(rt; memos::calls_that_agree(alloc) == CALLS);
     check!(rt; loaders::calls_that_agree(alloc) == CALLS);
-    check!(rt; ordered::calls_that_agree(alloc) == CALLS);
     check!(rt; pages::calls_that_agree(alloc) == CALLS);
     check!(rt; files::calls_that_agree_on_copies(alloc) == CALLS);
     check!(rt; files::calls_that_agree_on_hashes(alloc) == CALLS);
     check!(rt; recursion::answers(alloc) == 1);
+}
+
+/// No insert into an ordered map fails above some number of keys.
+#[test]
+fn an_ordered_map_of_many_keys(rt: HostRuntime) {
+    let mut map = OrderedMap::new(rt.alloc());
+    for key in 0..100_000u64 {
+        check!(rt; map.insert(key, key) == Ok(None));
+    }
 }
 
 /// A memo, a loader, an ordered map and a page cache without memory.
