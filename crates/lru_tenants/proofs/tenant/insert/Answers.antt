@@ -1,7 +1,5 @@
 use Rattle.std.proofs.Common.{arith}
 use Rattle.lru_model.specs.Runs.Step.{inserts}
-use Rattle.lru_model.specs.State.{contents}
-use Rattle.lru_model.proofs.CallbackLemmas.{always_inserted}
 use Rattle.lru_tenants.proofs.tenant.insert.Goals as goal
 
 pub returns-clause-budget : goal.returns-clause-budget

@@ -1,8 +1,6 @@
 use Rattle.std.proofs.Common.{arith, [], refl, sym, ◌∙◌}
 use Rattle.lru_model.specs.Inserts.{not_admitted}
 use Rattle.lru_model.specs.Runs.Step.{inserts}
-use Rattle.lru_model.specs.State.{contents}
-use Rattle.lru_model.proofs.CallbackLemmas.{always_inserted}
 use Rattle.lru_tenants.proofs.PutFulls.{is-rejected}
 use Rattle.lru_tenants.proofs.tenant.insert_full.Goals as goal
 

@@ -2,7 +2,6 @@ use Rattle.std.proofs.Common.{◌∙◌, ap, subst, arith, inl, inr, sum_by}
 use Rattle.lru_model.specs.Runs.Step.{trims}
 use Rattle.lru_model.specs.State.{Trims}
 use Rattle.lru_tenants.specs.Cache.{with_limiter}
-use Rattle.lru_model.proofs.CallbackLemmas.{may_take_always}
 use Rattle.lru_model.proofs.Theorems.BudgetLimits.{not_over}
 use Rattle.lru_tenants.proofs.tenant.set_budget.Goals as goal
 
