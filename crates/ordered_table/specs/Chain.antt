@@ -6,8 +6,8 @@ use Rattle.group_table.specs.Bucket.{empty, deleted, full, Slot, IsFull, bucket_
 use Rattle.group_table.specs.Relocation.{Renumbers}
 use Rattle.lru_model.specs.Lists.{first, last}
 use Rattle.ordered_table.specs.OrderedTable.{bucket_after, bucket_before}
-use Rattle.ordered_table.specs.declared.ordered.Entry.{Entry}
-use Rattle.ordered_table.specs.declared.ordered.chain.Chain.{Chain}
+use Rattle.ordered_table.specs.declared.linked.Entry.{Entry}
+use Rattle.ordered_table.specs.declared.linked.chain.Chain.{Chain}
 
 -- the buckets with their pairs, without the links
 abbrev pub pair_slot : {K V N : Type 0} → Slot (Entry K V N) → Slot (K × V)

@@ -1,6 +1,6 @@
 -- How an entry is copied. No public clause cites this module.
 use Rattle.std.specs.Prelude.{◌≡◌}
-use Rattle.ordered_table.specs.declared.ordered.Entry.{Entry}
+use Rattle.ordered_table.specs.declared.linked.Entry.{Entry}
 
 -- the copy has clones of the key and the value, and the same links
 pub record IsEntryCopy {K V N : Type 0} (same_key : K → K → Type 0) (same_value : V → V → Type 0)

@@ -22,6 +22,11 @@ pub record OrderedTable (K V : Type 0) : Type 0 where
 abbrev pub without_bucket : ℕ → List ℕ → List ℕ
 without_bucket b order = filter (λ c. not (nat_eq c b)) order
 
+-- the order with this bucket in front, if there is one
+abbrev pub in_front : Option ℕ → List ℕ → List ℕ
+in_front None order = order
+in_front (Some b) order = b ∷ without_bucket b order
+
 -- the bucket after this one in the order, if there is one
 abbrev pub bucket_after : ℕ → List ℕ → Option ℕ
 bucket_after b [] = None

@@ -5,6 +5,7 @@
 //! ends, [`Keys`] and [`Values`] a part of each pair.
 #![tactic(auto)]
 
+mod linked;
 mod ordered;
 mod walk;
 

@@ -1,45 +1,32 @@
-//! `OrderedTable`. Each entry has links to its newer and its older neighbour, so a promotion or a removal walks nowhere.
-ghost use Rattle.std.specs.Prelude.{◌≡◌, ◌≢◌, ℕ, ◌+◌, ◌<◌, false, [], ◌∷◌, ◌++◌, length, Some, None, IfSome};
-ghost use Rattle.std.specs.Prelude.{IfNone, IsTrue, replicate};
+//! `OrderedTable`: a table whose entries are in an order. Its last promotion waits for the next call.
+ghost use Rattle.std.specs.Prelude.{◌≡◌, ℕ, ◌+◌, ◌<◌, false, [], ◌∷◌, ◌++◌, length, Some, IfSome, IfNone, IsTrue};
+ghost use Rattle.std.specs.Prelude.{replicate};
 ghost use Rattle.std.specs.Borrow.{sem};
 ghost use Rattle.group_table.specs.Bucket.{empty, marks_of, IsFull, entry_at, room, room_at};
 ghost use Rattle.group_table.specs.Change.{Removes, no_insertions};
 ghost use Rattle.ordered_table.specs.OrderedTable.{IsLinked, KeysFit, without_bucket, with_pair};
 ghost use Rattle.ordered_table.specs.EntrySize.{entry_size};
-ghost use Rattle.lru_model.specs.ByHash.{Asks};
 ghost use Rattle.ordered_table.specs.Searches.{FindsPair, FindsNoPair};
 ghost use Rattle.lru_model.specs.Lists.{first as first_bucket, last as last_bucket};
-ghost use Rattle.ordered_table.specs.Chain.{pair_slots};
 ghost use Rattle.ordered_table.specs.OrderedTable.{bucket_after, bucket_before};
 
-use crate::ordered::chain::{Chain, is_max};
-use group_table::{LinkType, Table};
+use crate::linked::LinkedTable;
+use group_table::LinkType;
 use lru_limits::LookupKey;
 use std::alloc::Global;
 use std::hash::Hash;
 use std::marker::Model;
 
-mod chain;
-mod copy;
+mod changes;
 mod equal;
+mod front;
 mod index;
-mod moves;
-mod place;
 
 /// A key and a value of a table.
 #[derive(Drop)]
 pub struct Pair<K, V> {
     pub key: K,
     pub value: V,
-}
-
-// A pair with its neighbours in the order; `MAX` at the ends. The key and the value are side by side, and so are the
-// value and the links: a look at a pair and a step of a walk each usually read one line of memory.
-#[derive(Drop)]
-pub(crate) struct Entry<K, V, N> {
-    pair: Pair<K, V>,
-    newer: N,
-    older: N,
 }
 
 /// A table of buckets, the full ones of which are in an order, newest first. `N` is the type of its links.
@@ -59,33 +46,31 @@ pub(crate) struct Entry<K, V, N> {
 /// assert!(rt; table.iter().next() == Some((&1, &10)));
 /// ```
 pub struct OrderedTable<K, V, N: LinkType> {
-    chain: Chain<K, V, N>,
+    linked: LinkedTable<K, V, N>,
+    // The bucket that was promoted last, while its links still show its old place. To promote it writes to its
+    // neighbours, whose numbers come with its entry; a processor may let no later load pass such a write before it knows
+    // the address. So the links change in the next call that changes the order: the entry has arrived by then.
+    front: Option<usize>,
 }
 
 // Not derived, because each crate that drops a table would then prove the drop of each part again.
 impl<K: Drop, V: Drop, N: LinkType> Drop for OrderedTable<K, V, N> {
     fn drop(self) {
-        let OrderedTable { chain } = self;
-        drop(chain);
+        let OrderedTable { linked, front: _ } = self;
+        drop(linked);
     }
 }
 
 impl<K, V, N: LinkType> Model for OrderedTable<K, V, N> {
-    ghost use Rattle.ordered_table.specs.OrderedTable.{OrderedTable as Seen};
+    ghost use Rattle.std.specs.Prelude.{IfSome};
+    ghost use Rattle.group_table.specs.Bucket.{IsFull};
+    ghost use Rattle.ordered_table.specs.OrderedTable.{OrderedTable as Seen, in_front, IsLinked};
 
     ghost Value = { Seen K V };
 
-    ghost use Rattle.std.specs.Prelude.{length};
-    ghost use Rattle.ordered_table.specs.Chain.{pair_slots, along, IsWhole};
+    ghost view = { λ t. record t.linked { order = in_front t.front t.linked.order } };
 
-    ghost view = { λ t. record {
-      slots = pair_slots t.chain.table.slots;
-      order = along N.number (length t.chain.table.slots) t.chain.table.slots t.chain.newest;
-      insertions = t.chain.table.insertions;
-    } };
-
-    ghost invariant = { λ t. IsWhole N.number N.link N.MAX t.chain.table.slots t.chain.newest t.chain.oldest
-        (along N.number (length t.chain.table.slots) t.chain.table.slots t.chain.newest) };
+    ghost invariant = { λ t. IsLinked t.linked × IfSome t.front (IsFull t.linked.slots) };
 }
 
 impl<K, V, N: LinkType> OrderedTable<K, V, N> {
@@ -100,11 +85,8 @@ impl<K, V, N: LinkType> OrderedTable<K, V, N> {
         ensures fits { (hash_of : K → ℕ) → KeysFit hash_of result.slots }
     {
         OrderedTable {
-            chain: Chain {
-                table: Table::new(alloc),
-                newest: N::MAX,
-                oldest: N::MAX,
-            },
+            linked: LinkedTable::new(alloc),
+            front: None,
         }
     }
 
@@ -112,7 +94,7 @@ impl<K, V, N: LinkType> OrderedTable<K, V, N> {
     pub fn entry_bytes() -> usize
         ensures { result ≡ entry_size K.row V.row N.row }
     {
-        Table::<Entry<K, V, N>>::entry_bytes()
+        LinkedTable::<K, V, N>::entry_bytes()
     }
 
     /// Returns the number of pairs.
@@ -121,7 +103,7 @@ impl<K, V, N: LinkType> OrderedTable<K, V, N> {
         ensures len { result ≡ length self.now.order }
         ensures linked { IsLinked self.now }
     {
-        self.chain.table.len()
+        self.linked.len()
     }
 
     /// Returns the number of buckets.
@@ -131,7 +113,7 @@ impl<K, V, N: LinkType> OrderedTable<K, V, N> {
         ensures linked { IsLinked self.now }
         ensures reached { length self.now.slots < N.number N.MAX }
     {
-        self.chain.table.buckets()
+        self.linked.buckets()
     }
 
     /// Returns how many empty buckets may still be filled.
@@ -140,7 +122,7 @@ impl<K, V, N: LinkType> OrderedTable<K, V, N> {
         ensures room { result ≡ room (marks_of self.now.slots) }
         ensures linked { IsLinked self.now }
     {
-        self.chain.table.room()
+        self.linked.room()
     }
 
     /// Returns how many pairs were put into the table. A pair that moves is not counted again.
@@ -148,7 +130,7 @@ impl<K, V, N: LinkType> OrderedTable<K, V, N> {
     pub fn placed(&self) -> u64
         ensures placed { result ≡ self.now.insertions.placed }
     {
-        self.chain.table.placed()
+        self.linked.placed()
     }
 
     /// Returns the pair in a full bucket.
@@ -157,7 +139,7 @@ impl<K, V, N: LinkType> OrderedTable<K, V, N> {
         requires { IsFull self.now.slots b }
         ensures pair { entry_at self.now.slots b ≡ Some (result.now.key, result.now.value) }
     {
-        &self.chain.table.get(b).pair
+        self.linked.pair(b)
     }
 
     /// Returns the bucket of the newest pair, if there is one.
@@ -165,7 +147,7 @@ impl<K, V, N: LinkType> OrderedTable<K, V, N> {
     pub fn first(&self) -> Option<usize>
         ensures first { result ≡ first_bucket self.now.order }
     {
-        bucket_of(self.chain.newest)
+        front::first(&self.linked, self.front)
     }
 
     /// Returns the bucket of the newest pair of a table that is not empty.
@@ -174,7 +156,7 @@ impl<K, V, N: LinkType> OrderedTable<K, V, N> {
         requires { 0 < length self.now.order }
         ensures newest { first_bucket self.now.order ≡ Some result }
     {
-        self.chain.newest.into_usize()
+        front::newest(&self.linked, self.front)
     }
 
     /// Returns the bucket of the oldest pair of a table that is not empty.
@@ -183,7 +165,7 @@ impl<K, V, N: LinkType> OrderedTable<K, V, N> {
         requires { 0 < length self.now.order }
         ensures oldest { last_bucket self.now.order ≡ Some result }
     {
-        self.chain.oldest.into_usize()
+        front::oldest(&self.linked, self.front)
     }
 
     /// Returns the bucket of the oldest pair, if there is one.
@@ -191,7 +173,7 @@ impl<K, V, N: LinkType> OrderedTable<K, V, N> {
     pub fn last(&self) -> Option<usize>
         ensures last { result ≡ last_bucket self.now.order }
     {
-        bucket_of(self.chain.oldest)
+        front::last(&self.linked, self.front)
     }
 
     /// Returns the bucket after a full one in the order, towards the oldest, if there is one.
@@ -200,7 +182,7 @@ impl<K, V, N: LinkType> OrderedTable<K, V, N> {
         requires { IsFull self.now.slots b }
         ensures older { result ≡ bucket_after b self.now.order }
     {
-        bucket_of(self.chain.table.get(b).older)
+        front::older(&self.linked, self.front, b)
     }
 
     /// Returns the bucket before a full one in the order, towards the newest, if there is one.
@@ -209,7 +191,7 @@ impl<K, V, N: LinkType> OrderedTable<K, V, N> {
         requires { IsFull self.now.slots b }
         ensures newer { result ≡ bucket_before b self.now.order }
     {
-        bucket_of(self.chain.table.get(b).newer)
+        front::newer(&self.linked, self.front, b)
     }
 
     /// Lends the pair in a full bucket for writing. The keys fit the table if the written key has the same hash.
@@ -224,7 +206,7 @@ impl<K, V, N: LinkType> OrderedTable<K, V, N> {
             → KeysFit hash_of (with_pair self.old b last).slots }
         ensures linked { (last : K × V) → IsLinked (with_pair self.old b last) }
     {
-        &mut self.chain.table.get_mut(b).pair
+        self.linked.pair_mut(b)
     }
 
     /// Returns the bucket of the first pair that `f` accepts, of those with the tag of the hash, its top 7 bits.
@@ -232,93 +214,13 @@ impl<K, V, N: LinkType> OrderedTable<K, V, N> {
     /// `f` is called with each pair at most once, and no more after it accepted one.
     ///
     /// Cost: `O(1)` expected.
-    pub fn find_by<F: FnMut(&K, &V) -> bool>(&self, hash: u64, mut f: F) -> Option<usize>
+    pub fn find_by<F: FnMut(&K, &V) -> bool>(&self, hash: u64, f: F) -> Option<usize>
         requires { F.IsAlwaysCallable f }
         ensures found { IfSome result (FindsPair F.FnMut self.now.slots hash f) }
         ensures full { IfSome result (IsFull self.now.slots) }
         ensures none { IfNone result (FindsNoPair F.FnMut self.now.slots hash f) }
     {
-        self.chain.table.find(
-            hash,
-            move |entry: &Entry<K, V, N>| -> bool
-                requires { F.IsAlwaysCallable f }
-                ensures { Asks F.FnMut f.entry (entry.now.pair.key, entry.now.pair.value) result f.exit }
-            { f(&entry.pair.key, &entry.pair.value) },
-        )
-    }
-
-    /// Makes the pair in a full bucket the newest.
-    ///
-    /// Cost: `O(1)`.
-    pub fn promote(&mut self, b: usize)
-        requires { IsFull self.old.slots b }
-        ensures slots { self.new.slots ≡ self.old.slots }
-        ensures order { self.new.order ≡ b ∷ without_bucket b self.old.order }
-        ensures insertions { self.new.insertions ≡ self.old.insertions }
-        ensures linked { IsLinked self.new }
-    {
-        let newer = self.chain.table.get(b).newer;
-        if !self.chain.leads(newer) {
-            return;
-        }
-        self.chain.unlink(b);
-        self.chain.link_newest(b);
-    }
-
-    /// Makes the pair in a full bucket the oldest.
-    ///
-    /// Cost: `O(1)`.
-    pub fn demote(&mut self, b: usize)
-        requires { IsFull self.old.slots b }
-        ensures slots { self.new.slots ≡ self.old.slots }
-        ensures order { self.new.order ≡ without_bucket b self.old.order ++ b ∷ [] }
-        ensures insertions { self.new.insertions ≡ self.old.insertions }
-        ensures linked { IsLinked self.new }
-    {
-        let older = self.chain.table.get(b).older;
-        if !self.chain.leads(older) {
-            return;
-        }
-        self.chain.unlink(b);
-        self.chain.link_oldest(b);
-    }
-
-    /// Takes the pair out of a full bucket. If that is known to be the oldest (`last`), its older link is not read.
-    ///
-    /// Cost: `O(1)`.
-    #[inline(always)]
-    pub fn take(&mut self, b: usize, last: bool) -> (K, V)
-        requires full { IsFull self.old.slots b }
-        requires last { IsTrue last → last_bucket self.old.order ≡ Some b }
-        ensures pair { entry_at self.old.slots b ≡ Some result }
-        ensures removed { Removes self.old.slots self.new.slots b }
-        ensures order { self.new.order ≡ without_bucket b self.old.order }
-        ensures insertions { self.new.insertions ≡ self.old.insertions }
-        ensures room { room (marks_of self.new.slots) ≡ room (marks_of self.old.slots)
-            + room_at (marks_of self.new.slots) b }
-        ensures fits { (hash_of : K → ℕ) → KeysFit hash_of self.old.slots → KeysFit hash_of self.new.slots }
-        ensures linked { IsLinked self.new }
-    {
-        let Entry { newer, older, pair } = self.chain.table.take(b);
-        self.chain.close_gap(newer, older, last);
-        (pair.key, pair.value)
-    }
-}
-
-impl<K: Drop, V: Drop, N: LinkType> OrderedTable<K, V, N> {
-    /// Drops all pairs. The buckets stay, and are empty.
-    ///
-    /// Cost: `O(buckets)`.
-    pub fn clear(&mut self)
-        ensures slots { self.new.slots ≡ replicate (length self.old.slots) empty }
-        ensures order { self.new.order ≡ [] }
-        ensures insertions { self.new.insertions ≡ self.old.insertions }
-        ensures fits { (hash_of : K → ℕ) → KeysFit hash_of self.new.slots }
-        ensures linked { IsLinked self.new }
-    {
-        self.chain.table.clear();
-        self.chain.newest = N::MAX;
-        self.chain.oldest = N::MAX;
+        self.linked.find_by(hash, f)
     }
 }
 
@@ -335,21 +237,6 @@ impl<K: Eq + Hash, V, N: LinkType> OrderedTable<K, V, N> {
             (b : ℕ) (pair : K × V) → entry_at self.now.slots b ≡ Some pair → hash_of pair.0 ≡ hash
             → Q.names key.now pair.0 ≡ false) }
     {
-        self.chain
-            .table
-            .find(hash, |entry| key.is_key(&entry.pair.key))
-    }
-}
-
-// The bucket that a link leads to.
-#[inline]
-fn bucket_of<N: LinkType>(link: N) -> Option<usize>
-    ensures none { IfNone result (link ≡ N.MAX) }
-    ensures some { IfSome result (λ b. (link ≢ N.MAX) × (b ≡ N.number link)) }
-{
-    if is_max(link) {
-        None
-    } else {
-        Some(link.into_usize())
+        self.linked.find(hash, key)
     }
 }

@@ -5,7 +5,7 @@ use Rattle.std.specs.Prelude.{Contains, IfSome, IfNone}
 use Rattle.std.proofs.lemmas.Option.{none-some}
 use Rattle.group_table.specs.Link.{IsLinkType}
 use Rattle.group_table.specs.Bucket.{Slot, IsFull, entry_at}
-use Rattle.ordered_table.specs.declared.ordered.Entry.{Entry}
+use Rattle.ordered_table.specs.declared.linked.Entry.{Entry}
 use Rattle.ordered_table.specs.OrderedTable.{without_bucket}
 use Rattle.lru_model.specs.Lists.{first as first_bucket, last as last_bucket}
 use Rattle.ordered_table.specs.Chain.{link_to, pair_slots}

@@ -11,7 +11,7 @@ use Rattle.group_table.proofs.BucketLemmas.{full_lt}
 use Rattle.group_table.proofs.RefillLemmas.{entry_at-refilled, entry_at-refilled_other}
 use Rattle.group_table.proofs.SearchLemmas.{full_by_entry}
 use Rattle.group_table.proofs.ChangeLemmas.{length-removed, bucket_at-removed_other}
-use Rattle.ordered_table.specs.declared.ordered.Entry.{Entry}
+use Rattle.ordered_table.specs.declared.linked.Entry.{Entry}
 use Rattle.ordered_table.specs.OrderedTable.{without_bucket}
 use Rattle.lru_model.specs.Lists.{first as first_bucket, last as last_bucket}
 use Rattle.ordered_table.specs.Chain.{link_to, newer_at}

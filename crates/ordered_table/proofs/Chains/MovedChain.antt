@@ -11,7 +11,7 @@ use Rattle.group_table.specs.Bucket.{Slot, bucket_at, is_full, IsFull, entry_at,
 use Rattle.group_table.specs.Relocation.{Renumbers, moved_to}
 use Rattle.group_table.proofs.BucketLemmas.{full_lt, count_by-pos}
 use Rattle.group_table.proofs.SearchLemmas.{entry_by_full, full_by_entry}
-use Rattle.ordered_table.specs.declared.ordered.Entry.{Entry}
+use Rattle.ordered_table.specs.declared.linked.Entry.{Entry}
 use Rattle.lru_model.specs.Lists.{first as first_bucket, last as last_bucket}
 use Rattle.ordered_table.specs.Chain.{link_to, pair_slots}
 use Rattle.ordered_table.specs.OrderedTable.{bucket_after, bucket_before}

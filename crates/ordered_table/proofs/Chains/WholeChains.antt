@@ -15,7 +15,7 @@ use Rattle.group_table.proofs.RefillLemmas.{entry_at-refilled, entry_at-refilled
 use Rattle.group_table.proofs.SearchLemmas.{full_by_entry}
 use Rattle.group_table.proofs.ChangeLemmas.{entry_count-places, bucket_at-placed_other}
 use Rattle.group_table.proofs.ChangeLemmas.{entry_at-removed, bucket_at-removed_other, entry_count-removes}
-use Rattle.ordered_table.specs.declared.ordered.Entry.{Entry}
+use Rattle.ordered_table.specs.declared.linked.Entry.{Entry}
 use Rattle.ordered_table.specs.declared.ordered.Pair.{Pair}
 use Rattle.ordered_table.specs.OrderedTable.{OrderedTable, IsLinked, without_bucket, with_pair}
 use Rattle.lru_model.specs.Lists.{first as first_bucket}

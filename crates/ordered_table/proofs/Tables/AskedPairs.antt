@@ -7,7 +7,7 @@ use Rattle.std.specs.Fn.{Mut, CalledAt}
 use Rattle.group_table.specs.Bucket.{Slot, empty, deleted, full, bucket_at, has_tag}
 use Rattle.group_table.specs.Probe.{hash_tag, probed}
 use Rattle.group_table.specs.Search.{IsSearch, Answers, Finds, FindsNone}
-use Rattle.ordered_table.specs.declared.ordered.Entry.{Entry}
+use Rattle.ordered_table.specs.declared.linked.Entry.{Entry}
 use Rattle.ordered_table.specs.Chain.{pair_slot, pair_slots}
 use Rattle.lru_model.specs.ByHash.{Asks}
 use Rattle.ordered_table.specs.Searches.{AnswersPair, FindsPair, FindsNoPair}

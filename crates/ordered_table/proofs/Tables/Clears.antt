@@ -6,7 +6,7 @@ use Rattle.group_table.specs.Bucket.{Slot, empty, is_full, IsFull, marks_of}
 use Rattle.group_table.proofs.CopyLemmas.{copy_at}
 use Rattle.group_table.proofs.FreshLemmas.{entry_count-none}
 use Rattle.lru_model.proofs.PairLists.Members.{Contains-nil}
-use Rattle.ordered_table.specs.declared.ordered.Entry.{Entry}
+use Rattle.ordered_table.specs.declared.linked.Entry.{Entry}
 use Rattle.ordered_table.specs.Chain.{pair_slots, IsWhole}
 
 none_full : (T : Type 0) (n b : ℕ) → IsFull {A = T} (replicate n empty) b → ⊥

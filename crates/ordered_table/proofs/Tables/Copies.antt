@@ -12,7 +12,7 @@ use Rattle.group_table.specs.Copies.{IsCopyOf, Copies}
 use Rattle.group_table.specs.Fits.{Fits}
 use Rattle.group_table.proofs.BucketLemmas.{entry_count-marks_of, length-marks_of}
 use Rattle.group_table.proofs.FitsLemmas.{Fits-agree}
-use Rattle.ordered_table.specs.declared.ordered.Entry.{Entry}
+use Rattle.ordered_table.specs.declared.linked.Entry.{Entry}
 use Rattle.lru_model.specs.Clones.{IsPairClone}
 use Rattle.ordered_table.specs.Chain.{pair_slots, newer_at, older_at, along, IsWhole}
 use Rattle.ordered_table.specs.Copies.{IsEntryCopy}

@@ -11,7 +11,7 @@ use Rattle.group_table.specs.Fits.{Fits}
 use Rattle.group_table.specs.Probe.{Reaches}
 use Rattle.group_table.specs.Change.{Removes}
 use Rattle.group_table.proofs.BucketLemmas.{entry_count-marks_of}
-use Rattle.ordered_table.specs.declared.ordered.Entry.{Entry}
+use Rattle.ordered_table.specs.declared.linked.Entry.{Entry}
 use Rattle.ordered_table.specs.declared.ordered.Pair.{Pair}
 use Rattle.ordered_table.specs.Chain.{pair_slot, pair_slots}
 

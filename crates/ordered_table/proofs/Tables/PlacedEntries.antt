@@ -9,7 +9,7 @@ use Rattle.group_table.specs.Table.{Table, IsTable}
 use Rattle.group_table.specs.Change.{Places, MayFill}
 use Rattle.group_table.specs.Fits.{Fits, with_hash}
 use Rattle.group_table.proofs.FirstFree.{fills_within}
-use Rattle.ordered_table.specs.declared.ordered.Entry.{Entry}
+use Rattle.ordered_table.specs.declared.linked.Entry.{Entry}
 use Rattle.ordered_table.specs.OrderedTable.{OrderedTable, IsLinked, KeysFit, Lands}
 use Rattle.ordered_table.specs.Chain.{pair_slots, newer_at, older_at, along, IsChain, IsWhole}
 use Rattle.ordered_table.proofs.Chains.WholeChains.{whole_order, IsWhole-shown, IsLinked-view, placed_absent}

@@ -6,7 +6,7 @@ use Rattle.group_table.specs.Bucket.{Slot, bucket_at, is_full, IsFull, entry_at,
 use Rattle.group_table.specs.Relocation.{Renumbers, KeepsHashes, moved_to}
 use Rattle.group_table.proofs.BucketLemmas.{full_lt, count_by-pos}
 use Rattle.group_table.proofs.SearchLemmas.{full_by_entry}
-use Rattle.ordered_table.specs.declared.ordered.Entry.{Entry}
+use Rattle.ordered_table.specs.declared.linked.Entry.{Entry}
 use Rattle.ordered_table.specs.OrderedTable.{entries_in, hash_in, KeysFit}
 use Rattle.ordered_table.specs.Chain.{pair_slots, IsChain, IsWhole}
 use Rattle.lru_model.proofs.PairLists.Members.{Contains-here, Contains-later}

@@ -4,7 +4,7 @@ use Rattle.group_table.specs.Link.{IsLinkType}
 use Rattle.group_table.specs.Bucket.{Slot, IsFull, marks_of, room, room_at}
 use Rattle.group_table.specs.Change.{Removes}
 use Rattle.group_table.specs.Fits.{Fits}
-use Rattle.ordered_table.specs.declared.ordered.Entry.{Entry}
+use Rattle.ordered_table.specs.declared.linked.Entry.{Entry}
 use Rattle.ordered_table.specs.OrderedTable.{KeysFit, without_bucket}
 use Rattle.ordered_table.specs.Chain.{pair_slots, along, IsChain, IsWhole}
 use Rattle.ordered_table.proofs.Tables.PairSlots.{marks_of-pair_slots, is_full-pair_slots, Removes-pair_slots}

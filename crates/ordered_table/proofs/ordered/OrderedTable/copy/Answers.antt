@@ -1,53 +1,21 @@
-use Rattle.std.proofs.Common.{length, rules, sym, ◌∙◌, subst}
-use Rattle.ordered_table.specs.Chain.{along, IsWhole}
-use Rattle.ordered_table.proofs.Tables.PairSlots.{marks_of-pair_slots}
-use Rattle.ordered_table.proofs.Tables.Copies.{order_same, whole_same, pairs_same, keys_fit}
-use Rattle.ordered_table.proofs.Chains.WholeChains.{IsLinked-view}
+use Rattle.std.proofs.Common.{sym, ap}
+use Rattle.ordered_table.specs.OrderedTable.{in_front}
+use Rattle.ordered_table.proofs.Tables.FrontOrders.{linked_front, front_kept}
 use Rattle.ordered_table.proofs.ordered.OrderedTable.copy.Goals as goal
 
 pub invariant_of-result : goal.invariant_of-result
-invariant_of-result g c =
-    let old = c.self.inside.chain.table.slots in let new = c.in_ok-table.table.slots in let done =
-    c.in_ok-table.ensures in
-    let same = order_same g.K.Clone.is_clone g.V.Clone.is_clone _ _
-    (λ x made r. search rules) old new done.copies g.N.LinkType.number done.marks c.self.inside.chain.newest in
-    subst (λ o. IsWhole g.N.LinkType.number g.N.LinkType.link g.N.LinkType.MAX new c.self.inside.chain.newest
-    c.self.inside.chain.oldest o) (sym same)
-    (whole_same g.K.Clone.is_clone g.V.Clone.is_clone _ _
-    (λ x made r. search rules) old new done.copies g.N.LinkType.number
-    g.N.LinkType.link g.N.LinkType.MAX c.self.inside.chain.newest c.self.inside.chain.oldest done.marks _
-    c.self.invariant)
-
-pub returns-clause-order : goal.returns-clause-order
-returns-clause-order g c =
-    let old = c.self.inside.chain.table.slots in let new = c.in_ok-table.table.slots in let done =
-    c.in_ok-table.ensures in
-    rw (← c.self.view_is)
-    (order_same g.K.Clone.is_clone g.V.Clone.is_clone _ _
-    (λ x made r. search rules) old new done.copies g.N.LinkType.number done.marks c.self.inside.chain.newest)
+invariant_of-result g c = (
+  c.in_ok-copy.ensures.linked,
+  front_kept c.self.inside.linked c.in_ok-copy.field-0 c.self.inside.front c.self.invariant.0
+      c.in_ok-copy.ensures.linked c.in_ok-copy.ensures.order c.self.invariant.1,
+)
 
 pub returns-clause-pairs : goal.returns-clause-pairs
 returns-clause-pairs g c =
-    let old = c.self.inside.chain.table.slots in let new = c.in_ok-table.table.slots in let done =
-    c.in_ok-table.ensures in
-    let order = along g.N.LinkType.number (length old) old c.self.inside.chain.newest in
-    let same = order_same g.K.Clone.is_clone g.V.Clone.is_clone _ _
-    (λ x made r. search rules) old new done.copies g.N.LinkType.number done.marks c.self.inside.chain.newest in
-    let pairs = pairs_same g.K.Clone.is_clone g.V.Clone.is_clone _ _
-    (λ x made r. search rules) old new done.copies order in
-    rw (← c.self.view_is, same) pairs
-
-pub returns-clause-marks : goal.returns-clause-marks
-returns-clause-marks g c =
-    rw (← c.self.view_is) (marks_of-pair_slots c.in_ok-table.table.slots ∙ c.in_ok-table.ensures.marks
-    ∙ sym (marks_of-pair_slots c.self.inside.chain.table.slots))
-
-pub returns-clause-fits : goal.returns-clause-fits
-returns-clause-fits g c = λ hash_of other alike fits.
-    let old = c.self.inside.chain.table.slots in let new = c.in_ok-table.table.slots in let done =
-    c.in_ok-table.ensures in
-    keys_fit g.K.Clone.is_clone g.V.Clone.is_clone _ _
-    (λ x made r. search rules) old new done.copies hash_of other alike done.fits (rw (← c.self.view_is) at fits)
+    rw (← c.self.view_is, c.in_ok-copy.ensures.order)
+    (c.in_ok-copy.ensures.pairs (in_front c.self.inside.front c.self.inside.linked.order))
 
 pub returns-clause-linked : goal.returns-clause-linked
-returns-clause-linked g c = IsLinked-view g.met.N.LinkType.laws (invariant_of-result g c) c.in_ok-table.ensures.table
+returns-clause-linked g c =
+    let full = invariant_of-result g c in
+    linked_front c.in_ok-copy.field-0 c.self.inside.front full.0 full.1

@@ -1,6 +1,8 @@
-use Rattle.ordered_table.proofs.Chains.WholeChains.{IsLinked-view}
+use Rattle.std.proofs.Common.{sym, ◌∙◌}
+use Rattle.ordered_table.proofs.Tables.FrontOrders.{linked_front}
 use Rattle.ordered_table.proofs.ordered.OrderedTable.len.Goals as goal
 
-pub returns-clause-linked : goal.returns-clause-linked
-returns-clause-linked g c = rw (← c.self.view_is)
-    (IsLinked-view g.met.N.LinkType.laws c.self.invariant c.len.ensures.table)
+pub returns : goal.returns
+returns g c =
+    let shown = linked_front c.self.inside.linked c.self.inside.front c.self.invariant.0 c.self.invariant.1 in
+    rw (← c.self.view_is) (record { len = c.len.ensures.len ∙ sym c.self.invariant.0.count ∙ shown.count; linked = shown })

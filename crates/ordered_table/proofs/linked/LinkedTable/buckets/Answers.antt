@@ -1,0 +1,6 @@
+use Rattle.ordered_table.proofs.Chains.WholeChains.{IsLinked-view}
+use Rattle.ordered_table.proofs.linked.LinkedTable.buckets.Goals as goal
+
+pub returns-clause-linked : goal.returns-clause-linked
+returns-clause-linked g c = rw (← c.self.view_is)
+    (IsLinked-view g.met.N.LinkType.laws c.self.invariant c.buckets.ensures.table)

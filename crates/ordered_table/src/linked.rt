@@ -1,0 +1,333 @@
+//! `OrderedTable`. Each entry has links to its newer and its older neighbour, so a promotion or a removal walks nowhere.
+ghost use Rattle.std.specs.Prelude.{◌≡◌, ◌≢◌, ℕ, ◌+◌, ◌<◌, false, [], ◌∷◌, ◌++◌, length, Some, None, IfSome};
+ghost use Rattle.std.specs.Prelude.{IfNone, IsTrue, replicate};
+ghost use Rattle.std.specs.Borrow.{sem};
+ghost use Rattle.group_table.specs.Bucket.{empty, marks_of, IsFull, entry_at, room, room_at};
+ghost use Rattle.group_table.specs.Change.{Removes, no_insertions};
+ghost use Rattle.ordered_table.specs.OrderedTable.{IsLinked, KeysFit, without_bucket, with_pair};
+ghost use Rattle.ordered_table.specs.EntrySize.{entry_size};
+ghost use Rattle.lru_model.specs.ByHash.{Asks};
+ghost use Rattle.ordered_table.specs.Searches.{FindsPair, FindsNoPair};
+ghost use Rattle.lru_model.specs.Lists.{first as first_bucket, last as last_bucket};
+ghost use Rattle.ordered_table.specs.Chain.{pair_slots};
+ghost use Rattle.ordered_table.specs.OrderedTable.{bucket_after, bucket_before};
+
+use crate::linked::chain::{Chain, is_max};
+use crate::ordered::Pair;
+use group_table::{LinkType, Table};
+use lru_limits::LookupKey;
+use std::alloc::Global;
+use std::hash::Hash;
+use std::marker::Model;
+
+mod chain;
+mod copy;
+mod moves;
+mod place;
+
+// A pair with its neighbours in the order; `MAX` at the ends. The key and the value are side by side, and so are the
+// value and the links: a look at a pair and a step of a walk each usually read one line of memory.
+#[derive(Drop)]
+pub(crate) struct Entry<K, V, N> {
+    pair: Pair<K, V>,
+    newer: N,
+    older: N,
+}
+
+// A table of buckets, the full ones of which are in an order that their links keep, newest first. `N` is the type of the
+// links.
+pub(crate) struct LinkedTable<K, V, N: LinkType> {
+    chain: Chain<K, V, N>,
+}
+
+// Not derived, because each crate that drops a table would then prove the drop of each part again.
+impl<K: Drop, V: Drop, N: LinkType> Drop for LinkedTable<K, V, N> {
+    fn drop(self) {
+        let LinkedTable { chain } = self;
+        drop(chain);
+    }
+}
+
+impl<K, V, N: LinkType> Model for LinkedTable<K, V, N> {
+    ghost use Rattle.ordered_table.specs.OrderedTable.{OrderedTable as Seen};
+
+    ghost Value = { Seen K V };
+
+    ghost use Rattle.std.specs.Prelude.{length};
+    ghost use Rattle.ordered_table.specs.Chain.{pair_slots, along, IsWhole};
+
+    ghost view = { λ t. record {
+      slots = pair_slots t.chain.table.slots;
+      order = along N.number (length t.chain.table.slots) t.chain.table.slots t.chain.newest;
+      insertions = t.chain.table.insertions;
+    } };
+
+    ghost invariant = { λ t. IsWhole N.number N.link N.MAX t.chain.table.slots t.chain.newest t.chain.oldest
+        (along N.number (length t.chain.table.slots) t.chain.table.slots t.chain.newest) };
+}
+
+impl<K, V, N: LinkType> LinkedTable<K, V, N> {
+    ghost use Rattle.ordered_table.specs.PairLends.{lends_linked_pair};
+
+    // Makes a table of no buckets, which takes no memory.
+    pub(crate) fn new(alloc: Global) -> Self
+        ensures slots { result.slots ≡ [] }
+        ensures order { result.order ≡ [] }
+        ensures insertions { result.insertions ≡ no_insertions }
+        ensures linked { IsLinked result }
+        ensures fits { (hash_of : K → ℕ) → KeysFit hash_of result.slots }
+    {
+        LinkedTable {
+            chain: Chain {
+                table: Table::new(alloc),
+                newest: N::MAX,
+                oldest: N::MAX,
+            },
+        }
+    }
+
+    // Returns the bytes of an entry: of a pair, and of two links.
+    pub(crate) fn entry_bytes() -> usize
+        ensures { result ≡ entry_size K.row V.row N.row }
+    {
+        Table::<Entry<K, V, N>>::entry_bytes()
+    }
+
+    // Returns the number of pairs.
+    #[inline]
+    pub(crate) fn len(&self) -> usize
+        ensures len { result ≡ length self.now.order }
+        ensures linked { IsLinked self.now }
+    {
+        self.chain.table.len()
+    }
+
+    // Returns the number of buckets.
+    #[inline]
+    pub(crate) fn buckets(&self) -> usize
+        ensures buckets { result ≡ length self.now.slots }
+        ensures linked { IsLinked self.now }
+        ensures reached { length self.now.slots < N.number N.MAX }
+    {
+        self.chain.table.buckets()
+    }
+
+    // Returns how many empty buckets may still be filled.
+    #[inline]
+    pub(crate) fn room(&self) -> usize
+        ensures room { result ≡ room (marks_of self.now.slots) }
+        ensures linked { IsLinked self.now }
+    {
+        self.chain.table.room()
+    }
+
+    // Returns how many pairs were put into the table. A pair that moves is not counted again.
+    #[inline]
+    pub(crate) fn placed(&self) -> u64
+        ensures placed { result ≡ self.now.insertions.placed }
+    {
+        self.chain.table.placed()
+    }
+
+    // Returns the pair in a full bucket.
+    #[inline]
+    pub(crate) fn pair(&self, b: usize) -> &Pair<K, V>
+        requires { IsFull self.now.slots b }
+        ensures pair { entry_at self.now.slots b ≡ Some (result.now.key, result.now.value) }
+    {
+        &self.chain.table.get(b).pair
+    }
+
+    // Returns the bucket of the newest pair, if there is one.
+    #[inline]
+    pub(crate) fn first(&self) -> Option<usize>
+        ensures first { result ≡ first_bucket self.now.order }
+    {
+        bucket_of(self.chain.newest)
+    }
+
+    // Returns the bucket of the newest pair of a table that is not empty.
+    #[inline]
+    pub(crate) fn newest(&self) -> usize
+        requires { 0 < length self.now.order }
+        ensures newest { first_bucket self.now.order ≡ Some result }
+    {
+        self.chain.newest.into_usize()
+    }
+
+    // Returns the bucket of the oldest pair of a table that is not empty.
+    #[inline]
+    pub(crate) fn oldest(&self) -> usize
+        requires { 0 < length self.now.order }
+        ensures oldest { last_bucket self.now.order ≡ Some result }
+    {
+        self.chain.oldest.into_usize()
+    }
+
+    // Returns the bucket of the oldest pair, if there is one.
+    #[inline]
+    pub(crate) fn last(&self) -> Option<usize>
+        ensures last { result ≡ last_bucket self.now.order }
+    {
+        bucket_of(self.chain.oldest)
+    }
+
+    // Returns the bucket after a full one in the order, towards the oldest, if there is one.
+    #[inline]
+    pub(crate) fn older(&self, b: usize) -> Option<usize>
+        requires { IsFull self.now.slots b }
+        ensures older { result ≡ bucket_after b self.now.order }
+    {
+        bucket_of(self.chain.table.get(b).older)
+    }
+
+    // Returns the bucket before a full one in the order, towards the newest, if there is one.
+    #[inline]
+    pub(crate) fn newer(&self, b: usize) -> Option<usize>
+        requires { IsFull self.now.slots b }
+        ensures newer { result ≡ bucket_before b self.now.order }
+    {
+        bucket_of(self.chain.table.get(b).newer)
+    }
+
+    // Lends the pair in a full bucket for writing. The keys fit the table if the written key has the same hash.
+    #[inline]
+    pub(crate) fn pair_mut(&mut self, b: usize) -> &mut Pair<K, V>
+        requires { IsFull self.old.slots b }
+        ensures* writes_back { sem 𝓛
+            (lends_linked_pair K.row V.row N.row N.LinkType self.entry b result) }
+        ensures pair { entry_at self.old.slots b ≡ Some (result.now.key, result.now.value) }
+        ensures fits { (hash_of : K → ℕ) → KeysFit hash_of self.old.slots →
+            (last : K × V) → hash_of last.0 ≡ hash_of result.now.key
+            → KeysFit hash_of (with_pair self.old b last).slots }
+        ensures linked { (last : K × V) → IsLinked (with_pair self.old b last) }
+    {
+        &mut self.chain.table.get_mut(b).pair
+    }
+
+    // Returns the bucket of the first pair that `f` accepts, of those with the tag of the hash, its top 7 bits.
+    //
+    // `f` is called with each pair at most once, and no more after it accepted one.
+    //
+    // Cost: `O(1)` expected.
+    pub(crate) fn find_by<F: FnMut(&K, &V) -> bool>(&self, hash: u64, mut f: F) -> Option<usize>
+        requires { F.IsAlwaysCallable f }
+        ensures found { IfSome result (FindsPair F.FnMut self.now.slots hash f) }
+        ensures full { IfSome result (IsFull self.now.slots) }
+        ensures none { IfNone result (FindsNoPair F.FnMut self.now.slots hash f) }
+    {
+        self.chain.table.find(
+            hash,
+            move |entry: &Entry<K, V, N>| -> bool
+                requires { F.IsAlwaysCallable f }
+                ensures { Asks F.FnMut f.entry (entry.now.pair.key, entry.now.pair.value) result f.exit }
+            { f(&entry.pair.key, &entry.pair.value) },
+        )
+    }
+
+    // Makes the pair in a full bucket the newest.
+    //
+    // Cost: `O(1)`.
+    pub(crate) fn promote(&mut self, b: usize)
+        requires { IsFull self.old.slots b }
+        ensures slots { self.new.slots ≡ self.old.slots }
+        ensures order { self.new.order ≡ b ∷ without_bucket b self.old.order }
+        ensures insertions { self.new.insertions ≡ self.old.insertions }
+        ensures linked { IsLinked self.new }
+    {
+        let newer = self.chain.table.get(b).newer;
+        if !self.chain.leads(newer) {
+            return;
+        }
+        self.chain.unlink(b);
+        self.chain.link_newest(b);
+    }
+
+    // Makes the pair in a full bucket the oldest.
+    //
+    // Cost: `O(1)`.
+    pub(crate) fn demote(&mut self, b: usize)
+        requires { IsFull self.old.slots b }
+        ensures slots { self.new.slots ≡ self.old.slots }
+        ensures order { self.new.order ≡ without_bucket b self.old.order ++ b ∷ [] }
+        ensures insertions { self.new.insertions ≡ self.old.insertions }
+        ensures linked { IsLinked self.new }
+    {
+        let older = self.chain.table.get(b).older;
+        if !self.chain.leads(older) {
+            return;
+        }
+        self.chain.unlink(b);
+        self.chain.link_oldest(b);
+    }
+
+    // Takes the pair out of a full bucket. If that is known to be the oldest (`last`), its older link is not read.
+    //
+    // Cost: `O(1)`.
+    #[inline(always)]
+    pub(crate) fn take(&mut self, b: usize, last: bool) -> (K, V)
+        requires full { IsFull self.old.slots b }
+        requires last { IsTrue last → last_bucket self.old.order ≡ Some b }
+        ensures pair { entry_at self.old.slots b ≡ Some result }
+        ensures removed { Removes self.old.slots self.new.slots b }
+        ensures order { self.new.order ≡ without_bucket b self.old.order }
+        ensures insertions { self.new.insertions ≡ self.old.insertions }
+        ensures room { room (marks_of self.new.slots) ≡ room (marks_of self.old.slots)
+            + room_at (marks_of self.new.slots) b }
+        ensures fits { (hash_of : K → ℕ) → KeysFit hash_of self.old.slots → KeysFit hash_of self.new.slots }
+        ensures linked { IsLinked self.new }
+    {
+        let Entry { newer, older, pair } = self.chain.table.take(b);
+        self.chain.close_gap(newer, older, last);
+        (pair.key, pair.value)
+    }
+}
+
+impl<K: Drop, V: Drop, N: LinkType> LinkedTable<K, V, N> {
+    // Drops all pairs. The buckets stay, and are empty.
+    //
+    // Cost: `O(buckets)`.
+    pub(crate) fn clear(&mut self)
+        ensures slots { self.new.slots ≡ replicate (length self.old.slots) empty }
+        ensures order { self.new.order ≡ [] }
+        ensures insertions { self.new.insertions ≡ self.old.insertions }
+        ensures fits { (hash_of : K → ℕ) → KeysFit hash_of self.new.slots }
+        ensures linked { IsLinked self.new }
+    {
+        self.chain.table.clear();
+        self.chain.newest = N::MAX;
+        self.chain.oldest = N::MAX;
+    }
+}
+
+impl<K: Eq + Hash, V, N: LinkType> LinkedTable<K, V, N> {
+    // Returns the bucket of the key that `key` names, which has this hash.
+    //
+    // Cost: `O(1)` expected.
+    #[inline]
+    pub(crate) fn find<Q: LookupKey<K>>(&self, hash: u64, key: &Q) -> Option<usize>
+        ensures found { IfSome result (λ b. (pair : K × V) × (entry_at self.now.slots b ≡ Some pair)
+            × IsTrue (Q.names key.now pair.0)) }
+        ensures full { IfSome result (IsFull self.now.slots) }
+        ensures none { IfNone result ((hash_of : K → ℕ) → KeysFit hash_of self.now.slots →
+            (b : ℕ) (pair : K × V) → entry_at self.now.slots b ≡ Some pair → hash_of pair.0 ≡ hash
+            → Q.names key.now pair.0 ≡ false) }
+    {
+        self.chain
+            .table
+            .find(hash, |entry| key.is_key(&entry.pair.key))
+    }
+}
+
+// The bucket that a link leads to.
+#[inline]
+fn bucket_of<N: LinkType>(link: N) -> Option<usize>
+    ensures none { IfNone result (link ≡ N.MAX) }
+    ensures some { IfSome result (λ b. (link ≢ N.MAX) × (b ≡ N.number link)) }
+{
+    if is_max(link) {
+        None
+    } else {
+        Some(link.into_usize())
+    }
+}

@@ -1,0 +1,66 @@
+//! Putting a pair into an `LinkedTable`, as the newest.
+ghost use Rattle.std.specs.Prelude.{◌≡◌, ℕ, ◌<◌, OnOk, OnErr, IfErr};
+ghost use Rattle.group_table.specs.Bucket.{marks_of, room};
+ghost use Rattle.group_table.specs.Change.{HasNoPlace};
+ghost use Rattle.ordered_table.specs.OrderedTable.{IsLinked, KeysFit, Lands};
+
+use crate::linked::{Entry, LinkedTable};
+use crate::ordered::Pair;
+use group_table::LinkType;
+
+impl<K, V, N: LinkType> LinkedTable<K, V, N> {
+    // Puts a pair whose key has this hash into the first free bucket of a table with growth left, as the newest.
+    //
+    // Cost: `O(1)` expected.
+    #[inline(always)]
+    pub(crate) fn place(&mut self, hash: u64, pair: (K, V))
+        requires { 0 < room (marks_of self.old.slots) }
+        ensures placed { (b : ℕ) × Lands self.old self.new hash pair b }
+        ensures fits { (hash_of : K → ℕ) → KeysFit hash_of self.old.slots → hash_of pair.0 ≡ hash
+            → KeysFit hash_of self.new.slots }
+        ensures linked { IsLinked self.new }
+    {
+        let first = self.chain.newest;
+        let b = self.chain.table.place(hash, newest_entry(pair, first));
+        self.chain.link_placed(b, first);
+    }
+
+    // The same for any table.
+    //
+    // # Errors
+    //
+    // No bucket may take the pair, which is returned. Nothing has changed then.
+    pub(crate) fn try_place(&mut self, hash: u64, pair: (K, V)) -> Result<(), (K, V)>
+        ensures placed { OnOk result ((b : ℕ) × Lands self.old self.new hash pair b) }
+        ensures fits { OnOk result ((hash_of : K → ℕ) → KeysFit hash_of self.old.slots → hash_of pair.0 ≡ hash
+            → KeysFit hash_of self.new.slots) }
+        ensures linked { IsLinked self.new }
+        ensures returned { IfErr result (λ back. back ≡ pair) }
+        ensures unchanged { OnErr result (self.new ≡ self.old) }
+        ensures no_place { OnErr result (HasNoPlace (marks_of self.old.slots) hash) }
+    {
+        let first = self.chain.newest;
+        match self.chain.table.try_place(hash, newest_entry(pair, first)) {
+            Ok(b) => {
+                self.chain.link_placed(b, first);
+                Ok(())
+            }
+            Err(entry) => Err((entry.pair.key, entry.pair.value)),
+        }
+    }
+}
+
+// The entry of a pair that is newer than `first`, which has been the newest.
+#[inline]
+fn newest_entry<K, V, N: LinkType>(pair: (K, V), first: N) -> Entry<K, V, N>
+    ensures pair { (result.pair.key, result.pair.value) ≡ pair }
+    ensures newer { result.newer ≡ N.MAX }
+    ensures older { result.older ≡ first }
+{
+    let (key, value) = pair;
+    Entry {
+        newer: N::MAX,
+        older: first,
+        pair: Pair { key, value },
+    }
+}

@@ -1,0 +1,181 @@
+//! The calls that change the order of an `OrderedTable`, or its buckets. Each carries out a promotion that waits.
+ghost use Rattle.std.specs.Prelude.{◌≡◌, ℕ, ◌+◌, ◌^◌, ◌<◌, ◌≤◌, [], ◌∷◌, ◌++◌, length, Some, IsTrue, replicate};
+ghost use Rattle.std.specs.Prelude.{IfOk, IfErr, OnOk, OnErr, IsOk};
+ghost use Rattle.std.specs.List.{AllZip};
+ghost use Rattle.group_table.specs.Sizes.{IsBucketCount, full_capacity};
+ghost use Rattle.group_table.specs.Bucket.{empty, marks_of, IsFull, entry_at, entry_count, room, room_at};
+ghost use Rattle.group_table.specs.Change.{Removes, HasNoPlace, some_moved};
+ghost use Rattle.lru_model.specs.Clones.{IsPairClone};
+ghost use Rattle.lru_model.specs.Lists.{last as last_bucket};
+ghost use Rattle.ordered_table.specs.OrderedTable.{IsLinked, KeysFit, Lands, pairs_of, without_bucket};
+
+use crate::ordered::OrderedTable;
+use crate::ordered::front::settle;
+use group_table::LinkType;
+use lru_limits::KeyHasher;
+use std::alloc::AllocError;
+use std::hash::Hash;
+
+impl<K, V, N: LinkType> OrderedTable<K, V, N> {
+    /// Puts a pair whose key has this hash into the first free bucket of a table with growth left, as the newest.
+    ///
+    /// Cost: `O(1)` expected.
+    #[inline(always)]
+    pub fn place(&mut self, hash: u64, pair: (K, V))
+        requires { 0 < room (marks_of self.old.slots) }
+        ensures placed { (b : ℕ) × Lands self.old self.new hash pair b }
+        ensures fits { (hash_of : K → ℕ) → KeysFit hash_of self.old.slots → hash_of pair.0 ≡ hash
+            → KeysFit hash_of self.new.slots }
+        ensures linked { IsLinked self.new }
+    {
+        settle(&mut self.linked, self.front);
+        self.front = None;
+        self.linked.place(hash, pair);
+    }
+
+    /// The same for any table.
+    ///
+    /// # Errors
+    ///
+    /// No bucket may take the pair, which is returned. Nothing has changed then.
+    pub fn try_place(&mut self, hash: u64, pair: (K, V)) -> Result<(), (K, V)>
+        ensures placed { OnOk result ((b : ℕ) × Lands self.old self.new hash pair b) }
+        ensures fits { OnOk result ((hash_of : K → ℕ) → KeysFit hash_of self.old.slots → hash_of pair.0 ≡ hash
+            → KeysFit hash_of self.new.slots) }
+        ensures linked { IsLinked self.new }
+        ensures returned { IfErr result (λ back. back ≡ pair) }
+        ensures unchanged { OnErr result (self.new ≡ self.old) }
+        ensures no_place { OnErr result (HasNoPlace (marks_of self.old.slots) hash) }
+    {
+        settle(&mut self.linked, self.front);
+        self.front = None;
+        self.linked.try_place(hash, pair)
+    }
+
+    /// Makes the pair in a full bucket the newest.
+    ///
+    /// Cost: `O(1)`.
+    pub fn promote(&mut self, b: usize)
+        requires { IsFull self.old.slots b }
+        ensures slots { self.new.slots ≡ self.old.slots }
+        ensures order { self.new.order ≡ b ∷ without_bucket b self.old.order }
+        ensures insertions { self.new.insertions ≡ self.old.insertions }
+        ensures linked { IsLinked self.new }
+    {
+        settle(&mut self.linked, self.front);
+        self.front = Some(b);
+    }
+
+    /// Makes the pair in a full bucket the oldest.
+    ///
+    /// Cost: `O(1)`.
+    pub fn demote(&mut self, b: usize)
+        requires { IsFull self.old.slots b }
+        ensures slots { self.new.slots ≡ self.old.slots }
+        ensures order { self.new.order ≡ without_bucket b self.old.order ++ b ∷ [] }
+        ensures insertions { self.new.insertions ≡ self.old.insertions }
+        ensures linked { IsLinked self.new }
+    {
+        settle(&mut self.linked, self.front);
+        self.front = None;
+        self.linked.demote(b);
+    }
+
+    /// Takes the pair out of a full bucket. If that is known to be the oldest (`last`), its older link is not read.
+    ///
+    /// Cost: `O(1)`.
+    #[inline(always)]
+    pub fn take(&mut self, b: usize, last: bool) -> (K, V)
+        requires full { IsFull self.old.slots b }
+        requires last { IsTrue last → last_bucket self.old.order ≡ Some b }
+        ensures pair { entry_at self.old.slots b ≡ Some result }
+        ensures removed { Removes self.old.slots self.new.slots b }
+        ensures order { self.new.order ≡ without_bucket b self.old.order }
+        ensures insertions { self.new.insertions ≡ self.old.insertions }
+        ensures room { room (marks_of self.new.slots) ≡ room (marks_of self.old.slots)
+            + room_at (marks_of self.new.slots) b }
+        ensures fits { (hash_of : K → ℕ) → KeysFit hash_of self.old.slots → KeysFit hash_of self.new.slots }
+        ensures linked { IsLinked self.new }
+    {
+        settle(&mut self.linked, self.front);
+        self.front = None;
+        self.linked.take(b, last)
+    }
+}
+
+impl<K: Drop, V: Drop, N: LinkType> OrderedTable<K, V, N> {
+    /// Drops all pairs. The buckets stay, and are empty.
+    ///
+    /// Cost: `O(buckets)`.
+    pub fn clear(&mut self)
+        ensures slots { self.new.slots ≡ replicate (length self.old.slots) empty }
+        ensures order { self.new.order ≡ [] }
+        ensures insertions { self.new.insertions ≡ self.old.insertions }
+        ensures fits { (hash_of : K → ℕ) → KeysFit hash_of self.new.slots }
+        ensures linked { IsLinked self.new }
+    {
+        self.front = None;
+        self.linked.clear();
+    }
+}
+
+impl<K: Eq + Hash, V, N: LinkType> OrderedTable<K, V, N> {
+    /// Moves all pairs into a table of `buckets` buckets, in the same order. If the number of buckets stays, so does the
+    /// table.
+    ///
+    /// Cost: `O(buckets)` of both tables, and a hash for each pair.
+    ///
+    /// # Errors
+    ///
+    /// Out of memory; never for no buckets, nor for a table without pairs that keeps its number of buckets. Nothing has
+    /// changed then.
+    pub fn move_to<S: KeyHasher<K>>(&mut self, buckets: usize, hasher: &S) -> Result<(), AllocError>
+        requires count { IsBucketCount buckets }
+        requires addressable { buckets + 16 < 2 ^ 63 }
+        requires below { buckets < N.number N.MAX }
+        requires within { entry_count self.old.slots ≤ full_capacity buckets }
+        ensures buckets { OnOk result (length self.new.slots ≡ buckets) }
+        ensures pairs { pairs_of self.new ≡ pairs_of self.old }
+        ensures room { OnOk result (room (marks_of self.new.slots) + length self.old.order ≡ full_capacity buckets) }
+        ensures insertions { OnOk result (
+            self.new.insertions ≡ some_moved self.old.insertions (length self.old.order)) }
+        ensures fits { OnOk result (KeysFit (S.hash_of hasher.now) self.new.slots) }
+        ensures linked { IsLinked self.new }
+        ensures unchanged { OnErr result (self.new ≡ self.old) }
+        ensures succeeds { length self.old.order ≡ 0 → length self.old.slots ≡ buckets → IsOk result }
+        ensures gives_back { buckets ≡ 0 → IsOk result }
+    {
+        settle(&mut self.linked, self.front);
+        self.front = None;
+        self.linked.move_to(buckets, hasher)
+    }
+}
+
+impl<K: Drop, V: Drop, N: LinkType> OrderedTable<K, V, N> {
+    /// Clones the pairs, into buckets of the same numbers and in the same order. The links are copied with the entries.
+    ///
+    /// Cost: `O(buckets)`, and a clone of each key and value.
+    ///
+    /// # Errors
+    ///
+    /// Out of memory; never for no buckets.
+    pub fn copy(&self) -> Result<Self, AllocError>
+    where
+        K: Clone,
+        V: Clone,
+        ensures pairs { IfOk result (λ t. AllZip (IsPairClone K.is_clone V.is_clone) (pairs_of self.now) (pairs_of t)) }
+        ensures order { IfOk result (λ t. t.order ≡ self.now.order) }
+        ensures marks { IfOk result (λ t. marks_of t.slots ≡ marks_of self.now.slots) }
+        ensures insertions { IfOk result (λ t. t.insertions ≡ self.now.insertions) }
+        ensures fits { IfOk result (λ t. (hash_of other : K → ℕ)
+            → ((key copy : K) → K.is_clone key copy → other copy ≡ hash_of key) →
+            KeysFit hash_of self.now.slots → KeysFit other t.slots) }
+        ensures linked { IfOk result IsLinked }
+        ensures succeeds { length self.now.slots ≡ 0 → IsOk result }
+    {
+        Ok(OrderedTable {
+            linked: self.linked.copy()?,
+            front: self.front,
+        })
+    }
+}
