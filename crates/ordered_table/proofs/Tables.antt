@@ -12,4 +12,4 @@ pub mod WalkRests
 pub mod ByHash
 pub mod Copies
 pub mod Places
-pub mod FrontOrders
+pub mod PromotedOrders

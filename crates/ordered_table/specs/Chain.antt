@@ -1,7 +1,7 @@
 -- How links keep an order of buckets: each entry contains the numbers of its two neighbours. No public clause cites
 -- this module.
-use Rattle.std.specs.Prelude.{◌≡◌, ◌≢◌, ◌⊎◌, ℕ, zero, suc, ◌<◌, slice_index_or, List, [], ◌∷◌, length, map, nat_eq}
-use Rattle.std.specs.Prelude.{if◌then◌else◌, Option, Some, None, option_map, unwrap_or, Contains, AllPairs}
+use Rattle.std.specs.Prelude.{◌≡◌, ◌≢◌, ◌⊎◌, ℕ, zero, suc, ◌<◌, slice_index_or, List, [], ◌∷◌, length, map}
+use Rattle.std.specs.Prelude.{Option, Some, None, option_map, unwrap_or, Contains, AllPairs}
 use Rattle.group_table.specs.Bucket.{empty, deleted, full, Slot, IsFull, bucket_at, entry_at, entry_count}
 use Rattle.group_table.specs.Relocation.{Renumbers}
 use Rattle.lru_model.specs.Lists.{first, last}

@@ -1,4 +1,5 @@
-//! `OrderedTable`. Each entry has links to its newer and its older neighbour, so a promotion or a removal walks nowhere.
+//! `LinkedTable`: a table whose entries have links to their newer and older neighbours, so a promotion or a removal walks
+//! nowhere.
 ghost use Rattle.std.specs.Prelude.{◌≡◌, ◌≢◌, ℕ, ◌+◌, ◌<◌, false, [], ◌∷◌, ◌++◌, length, Some, None, IfSome};
 ghost use Rattle.std.specs.Prelude.{IfNone, IsTrue, replicate};
 ghost use Rattle.std.specs.Borrow.{sem};
@@ -34,8 +35,7 @@ pub(crate) struct Entry<K, V, N> {
     older: N,
 }
 
-// A table of buckets, the full ones of which are in an order that their links keep, newest first. `N` is the type of the
-// links.
+// A table of buckets, the full ones of which are in the order that their links show, newest first.
 pub(crate) struct LinkedTable<K, V, N: LinkType> {
     chain: Chain<K, V, N>,
 }

@@ -1,4 +1,4 @@
-//! `OrderedTable`: a table whose entries are in an order. Its last promotion waits for the next call.
+//! `OrderedTable`: a table whose entries are in an order. Its links show the last promotion one call later.
 ghost use Rattle.std.specs.Prelude.{◌≡◌, ℕ, ◌+◌, ◌<◌, false, [], ◌∷◌, ◌++◌, length, Some, IfSome, IfNone, IsTrue};
 ghost use Rattle.std.specs.Prelude.{replicate};
 ghost use Rattle.std.specs.Borrow.{sem};
@@ -19,8 +19,8 @@ use std::marker::Model;
 
 mod changes;
 mod equal;
-mod front;
 mod index;
+mod promoted;
 
 /// A key and a value of a table.
 #[derive(Drop)]
@@ -47,16 +47,19 @@ pub struct Pair<K, V> {
 /// ```
 pub struct OrderedTable<K, V, N: LinkType> {
     linked: LinkedTable<K, V, N>,
-    // The bucket that was promoted last, while its links still show its old place. To promote it writes to its
-    // neighbours, whose numbers come with its entry; a processor may let no later load pass such a write before it knows
-    // the address. So the links change in the next call that changes the order: the entry has arrived by then.
-    front: Option<usize>,
+    // The bucket of the last promotion, as long as its links show where it was before. The next call that changes the
+    // order changes them. A promotion writes to the neighbours of the bucket, and some processors let no read pass a
+    // write whose address is still to come from memory. By the next call the address is there.
+    promoted: Option<usize>,
 }
 
 // Not derived, because each crate that drops a table would then prove the drop of each part again.
 impl<K: Drop, V: Drop, N: LinkType> Drop for OrderedTable<K, V, N> {
     fn drop(self) {
-        let OrderedTable { linked, front: _ } = self;
+        let OrderedTable {
+            linked,
+            promoted: _,
+        } = self;
         drop(linked);
     }
 }
@@ -68,9 +71,9 @@ impl<K, V, N: LinkType> Model for OrderedTable<K, V, N> {
 
     ghost Value = { Seen K V };
 
-    ghost view = { λ t. record t.linked { order = in_front t.front t.linked.order } };
+    ghost view = { λ t. record t.linked { order = in_front t.promoted t.linked.order } };
 
-    ghost invariant = { λ t. IsLinked t.linked × IfSome t.front (IsFull t.linked.slots) };
+    ghost invariant = { λ t. IsLinked t.linked × IfSome t.promoted (IsFull t.linked.slots) };
 }
 
 impl<K, V, N: LinkType> OrderedTable<K, V, N> {
@@ -86,7 +89,7 @@ impl<K, V, N: LinkType> OrderedTable<K, V, N> {
     {
         OrderedTable {
             linked: LinkedTable::new(alloc),
-            front: None,
+            promoted: None,
         }
     }
 
@@ -147,7 +150,7 @@ impl<K, V, N: LinkType> OrderedTable<K, V, N> {
     pub fn first(&self) -> Option<usize>
         ensures first { result ≡ first_bucket self.now.order }
     {
-        front::first(&self.linked, self.front)
+        promoted::first(&self.linked, self.promoted)
     }
 
     /// Returns the bucket of the newest pair of a table that is not empty.
@@ -156,7 +159,7 @@ impl<K, V, N: LinkType> OrderedTable<K, V, N> {
         requires { 0 < length self.now.order }
         ensures newest { first_bucket self.now.order ≡ Some result }
     {
-        front::newest(&self.linked, self.front)
+        promoted::newest(&self.linked, self.promoted)
     }
 
     /// Returns the bucket of the oldest pair of a table that is not empty.
@@ -165,7 +168,7 @@ impl<K, V, N: LinkType> OrderedTable<K, V, N> {
         requires { 0 < length self.now.order }
         ensures oldest { last_bucket self.now.order ≡ Some result }
     {
-        front::oldest(&self.linked, self.front)
+        promoted::oldest(&self.linked, self.promoted)
     }
 
     /// Returns the bucket of the oldest pair, if there is one.
@@ -173,7 +176,7 @@ impl<K, V, N: LinkType> OrderedTable<K, V, N> {
     pub fn last(&self) -> Option<usize>
         ensures last { result ≡ last_bucket self.now.order }
     {
-        front::last(&self.linked, self.front)
+        promoted::last(&self.linked, self.promoted)
     }
 
     /// Returns the bucket after a full one in the order, towards the oldest, if there is one.
@@ -182,7 +185,7 @@ impl<K, V, N: LinkType> OrderedTable<K, V, N> {
         requires { IsFull self.now.slots b }
         ensures older { result ≡ bucket_after b self.now.order }
     {
-        front::older(&self.linked, self.front, b)
+        promoted::older(&self.linked, self.promoted, b)
     }
 
     /// Returns the bucket before a full one in the order, towards the newest, if there is one.
@@ -191,7 +194,7 @@ impl<K, V, N: LinkType> OrderedTable<K, V, N> {
         requires { IsFull self.now.slots b }
         ensures newer { result ≡ bucket_before b self.now.order }
     {
-        front::newer(&self.linked, self.front, b)
+        promoted::newer(&self.linked, self.promoted, b)
     }
 
     /// Lends the pair in a full bucket for writing. The keys fit the table if the written key has the same hash.

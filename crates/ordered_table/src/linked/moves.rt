@@ -1,4 +1,4 @@
-//! Moving all pairs of an `LinkedTable` into a table of another size.
+//! Moving all pairs of a `LinkedTable` into a table of another size.
 ghost use Rattle.std.specs.Prelude.{◌≡◌, ◌+◌, ◌^◌, ◌<◌, ◌≤◌, length};
 ghost use Rattle.std.specs.Prelude.{IfOk, OnOk, OnErr, IsOk};
 ghost use Rattle.group_table.specs.Sizes.{IsBucketCount, full_capacity};

@@ -1,4 +1,4 @@
-//! Putting a pair into an `LinkedTable`, as the newest.
+//! Putting a pair into a `LinkedTable`, as the newest.
 ghost use Rattle.std.specs.Prelude.{◌≡◌, ℕ, ◌<◌, OnOk, OnErr, IfErr};
 ghost use Rattle.group_table.specs.Bucket.{marks_of, room};
 ghost use Rattle.group_table.specs.Change.{HasNoPlace};

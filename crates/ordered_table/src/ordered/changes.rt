@@ -1,4 +1,5 @@
-//! The calls that change the order of an `OrderedTable`, or its buckets. Each carries out a promotion that waits.
+//! The calls that change the order of an `OrderedTable`, or its buckets. Each first lets the links show the last
+//! promotion.
 ghost use Rattle.std.specs.Prelude.{◌≡◌, ℕ, ◌+◌, ◌^◌, ◌<◌, ◌≤◌, [], ◌∷◌, ◌++◌, length, Some, IsTrue, replicate};
 ghost use Rattle.std.specs.Prelude.{IfOk, IfErr, OnOk, OnErr, IsOk};
 ghost use Rattle.std.specs.List.{AllZip};
@@ -10,7 +11,7 @@ ghost use Rattle.lru_model.specs.Lists.{last as last_bucket};
 ghost use Rattle.ordered_table.specs.OrderedTable.{IsLinked, KeysFit, Lands, pairs_of, without_bucket};
 
 use crate::ordered::OrderedTable;
-use crate::ordered::front::settle;
+use crate::ordered::promoted::settle;
 use group_table::LinkType;
 use lru_limits::KeyHasher;
 use std::alloc::AllocError;
@@ -28,8 +29,8 @@ impl<K, V, N: LinkType> OrderedTable<K, V, N> {
             → KeysFit hash_of self.new.slots }
         ensures linked { IsLinked self.new }
     {
-        settle(&mut self.linked, self.front);
-        self.front = None;
+        settle(&mut self.linked, self.promoted);
+        self.promoted = None;
         self.linked.place(hash, pair);
     }
 
@@ -47,8 +48,8 @@ impl<K, V, N: LinkType> OrderedTable<K, V, N> {
         ensures unchanged { OnErr result (self.new ≡ self.old) }
         ensures no_place { OnErr result (HasNoPlace (marks_of self.old.slots) hash) }
     {
-        settle(&mut self.linked, self.front);
-        self.front = None;
+        settle(&mut self.linked, self.promoted);
+        self.promoted = None;
         self.linked.try_place(hash, pair)
     }
 
@@ -62,8 +63,8 @@ impl<K, V, N: LinkType> OrderedTable<K, V, N> {
         ensures insertions { self.new.insertions ≡ self.old.insertions }
         ensures linked { IsLinked self.new }
     {
-        settle(&mut self.linked, self.front);
-        self.front = Some(b);
+        settle(&mut self.linked, self.promoted);
+        self.promoted = Some(b);
     }
 
     /// Makes the pair in a full bucket the oldest.
@@ -76,8 +77,8 @@ impl<K, V, N: LinkType> OrderedTable<K, V, N> {
         ensures insertions { self.new.insertions ≡ self.old.insertions }
         ensures linked { IsLinked self.new }
     {
-        settle(&mut self.linked, self.front);
-        self.front = None;
+        settle(&mut self.linked, self.promoted);
+        self.promoted = None;
         self.linked.demote(b);
     }
 
@@ -97,8 +98,8 @@ impl<K, V, N: LinkType> OrderedTable<K, V, N> {
         ensures fits { (hash_of : K → ℕ) → KeysFit hash_of self.old.slots → KeysFit hash_of self.new.slots }
         ensures linked { IsLinked self.new }
     {
-        settle(&mut self.linked, self.front);
-        self.front = None;
+        settle(&mut self.linked, self.promoted);
+        self.promoted = None;
         self.linked.take(b, last)
     }
 }
@@ -114,7 +115,7 @@ impl<K: Drop, V: Drop, N: LinkType> OrderedTable<K, V, N> {
         ensures fits { (hash_of : K → ℕ) → KeysFit hash_of self.new.slots }
         ensures linked { IsLinked self.new }
     {
-        self.front = None;
+        self.promoted = None;
         self.linked.clear();
     }
 }
@@ -145,8 +146,8 @@ impl<K: Eq + Hash, V, N: LinkType> OrderedTable<K, V, N> {
         ensures succeeds { length self.old.order ≡ 0 → length self.old.slots ≡ buckets → IsOk result }
         ensures gives_back { buckets ≡ 0 → IsOk result }
     {
-        settle(&mut self.linked, self.front);
-        self.front = None;
+        settle(&mut self.linked, self.promoted);
+        self.promoted = None;
         self.linked.move_to(buckets, hasher)
     }
 }
@@ -175,7 +176,7 @@ impl<K: Drop, V: Drop, N: LinkType> OrderedTable<K, V, N> {
     {
         Ok(OrderedTable {
             linked: self.linked.copy()?,
-            front: self.front,
+            promoted: self.promoted,
         })
     }
 }

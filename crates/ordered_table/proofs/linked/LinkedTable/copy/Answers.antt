@@ -1,4 +1,4 @@
-use Rattle.std.proofs.Common.{length, rules, sym, ◌∙◌, subst}
+use Rattle.std.proofs.Common.{rules, sym, ◌∙◌, subst}
 use Rattle.ordered_table.specs.Chain.{IsWhole}
 use Rattle.ordered_table.proofs.Tables.PairSlots.{marks_of-pair_slots}
 use Rattle.ordered_table.proofs.Tables.Copies.{order_same, whole_same, pairs_same, keys_fit}

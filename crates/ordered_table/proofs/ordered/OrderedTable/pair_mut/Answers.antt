@@ -1,6 +1,6 @@
 use Rattle.std.proofs.Common.{refl}
 use Rattle.ordered_table.specs.OrderedTable.{with_pair}
-use Rattle.ordered_table.proofs.Tables.FrontOrders.{linked_front, front_kept}
+use Rattle.ordered_table.proofs.Tables.PromotedOrders.{linked_promoted, promoted_kept}
 use Rattle.ordered_table.proofs.ordered.OrderedTable.pair_mut.Goals as goal
 
 pub returns : goal.returns
@@ -11,8 +11,8 @@ returns g c = (
     pair = rw (← c.self.view_is) c.pair_mut.ensures.pair;
     fits = rw (← c.self.view_is) c.pair_mut.ensures.fits;
     linked = λ last. rw (← c.self.view_is)
-        (linked_front (with_pair c.self.inside.linked c.args.b last) c.self.inside.front (c.pair_mut.ensures.linked last)
-        (front_kept c.self.inside.linked (with_pair c.self.inside.linked c.args.b last) c.self.inside.front
+        (linked_promoted (with_pair c.self.inside.linked c.args.b last) c.self.inside.promoted (c.pair_mut.ensures.linked last)
+        (promoted_kept c.self.inside.linked (with_pair c.self.inside.linked c.args.b last) c.self.inside.promoted
         c.self.invariant.0 (c.pair_mut.ensures.linked last) refl c.self.invariant.1));
   },
 )

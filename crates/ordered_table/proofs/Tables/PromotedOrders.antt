@@ -1,5 +1,5 @@
 -- The neighbours and the ends of an order in which one bucket was put in front.
-use Rattle.std.proofs.Common.{◌≡◌, ◌≢◌, ◌⊎◌, ℕ, zero, suc, List, [], ◌∷◌, length, slice_get, Option, Some, None}
+use Rattle.std.proofs.Common.{◌≡◌, ◌≢◌, ◌⊎◌, ℕ, zero, suc, List, [], ◌∷◌, slice_get, Option, Some, None}
 use Rattle.std.proofs.Common.{inl, inr, refl, sym, ap, ◌∙◌, subst, arith}
 use Rattle.std.specs.Prelude.{Contains, AllPairs, IfSome, unwrap_or}
 use Rattle.std.specs.Option.{option_or}
@@ -10,7 +10,7 @@ use Rattle.lru_model.specs.Lists.{first as first_bucket, last as last_bucket, la
 use Rattle.lru_model.proofs.PairLists.Members.{Contains-cases, Contains-here, Contains-later, Contains-nil}
 use Rattle.ordered_table.specs.OrderedTable.{OrderedTable, IsLinked, in_front, without_bucket, bucket_after, bucket_before}
 use Rattle.ordered_table.proofs.Chains.Orders.{distinct_cons, distinct_without, in_without, without_in, length-without}
-use Rattle.ordered_table.proofs.Chains.Orders.{after-last, no_first}
+use Rattle.ordered_table.proofs.Chains.Orders.{after-last}
 use Rattle.ordered_table.proofs.Chains.Neighbours.{before-next, before-stays, after-previous, after-stays}
 use Rattle.ordered_table.proofs.Chains.Neighbours.{first-left, first-left_stays, last-left, last-left_stays}
 use Rattle.ordered_table.proofs.Chains.Neighbours.{before-itself, after-itself, before-first, before-later, after-later}
@@ -19,10 +19,10 @@ use Rattle.ordered_table.proofs.Chains.LastBuckets.{oldest_again, last-comes}
 use Rattle.ordered_table.proofs.Tables.Places.{first_at, after_at, before_at}
 
 -- the table with a full bucket in front is linked, too
-pub linked_front : {K V : Type 0} (t : OrderedTable K V) (front : Option ℕ) → IsLinked t
+pub linked_promoted : {K V : Type 0} (t : OrderedTable K V) (front : Option ℕ) → IsLinked t
     → IfSome front (IsFull t.slots) → IsLinked (record t { order = in_front front t.order })
-linked_front t None linked full = linked
-linked_front t (Some f) linked full = let there = linked.all f full in
+linked_promoted t None linked full = linked
+linked_promoted t (Some f) linked full = let there = linked.all f full in
     let absent : Contains (without_bucket f t.order) f → ⊥ = λ w. (without_in f f t.order w).1 refl in
     record {
       table = linked.table;
@@ -84,17 +84,17 @@ none_or None = inl refl
 none_or (Some y) = inr (y, refl)
 
 -- the bucket in front is full in another table with this order, too
-pub front_kept : {K V : Type 0} (t u : OrderedTable K V) (front : Option ℕ) → IsLinked t → IsLinked u
+pub promoted_kept : {K V : Type 0} (t u : OrderedTable K V) (front : Option ℕ) → IsLinked t → IsLinked u
     → u.order ≡ t.order → IfSome front (IsFull t.slots) → IfSome front (IsFull u.slots)
-front_kept t u None linked other same full = tt
-front_kept t u (Some f) linked other same full =
+promoted_kept t u None linked other same full = tt
+promoted_kept t u (Some f) linked other same full =
     other.only f (subst (λ o. Contains o f) (sym same) (linked.all f full))
 
 -- the bucket in front is in the order
-pub front_in : {K V : Type 0} (t : OrderedTable K V) (front : Option ℕ) → IsLinked t
+pub promoted_in : {K V : Type 0} (t : OrderedTable K V) (front : Option ℕ) → IsLinked t
     → IfSome front (IsFull t.slots) → IfSome front (Contains t.order)
-front_in t None linked full = tt
-front_in t (Some f) linked full = linked.all f full
+promoted_in t None linked full = tt
+promoted_in t (Some f) linked full = linked.all f full
 
 module _ (order : List ℕ) (d : AllPairs ◌≢◌ order) (f : ℕ) (there : Contains order f) where
   abbrev rest : List ℕ
