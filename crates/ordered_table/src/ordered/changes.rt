@@ -11,7 +11,7 @@ ghost use Rattle.lru_model.specs.Lists.{last as last_bucket};
 ghost use Rattle.ordered_table.specs.OrderedTable.{IsLinked, KeysFit, Lands, pairs_of, without_bucket};
 
 use crate::ordered::OrderedTable;
-use crate::ordered::promoted::settle;
+use crate::ordered::promoted::{link_promoted, settle};
 use group_table::LinkType;
 use lru_limits::KeyHasher;
 use std::alloc::AllocError;
@@ -29,8 +29,7 @@ impl<K, V, N: LinkType> OrderedTable<K, V, N> {
             → KeysFit hash_of self.new.slots }
         ensures linked { IsLinked self.new }
     {
-        settle(&mut self.linked, self.promoted);
-        self.promoted = None;
+        settle(&mut self.linked, &mut self.promoted);
         self.linked.place(hash, pair);
     }
 
@@ -48,8 +47,7 @@ impl<K, V, N: LinkType> OrderedTable<K, V, N> {
         ensures unchanged { OnErr result (self.new ≡ self.old) }
         ensures no_place { OnErr result (HasNoPlace (marks_of self.old.slots) hash) }
     {
-        settle(&mut self.linked, self.promoted);
-        self.promoted = None;
+        settle(&mut self.linked, &mut self.promoted);
         self.linked.try_place(hash, pair)
     }
 
@@ -63,8 +61,10 @@ impl<K, V, N: LinkType> OrderedTable<K, V, N> {
         ensures insertions { self.new.insertions ≡ self.old.insertions }
         ensures linked { IsLinked self.new }
     {
-        settle(&mut self.linked, self.promoted);
-        self.promoted = Some(b);
+        // Nothing at run time: it shows the proof that a link reaches each bucket.
+        let _ = self.linked.buckets();
+        link_promoted(&mut self.linked, self.promoted);
+        self.promoted = N::from_usize(b);
     }
 
     /// Makes the pair in a full bucket the oldest.
@@ -77,8 +77,7 @@ impl<K, V, N: LinkType> OrderedTable<K, V, N> {
         ensures insertions { self.new.insertions ≡ self.old.insertions }
         ensures linked { IsLinked self.new }
     {
-        settle(&mut self.linked, self.promoted);
-        self.promoted = None;
+        settle(&mut self.linked, &mut self.promoted);
         self.linked.demote(b);
     }
 
@@ -98,8 +97,7 @@ impl<K, V, N: LinkType> OrderedTable<K, V, N> {
         ensures fits { (hash_of : K → ℕ) → KeysFit hash_of self.old.slots → KeysFit hash_of self.new.slots }
         ensures linked { IsLinked self.new }
     {
-        settle(&mut self.linked, self.promoted);
-        self.promoted = None;
+        settle(&mut self.linked, &mut self.promoted);
         self.linked.take(b, last)
     }
 }
@@ -115,7 +113,7 @@ impl<K: Drop, V: Drop, N: LinkType> OrderedTable<K, V, N> {
         ensures fits { (hash_of : K → ℕ) → KeysFit hash_of self.new.slots }
         ensures linked { IsLinked self.new }
     {
-        self.promoted = None;
+        self.promoted = N::MAX;
         self.linked.clear();
     }
 }
@@ -146,8 +144,7 @@ impl<K: Eq + Hash, V, N: LinkType> OrderedTable<K, V, N> {
         ensures succeeds { length self.old.order ≡ 0 → length self.old.slots ≡ buckets → IsOk result }
         ensures gives_back { buckets ≡ 0 → IsOk result }
     {
-        settle(&mut self.linked, self.promoted);
-        self.promoted = None;
+        settle(&mut self.linked, &mut self.promoted);
         self.linked.move_to(buckets, hasher)
     }
 }

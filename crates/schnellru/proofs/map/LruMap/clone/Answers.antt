@@ -38,3 +38,7 @@ returns-clause-clone g c =
         counts = counts_of (done.insertions i) rest;
       };
     })
+
+pub returns-in_err-limiter-clause-succeeds : goal.returns-in_err-limiter-clause-succeeds
+returns-in_err-limiter-clause-succeeds g c none limiter hasher =
+    absurd (c.in_err-limiter.ensures.cases (rw (← c.self.view_is) at limiter))
