@@ -209,9 +209,9 @@ fn closures_are_dropped(rt: HostRuntime) {
     let lives = Lives::new();
     for case in 0..28u64 {
         let mut map = map_of_lives(rt.alloc(), 1, ANY);
-        check!(rt; fill_with(&mut map, &lives, case / 7 % 2));
+        let is_filled = fill_with(&mut map, &lives, case / 7 % 2);
         let hash = map.hasher().hash_named(&lives.key(0));
         ask(&mut map, case % 7, hash, lives.value(case / 14));
-        check!(rt; lives.are(map.len() as u64));
+        check!(rt; is_filled & lives.are(map.len() as u64));
     }
 }

@@ -39,7 +39,7 @@ fn moves_hash_once(map: &mut Map) -> bool {
         map.remove(&key.wrapping_sub(40));
     }
     let moved = map.move_report().moved.wrapping_sub(before);
-    (moved > 200) & (map.hasher().0.get() == moved.wrapping_add(4000))
+    (moved > 500) & (map.hasher().0.get() == moved.wrapping_add(4000))
 }
 
 /// Searches by the hash 1 with a closure that accepts when it is called for this time, and returns how often it is

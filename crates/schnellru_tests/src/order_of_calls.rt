@@ -161,7 +161,8 @@ fn each_pair_is_passed_on_before_the_next_callback(rt: HostRuntime) {
         // The new pair, if there is no memory for the first table, and if there is none for a growth.
         [1, 0, 9, 84, 0, 4, 40, 4523],
         [1, 3, 9, 1000, 0, 4, 40, 41_523],
-        // None, if the value is replaced.
+        // None, after a growth, and if the value is replaced.
+        [1, 3, 9, 1000, 9, 4, 40, 4151],
         [1, 3, 9, 84, 9, 2, 21, 61],
     ] {
         check!(rt; is_traced(rt.alloc(), case));
