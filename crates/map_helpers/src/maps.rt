@@ -1,7 +1,7 @@
 //! Maps from numbers to numbers, and what a test looks at in them.
 use schnellru::{ByLength, Insertion, Limiter, LruMap, RandomState, ReserveError};
 use std::alloc::{AllocError, Global};
-use std::hash::{BuildHasher, Hash};
+use std::hash::BuildHasher;
 use std::ops::RangeInclusive;
 
 /// A map of numbers with entries of 16 bytes.
@@ -48,22 +48,6 @@ pub fn insert_all<L: Insertion<u64, u64, u64>, S: BuildHasher>(
     Ok(taken)
 }
 
-/// The value of a key, whose pair becomes the newest.
-pub fn get<L: Limiter<u64, u64>, S: BuildHasher>(
-    map: &mut LruMap<u64, u64, L, S>,
-    key: u64,
-) -> Option<u64> {
-    map.get(&key).copied()
-}
-
-/// The value of a key, whose pair stays in its place.
-pub fn peek<L: Limiter<u64, u64>, S: BuildHasher>(
-    map: &LruMap<u64, u64, L, S>,
-    key: u64,
-) -> Option<u64> {
-    map.peek(&key).copied()
-}
-
 /// Makes space for this many more pairs.
 pub fn reserve<L: Limiter<u64, u64>, S: BuildHasher>(
     map: &mut LruMap<u64, u64, L, S>,
@@ -77,29 +61,6 @@ pub fn shrink<L: Limiter<u64, u64>, S: BuildHasher>(
     map: &mut LruMap<u64, u64, L, S>,
 ) -> Result<bool, AllocError> {
     map.shrink_to_fit()
-}
-
-/// Whether these are the pairs, newest first. It takes no memory.
-pub fn is_list<L: Limiter<u64, u64>, S: BuildHasher>(
-    map: &LruMap<u64, u64, L, S>,
-    pairs: &[(u64, u64)],
-) -> bool {
-    let mut at = 0usize;
-    for (key, value) in map.iter() {
-        if pairs.get(at) != Some(&(*key, *value)) {
-            return false;
-        }
-        at = at.saturating_add(1);
-    }
-    at == pairs.len()
-}
-
-/// How many entries inserts moved and placed.
-pub fn report<K: Eq + Hash, V, L: Limiter<K, V>, S: BuildHasher>(
-    map: &LruMap<K, V, L, S>,
-) -> (u64, u64) {
-    let report = map.move_report();
-    (report.moved, report.placed)
 }
 
 /// Removes the pairs of these numbers.

@@ -7,7 +7,7 @@ use schnellru::{Limiter, LruMap, Storing};
 use std::hash::BuildHasher;
 use test_helpers::{LastByte, check};
 
-/// Limits nothing.
+/// Limits nothing, and writes into `clones` how many keys live when it is notified of a clear.
 impl<K, V> Limiter<K, V> for Live<'_> {
     type LinkType = u32;
 
@@ -19,7 +19,9 @@ impl<K, V> Limiter<K, V> for Live<'_> {
 
     fn on_removed(&mut self, _key: &mut K, _value: &mut V) {}
 
-    fn on_cleared(&mut self) {}
+    fn on_cleared(&mut self) {
+        self.clones.set(self.lives.get());
+    }
 
     fn on_grow(&mut self, _new_memory_usage: usize) -> bool {
         true
@@ -37,22 +39,32 @@ impl BuildHasher for Live<'_> {
     }
 }
 
-/// A copy of seven pairs takes 14 clones, and one each for the limiter and the hasher. If one of them is refused, what
-/// was made is dropped. All that is left is dropped with the walk that takes the map apart.
+type Map<'a> = LruMap<Live<'a>, Live<'a>, Storing<Live<'a>>, Live<'a>>;
+
+/// Copies a map of seven pairs while this number of clones is allowed. Returns whether the copy takes a clone for each
+/// key, each value, the limiter and the hasher, and whether a copy that is refused one drops what it made.
+fn is_cloned_once(map: &Map, lives: &Lives, allowed: u64) -> bool {
+    lives.clones.set(allowed);
+    let is_made = map.clone().is_ok();
+    let left = lives.clones.get();
+    (is_made == (allowed >= 16)) & (left == allowed.saturating_sub(16)) & lives.are(8)
+}
+
+/// A clear is reported after the pairs were dropped. The limiter, which is counted as a key, and the hasher are dropped
+/// with the walk that takes the map apart.
 #[test]
 fn each_key_and_value_is_cloned_once(rt: HostRuntime) {
     let lives = Lives::new();
     let (limiter, hasher) = (Storing(lives.key(0)), lives.value(0));
     let mut map = LruMap::with_hasher(rt.alloc(), limiter, hasher, 16);
     for number in 0..7u64 {
-        check!(rt; map.insert(lives.key(number), lives.value(number)) == Ok(true));
+        let _ = map.insert(lives.key(number), lives.value(number));
     }
     for allowed in 0..=17u64 {
-        lives.clones.set(allowed);
-        let is_made = map.clone().is_ok();
-        check!(rt; (is_made, lives.clones.get()) == (allowed >= 16, allowed.saturating_sub(16)));
-        check!(rt; lives.counts() == (8, 8));
+        check!(rt; is_cloned_once(&map, &lives, allowed));
     }
+    map.clear();
+    let left = lives.clones.get();
     drop(map.into_iter().next());
-    check!(rt; lives.counts() == (0, 0));
+    check!(rt; (left == 1) & lives.are(0));
 }

@@ -2,7 +2,7 @@
 //! The limiters of the crate are tried one by one in `lru_limits_tests`.
 use super::live::{Limit, Live, Lives, Map, fill_with, map_of_lives};
 use schnellru::{Both, GetOrInsertError, KeyHasher};
-use std::test::Fail;
+use std::alloc::Global;
 use test_helpers::{Hog, Random, check};
 
 /// A random value. The greatest one and any other that is not 0 have no sum of 64 bits.
@@ -97,11 +97,10 @@ fn balances<'a>(mut map: Map<'a>, lives: &'a Lives, pairs: u64) -> bool {
         } else {
             right = random_insert(&mut map, &mut random, lives) & right;
         }
-        let len = map.len() as u64;
-        right = right & (lives.counts() == (len, len));
+        right = lives.are(map.len() as u64) & right;
     }
     drop(map);
-    right & (lives.counts() == (0, 0))
+    lives.are(0) & right
 }
 
 const MAX: u64 = u64::MAX;
@@ -130,57 +129,59 @@ fn keys_and_values_are_dropped_once(rt: HostRuntime) {
     }
 }
 
+/// Extends a map of three pairs, which has no growth left, by two pairs. Returns whether it runs out of memory and drops
+/// both, or memory has no end.
+fn is_refused<'a>(alloc: Global, map: &mut Map<'a>, lives: &'a Lives) -> bool {
+    let entries = [
+        (lives.key(7), lives.value(7)),
+        (lives.key(8), lives.value(8)),
+    ];
+    match Hog::new(alloc, &[]) {
+        Ok(hog) => (map.try_extend(entries).is_err() & lives.are(3)) | !hog.took_all(),
+        Err(_) => false,
+    }
+}
+
 /// The limiter of the map, with another limit of the sum.
 fn with_most(map: &Map, most: u64) -> Limit {
     Both(map.limiter().0.with_limit(most), map.limiter().1)
 }
 
-/// What an update, a trim, another limiter and a retain take out is dropped, and so is what a walk by value has left.
-#[test]
-fn what_trims_evict_is_dropped(rt: HostRuntime) {
-    let lives = Lives::new();
-    let mut map = map_of_lives(rt.alloc(), 20_000, ANY);
-    check!(rt; fill_with(&mut map, &lives, 20_000));
-    *map.limiter_mut() = with_most(&map, 16_000);
+/// Makes calls on a map of the numbers below 20,000, and returns whether what they take out is dropped.
+fn what_they_evict_is_dropped<'a>(map: &mut Map<'a>, lives: &'a Lives) -> bool {
+    *map.limiter_mut() = with_most(map, 16_000);
     drop(map.update(lives.key(19_999), lives.value(1)));
-    check!(rt; lives.counts() == (16_000, 16_000));
-    *map.limiter_mut() = with_most(&map, 12_000);
+    let held = lives.are(16_000);
+    *map.limiter_mut() = with_most(map, 12_000);
     map.trim();
-    check!(rt; lives.counts() == (12_000, 12_000));
-    map.set_limiter(with_most(&map, 5000));
+    let held = held & lives.are(12_000);
+    map.set_limiter(with_most(map, 5000));
     drop(map.remove_entry(&lives.key(19_999)));
-    check!(rt; lives.counts() == (4999, 4999));
+    let held = held & lives.are(4999);
     map.retain(|key, _| key.number % 2 == 0);
-    check!(rt; lives.counts() == (2500, 2500));
+    let held = held & lives.are(2500);
     map.retain_with(
         |key, _| key.number % 4 == 0,
         &mut |key, value| drop((key, value)),
     );
-    check!(rt; lives.counts() == (1250, 1250));
-    drop(map.into_iter().next());
-    check!(rt; lives.counts() == (0, 0));
+    held & lives.are(1250)
 }
 
-/// What an extend could not insert is dropped, with what its iterator has left.
+/// What an extend without memory does not insert is dropped, with what its iterator has left. What an update, a trim,
+/// another limiter and a retain take out is dropped, and so is what a walk by value has left.
 #[test]
-fn what_an_extend_leaves_is_dropped(rt: HostRuntime) -> Result<(), Fail> {
+fn what_trims_evict_is_dropped(rt: HostRuntime) {
     let lives = Lives::new();
-    let mut map = map_of_lives(rt.alloc(), MAX, ANY);
-    check!(rt; fill_with(&mut map, &lives, 3));
-    let hog = Hog::new(rt.alloc(), &[])?;
-    let entries = [
-        (lives.key(7), lives.value(7)),
-        (lives.key(8), lives.value(8)),
-    ];
-    let is_refused = map.try_extend(entries).is_err();
-    let all = hog.took_all();
-    drop(hog);
-    check!(rt; !all || (is_refused && lives.counts() == (3, 3)));
-    Ok(())
+    let mut map = map_of_lives(rt.alloc(), 20_000, ANY);
+    let held = fill_with(&mut map, &lives, 3) & is_refused(rt.alloc(), &mut map, &lives);
+    let held = held & fill_with(&mut map, &lives, 20_000);
+    check!(rt; held & what_they_evict_is_dropped(&mut map, &lives));
+    drop(map.into_iter().next());
+    check!(rt; lives.are(0));
 }
 
 /// Makes a call with a closure that owns a value, and compares a value that it gets with this value.
-fn ask<'a>(map: &mut Map<'a>, call: u32, hash: u64, value: Live<'a>) {
+fn ask<'a>(map: &mut Map<'a>, call: u64, hash: u64, value: Live<'a>) {
     if call == 0 {
         drop(map.try_pop_oldest(move |_, other| if *other == value { Ok(()) } else { Err(0u8) }));
         return;
@@ -201,20 +202,16 @@ fn ask<'a>(map: &mut Map<'a>, call: u32, hash: u64, value: Live<'a>) {
     }
 }
 
-/// A closure is dropped, whether it is called or not, and whatever it returns.
+/// A closure is dropped, whether it is called or not, and whatever it returns: on a map of one pair and of none, with the
+/// value of the pair and with another one.
 #[test]
 fn closures_are_dropped(rt: HostRuntime) {
     let lives = Lives::new();
-    for pairs in [0, 1u64] {
-        for number in [1, 2u64] {
-            for call in 0..=6u32 {
-                let mut map = map_of_lives(rt.alloc(), 1, ANY);
-                check!(rt; fill_with(&mut map, &lives, pairs));
-                let hash = map.hasher().hash_named(&lives.key(0));
-                ask(&mut map, call, hash, lives.value(number));
-                let len = map.len() as u64;
-                check!(rt; lives.counts() == (len, len));
-            }
-        }
+    for case in 0..28u64 {
+        let mut map = map_of_lives(rt.alloc(), 1, ANY);
+        let is_filled = fill_with(&mut map, &lives, case / 7 % 2);
+        let hash = map.hasher().hash_named(&lives.key(0));
+        ask(&mut map, case % 7, hash, lives.value(case / 14));
+        check!(rt; is_filled & lives.are(map.len() as u64));
     }
 }

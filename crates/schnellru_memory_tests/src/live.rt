@@ -22,9 +22,9 @@ impl Lives {
         }
     }
 
-    /// How many keys and how many values live.
-    pub fn counts(&self) -> (u64, u64) {
-        (self.keys.get(), self.values.get())
+    /// Whether `n` keys and `n` values live.
+    pub fn are(&self, n: u64) -> bool {
+        (self.keys.get() == n) & (self.values.get() == n)
     }
 
     pub fn key(&self, number: u64) -> Live<'_> {
@@ -41,9 +41,9 @@ impl Lives {
 pub struct Live<'a> {
     pub number: u64,
     #[derive_where(skip)]
-    lives: &'a Cell<u64>,
+    pub lives: &'a Cell<u64>,
     #[derive_where(skip)]
-    clones: &'a Cell<u64>,
+    pub clones: &'a Cell<u64>,
 }
 
 impl<'a> Live<'a> {

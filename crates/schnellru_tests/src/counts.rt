@@ -1,61 +1,21 @@
-//! How often an insert and a look-up call what they were given: hashers, callbacks and closures.
-ghost use Rattle.std.specs.Prelude.{◌≡◌};
-ghost use Rattle.lru_limits.specs.Limiters.{no_rules};
-
-use map_helpers::{get, insert, insert_all, peek, report};
-use schnellru::{Limiter, LruMap, Storing, UnlimitedCompact};
-use std::alloc::{AllocError, Global};
+//! How often calls build a hasher, and how often a search by a hash calls its closure.
+use map_helpers::{insert, insert_all};
+use schnellru::{LruMap, UnlimitedCompact};
 use std::cell::Cell;
-use test_helpers::{Counted, Sum, check};
+use test_helpers::{Counted, check};
 
-type Map<'a> = LruMap<u64, u64, UnlimitedCompact, Counted<'a, Sum>>;
+type Map = LruMap<u64, u64, UnlimitedCompact, Counted>;
 
-/// How many hashers a call builds beyond one for its key and one for each pair that it moves, as the report counts
-/// them.
-fn surplus(map: &mut Map, builds: &Cell<u64>, key: u64) -> Result<u64, AllocError> {
-    let (before, (moved, _)) = (builds.get(), report(map));
-    insert(map, key)?;
-    let needed = report(map).0.wrapping_sub(moved).wrapping_add(1);
-    Ok(builds.get().wrapping_sub(before).wrapping_sub(needed))
-}
-
-fn counted(alloc: Global, builds: &Cell<u64>) -> Map<'_> {
-    let state = Sum(0);
-    LruMap::with_hasher(alloc, UnlimitedCompact, Counted { state, builds }, 16)
-}
-
-/// The report counts each move, and nothing moves that it does not count: in growth, and in rehashes, to which removals
-/// lead if the keys lie next to one another.
-#[test]
-fn a_hasher_is_built_for_each_key_that_moves(rt: HostRuntime) {
-    let builds = Cell::new(0u64);
-    let mut map = counted(rt.alloc(), &builds);
-    let mut moved_without_growth = 0u64;
-    for key in 0..2000u64 {
-        let (bytes, (moved, _)) = (map.memory_usage(), report(&map));
-        check!(rt; surplus(&mut map, &builds, key) == Ok(0));
-        if bytes == map.memory_usage() && moved < report(&map).0 {
-            moved_without_growth = moved_without_growth.saturating_add(1);
-        }
-        if key >= 40 {
-            map.remove(&key.wrapping_sub(40));
-        }
-    }
-    check!(rt; moved_without_growth > 0);
-}
-
-#[test]
-fn a_call_hashes_its_key_once(rt: HostRuntime) {
-    let builds = Cell::new(0u64);
-    let mut map = counted(rt.alloc(), &builds);
-    check!(rt; insert_all(&mut map, 1..=6) == Ok(6));
-    builds.set(0);
-    let _ = insert(&mut map, 1);
-    get(&mut map, 2);
-    peek(&map, 3);
+/// Makes calls that each hash a key, and returns how many hashers they built.
+fn builds_of_calls(map: &mut Map) -> u64 {
+    map.hasher().0.set(0);
+    let _ = map.insert(1, 0);
+    map.get(&2);
+    map.peek(&3);
     map.remove(&4);
-    let _ = map.ensure_newest(5, || 0);
-    let _ = map.ensure_newest(4, || 0);
+    let make = || 0u64;
+    let _ = map.ensure_newest(5, make);
+    let _ = map.ensure_newest(4, make);
     map.contains(&5);
     map.promote(&5);
     map.remove_entry(&5);
@@ -65,82 +25,55 @@ fn a_call_hashes_its_key_once(rt: HostRuntime) {
     map.get_key_value(&6);
     map.get_index_of(&6);
     let _ = map.try_insert(8, 0);
-    check!(rt; builds.get() == 15);
+    map.hasher().0.get()
 }
 
-/// How often a limiter was asked, how many values live, and how many did when it heard of a clear.
-#[derive(Drop)]
-struct Notes {
-    asked: Cell<u64>,
-    lives: Cell<u64>,
-    left: Cell<u64>,
+/// Inserts keys that lie next to one another and removes them, which leads to growth and to rehashes. Returns whether that
+/// moves more entries than the growth, and builds no more hashers than one for each call and one for each move. The
+/// report counts each move.
+fn moves_hash_once(map: &mut Map) -> bool {
+    map.hasher().0.set(0);
+    let before = map.move_report().moved;
+    for key in 1000..3000u64 {
+        let _ = insert(map, key);
+        map.remove(&key.wrapping_sub(40));
+    }
+    let moved = map.move_report().moved.wrapping_sub(before);
+    (moved > 500) & (map.hasher().0.get() == moved.wrapping_add(4000))
 }
 
-impl Notes {
-    fn value(&self) -> Live<'_> {
-        self.lives.set(self.lives.get().wrapping_add(1));
-        Live(&self.lives)
-    }
-}
-
-/// A value that is counted while it lives.
-struct Live<'a>(&'a Cell<u64>);
-
-impl Drop for Live<'_> {
-    fn drop(self) {
-        let Live(lives) = self;
-        lives.set(lives.get().wrapping_sub(1));
-    }
-}
-
-/// Limits nothing, and notes how it is called.
-#[derive(Drop)]
-struct Noting<'a>(&'a Notes);
-
-impl<'a> Limiter<u64, Live<'a>> for Noting<'a> {
-    type LinkType = u32;
-
-    ghost rules = { no_rules };
-
-    fn is_over_the_limit(&self, _length: usize) -> bool {
-        self.0.asked.set(self.0.asked.get().saturating_add(1));
-        false
-    }
-
-    fn on_removed(&mut self, _key: &mut u64, _value: &mut Live<'a>) {}
-
-    fn on_cleared(&mut self) {
-        self.0.left.set(self.0.lives.get());
-    }
-
-    fn on_grow(&mut self, _new_memory_usage: usize) -> bool {
-        true
-    }
-}
-
-/// An insert of a new key queries the limiter once after it stored the pair, and once before if there are pairs. An
-/// insert of a key that is there queries once, and so does an update, and a trim if there are pairs. A clear is
-/// reported after the values were dropped.
-#[test]
-fn the_limiter_is_asked_once(rt: HostRuntime) {
-    let notes = Notes {
-        asked: Cell::new(0),
-        lives: Cell::new(0),
-        left: Cell::new(9),
+/// Searches by the hash 1 with a closure that accepts when it is called for this time, and returns how often it is
+/// called.
+fn questions(map: &mut Map, number: u64, gets: bool) -> u64 {
+    let asked = Cell::new(0u64);
+    let accepts = |_: &u64, _: &u64| {
+        asked.set(asked.get().wrapping_add(1));
+        asked.get() == number
     };
-    let mut map = LruMap::new(rt.alloc(), Storing(Noting(&notes)), [1, 2, 3, 4], 16);
-    for (key, wanted) in [(1u64, 1u64), (2, 3), (3, 5), (2, 6), (4, 8)] {
-        check!(rt; map.insert(key, notes.value()) == Ok(true));
-        check!(rt; notes.asked.get() == wanted);
+    if gets {
+        map.get_by_hash(1, accepts);
+    } else {
+        map.peek_by_hash(1, accepts);
     }
-    drop(map.update(2, notes.value()));
-    check!(rt; notes.asked.get() == 9);
-    let other = notes.value();
-    check!(rt; map.ensure_newest(1, move || other) == Ok(true));
-    drop(map.remove(&2));
-    check!(rt; notes.asked.get() == 9);
-    map.trim();
+    asked.get()
+}
+
+/// Searches three pairs of the hash 1. A closure that accepts none is called for each once, and one that accepts at the
+/// second call is called twice.
+fn searches_end(map: &mut Map) -> bool {
     map.clear();
-    map.trim();
-    check!(rt; (notes.left.get(), notes.asked.get()) == (0, 10));
+    let _ = insert(map, 1);
+    let _ = insert(map, 1 << 8);
+    let _ = insert(map, 1 << 16);
+    let peeks = (questions(map, 1, false) == 1) & (questions(map, 2, false) == 2);
+    peeks & (questions(map, 4, false) == 3) & (questions(map, 2, true) == 2)
+}
+
+#[test]
+fn calls_hash_and_ask_once(rt: HostRuntime) {
+    let hasher = Counted(Cell::new(0));
+    let mut map = LruMap::with_hasher(rt.alloc(), UnlimitedCompact, hasher, 16);
+    let is_filled = insert_all(&mut map, 1..=6).is_ok();
+    let held = is_filled & (builds_of_calls(&mut map) == 15);
+    check!(rt; held & moves_hash_once(&mut map) & searches_end(&mut map));
 }

@@ -6,8 +6,6 @@
 #![tactic(auto)]
 
 #[cfg(test)]
-mod by_hash;
-#[cfg(test)]
 mod callers;
 #[cfg(test)]
 mod counts;
@@ -17,9 +15,5 @@ mod examples;
 mod order_of_calls;
 #[cfg(test)]
 mod sizes;
-#[cfg(test)]
-mod texts;
-#[cfg(test)]
-mod updates;
 #[cfg(test)]
 mod walks;

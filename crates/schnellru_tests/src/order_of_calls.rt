@@ -1,16 +1,14 @@
-//! The order in which an insert calls its limiter and its sink. A contract says what each callback is given, and not
-//! what is called in between: each pair is passed to the sink right after the limiter was notified that it left, and
+//! How often and in which order calls call their limiter and their sink. A contract says what each callback is given, and
+//! not what is called in between: each pair is passed to the sink right after the limiter was notified that it left, and
 //! before the limiter is called again.
 ghost use Rattle.std.specs.Prelude.{◌≡◌, true, nat_lt, nat_le, nat_eq};
 ghost use Rattle.std.specs.Cmp.{nat_eq_equiv};
 ghost use Rattle.lru_limits.specs.Stores.{ReturnsPairIf, answers, given-names};
 
 use map_helpers::{insert_all, map_of};
-use schnellru::{Insertion, Limiter, LruMap, RandomState};
+use schnellru::{Insertion, Limiter, LruMap};
 use std::alloc::{AllocError, Global};
 use std::cell::Cell;
-use std::ops::RangeInclusive;
-use std::test::Fail;
 use test_helpers::{Hog, check};
 
 /// The calls that are noted, each as a digit.
@@ -26,6 +24,8 @@ const GROW: u64 = 5;
 
 const REPLACE: u64 = 6;
 
+const CLEARED: u64 = 0;
+
 /// Notes a call after those before it.
 fn note(trace: &Cell<u64>, call: u64) {
     trace.set(trace.get().wrapping_mul(10).wrapping_add(call));
@@ -37,6 +37,16 @@ struct Noting<'a> {
     most: usize,
     bytes: usize,
     trace: &'a Cell<u64>,
+}
+
+impl<'a> Noting<'a> {
+    fn new(most: u64, bytes: u64, trace: &'a Cell<u64>) -> Noting<'a> {
+        Noting {
+            most: most as usize,
+            bytes: bytes as usize,
+            trace,
+        }
+    }
 }
 
 /// The greatest value that replaces another one.
@@ -61,7 +71,9 @@ impl Limiter<u64, u64> for Noting<'_> {
         note(self.trace, REMOVED);
     }
 
-    fn on_cleared(&mut self) {}
+    fn on_cleared(&mut self) {
+        note(self.trace, CLEARED);
+    }
 
     fn on_grow(&mut self, new_memory_usage: usize) -> bool {
         note(self.trace, GROW);
@@ -111,78 +123,70 @@ impl Insertion<u64, u64, u64> for Noting<'_> {
     } };
 }
 
-/// What an insert did: its result, and the calls.
-type Traced = (Result<bool, AllocError>, u64);
-
-/// Inserts into a map of these numbers, each with ten times the number, under a limit that is then set. Returns nothing
-/// if all memory was to be taken and has no end.
-fn traced(
+/// Inserts a pair into a map of the numbers from `first` to `last`, each with ten times the number, under limits that are
+/// then set, while only this number of requests for memory is met. Returns whether the calls are those of `expected`, or
+/// memory has no end.
+fn is_traced(
     alloc: Global,
-    numbers: RangeInclusive<u64>,
-    (most, bytes): (usize, usize),
-    (key, value): (u64, u64),
-    takes_memory: bool,
-) -> Result<Option<Traced>, AllocError> {
+    [first, last, most, bytes, blocks, key, value, expected]: [u64; 8],
+) -> bool {
     let trace = Cell::new(0u64);
-    let limiter = Noting {
-        most: 99,
-        bytes: 1000,
-        trace: &trace,
-    };
-    let mut map: LruMap<u64, u64, Noting, RandomState> = map_of(alloc, limiter);
-    insert_all(&mut map, numbers)?;
-    map.limiter_mut().most = most;
-    map.limiter_mut().bytes = bytes;
+    let mut map = map_of(alloc, Noting::new(99, 1000, &trace));
+    let _ = insert_all(&mut map, first..=last);
+    *map.limiter_mut() = Noting::new(most, bytes, &trace);
     trace.set(0);
-    let hog = if takes_memory {
-        Some(Hog::new(alloc, &[])?)
-    } else {
-        None
-    };
-    let result = map.insert_with(key, value, &mut |_, _| note(&trace, SINK));
-    let is_shown = match &hog {
-        Some(hog) => hog.took_all(),
-        None => true,
-    };
-    drop(hog);
-    Ok(if is_shown {
-        Some((result, trace.get()))
-    } else {
-        None
-    })
+    match Hog::but(alloc, blocks as usize) {
+        Ok(hog) => {
+            let _ = map.insert_with(key, value, &mut |_, _| note(&trace, SINK));
+            (trace.get() == expected) | !hog.took_all()
+        }
+        Err(_) => false,
+    }
 }
 
 #[test]
-fn each_pair_is_passed_on_before_the_next_callback(rt: HostRuntime) -> Result<(), Fail> {
-    let alloc = rt.alloc();
-    for (first, last, limits, pair, takes_memory, expected) in [
+fn each_pair_is_passed_on_before_the_next_callback(rt: HostRuntime) {
+    for case in [
         // Three pairs over a limit that was lowered.
-        (1, 3, (1, 1000), (4, 40), false, (Ok(true), 41_231_231_231)),
+        [1, 3, 1, 1000, 9, 4, 40, 41_231_231_231],
         // The oldest, after a growth was refused.
-        (1, 3, (9, 84), (4, 40), false, (Ok(true), 415_231)),
+        [1, 3, 9, 84, 9, 4, 40, 415_231],
         // The three oldest, after a growth was refused to a table of 32 buckets: the buckets of two of them do not
         // serve.
-        (
-            3,
-            30,
-            (99, 1000),
-            (202, 40),
-            false,
-            (Ok(true), 4_152_323_231),
-        ),
+        [3, 30, 99, 1000, 9, 202, 40, 4_152_323_231],
         // The pair whose replacement is refused.
-        (1, 3, (9, 84), (2, 101), false, (Ok(false), 623)),
+        [1, 3, 9, 84, 9, 2, 101, 623],
         // The new pair, if the first table is refused.
-        (1, 0, (9, 83), (4, 40), false, (Ok(false), 4523)),
+        [1, 0, 9, 83, 9, 4, 40, 4523],
         // The new pair, if there is no memory for the first table, and if there is none for a growth.
-        (1, 0, (9, 84), (4, 40), true, (Err(AllocError), 4523)),
-        (1, 3, (9, 1000), (4, 40), true, (Err(AllocError), 41_523)),
-        // None, if the value is replaced.
-        (1, 3, (9, 84), (2, 21), false, (Ok(true), 61)),
+        [1, 0, 9, 84, 0, 4, 40, 4523],
+        [1, 3, 9, 1000, 0, 4, 40, 41_523],
+        // None, after a growth, and if the value is replaced.
+        [1, 3, 9, 1000, 9, 4, 40, 4151],
+        [1, 3, 9, 84, 9, 2, 21, 61],
     ] {
-        if let Some(found) = traced(alloc, first..=last, limits, pair, takes_memory)? {
-            check!(rt; found == expected);
-        }
+        check!(rt; is_traced(rt.alloc(), case));
     }
-    Ok(())
+}
+
+/// Makes calls on a map of three pairs, and at last on an empty one.
+fn call(map: &mut LruMap<u64, u64, Noting>) {
+    let _ = map.insert(2, 20);
+    map.update(2, 21);
+    let _ = map.ensure_newest(1, || 0);
+    map.remove(&2);
+    map.trim();
+    map.clear();
+    map.trim();
+}
+
+/// An insert of a new key queries the limiter once after it stored the pair, and once before if there are pairs. An
+/// insert of a key that is there queries once, and so does an update, and a trim if there are pairs.
+#[test]
+fn the_limiter_is_asked_once(rt: HostRuntime) {
+    let trace = Cell::new(0u64);
+    let mut map = map_of(rt.alloc(), Noting::new(99, 1000, &trace));
+    let _ = insert_all(&mut map, 1..=3);
+    call(&mut map);
+    check!(rt; trace.get() == 4_514_114_116_161_210);
 }

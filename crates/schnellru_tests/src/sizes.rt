@@ -2,7 +2,7 @@
 //! no call fails above some size.
 use map_helpers::{insert_all, map_of, remove_all, reserve, shrink};
 use schnellru::{LruMap, UnlimitedCompact};
-use test_helpers::check;
+use test_helpers::{all, check};
 
 type Page = [u8; 4096];
 
@@ -28,35 +28,35 @@ fn keys_and_values_of_4_kib(rt: HostRuntime) {
 const MANY: u64 = 917_504;
 
 /// Fills a table, replaces half of its pairs by twice as many, copies the table, shrinks it, reserves space and drains
-/// it. Returns the capacity after each step, the length of the copy, and how many pairs the drain passes. If a call
-/// fails, a number is missing.
-fn capacities(map: &mut LruMap<u64, u64, UnlimitedCompact>) -> [usize; 6] {
-    let mut found = [0usize; 6];
-    if insert_all(map, 1..=MANY).is_ok() {
-        found[0] = map.guaranteed_capacity();
-    }
+/// it. Returns whether each call succeeds and the capacity after it, the length of the copy, and how many pairs the
+/// drain passes are right.
+fn are_sized(map: &mut LruMap<u64, u64, UnlimitedCompact>) -> bool {
+    let held = all!(
+        insert_all(map, 1..=MANY).is_ok(),
+        map.guaranteed_capacity() == 917_504
+    );
     remove_all(map, 1..=MANY / 2);
-    if insert_all(map, MANY..=2 * MANY).is_ok() {
-        found[1] = map.guaranteed_capacity();
-    }
-    if let Ok(copy) = map.clone() {
-        found[2] = copy.len();
-    }
+    let held = held & insert_all(map, MANY..=2 * MANY).is_ok();
+    let held = held & (map.guaranteed_capacity() == 1_835_008) & are_copied(map);
     remove_all(map, MANY..=2 * MANY);
-    if shrink(map) == Ok(true) {
-        found[3] = map.guaranteed_capacity();
-    }
-    if reserve(map, MANY as usize).is_ok() {
-        found[4] = map.guaranteed_capacity();
-    }
+    let held = held & shrink(map).is_ok() & (map.guaranteed_capacity() == 458_752);
+    let held = held & reserve(map, MANY as usize).is_ok();
+    let held = held & (map.guaranteed_capacity() == 1_835_008);
+    let mut drained = 0u64;
     for _ in map.drain() {
-        found[5] = found[5].wrapping_add(1);
+        drained = drained.wrapping_add(1);
     }
-    found
+    held & (drained == 458_751)
+}
+
+fn are_copied(map: &LruMap<u64, u64, UnlimitedCompact>) -> bool {
+    match map.clone() {
+        Ok(copy) => copy.len() == 1_376_256,
+        Err(_) => false,
+    }
 }
 
 #[test]
 fn many_pairs(rt: HostRuntime) {
-    let found = capacities(&mut map_of(rt.alloc(), UnlimitedCompact));
-    check!(rt; found == [917_504, 1_835_008, 1_376_256, 458_752, 1_835_008, 458_751]);
+    check!(rt; are_sized(&mut map_of(rt.alloc(), UnlimitedCompact)));
 }

@@ -1,8 +1,8 @@
 //! Texts that become a `String` only when they are stored, and a limiter that counts them. `docs/LIMITERS.md` explains
 //! both.
-ghost use Rattle.std.specs.Prelude.{◌≡◌, ◌+◌, ⊤, true, min, string_bytes};
+ghost use Rattle.std.specs.Prelude.{◌≡◌, ◌+◌, ⊤, min};
 ghost use Rattle.lru_limits.specs.Limiters.{no_rules};
-ghost use Rattle.lru_limits.specs.Stores.{replaces, ReturnsPairIf, given-names};
+ghost use Rattle.lru_limits.specs.Stores.{replaces};
 ghost use Rattle.lru_limits.specs.Texts.{names_text, names_text-lawful, GivesText, given-names_text, same_text};
 
 use lru_limits::{Insertion, Limiter, LookupKey};
@@ -22,8 +22,8 @@ impl LookupKey<String> for InsertKey<'_> {
     }
 }
 
-/// Limits nothing, takes texts and `String`s, and counts the texts.
-#[derive(Clone, Copy, Debug, Default)]
+/// Limits nothing, takes texts, and counts them.
+#[derive(Clone, Copy, Default)]
 pub struct Counting {
     /// How many texts became a key.
     pub inserts: u32,
@@ -83,40 +83,6 @@ impl<'a> Insertion<String, u32, InsertKey<'a>> for Counting {
 
     ghost laws = { record {
       names_given = λ s length i v t k w given. given-names_text i.0.now v k w given.1;
-      keeps_key = λ s length k i v w named. same_text k;
-    } };
-}
-
-impl Insertion<String, u32, String> for Counting {
-    ghost offers = { record {
-      on_insert = λ s length i v t given. ReturnsPairIf true s i v t given;
-      may_run_out = λ s length i v. ⊥;
-      on_replace = λ s length k i v w. replaces s k v w;
-    } };
-
-    fn on_insert(
-        &mut self,
-        _alloc: Global,
-        _length: usize,
-        key: String,
-        value: u32,
-    ) -> Result<Option<(String, u32)>, AllocError> {
-        Ok(Some((key, value)))
-    }
-
-    fn on_replace(
-        &mut self,
-        _length: usize,
-        _old_key: &mut String,
-        _new_key: String,
-        _old_value: &mut u32,
-        _new_value: &mut u32,
-    ) -> bool {
-        true
-    }
-
-    ghost laws = { record {
-      names_given = λ s length i v t k w given. given-names (λ x y. names_text (string_bytes x) y) same_text given;
       keeps_key = λ s length k i v w named. same_text k;
     } };
 }
