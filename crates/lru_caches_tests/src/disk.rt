@@ -4,11 +4,11 @@ ghost use Rattle.std.specs.Prelude.{slice_index};
 use lru_caches::BlockDevice;
 use std::cell::Cell;
 
-/// The disk lacks the block, or does not work.
+/// The disk lacks the block, or did not work.
 #[derive(Clone, Copy, Debug, PartialEq)]
 pub struct DiskError;
 
-/// A disk of four blocks that works for a number of calls. A write that fails leaves 99 in its block.
+/// A disk of four blocks. After `calls_left` calls that work, one fails. A write that fails leaves 99 in its block.
 #[derive(Drop)]
 pub struct Disk<'a> {
     pub blocks: [u64; 4],
@@ -16,15 +16,11 @@ pub struct Disk<'a> {
 }
 
 impl Disk<'_> {
-    // Counts a call, and returns whether the disk works.
+    // Counts a call, and returns whether the disk works. After the call that fails, nearly 2^64 calls are left.
     fn works(&self) -> bool {
-        match self.calls_left.get().checked_sub(1) {
-            Some(left) => {
-                self.calls_left.set(left);
-                true
-            }
-            None => false,
-        }
+        let left = self.calls_left.get();
+        self.calls_left.set(left.wrapping_sub(1));
+        left > 0
     }
 }
 
@@ -48,15 +44,12 @@ impl BlockDevice<u64> for Disk<'_> {
         if n >= 4 {
             return Err(DiskError);
         }
-        if !self.works() {
-            self.blocks[n as usize] = 99;
-            return Err(DiskError);
-        }
-        self.blocks[n as usize] = *block;
-        Ok(())
+        let works = self.works();
+        self.blocks[n as usize] = if works { *block } else { 99 };
+        if works { Ok(()) } else { Err(DiskError) }
     }
 
     fn sync(&mut self) -> Result<(), DiskError> {
-        Ok(())
+        if self.works() { Ok(()) } else { Err(DiskError) }
     }
 }

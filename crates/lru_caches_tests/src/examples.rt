@@ -1,7 +1,6 @@
 //! The examples of the docs of `lru_caches`, the error texts, and each call once.
 ghost use Rattle.std.specs.Prelude.{◌≡◌, ◌*◌};
 
-use crate::callers::{copy_block, overwrite};
 use crate::disk::{Disk, DiskError};
 use lru_caches::{
     BlockDevice, Durable, FileDevice, FileError, HashedFileDevice, Loader, Memo, MemoTable,
@@ -17,11 +16,18 @@ use test_helpers::{all, check};
 
 #[test]
 fn of_the_page_cache(rt: HostRuntime) {
-    let calls_left = Cell::new(9);
-    let disk = Disk {
+    let calls_left = Cell::new(2); // the third call fails
+    let mut disk = Disk {
         blocks: [10, 11, 12, 13],
         calls_left: &calls_left,
     };
+    check!(rt; all!(
+        disk.write(1, &20) == Ok(()),
+        disk.read(1) == Ok(20),
+        disk.read(1) == Err(DiskError),
+        disk.sync() == Ok(())
+    ));
+    disk.blocks[1] = 11;
     let mut cache = PageCache::new(rt.alloc(), disk, 2);
     check!(rt; all!(
         cache.write(1, 20) == Ok(()),
@@ -30,7 +36,6 @@ fn of_the_page_cache(rt: HostRuntime) {
         cache.device().blocks == [10, 11, 12, 13],
         cache.flush() == Ok(()),
         cache.device().blocks == [10, 20, 12, 13],
-        copy_block(&mut cache, 1, 0) == Ok(()),
         cache.read(4) == Err(PageError::Device(DiskError))
     ));
     let mut cache = match cache.close() {
@@ -45,46 +50,35 @@ fn of_the_page_cache(rt: HostRuntime) {
 }
 
 #[test]
-fn of_the_device(rt: HostRuntime) {
-    let calls_left = Cell::new(2); // the third call fails
-    let mut disk = Disk {
-        blocks: [10, 11, 12, 13],
-        calls_left: &calls_left,
-    };
-    check!(rt; all!(
-        disk.write(1, &20) == Ok(()),
-        disk.read(1) == Ok(20),
-        disk.read(1) == Err(DiskError),
-        disk.sync() == Ok(())
-    ));
-}
-
-#[test]
-fn of_the_file_devices(rt: HostRuntime) -> Result<(), Fail> {
+fn of_the_file_devices_and_the_errors(rt: HostRuntime) -> Result<(), Fail> {
     let alloc = rt.alloc();
-    let file = Cursor::new(Vec::from_array(alloc, *b"zeroone.two.")?);
+    let file = Cursor::new(*b"zeroone.two.");
     let mut device: FileDevice<_, 4> = FileDevice::new(alloc, file, 3)?;
+    let file = Cursor::new(*b"zeroone.two.");
+    let mut hashed: HashedFileDevice<_, 4> = HashedFileDevice::new(alloc, file, 3)?;
     check!(rt; all!(
         device.len() == 3,
         device.write(1, b"uno.") == Ok(()),
         device.read(1) == Ok(*b"uno."),
         device.read(9) == Err(FileError::NoBlock),
         device.file().position() == 8,
-        device.sync() == Ok(())
-    ));
-    let bytes = device.into_file().into_inner();
-    check!(rt; bytes.starts_with(b"zerouno."));
-    check!(rt; Cursor::new([0u8; 4]).make_durable().is_ok());
-    let file = Cursor::new(Vec::from_array(alloc, *b"zeroone.two.")?);
-    let mut hashed: HashedFileDevice<_, 4> = HashedFileDevice::new(alloc, file, 3)?;
-    check!(rt; all!(
+        device.sync() == Ok(()),
         hashed.len() == 3,
         hashed.write(1, b"uno.") == Ok(()),
         hashed.read(1) == Ok(*b"uno."),
         hashed.file().position() == 8
     ));
+    let bytes = device.into_file().into_inner();
+    check!(rt; bytes.starts_with(b"zerouno."));
     let bytes = hashed.into_file().into_inner();
     check!(rt; bytes.starts_with(b"zerouno."));
+    check!(rt; Cursor::new([0u8; 4]).make_durable().is_ok());
+    let (failed, memory): (PageError<u64>, PageError<u64>) = (
+        PageError::Device(1),
+        PageError::Memory,
+    );
+    let text = format!(in alloc; "{failed}, {memory}")?;
+    check!(rt; text.as_str() == "the device failed, no memory");
     Ok(())
 }
 
@@ -100,39 +94,46 @@ fn of_an_ordered_map(map: &mut Map) -> Result<bool, AllocError> {
         is_pair(map.first(), 1, 11) && is_pair(map.last(), 2, 20)
     );
     let mut entries = map.iter();
-    let held = held
-        & all!(
-            (entries.len(), entries.next(), entries.next_back())
-                == (2, Some((&1, &11)), Some((&2, &20)))
-        );
-    if let Some(value) = map.get_mut(&2) {
-        *value = 22;
-    }
-    let held = held & all!(is_value(map.get(&2), 22));
-    let mut total = 0u64;
-    for (key, value) in map.iter() {
-        total = total.wrapping_add(key.wrapping_mul(*value));
-    }
     Ok(
         held & all!(
-            overwrite(map, 1, 11),
-            total == 55,
-            (map.remove(&2), map.remove(&2)) == (Some(22), None),
-            map.pop_first() == Some((1, 11))
+            (entries.len(), entries.next(), entries.next_back())
+                == (2, Some((&1, &11)), Some((&2, &20)))
         ),
     )
 }
 
-fn of_an_ordered_map_as_a_list(map: &mut Map, none: &Map) -> Result<bool, AllocError> {
-    map.clear();
-    for (key, value) in [(1, 10), (2, 20), (3, 30)] {
-        map.insert(key, value)?;
+// The map contains what the examples before inserted.
+fn of_writes_and_removals(map: &mut Map) -> bool {
+    if let Some(value) = map.get_mut(&2) {
+        *value = 22;
     }
+    let held = all!(is_value(map.get(&2), 22));
+    let mut total = 0u64;
+    for (key, value) in map.iter() {
+        total = total.wrapping_add(key.wrapping_mul(*value));
+    }
+    held & all!(
+        total == 55,
+        (map.remove(&2), map.remove(&2)) == (Some(22), None),
+        map.pop_first() == Some((1, 11))
+    )
+}
+
+// Inserts the pairs of the numbers up to this one and ten times the number into an empty map.
+fn refill(map: &mut Map, last: u64) {
+    map.clear();
+    for n in 1..=last {
+        let _ = map.insert(n, n.wrapping_mul(10));
+    }
+}
+
+fn of_an_ordered_map_as_a_list(map: &mut Map, none: &Map) -> bool {
+    refill(map, 3);
     let held = all!(
         map.pop_last() == Some((3, 30)),
         is_value(map.keys().next(), 1) && is_value(map.values().next_back(), 20)
     );
-    map.insert(3, 30)?;
+    refill(map, 3);
     let held = held
         & all!(
             (map.remove_entry(&3), map.remove_entry(&3)) == (Some((3, 30)), None),
@@ -141,24 +142,20 @@ fn of_an_ordered_map_as_a_list(map: &mut Map, none: &Map) -> Result<bool, AllocE
     map.retain(|key, value| *key == 1 || *value > 30);
     let held = held & all!((map.len(), map.contains_key(&1)) == (1, true));
     map.clear();
-    Ok(held & all!(map.is_empty()))
+    held & all!(map.is_empty())
 }
 
-fn of_an_ordered_map_and_its_table(map: &mut Map) -> Result<bool, AllocError> {
-    map.clear();
+fn of_an_ordered_map_and_its_table(map: &mut Map) -> bool {
     let is_reserved = all!(map.try_reserve(100) == Ok(()));
-    for (key, value) in [(1, 11), (2, 20)] {
-        map.insert(key, value)?;
-    }
-    Ok(
-        is_reserved
-            & all!(
-                is_pair(map.get_key_value(&1), 1, 11) && map.get_key_value(&9).is_none(),
-                map.move_to_back(&1) && !map.move_to_back(&9),
-                is_pair(map.last(), 1, 11),
-                (map.shrink_to_fit(), map.shrink_to_fit()) == (Ok(true), Ok(false))
-            ),
-    )
+    refill(map, 2);
+    let _ = map.insert(1, 11);
+    is_reserved
+        & all!(
+            is_pair(map.get_key_value(&1), 1, 11) && map.get_key_value(&9).is_none(),
+            map.move_to_back(&1) && !map.move_to_back(&9),
+            is_pair(map.last(), 1, 11),
+            (map.shrink_to_fit(), map.shrink_to_fit()) == (Ok(true), Ok(false))
+        )
 }
 
 #[test]
@@ -171,13 +168,12 @@ fn of_ordered_maps(rt: HostRuntime) -> Result<(), Fail> {
     check!(rt; all!(
         none.is_empty(),
         of_an_ordered_map(&mut map) == Ok(true),
-        of_an_ordered_map_as_a_list(&mut map, &none) == Ok(true),
-        of_an_ordered_map_and_its_table(&mut map) == Ok(true)
+        of_writes_and_removals(&mut map),
+        of_an_ordered_map_as_a_list(&mut map, &none),
+        of_an_ordered_map_and_its_table(&mut map)
     ));
-    map.clear();
-    map.insert(1, 10)?;
-    map.insert(2, 20)?;
-    check!(rt; format!(in rt.alloc(); "{map:?}")?.as_str() == "{1: 10, 2: 20}");
+    refill(&mut map, 2);
+    check!(rt; format!(in alloc; "{map:?}")?.as_str() == "{1: 10, 2: 20}");
     let mut entries = map.into_iter();
     check!(rt; (entries.len(), entries.next(), entries.next_back())
             == (2, Some((1, 10)), Some((2, 20))));
@@ -244,13 +240,4 @@ fn of_the_loader(rt: HostRuntime) {
         |n: u64| n.checked_add(1).ok_or(n),
     );
     check!(rt; empty.len() == 0);
-}
-
-#[test]
-fn of_the_errors(rt: HostRuntime) -> Result<(), Fail> {
-    let failed: PageError<u64> = PageError::Device(1);
-    let memory: PageError<u64> = PageError::Memory;
-    let text = format!(in rt.alloc(); "{failed}, {memory}")?;
-    check!(rt; text.as_str() == "the device failed, no memory");
-    Ok(())
 }

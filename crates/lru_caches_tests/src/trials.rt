@@ -1,31 +1,23 @@
-//! Each cache beside a plain model, on random calls, and on a device or a memory that fails at each place in turn.
-mod disk;
-mod failures;
+//! What no contract says: how often functions and devices are called, what is in files, that calls find memory unless a
+//! request for it is refused, and that caches give their memory back.
 mod files;
-mod leaks;
-mod loaders;
+mod memory;
 mod memos;
-mod page_calls;
 mod pages;
 mod recursion;
-mod refusals;
 
-use leaks::CACHES;
 use lru_caches::OrderedMap;
 use test_helpers::check;
 
-/// How many calls are compared in each trial.
-const CALLS: u64 = 100_000;
+#[test]
+fn functions_are_called_if_a_result_is_not_stored(rt: HostRuntime) {
+    check!(rt; memos::calls_that_agree(rt.alloc()) == memos::CALLS);
+    check!(rt; recursion::answers(rt.alloc()) == 1);
+}
 
 #[test]
-fn calls_agree_with_plain_models(rt: HostRuntime) {
-    let alloc = rt.alloc();
-    check!(rt; memos::calls_that_agree(alloc) == CALLS);
-    check!(rt; loaders::calls_that_agree(alloc) == CALLS);
-    check!(rt; pages::calls_that_agree(alloc) == CALLS);
-    check!(rt; files::calls_that_agree_on_copies(alloc) == CALLS);
-    check!(rt; files::calls_that_agree_on_hashes(alloc) == CALLS);
-    check!(rt; recursion::answers(alloc) == 1);
+fn files_contain_what_was_written(rt: HostRuntime) {
+    check!(rt; files::calls_that_agree(rt.alloc()) == files::CALLS);
 }
 
 /// No insert into an ordered map fails above some number of keys.
@@ -37,27 +29,26 @@ fn an_ordered_map_of_many_keys(rt: HostRuntime) {
     }
 }
 
-/// A memo, a loader, an ordered map and a page cache without memory.
+/// A page cache and an ordered map run out of memory exactly if a request of a growth is refused: the first, the second,
+/// the third, or none.
 #[test]
 fn growths_without_memory(rt: HostRuntime) {
-    let alloc = rt.alloc();
-    check!(rt; refusals::of_memos(alloc) == 2);
-    check!(rt; refusals::of_ordered_maps(alloc) == 4);
-    check!(rt; refusals::of_page_caches(alloc) == 4);
+    for met in 0..=3usize {
+        check!(rt; memory::grows_if_met(rt.alloc(), met));
+    }
 }
 
 #[test]
 fn nothing_leaks(rt: HostRuntime) {
-    let alloc = rt.alloc();
-    check!(rt; leaks::references(alloc) == 2);
-    check!(rt; leaks::caches_that_find_memory(alloc, true) == CACHES);
-    check!(rt; leaks::caches_that_find_memory(alloc, false) == CACHES);
+    check!(rt; memory::references(rt.alloc()) == [1, 3, 3, 3, 1]);
+    check!(rt; memory::caches_that_find_memory(rt.alloc()) == 1000);
 }
 
-/// A disk that fails once, and one that stays broken.
+/// A disk that fails at each call that the lists need, and again after as many more, and a disk that stays broken.
 #[test]
 fn a_disk_that_fails_loses_no_write(rt: HostRuntime) {
-    let alloc = rt.alloc();
-    check!(rt; failures::runs_that_lose_nothing(alloc, false) == (156, 156));
-    check!(rt; failures::runs_that_lose_nothing(alloc, true) == (156, 156));
+    for stays_broken in [false, true] {
+        let (tried, kept) = pages::runs_that_lose_nothing(rt.alloc(), stays_broken);
+        check!(rt; (tried, kept) == (pages::NEEDED, pages::NEEDED));
+    }
 }

@@ -1,4 +1,4 @@
-//! The examples of the docs of `lru_tenants`, the error texts, each call once, and a long list of calls.
+//! The examples of the docs of `lru_tenants`, the error texts, and each call once.
 use lru_tenants::{
     ByWeight, TenantAnswer, TenantCache, TenantCall, TenantError, costs_are_within_the_total_limit,
     run_tenants,
@@ -132,18 +132,5 @@ fn of_runs(rt: HostRuntime) -> Result<(), Fail> {
     let answers = run_tenants(alloc, &mut cache, calls)?;
     check!(rt; answers.get(1) == Some(&TenantAnswer::Put(Ok(true))));
     check!(rt; answers.get(2) == Some(&TenantAnswer::Got(Err(TenantError::NotOpen))));
-    Ok(())
-}
-
-/// A list of 100,000 calls, each of which opens a tenant.
-#[test]
-fn a_long_list(rt: HostRuntime) -> Result<(), Fail> {
-    let mut calls = Vec::new(rt.alloc());
-    for name in 0..100_000u64 {
-        calls.push(TenantCall::Open(name, 1))?;
-    }
-    let mut cache: Numbers = TenantCache::new(rt.alloc(), [1, 2, 3, 4], 16);
-    check!(rt; run_tenants(rt.alloc(), &mut cache, calls)?.len() == 100_000);
-    check!(rt; cache.len() == 100_000);
     Ok(())
 }

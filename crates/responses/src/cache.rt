@@ -123,16 +123,13 @@ impl ResponseCache {
         budget: u64,
     ) -> Result<(&'static str, u64), TenantError> {
         let name = owned(self.alloc, host)?;
-        let mut evicted = 0u64;
-        let set = self.entries.set_budget_with(
-            &name,
-            budget,
-            &mut |_, _| evicted = evicted.saturating_add(1),
-        );
-        if set.is_err() {
+        let (before, _) = self.size(&name);
+        if self.entries.set_budget(&name, budget).is_err() {
             self.open(name, budget)?;
             return Ok(("host opened", 0));
         }
+        let (after, _) = self.size(&name);
+        let evicted = before.saturating_sub(after) as u64;
         self.count(&name, 0, 0, evicted);
         Ok(("budget set", evicted))
     }

@@ -5,43 +5,26 @@
 mod cache;
 mod line;
 
-use cache::{Response, ResponseCache};
+use cache::ResponseCache;
 use line::Line;
 use lru_tenants::TenantError;
 use std::io;
 
-/// Prints a line.
-fn say(rt: &HostRuntime, text: &str) -> io::Result<()> {
-    println!(rt; "{text}")
-}
-
-/// Prints why a call failed.
-fn say_error(rt: &HostRuntime, error: TenantError) -> io::Result<()> {
-    say(
-        rt,
-        match error {
-            TenantError::NotOpen => "no host",
-            TenantError::AlreadyOpen => "already open",
-            TenantError::Memory => "no memory",
-            TenantError::OverTotal => "over the total limit",
-        },
-    )
+/// Why a call failed.
+fn text_of(error: TenantError) -> &'static str {
+    match error {
+        TenantError::NotOpen => "no host",
+        TenantError::AlreadyOpen => "already open",
+        TenantError::Memory => "no memory",
+        TenantError::OverTotal => "over the total limit",
+    }
 }
 
 /// Prints what a call did, and how many entries were evicted.
 fn say_evicted(rt: &HostRuntime, done: Result<(&str, u64), TenantError>) -> io::Result<()> {
     match done {
         Ok((what, evicted)) => println!(rt; "{what}, {evicted} evicted"),
-        Err(error) => say_error(rt, error),
-    }
-}
-
-/// Prints what a look-up found.
-fn say_found(rt: &HostRuntime, found: Result<Option<Response>, TenantError>) -> io::Result<()> {
-    match found {
-        Ok(Some(response)) => println!(rt; "hit {} until {}", response.bytes, response.expires),
-        Ok(None) => say(rt, "miss"),
-        Err(error) => say_error(rt, error),
+        Err(error) => println!(rt; "{}", text_of(error)),
     }
 }
 
@@ -64,31 +47,37 @@ fn answer(
     now: &mut u64,
     line: Option<Line>,
 ) -> io::Result<()> {
-    match line {
+    let text = match line {
         Some(Line::Now(time)) => {
             *now = time;
-            Ok(())
+            return Ok(());
         }
-        Some(Line::Host(host, budget)) => say_evicted(rt, cache.set_host(host, budget)),
-        Some(Line::Put(host, path, response)) => say_evicted(rt, cache.put(host, path, response)),
-        Some(Line::Get(host, path)) => say_found(rt, cache.look_up(host, path, *now)),
-        Some(Line::Purge(host, path)) => match cache.purge(host, path) {
-            Ok(true) => say(rt, "purged"),
-            Ok(false) => say(rt, "not there"),
-            Err(error) => say_error(rt, error),
+        Some(Line::Host(host, budget)) => return say_evicted(rt, cache.set_host(host, budget)),
+        Some(Line::Put(host, path, response)) => return say_evicted(
+            rt,
+            cache.put(host, path, response),
+        ),
+        Some(Line::Get(host, path)) => match cache.look_up(host, path, *now) {
+            Ok(Some(it)) => return println!(rt; "hit {} until {}", it.bytes, it.expires),
+            Ok(None) => "miss",
+            Err(error) => text_of(error),
         },
-        Some(Line::Stats) => stats(rt, cache),
-        None => say(rt, "what?"),
-    }
+        Some(Line::Purge(host, path)) => match cache.purge(host, path) {
+            Ok(true) => "purged",
+            Ok(false) => "not there",
+            Err(error) => text_of(error),
+        },
+        Some(Line::Stats) => return stats(rt, cache),
+        None => "what?",
+    };
+    println!(rt; "{text}")
 }
 
 fn main(rt: HostRuntime) -> io::Result<()> {
-    let alloc = rt.alloc();
-    let mut cache = ResponseCache::new(alloc);
+    let mut cache = ResponseCache::new(rt.alloc());
     let mut now = 0;
-    for text in rt.lines(alloc) {
-        let text = text?;
-        answer(&rt, &mut cache, &mut now, line::parse(text.as_str()))?;
+    for text in rt.lines(rt.alloc()) {
+        answer(&rt, &mut cache, &mut now, line::parse(text?.as_str()))?;
     }
     Ok(())
 }

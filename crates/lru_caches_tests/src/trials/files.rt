@@ -1,121 +1,56 @@
-//! A page cache over each device on a file, compared with a plain list of blocks.
-use crate::trials::CALLS;
-use lru_caches::{BlockDevice, FileDevice, HashedFileDevice, PageCache, Unclosed};
+//! The devices on a file, compared with a plain list of blocks.
+use lru_caches::{BlockDevice, FileDevice, HashedFileDevice};
 use std::alloc::Global;
 use std::io::Cursor;
 use test_helpers::Random;
 
+/// How many writes are made.
+pub const CALLS: u64 = 100_000;
+
 /// The number of blocks of the file.
 const BLOCKS: u64 = 10_000;
 
-/// How many pages are cached.
-const CAPACITY: usize = 64;
-
-type Block = [u8; 8];
-
-// A random number of a block. Half of them are below 80.
-fn random_number(random: &mut Random) -> u64 {
-    let below = if random.below(2) == 0 { 80 } else { BLOCKS };
-    random.below(below)
+// A file of blocks that are zero. Out of memory, it lacks blocks.
+fn file(alloc: Global) -> Cursor<Vec<u8>> {
+    Cursor::new(vec![in alloc; 0u8; 80_000].unwrap_or(Vec::new(alloc)))
 }
 
-// Reads or writes a block of the cache and its place in the list, and returns whether they agree.
-fn agree<D: BlockDevice<Block>>(
-    cache: &mut PageCache<Block, D>,
-    n: u64,
-    place: &mut u64,
-    random: &mut Random,
-) -> bool
-where
-    D::Error: Drop,
-{
-    if random.below(2) == 0 {
-        return cache.read(n).ok() == Some(place.to_le_bytes());
-    }
-    *place = random.next();
-    cache.write(n, place.to_le_bytes()).is_ok()
-}
-
-// Makes random reads and writes, and returns how many agree. If the file does not have all blocks in the end, none do.
-fn count<D: BlockDevice<Block> + Drop>(mut cache: PageCache<Block, D>, model: &mut Vec<u64>) -> u64
-where
-    D::Error: Drop,
-{
-    let (mut random, mut count) = (Random::new(5), 0u64);
+/// Writes random blocks to both devices, and reads others. Returns after how many writes these agree with a list. If a
+/// file does not contain the list in the end, none do.
+pub fn calls_that_agree(alloc: Global) -> u64 {
+    let copies: Result<FileDevice<_, 8>, _> = FileDevice::new(alloc, file(alloc), BLOCKS);
+    let hashes: Result<HashedFileDevice<_, 8>, _> = HashedFileDevice::new(
+        alloc,
+        file(alloc),
+        BLOCKS,
+    );
+    let (Ok(mut copies), Ok(mut hashes)) = (copies, hashes) else {
+        return 0;
+    };
+    let (mut model, mut random, mut count) = ([[0u8; 8]; BLOCKS as usize], Random::new(5), 0u64);
     for _ in 0..CALLS {
-        let n = random_number(&mut random);
-        if let Some(place) = model.get_mut(n as usize) {
-            let right = agree(&mut cache, n, place, &mut random);
-            count = count.saturating_add(right as u64);
-        }
+        let (n, block) = (random.below(BLOCKS), random.next().to_le_bytes());
+        let is_written = copies.write(n, &block).is_ok() & hashes.write(n, &block).is_ok();
+        model[n as usize] = block;
+        let n = random.below(BLOCKS);
+        let shown = (copies.read(n).ok(), hashes.read(n).ok());
+        let expected = Some(model[n as usize]);
+        let is_right = is_written & (shown == (expected, expected));
+        count = count.saturating_add(is_right as u64);
     }
-    match cache.close() {
-        Ok(mut device) => if has_blocks(&mut device, model) {
-            count
-        } else {
-            0
-        },
-        Err(Unclosed { cache, error: _ }) => {
-            drop(cache.discard());
-            0
-        }
+    let bytes = copies.into_file().into_inner();
+    if bytes == hashes.into_file().into_inner() && contains(bytes.as_slice(), &model) {
+        count
+    } else {
+        0
     }
 }
 
-// Whether a device has the blocks of a list.
-fn has_blocks<D: BlockDevice<Block>>(device: &mut D, model: &Vec<u64>) -> bool
-where
-    D::Error: Drop,
-{
-    let mut right = true;
-    for (n, number) in model.iter().enumerate() {
-        right = right && device.read(n as u64).ok() == Some(number.to_le_bytes());
+// Whether a file consists of these blocks.
+fn contains(bytes: &[u8], model: &[[u8; 8]; BLOCKS as usize]) -> bool {
+    let mut right = bytes.len() == 80_000;
+    for (block, expected) in bytes.chunks(8).zip(model) {
+        right = right & (block == expected.as_slice());
     }
     right
-}
-
-// A file whose blocks are the numbers of a list. Out of memory, it lacks blocks.
-fn file_of(alloc: Global, model: &Vec<u64>) -> Cursor<Vec<u8>> {
-    let mut bytes = Vec::new(alloc);
-    for number in model {
-        let _ = bytes.extend_from_slice(&number.to_le_bytes());
-    }
-    Cursor::new(bytes)
-}
-
-// Random numbers. Out of memory, there are fewer.
-fn random_blocks(alloc: Global) -> Vec<u64> {
-    let (mut model, mut random) = (Vec::new(alloc), Random::new(6));
-    for _ in 0..BLOCKS {
-        let _ = model.push(random.next());
-    }
-    model
-}
-
-/// Returns how many random calls agree on a device that keeps copies.
-pub fn calls_that_agree_on_copies(alloc: Global) -> u64 {
-    let mut model = random_blocks(alloc);
-    let device: Result<FileDevice<_, 8>, _> = FileDevice::new(
-        alloc,
-        file_of(alloc, &model),
-        BLOCKS,
-    );
-    match device {
-        Ok(device) => count(PageCache::new(alloc, device, CAPACITY), &mut model),
-        Err(_) => 0,
-    }
-}
-
-/// Returns how many random calls agree on a device that keeps hashes.
-pub fn calls_that_agree_on_hashes(alloc: Global) -> u64 {
-    let mut model = random_blocks(alloc);
-    let device: Result<HashedFileDevice<_, 8>, _> = HashedFileDevice::new(
-        alloc,
-        file_of(alloc, &model),
-        BLOCKS,
-    );
-    match device {
-        Ok(device) => count(PageCache::new(alloc, device, CAPACITY), &mut model),
-        Err(_) => 0,
-    }
 }

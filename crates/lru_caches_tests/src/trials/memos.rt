@@ -1,25 +1,25 @@
-//! A memo compared with a list of the keys whose results it remembers.
+//! A memo and a loader, compared with a list of the keys whose results they remember.
 ghost use Rattle.std.specs.Prelude.{nat_eq};
-ghost use Rattle.lru_caches.specs.Answers.{AreAnswers};
+ghost use Rattle.lru_caches.specs.Answers.{AreAnswers, loads};
 
-use crate::trials::CALLS;
-use lru_caches::Memo;
+use lru_caches::{Loader, Memo};
 use schnellru::ByLength;
 use std::alloc::Global;
 use std::cell::Cell;
-use test_helpers::Random;
+use test_helpers::{Hog, Random};
 
-/// How many results the memos remember.
-pub const LENGTHS: [u32; 10] = [0, 1, 2, 3, 5, 8, 19, 60, 99, 100];
+/// How many calls are compared.
+pub const CALLS: u64 = 100_000;
 
-/// The keys of the newest results, newest first. Unused places have a key that no call has.
-pub type Keys = [u64; 100];
+/// How many results the memos and the loaders remember.
+const LENGTHS: [u32; 10] = [0, 1, 2, 3, 5, 8, 19, 60, 99, 100];
 
-/// Keys are below this.
-pub const KEYS: u64 = 150;
+/// The last key whose result can be loaded.
+const KEYS: u64 = 150;
 
-/// Moves a key to the front of the places that are used, and returns whether it was there.
-pub fn use_key(keys: &mut Keys, length: u32, key: u64) -> bool {
+// Moves a key to the front of the places that are used, and returns whether it was there. Unused places have a key that
+// no call has.
+fn use_key(keys: &mut [u64; 100], length: u32, key: u64) -> bool {
     let mut carried = key;
     for place in keys.iter_mut().take(length as usize) {
         let old = *place;
@@ -32,38 +32,58 @@ pub fn use_key(keys: &mut Keys, length: u32, key: u64) -> bool {
     false
 }
 
-// Returns how many random calls return the square of the key, and call the function only if they have to.
-fn count<F: Fn(u64) -> u64>(
+// Asks the memo and the loader for random keys, and the loader also for keys whose results it cannot load. Returns how
+// often each failure is one call of the function, and each other question a call if the result is not stored.
+fn count<F: Fn(u64) -> u64, G: Fn(u64) -> Result<u64, u64>>(
     mut memo: Memo<u64, u64, F, ByLength>,
+    mut loader: Loader<u64, u64, G, ByLength>,
     calls: &Cell<u64>,
     length: u32,
 ) -> u64
     requires callable { F.IsAlwaysCallable memo.function }
     requires known { AreAnswers nat_eq (F.post memo.function) memo.known }
+    requires can_load { G.IsAlwaysCallable loader.function }
+    requires loaded { AreAnswers nat_eq (loads (G.post loader.function)) loader.known }
 {
     let (mut keys, mut random, mut count) = ([u64::MAX; 100], Random::new(3), 0u64);
     for _ in 0..CALLS / LENGTHS.len() as u64 {
-        let key = random.below(KEYS);
+        let key = random.below(KEYS).wrapping_add(1);
         calls.set(0);
-        let result = memo.answer(key);
+        memo.answer(key);
+        let _ = loader.load(key);
+        let _ = loader.load(key.wrapping_add(KEYS));
         let is_stored = use_key(&mut keys, length, key);
-        let right = result == key.wrapping_mul(key) && calls.get() == !is_stored as u64;
-        count = count.saturating_add(right as u64);
+        let expected = (!is_stored as u64).wrapping_mul(2).wrapping_add(1);
+        count = count.saturating_add((calls.get() == expected) as u64);
     }
     count
 }
 
-/// Returns how many random calls agree.
+/// Returns how many random calls agree. Before these, each memo and loader is asked for a key that no other call has,
+/// without memory, and stores nothing. If memory has no end, they may store the result.
 pub fn calls_that_agree(alloc: Global) -> u64 {
     let mut sum = 0u64;
     for length in LENGTHS {
         let calls = Cell::new(0u64);
-        let square = |n: u64| {
+        let mut memo = Memo::new(alloc, ByLength::new(length), |n: u64| {
             calls.set(calls.get().saturating_add(1));
-            n.wrapping_mul(n)
+            n
+        });
+        let mut loader = Loader::new(alloc, ByLength::new(length), |n: u64| {
+            calls.set(calls.get().saturating_add(1));
+            if n <= KEYS { Ok(n) } else { Err(n) }
+        });
+        let hog = Hog::new(alloc, &[]);
+        let (answer, loaded) = (memo.answer(0), loader.load(0));
+        let is_empty = memo.len() == 0 && loader.len() == 0;
+        let took_all = match &hog {
+            Ok(hog) => hog.took_all(),
+            Err(_) => true,
         };
-        let memo = Memo::new(alloc, ByLength::new(length), square);
-        sum = sum.saturating_add(count(memo, &calls, length));
+        drop(hog);
+        if answer == 0 && loaded == Ok(0) && (is_empty || !took_all) {
+            sum = sum.saturating_add(count(memo, loader, &calls, length));
+        }
     }
     sum
 }

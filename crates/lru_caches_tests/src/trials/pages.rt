@@ -1,40 +1,104 @@
-//! A page cache on a disk that fails now and then, compared with an array of blocks.
-use crate::trials::CALLS;
-use crate::trials::disk::BLOCKS;
-use crate::trials::page_calls::{agree, cache_of, ends_with, flush};
+//! A page cache whose disk fails at each of its calls in turn, compared with an array of blocks.
+use crate::disk::Disk;
+use lru_caches::{PageCache, Unclosed};
 use std::alloc::Global;
 use std::cell::Cell;
 use test_helpers::Random;
 
-/// The caches have fewer pages than this.
-const CAPACITIES: usize = 5;
+/// The number of calls of a list.
+const LENGTH: u64 = 100;
 
-// Returns how many random calls agree on a cache of this capacity, whose disk fails now and then.
-fn count(alloc: Global, capacity: usize) -> u64 {
-    let calls_left = Cell::new(0);
-    let mut cache = cache_of(alloc, [0; BLOCKS], &calls_left, capacity);
-    let (mut model, mut random, mut count) = ([0; BLOCKS], Random::new(1), 0u64);
-    for _ in 0..CALLS / CAPACITIES as u64 {
-        if calls_left.get() == 0 {
-            calls_left.set(random.below(12));
+/// The caches have fewer pages than this.
+const CAPACITIES: usize = 6;
+
+/// A list needs fewer calls of the disk than this.
+const MOST: u64 = 80;
+
+/// How many calls of the disk the lists need together, from another program.
+pub const NEEDED: u64 = 310;
+
+/// A number of calls that is left of a disk that works. No test makes so many.
+const WORKS: u64 = 1 << 60;
+
+type Cache<'a> = PageCache<u64, Disk<'a>>;
+
+type Blocks = [u64; 4];
+
+// Makes a random call on both: a read, also of a block that the disk lacks, a write, or a flush. Returns whether they
+// agree: the call fails exactly if the disk fails or lacks the block, and changes no block then.
+fn agree(cache: &mut Cache, model: &mut Blocks, random: &mut Random) -> bool {
+    let (kind, n) = (random.below(8), random.below(5));
+    if kind < 3 {
+        let shown = cache.read(n).ok();
+        let failed = cache.device().calls_left.get() > WORKS;
+        return shown
+            == if failed {
+                None
+            } else {
+                model.get(n as usize).copied()
+            };
+    }
+    if kind < 7 {
+        let (n, block) = (n % 4, random.below(1000));
+        let is_written = cache.write(n, block).is_ok();
+        if is_written {
+            model[n as usize] = block;
         }
-        let right = agree(&mut cache, &mut model, &mut random);
-        count = count.saturating_add(right as u64);
+        return is_written == (cache.device().calls_left.get() <= WORKS);
     }
-    calls_left.set(u64::MAX);
-    let is_flushed = flush(&mut cache);
-    if ends_with(cache, &model) && is_flushed {
-        count
-    } else {
-        0
-    }
+    let is_flushed = cache.flush().is_ok();
+    let failed = cache.device().calls_left.get() > WORKS;
+    is_flushed != failed && (failed || cache.device().blocks == *model)
 }
 
-/// Returns how many random calls agree. The disk fails at a random call, and is repaired before the next one.
-pub fn calls_that_agree(alloc: Global) -> u64 {
-    let mut sum = 0u64;
-    for capacity in 0..CAPACITIES {
-        sum = sum.saturating_add(count(alloc, capacity));
+// Whether a cache whose disk works shows these blocks.
+fn shows(cache: &mut Cache, model: &Blocks) -> bool {
+    let mut right = true;
+    for n in 0..4usize {
+        right = cache.read(n as u64).ok() == Some(model[n]) && right;
     }
-    sum
+    right
+}
+
+// Makes a list of calls on a cache whose disk fails after k calls. If it stays broken, it also fails at all calls that
+// follow, and else after k more. Returns whether the disk failed, and whether no result is wrong and no write is lost.
+fn run(alloc: Global, capacity: usize, k: u64, stays_broken: bool) -> (bool, bool) {
+    let (calls_left, mut model) = (Cell::new(k), [10, 11, 12, 13]);
+    let disk = Disk {
+        blocks: model,
+        calls_left: &calls_left,
+    };
+    let mut cache = PageCache::new(alloc, disk, capacity);
+    let (mut random, mut failed, mut right) = (Random::new(7), false, true);
+    for _ in 0..LENGTH {
+        right = agree(&mut cache, &mut model, &mut random) && right;
+        if calls_left.get() > WORKS {
+            failed = true;
+            calls_left.set(WORKS);
+            right = (stays_broken || shows(&mut cache, &model)) && right;
+            calls_left.set(if stays_broken { 0 } else { k });
+        }
+    }
+    // If the disk is broken, a close fails and returns the cache.
+    let mut cache = match cache.close() {
+        Ok(disk) => PageCache::new(alloc, disk, capacity),
+        Err(Unclosed { cache, error: _ }) => cache,
+    };
+    failed = failed || calls_left.get() > WORKS;
+    calls_left.set(WORKS);
+    right = shows(&mut cache, &model) && cache.flush().is_ok() && right;
+    (failed, cache.discard().blocks == model && right)
+}
+
+/// Returns at how many calls of the disk a failure was tried, and how many of these runs lost nothing.
+pub fn runs_that_lose_nothing(alloc: Global, stays_broken: bool) -> (u64, u64) {
+    let (mut tried, mut kept) = (0u64, 0u64);
+    for capacity in 0..CAPACITIES {
+        for k in 0..MOST {
+            let (failed, is_right) = run(alloc, capacity, k, stays_broken);
+            tried = tried.saturating_add(failed as u64);
+            kept = kept.saturating_add((failed && is_right) as u64);
+        }
+    }
+    (tried, kept)
 }

@@ -1,9 +1,11 @@
 use Rattle.std.proofs.Common.{◌≡◌, nat_eq}
-use Rattle.lru_caches.specs.Answers.{AreAnswers}
+use Rattle.lru_caches.specs.Answers.{AreAnswers, loads}
 use Rattle.lru_caches_tests.proofs.trials.memos.count.Given as goal
 
 abbrev pub invariant-loop : goal.invariant-loop
 invariant-loop g l = record {
   function : l.memo.function ≡ l.fn.memo.function;
   known : AreAnswers nat_eq (goal.F-post g l.memo.function) l.memo.known;
+  source : l.loader.function ≡ l.fn.loader.function;
+  loaded : AreAnswers nat_eq (loads (goal.G-post g l.loader.function)) l.loader.known;
 }
