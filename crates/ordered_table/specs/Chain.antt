@@ -1,7 +1,7 @@
 -- How links keep an order of buckets: each entry contains the numbers of its two neighbours. No public clause cites
 -- this module.
 use Rattle.std.specs.Prelude.{◌≡◌, ◌≢◌, ◌⊎◌, ℕ, zero, suc, ◌<◌, slice_index_or, List, [], ◌∷◌, length, map}
-use Rattle.std.specs.Prelude.{Option, Some, None, option_map, unwrap_or, Contains, AllPairs, nat_eq, if◌then◌else◌}
+use Rattle.std.specs.Prelude.{Option, Some, None, option_map, unwrap_or, Contains, AllPairs}
 use Rattle.group_table.specs.Bucket.{empty, deleted, full, Slot, IsFull, bucket_at, entry_at, entry_count}
 use Rattle.group_table.specs.Relocation.{Renumbers}
 use Rattle.lru_model.specs.Lists.{first, last}
@@ -23,10 +23,6 @@ module _ {N : Type 0} (link : ℕ → N) (none : N) where
   abbrev pub link_to : Option ℕ → N
   link_to None = none
   link_to (Some b) = link b
-
--- the bucket that a link leads to, unless it is the link to none
-abbrev pub target : {N : Type 0} → (N → ℕ) → N → N → Option ℕ
-target number none link = if nat_eq (number link) (number none) then None else Some (number link)
 
 -- the first n buckets from a link on, each followed by its older neighbour
 abbrev pub along : {K V N : Type 0} → (N → ℕ) → ℕ → List (Slot (Entry K V N)) → N → List ℕ

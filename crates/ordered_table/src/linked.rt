@@ -10,11 +10,10 @@ ghost use Rattle.ordered_table.specs.EntrySize.{entry_size};
 ghost use Rattle.lru_model.specs.ByHash.{Asks};
 ghost use Rattle.ordered_table.specs.Searches.{FindsPair, FindsNoPair};
 ghost use Rattle.lru_model.specs.Lists.{first as first_bucket, last as last_bucket};
-ghost use Rattle.ordered_table.specs.Chain.{pair_slots, target};
+ghost use Rattle.ordered_table.specs.Chain.{pair_slots};
 ghost use Rattle.ordered_table.specs.OrderedTable.{bucket_after, bucket_before};
 
-use crate::linked::chain::Chain;
-pub(crate) use crate::linked::chain::is_max;
+use crate::linked::chain::{Chain, is_max};
 use crate::ordered::Pair;
 use group_table::{LinkType, Table};
 use lru_limits::LookupKey;
@@ -322,10 +321,9 @@ impl<K: Eq + Hash, V, N: LinkType> LinkedTable<K, V, N> {
 
 // The bucket that a link leads to.
 #[inline]
-pub(crate) fn bucket_of<N: LinkType>(link: N) -> Option<usize>
+fn bucket_of<N: LinkType>(link: N) -> Option<usize>
     ensures none { IfNone result (link ≡ N.MAX) }
     ensures some { IfSome result (λ b. (link ≢ N.MAX) × (b ≡ N.number link)) }
-    ensures target { result ≡ target N.number N.MAX link }
 {
     if is_max(link) {
         None

@@ -50,7 +50,7 @@ pub struct OrderedTable<K, V, N: LinkType> {
     // The bucket of the last promotion, as long as its links show where it was before. The next call that changes the
     // order changes them. A promotion writes to the neighbours of the bucket, and some processors let no read pass a
     // write whose address is still to come from memory. By the next call the address is there.
-    promoted: N,
+    promoted: Option<usize>,
 }
 
 // Not derived, because each crate that drops a table would then prove the drop of each part again.
@@ -67,14 +67,13 @@ impl<K: Drop, V: Drop, N: LinkType> Drop for OrderedTable<K, V, N> {
 impl<K, V, N: LinkType> Model for OrderedTable<K, V, N> {
     ghost use Rattle.std.specs.Prelude.{IfSome};
     ghost use Rattle.group_table.specs.Bucket.{IsFull};
-    ghost use Rattle.ordered_table.specs.Chain.{target};
     ghost use Rattle.ordered_table.specs.OrderedTable.{OrderedTable as Seen, in_front, IsLinked};
 
     ghost Value = { Seen K V };
 
-    ghost view = { λ t. record t.linked { order = in_front (target N.number N.MAX t.promoted) t.linked.order } };
+    ghost view = { λ t. record t.linked { order = in_front t.promoted t.linked.order } };
 
-    ghost invariant = { λ t. IsLinked t.linked × IfSome (target N.number N.MAX t.promoted) (IsFull t.linked.slots) };
+    ghost invariant = { λ t. IsLinked t.linked × IfSome t.promoted (IsFull t.linked.slots) };
 }
 
 impl<K, V, N: LinkType> OrderedTable<K, V, N> {
@@ -90,7 +89,7 @@ impl<K, V, N: LinkType> OrderedTable<K, V, N> {
     {
         OrderedTable {
             linked: LinkedTable::new(alloc),
-            promoted: N::MAX,
+            promoted: None,
         }
     }
 

@@ -1,15 +1,13 @@
 -- The neighbours and the ends of an order in which one bucket was put in front.
 use Rattle.std.proofs.Common.{◌≡◌, ◌≢◌, ◌⊎◌, ℕ, zero, suc, List, [], ◌∷◌, slice_get, Option, Some, None}
-use Rattle.std.proofs.Common.{◌<◌, inl, inr, refl, sym, ap, ◌∙◌, subst, arith, eq-eqb, ne_eqb}
+use Rattle.std.proofs.Common.{inl, inr, refl, sym, ap, ◌∙◌, subst, arith}
 use Rattle.std.specs.Prelude.{Contains, AllPairs, IfSome, unwrap_or}
 use Rattle.std.specs.Option.{option_or}
 use Rattle.std.proofs.lemmas.Option.{none-some, same_Some, slice_get-get_or}
 use Rattle.std.proofs.lemmas.Bool.{cases_eq}
 use Rattle.group_table.specs.Bucket.{IsFull}
-use Rattle.group_table.specs.Link.{IsLinkType}
 use Rattle.lru_model.specs.Lists.{first as first_bucket, last as last_bucket, last_of}
 use Rattle.lru_model.proofs.PairLists.Members.{Contains-cases, Contains-here, Contains-later, Contains-nil}
-use Rattle.ordered_table.specs.Chain.{target}
 use Rattle.ordered_table.specs.OrderedTable.{OrderedTable, IsLinked, in_front, without_bucket, bucket_after, bucket_before}
 use Rattle.ordered_table.proofs.Chains.Orders.{distinct_cons, distinct_without, in_without, without_in, length-without}
 use Rattle.ordered_table.proofs.Chains.Orders.{after-last}
@@ -19,19 +17,6 @@ use Rattle.ordered_table.proofs.Chains.Neighbours.{before-itself, after-itself, 
 use Rattle.ordered_table.proofs.Chains.Neighbours.{newest_again}
 use Rattle.ordered_table.proofs.Chains.LastBuckets.{oldest_again, last-comes}
 use Rattle.ordered_table.proofs.Tables.Places.{first_at, after_at, before_at}
-
--- the link to no bucket leads to none, and the link to a bucket to that
-pub no_target : {N : Type 0} (number : N → ℕ) (none : N) → target number none none ≡ None
-no_target number none = rw (eq-eqb (number none) (number none) refl) refl
-
-module _ {N : Type 0} {number : N → ℕ} {link : ℕ → N} {none : N} (laws : IsLinkType number link none) where
-  pub some_target : (b : ℕ) → b < number none → target number none (link b) ≡ Some b
-  some_target b below = rw (laws.number_of_link b below)
-      (rw (ne_eqb b (number none) (λ same. absurd (omega (arith, below, same)))) refl)
-
-  -- the target of a link that is not the link to no bucket
-  pub target_is : (l : N) → l ≢ none → target number none l ≡ Some (number l)
-  target_is l some = rw (ne_eqb (number l) (number none) (λ same. some (laws.equal_by_number l none same))) refl
 
 -- the table with a full bucket in front is linked, too
 pub linked_promoted : {K V : Type 0} (t : OrderedTable K V) (front : Option ℕ) → IsLinked t

@@ -8,10 +8,10 @@ ghost use Rattle.group_table.specs.Bucket.{empty, marks_of, IsFull, entry_at, en
 ghost use Rattle.group_table.specs.Change.{Removes, HasNoPlace, some_moved};
 ghost use Rattle.lru_model.specs.Clones.{IsPairClone};
 ghost use Rattle.lru_model.specs.Lists.{last as last_bucket};
-ghost use Rattle.ordered_table.specs.OrderedTable.{IsLinked, KeysFit, Lands, pairs_of, without_bucket};
+ghost use Rattle.ordered_table.specs.OrderedTable.{IsLinked, KeysFit, Lands, Takes, pairs_of, without_bucket};
 
 use crate::ordered::OrderedTable;
-use crate::ordered::promoted::{link_promoted, settle};
+use crate::ordered::promoted::settle;
 use group_table::LinkType;
 use lru_limits::KeyHasher;
 use std::alloc::AllocError;
@@ -61,10 +61,13 @@ impl<K, V, N: LinkType> OrderedTable<K, V, N> {
         ensures insertions { self.new.insertions ≡ self.old.insertions }
         ensures linked { IsLinked self.new }
     {
-        // Nothing at run time: it shows the proof that a link reaches each bucket.
-        let _ = self.linked.buckets();
-        link_promoted(&mut self.linked, self.promoted);
-        self.promoted = N::from_usize(b);
+        match &mut self.promoted {
+            Some(last) => {
+                self.linked.promote(*last);
+                *last = b;
+            }
+            None => self.promoted = Some(b),
+        }
     }
 
     /// Makes the pair in a full bucket the oldest.
@@ -81,24 +84,33 @@ impl<K, V, N: LinkType> OrderedTable<K, V, N> {
         self.linked.demote(b);
     }
 
-    /// Takes the pair out of a full bucket. If that is known to be the oldest (`last`), its older link is not read.
+    /// Takes the pair out of a full bucket.
     ///
     /// Cost: `O(1)`.
     #[inline(always)]
-    pub fn take(&mut self, b: usize, last: bool) -> (K, V)
-        requires full { IsFull self.old.slots b }
-        requires last { IsTrue last → last_bucket self.old.order ≡ Some b }
-        ensures pair { entry_at self.old.slots b ≡ Some result }
-        ensures removed { Removes self.old.slots self.new.slots b }
-        ensures order { self.new.order ≡ without_bucket b self.old.order }
-        ensures insertions { self.new.insertions ≡ self.old.insertions }
-        ensures room { room (marks_of self.new.slots) ≡ room (marks_of self.old.slots)
-            + room_at (marks_of self.new.slots) b }
+    pub fn take(&mut self, b: usize) -> (K, V)
+        requires { IsFull self.old.slots b }
+        ensures taken { Takes self.old self.new b result }
         ensures fits { (hash_of : K → ℕ) → KeysFit hash_of self.old.slots → KeysFit hash_of self.new.slots }
         ensures linked { IsLinked self.new }
     {
         settle(&mut self.linked, &mut self.promoted);
-        self.linked.take(b, last)
+        self.linked.take(b, false)
+    }
+
+    /// Takes the oldest pair out of a table that is not empty. Its older link is not read.
+    ///
+    /// Cost: `O(1)`.
+    #[inline(always)]
+    pub fn take_oldest(&mut self) -> (K, V)
+        requires { 0 < length self.old.order }
+        ensures taken { (b : ℕ) × (last_bucket self.old.order ≡ Some b) × Takes self.old self.new b result }
+        ensures fits { (hash_of : K → ℕ) → KeysFit hash_of self.old.slots → KeysFit hash_of self.new.slots }
+        ensures linked { IsLinked self.new }
+    {
+        settle(&mut self.linked, &mut self.promoted);
+        let b = self.linked.oldest();
+        self.linked.take(b, true)
     }
 }
 
@@ -113,7 +125,7 @@ impl<K: Drop, V: Drop, N: LinkType> OrderedTable<K, V, N> {
         ensures fits { (hash_of : K → ℕ) → KeysFit hash_of self.new.slots }
         ensures linked { IsLinked self.new }
     {
-        self.promoted = N::MAX;
+        self.promoted = None;
         self.linked.clear();
     }
 }

@@ -89,6 +89,6 @@ impl<K: Eq + Hash, V, L: Limiter<K, V>, S: KeyHasher<K>> LruMap<K, V, L, S> {
         ensures freed { Frees (Some b) self.old.table self.new.table }
         ensures map { IsMap K.eq self.new }
     {
-        take_out(&mut self.entries, &mut self.limiter, b, false)
+        take_out(&mut self.entries, &mut self.limiter, b)
     }
 }

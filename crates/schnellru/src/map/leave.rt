@@ -54,7 +54,7 @@ impl<K: Eq + Hash, V, L: Limiter<K, V>, S: KeyHasher<K>> LruMap<K, V, L, S> {
         ensures map { IsMap K.eq self.new }
     {
         let b = self.entries.first()?;
-        Some(take_out(&mut self.entries, &mut self.limiter, b, false))
+        Some(take_out(&mut self.entries, &mut self.limiter, b))
     }
 
     /// Removes a key. Returns the stored key and its value, as the limiter leaves them. The other entries keep their
@@ -125,15 +125,14 @@ impl<K: Eq + Hash + Drop, V: Drop, L: Limiter<K, V>, S: KeyHasher<K>> LruMap<K, 
 
 impl<K: Eq + Hash, V, L: Limiter<K, V>, S: KeyHasher<K>> LruMap<K, V, L, S> {
     // Takes out the oldest pair, as the limiter leaves it.
-    #[inline]
+    #[inline(always)]
     pub(super) fn take_oldest(&mut self) -> (K, V)
         requires { 0 < length self.old.pairs }
         ensures step { PopOldest L.rules self.old (Some result) self.new }
         ensures freed { Frees (last self.old.table.places) self.old.table self.new.table }
         ensures map { IsMap K.eq self.new }
     {
-        let b = self.entries.oldest();
-        take_out(&mut self.entries, &mut self.limiter, b, true)
+        take_out_oldest(&mut self.entries, &mut self.limiter)
     }
 }
 
@@ -192,21 +191,34 @@ impl<K: Eq + Hash, V, L: Limiter<K, V>, S: KeyHasher<K>> LruMap<K, V, L, S> {
     }
 }
 
-// Takes the pair out of a full bucket, which is known to be the oldest if `is_oldest`, and notifies the limiter.
+// Takes the pair out of a full bucket, and notifies the limiter.
 #[inline]
 pub(super) fn take_out<K: Eq + Hash, V, L: Limiter<K, V>>(
     entries: &mut OrderedTable<K, V, L::LinkType>,
     limiter: &mut L,
     b: usize,
-    is_oldest: bool,
 ) -> (K, V)
-    requires full { IsFull entries.old.slots b }
-    requires oldest { IsTrue is_oldest → last entries.old.order ≡ Some b }
+    requires { IsFull entries.old.slots b }
     ensures taken { IsTakenOut L.rules b entries.old entries.new limiter.old result limiter.new }
     ensures linked { IsLinked entries.new }
     ensures fits { (hash_of : K → ℕ) → KeysFit hash_of entries.old.slots → KeysFit hash_of entries.new.slots }
 {
-    notify(limiter, entries.take(b, is_oldest))
+    notify(limiter, entries.take(b))
+}
+
+// Takes out the oldest pair of a table that is not empty, and notifies the limiter.
+#[inline(always)]
+fn take_out_oldest<K: Eq + Hash, V, L: Limiter<K, V>>(
+    entries: &mut OrderedTable<K, V, L::LinkType>,
+    limiter: &mut L,
+) -> (K, V)
+    requires { 0 < length entries.old.order }
+    ensures taken { (b : ℕ) × (last entries.old.order ≡ Some b)
+        × IsTakenOut L.rules b entries.old entries.new limiter.old result limiter.new }
+    ensures linked { IsLinked entries.new }
+    ensures fits { (hash_of : K → ℕ) → KeysFit hash_of entries.old.slots → KeysFit hash_of entries.new.slots }
+{
+    notify(limiter, entries.take_oldest())
 }
 
 // Notifies the limiter of a pair that was evicted, removed or not stored, and returns the pair as the limiter leaves

@@ -81,7 +81,7 @@ pub(super) fn offer<K: Eq + Hash, V, I: LookupKey<K>, L: Insertion<K, V, I>, F: 
     if taken {
         (true, mem::replace(&mut pair.value, value))
     } else {
-        let (key, old) = take_out(entries, limiter, b, false);
+        let (key, old) = take_out(entries, limiter, b);
         sink(key, old);
         (false, value)
     }

@@ -1,20 +1,18 @@
 use Rattle.std.proofs.Common.{refl}
-use Rattle.ordered_table.specs.Chain.{target}
 use Rattle.ordered_table.specs.OrderedTable.{with_pair}
 use Rattle.ordered_table.proofs.Tables.PromotedOrders.{linked_promoted, promoted_kept}
 use Rattle.ordered_table.proofs.ordered.OrderedTable.pair_mut.Goals as goal
 
 pub returns : goal.returns
-returns g c =
-    let front = target g.N.LinkType.number g.N.LinkType.MAX c.self.inside.promoted in (
-      (refl, λ w. rw (← c.self.view_is) refl),
-      record {
-        writes_back = tt;
-        pair = rw (← c.self.view_is) c.pair_mut.ensures.pair;
-        fits = rw (← c.self.view_is) c.pair_mut.ensures.fits;
-        linked = λ last. rw (← c.self.view_is)
-            (linked_promoted (with_pair c.self.inside.linked c.args.b last) front (c.pair_mut.ensures.linked last)
-            (promoted_kept c.self.inside.linked (with_pair c.self.inside.linked c.args.b last) front
-            c.self.invariant.0 (c.pair_mut.ensures.linked last) refl c.self.invariant.1));
-      },
-    )
+returns g c = (
+  (refl, λ w. rw (← c.self.view_is) refl),
+  record {
+    writes_back = tt;
+    pair = rw (← c.self.view_is) c.pair_mut.ensures.pair;
+    fits = rw (← c.self.view_is) c.pair_mut.ensures.fits;
+    linked = λ last. rw (← c.self.view_is)
+        (linked_promoted (with_pair c.self.inside.linked c.args.b last) c.self.inside.promoted (c.pair_mut.ensures.linked last)
+        (promoted_kept c.self.inside.linked (with_pair c.self.inside.linked c.args.b last) c.self.inside.promoted
+        c.self.invariant.0 (c.pair_mut.ensures.linked last) refl c.self.invariant.1));
+  },
+)

@@ -1,14 +1,11 @@
-use Rattle.std.proofs.Common.{arith, ◌<◌}
-use Rattle.group_table.proofs.BucketLemmas.{full_lt}
-use Rattle.ordered_table.specs.Chain.{target}
-use Rattle.ordered_table.proofs.Tables.PromotedOrders.{linked_promoted, some_target}
+use Rattle.std.proofs.Common.{Some}
+use Rattle.ordered_table.proofs.Tables.PromotedOrders.{linked_promoted}
 use Rattle.ordered_table.proofs.ordered.OrderedTable.promote.Goals as goal
 
-pub returns-clause-linked : goal.returns-clause-linked
-returns-clause-linked g c =
-    let front = target g.N.LinkType.number g.N.LinkType.MAX c.from_usize-self-inside.result in
-    let full = rw (← c.self.view_is) at c.requires in
-    let below : c.args.b < g.N.LinkType.number g.N.LinkType.MAX =
-    omega (arith, full_lt c.self.inside.linked.slots c.args.b full, c.buckets.ensures.reached) in
-    linked_promoted c.link_promoted.new.table front c.link_promoted.ensures.linked
-    (rw (c.from_usize-self-inside.ensures, some_target g.met.N.LinkType.laws c.args.b below, c.link_promoted.ensures.slots) full)
+pub returns-in-Some-clause-linked : goal.returns-in-Some-clause-linked
+returns-in-Some-clause-linked g c = linked_promoted c.promote.new.self (Some c.args.b) c.promote.ensures.linked
+    (rw c.promote.ensures.slots (rw (← c.self.view_is) at c.requires))
+
+pub returns-in-None-clause-linked : goal.returns-in-None-clause-linked
+returns-in-None-clause-linked g c = linked_promoted c.self.inside.linked (Some c.args.b) c.self.invariant.0
+    (rw (← c.self.view_is) at c.requires)

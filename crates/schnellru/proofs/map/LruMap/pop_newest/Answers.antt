@@ -5,8 +5,8 @@ use Rattle.schnellru.proofs.Maps.TakenPairs.{taken_frees}
 use Rattle.schnellru.proofs.Maps.TakenPairs.{taken_holds}
 use Rattle.schnellru.proofs.map.LruMap.pop_newest.Goals as goal
 
-pub take_out-requires-clause-full : goal.take_out-requires-clause-full
-take_out-requires-clause-full g c = newest_full c.self.inside.entries c.self.invariant.linked c.in_ok-b.b
+pub take_out-requires : goal.take_out-requires
+take_out-requires g c = newest_full c.self.inside.entries c.self.invariant.linked c.in_ok-b.b
     (sym c.first.ensures.first ∙ c.in_ok-b.was)
 
 pub invariant_of-self : goal.invariant_of-self

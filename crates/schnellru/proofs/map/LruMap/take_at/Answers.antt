@@ -6,8 +6,8 @@ use Rattle.schnellru.proofs.Maps.TakenPairs.{taken_frees}
 use Rattle.schnellru.proofs.Maps.TakenPairs.{taken_holds}
 use Rattle.schnellru.proofs.map.LruMap.take_at.Goals as goal
 
-pub take_out-requires-clause-full : goal.take_out-requires-clause-full
-take_out-requires-clause-full g c = c.self.invariant.linked.only c.args.b (rw (← c.self.view_is) at c.requires)
+pub take_out-requires : goal.take_out-requires
+take_out-requires g c = c.self.invariant.linked.only c.args.b (rw (← c.self.view_is) at c.requires)
 
 pub invariant_of-self : goal.invariant_of-self
 invariant_of-self g c =

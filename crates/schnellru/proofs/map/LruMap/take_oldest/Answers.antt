@@ -1,43 +1,39 @@
-use Rattle.ordered_table.proofs.Tables.BucketPairs.{oldest_full, oldest_is, others_oldest}
+use Rattle.ordered_table.proofs.Tables.BucketPairs.{oldest_is, others_oldest}
 use Rattle.std.proofs.Common.{sym, ◌∙◌}
 use Rattle.schnellru.proofs.Maps.TakenPairs.{taken_pairs, taken_left, taken_notified, taken_leaves}
 use Rattle.schnellru.proofs.Maps.TakenPairs.{taken_frees}
 use Rattle.schnellru.proofs.Maps.TakenPairs.{taken_holds}
 use Rattle.schnellru.proofs.map.LruMap.take_oldest.Goals as goal
 
-pub take_out-requires-clause-full : goal.take_out-requires-clause-full
-take_out-requires-clause-full g c = oldest_full c.self.inside.entries c.self.invariant.linked c.oldest-b.result
-    c.oldest-b.ensures.oldest
-
 pub invariant_of-self : goal.invariant_of-self
 invariant_of-self g c =
     let m = c.self.inside in
     let holds = c.self.invariant in
-    taken_holds g.L.Limiter.rules m.entries c.take_out.new.entries c.oldest-b.result m.limiter c.take_out.new.limiter
-    c.take_out.result c.take_out.ensures.taken holds.linked c.take_out.ensures.linked
-    _ g.met.K.Eq.laws _ holds (c.take_out.ensures.fits _ holds.fits)
+    taken_holds g.L.Limiter.rules m.entries c.take_out_oldest.new.entries c.take_out_oldest.ensures.taken.0 m.limiter c.take_out_oldest.new.limiter
+    c.take_out_oldest.result c.take_out_oldest.ensures.taken.2 holds.linked c.take_out_oldest.ensures.linked
+    _ g.met.K.Eq.laws _ holds (c.take_out_oldest.ensures.fits _ holds.fits)
 
 pub returns-clause-step : goal.returns-clause-step
 returns-clause-step g c =
     let m = c.self.inside in
-    let holds = c.self.invariant in let out = c.take_out.ensures.taken in
-    let rules = g.L.Limiter.rules in let t = m.entries in let u = c.take_out.new.entries in
-    let l = c.take_out.new.limiter in
-    let is = oldest_is t holds.linked c.oldest-b.result c.oldest-b.ensures.oldest out.pair out.there in
+    let holds = c.self.invariant in let out = c.take_out_oldest.ensures.taken.2 in
+    let rules = g.L.Limiter.rules in let t = m.entries in let u = c.take_out_oldest.new.entries in
+    let l = c.take_out_oldest.new.limiter in
+    let is = oldest_is t holds.linked c.take_out_oldest.ensures.taken.0 c.take_out_oldest.ensures.taken.1 out.pair out.there in
     rw (← c.self.view_is) (record {
-      pair = taken_left rules t u c.oldest-b.result m.limiter l c.take_out.result out _ is;
-      state = taken_leaves rules t u c.oldest-b.result m.limiter l c.take_out.result out holds.linked
-          c.take_out.ensures.linked _ _
-          (taken_pairs rules t u c.oldest-b.result m.limiter l c.take_out.result out
-          ∙ sym (others_oldest t holds.linked c.oldest-b.result c.oldest-b.ensures.oldest out.pair out.there))
-          (taken_notified rules t u c.oldest-b.result m.limiter l c.take_out.result out _ is);
+      pair = taken_left rules t u c.take_out_oldest.ensures.taken.0 m.limiter l c.take_out_oldest.result out _ is;
+      state = taken_leaves rules t u c.take_out_oldest.ensures.taken.0 m.limiter l c.take_out_oldest.result out holds.linked
+          c.take_out_oldest.ensures.linked _ _
+          (taken_pairs rules t u c.take_out_oldest.ensures.taken.0 m.limiter l c.take_out_oldest.result out
+          ∙ sym (others_oldest t holds.linked c.take_out_oldest.ensures.taken.0 c.take_out_oldest.ensures.taken.1 out.pair out.there))
+          (taken_notified rules t u c.take_out_oldest.ensures.taken.0 m.limiter l c.take_out_oldest.result out _ is);
     })
 
 pub returns-clause-freed : goal.returns-clause-freed
 returns-clause-freed g c =
-    let m = c.self.inside in let took = c.take_out in
-    rw (← c.self.view_is) (taken_frees g.L.Limiter.rules m.entries took.new.entries c.oldest-b.result m.limiter
-    took.new.limiter took.result took.ensures.taken _ c.oldest-b.ensures.oldest)
+    let m = c.self.inside in let took = c.take_out_oldest in
+    rw (← c.self.view_is) (taken_frees g.L.Limiter.rules m.entries took.new.entries c.take_out_oldest.ensures.taken.0 m.limiter
+    took.new.limiter took.result took.ensures.taken.2 _ c.take_out_oldest.ensures.taken.1)
 
 pub returns-clause-map : goal.returns-clause-map
 returns-clause-map g c = (invariant_of-self g c).map
