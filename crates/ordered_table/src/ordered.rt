@@ -1,10 +1,9 @@
 //! `OrderedTable`: a table whose entries are in an order. Its links show the last promotion one call later.
-ghost use Rattle.std.specs.Prelude.{◌≡◌, ℕ, ◌+◌, ◌<◌, false, [], ◌∷◌, ◌++◌, length, Some, IfSome, IfNone, IsTrue};
-ghost use Rattle.std.specs.Prelude.{replicate};
+ghost use Rattle.std.specs.Prelude.{◌≡◌, ℕ, ◌+◌, ◌<◌, false, [], length, Some, IfSome, IfNone, IsTrue};
 ghost use Rattle.std.specs.Borrow.{sem};
-ghost use Rattle.group_table.specs.Bucket.{empty, marks_of, IsFull, entry_at, room, room_at};
-ghost use Rattle.group_table.specs.Change.{Removes, no_insertions};
-ghost use Rattle.ordered_table.specs.OrderedTable.{IsLinked, KeysFit, without_bucket, with_pair};
+ghost use Rattle.group_table.specs.Bucket.{empty, marks_of, IsFull, entry_at, room};
+ghost use Rattle.group_table.specs.Change.{no_insertions};
+ghost use Rattle.ordered_table.specs.OrderedTable.{IsLinked, KeysFit, with_pair};
 ghost use Rattle.ordered_table.specs.EntrySize.{entry_size};
 ghost use Rattle.ordered_table.specs.Searches.{FindsPair, FindsNoPair};
 ghost use Rattle.lru_model.specs.Lists.{first as first_bucket, last as last_bucket};

@@ -1,11 +1,11 @@
 //! The calls that change the order of an `OrderedTable`, or its buckets. Each first lets the links show the last
 //! promotion.
-ghost use Rattle.std.specs.Prelude.{◌≡◌, ℕ, ◌+◌, ◌^◌, ◌<◌, ◌≤◌, [], ◌∷◌, ◌++◌, length, Some, IsTrue, replicate};
+ghost use Rattle.std.specs.Prelude.{◌≡◌, ℕ, ◌+◌, ◌^◌, ◌<◌, ◌≤◌, [], ◌∷◌, ◌++◌, length, Some, replicate};
 ghost use Rattle.std.specs.Prelude.{IfOk, IfErr, OnOk, OnErr, IsOk};
 ghost use Rattle.std.specs.List.{AllZip};
 ghost use Rattle.group_table.specs.Sizes.{IsBucketCount, full_capacity};
-ghost use Rattle.group_table.specs.Bucket.{empty, marks_of, IsFull, entry_at, entry_count, room, room_at};
-ghost use Rattle.group_table.specs.Change.{Removes, HasNoPlace, some_moved};
+ghost use Rattle.group_table.specs.Bucket.{empty, marks_of, IsFull, entry_count, room};
+ghost use Rattle.group_table.specs.Change.{HasNoPlace, some_moved};
 ghost use Rattle.lru_model.specs.Clones.{IsPairClone};
 ghost use Rattle.lru_model.specs.Lists.{last as last_bucket};
 ghost use Rattle.ordered_table.specs.OrderedTable.{IsLinked, KeysFit, Lands, Takes, pairs_of, without_bucket};

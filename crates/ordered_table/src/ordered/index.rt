@@ -1,5 +1,5 @@
 //! The buckets by their index in the order.
-ghost use Rattle.std.specs.Prelude.{◌≡◌, ◌<◌, ◌^◌, slice_get, Some, IfSome};
+ghost use Rattle.std.specs.Prelude.{◌≡◌, ◌<◌, slice_get, Some, IfSome};
 ghost use Rattle.group_table.specs.Bucket.{IsFull};
 
 use crate::ordered::OrderedTable;

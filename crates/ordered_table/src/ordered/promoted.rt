@@ -144,7 +144,7 @@ pub(crate) fn settle<K, V, N: LinkType>(
     ensures none { promoted.new ≡ None }
 {
     if let Some(b) = *promoted {
-        table.promote(b);
         *promoted = None;
+        table.promote(b);
     }
 }

@@ -1,5 +1,5 @@
 //! Removals, pops, a clear and evictions. The limiter is notified of each.
-ghost use Rattle.std.specs.Prelude.{◌≡◌, ℕ, ◌<◌, true, not, ◌∷◌, length, Some, IfSome, IsTrue};
+ghost use Rattle.std.specs.Prelude.{◌≡◌, ℕ, ◌<◌, true, not, ◌∷◌, length, Some, IfSome};
 ghost use Rattle.group_table.specs.Bucket.{IsFull};
 ghost use Rattle.lru_model.specs.Lists.{is_empty, first, last};
 ghost use Rattle.lru_model.specs.State.{place_in, contents, notified_of, trim, Frees, Leaves, IsMap};
