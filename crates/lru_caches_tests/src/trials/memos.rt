@@ -33,7 +33,7 @@ fn use_key(keys: &mut [u64; 100], length: u32, key: u64) -> bool {
 }
 
 // Asks the memo and the loader for random keys, and the loader also for keys whose results it cannot load. Returns how
-// often each failure is one call of the function, and each other question a call if the result is not stored.
+// often the number of calls is right: one for the failure, and one more for each result that is not stored.
 fn count<F: Fn(u64) -> u64, G: Fn(u64) -> Result<u64, u64>>(
     mut memo: Memo<u64, u64, F, ByLength>,
     mut loader: Loader<u64, u64, G, ByLength>,
