@@ -66,6 +66,9 @@ impl<K, V, N: LinkType> OrderedTable<K, V, N> {
                 self.linked.promote(*last);
                 *last = b;
             }
+            // The links show it at once, which writes to the pair that is the oldest then. If pairs are promoted in the
+            // order of their last promotions, the next call reads that one.
+            None if self.linked.oldest() == b => self.linked.promote(b),
             None => self.promoted = Some(b),
         }
     }
