@@ -2,14 +2,13 @@
 use crate::{seconds, spread};
 
 unsafe extern "C" {
-    fn rattle_texts(length: u32, texts: *const u8, bytes: usize, rounds: u64) -> u64;
+    fn rattle_texts(length: u32, texts: *const u8, bytes: usize, width: usize, rounds: u64) -> u64;
     fn rattle_large_values(length: u32, keys: *const u64, count: usize) -> u64;
     fn rattle_costs(limit: u64, keys: *const u64, count: usize) -> u64;
     fn rattle_walks(count: u64, rounds: u64) -> u64;
     fn rattle_copies(count: u64, rounds: u64) -> u64;
 }
 
-const WIDTH: usize = 16;
 const KEYS: u64 = 50_000;
 const MANY: u64 = 1_000_000;
 const SEED: [u64; 4] = [1, 2, 3, 4];
@@ -59,12 +58,17 @@ impl schnellru::Limiter<u64, u64> for ByCost {
     }
 }
 
-fn texts_of_crate(texts: &str, rounds: u64) -> u64 {
+/// The bytes of a text, which the compiler does not know: a user's texts have many lengths.
+fn width() -> usize {
+    std::hint::black_box(16)
+}
+
+fn texts_of_crate(texts: &str, width: usize, rounds: u64) -> u64 {
     let mut map: schnellru::LruMap<String, u64> =
         schnellru::LruMap::with_seed(schnellru::ByLength::new(KEYS as u32), SEED);
     let mut rest = texts;
     for number in 0..texts.len() as u64 {
-        let Some((text, after)) = rest.split_at_checked(WIDTH) else {
+        let Some((text, after)) = rest.split_at_checked(width) else {
             break;
         };
         map.insert(text.to_owned(), number);
@@ -74,7 +78,7 @@ fn texts_of_crate(texts: &str, rounds: u64) -> u64 {
     for _ in 0..rounds {
         let mut rest = texts;
         for _ in 0..texts.len() {
-            let Some((text, after)) = rest.split_at_checked(WIDTH) else {
+            let Some((text, after)) = rest.split_at_checked(width) else {
                 break;
             };
             if let Some(value) = map.get(text) {
@@ -146,8 +150,8 @@ fn loads<'a>(texts: &'a str, keys: &'a [u64]) -> Vec<Load<'a>> {
             KEYS,
             10,
             vec![
-                ("schnellru", Box::new(|rounds| texts_of_crate(texts, rounds))),
-                ("here", Box::new(|rounds| unsafe { rattle_texts(KEYS as u32, texts.as_ptr(), texts.len(), rounds) })),
+                ("schnellru", Box::new(|rounds| texts_of_crate(texts, width(), rounds))),
+                ("here", Box::new(|rounds| unsafe { rattle_texts(KEYS as u32, texts.as_ptr(), texts.len(), width(), rounds) })),
             ],
         ),
         (
