@@ -3,7 +3,7 @@ use crate::{seconds, spread};
 
 unsafe extern "C" {
     fn rattle_texts(length: u32, texts: *const u8, bytes: usize, width: usize, rounds: u64) -> u64;
-    fn rattle_large_values(length: u32, keys: *const u64, count: usize) -> u64;
+    fn rattle_large_values(length: u32, bytes: *const u8, size: usize, keys: *const u64, count: usize) -> u64;
     fn rattle_costs(limit: u64, keys: *const u64, count: usize) -> u64;
     fn rattle_walks(count: u64, rounds: u64) -> u64;
     fn rattle_copies(count: u64, rounds: u64) -> u64;
@@ -19,7 +19,7 @@ type Run<'a> = Box<dyn Fn(u64) -> u64 + 'a>;
 /// The name of a load, its calls in a round, its rounds, and what it does to each engine that can carry it out.
 type Load<'a> = (&'static str, u64, u64, Vec<(&'static str, Run<'a>)>);
 
-/// The crate's limiter by cost, as a user would write it.
+/// The crate's limiter by cost, as a user would write it, with links as wide as those of `ByCost`.
 struct ByCost {
     limit: u64,
     cost: u64,
@@ -27,7 +27,7 @@ struct ByCost {
 
 impl schnellru::Limiter<u64, u64> for ByCost {
     type KeyToInsert<'a> = u64;
-    type LinkType = u32;
+    type LinkType = usize;
 
     fn is_over_the_limit(&self, _length: usize) -> bool {
         self.cost > self.limit
@@ -90,12 +90,15 @@ fn texts_of_crate(texts: &str, width: usize, rounds: u64) -> u64 {
     sum
 }
 
-fn large_values_of_crate(keys: &[u64]) -> u64 {
+fn large_values_of_crate(bytes: &[u8], keys: &[u64]) -> u64 {
+    let (values, _) = bytes.as_chunks::<100>();
     let mut map: schnellru::LruMap<u64, [u8; 100]> =
         schnellru::LruMap::with_seed(schnellru::ByLength::new(KEYS as u32 / 2), SEED);
     let mut sum = 0u64;
     for key in keys {
-        map.insert(*key, [key.to_le_bytes()[0]; 100]);
+        if let Some(value) = values.get((*key % 64) as usize) {
+            map.insert(*key, *value);
+        }
     }
     for key in keys {
         if let Some(value) = map.get(key) {
@@ -143,6 +146,8 @@ fn clones_of_crate(rounds: u64) -> u64 {
 }
 
 fn loads<'a>(texts: &'a str, keys: &'a [u64]) -> Vec<Load<'a>> {
+    // Values of 100 bytes are copies of the 64 parts of these.
+    let bytes = &texts.as_bytes()[..6400];
     let limit = 20 * KEYS;
     vec![
         (
@@ -159,12 +164,12 @@ fn loads<'a>(texts: &'a str, keys: &'a [u64]) -> Vec<Load<'a>> {
             2 * keys.len() as u64,
             1,
             vec![
-                ("schnellru", Box::new(|rounds| if rounds > 0 { large_values_of_crate(keys) } else { 0 })),
+                ("schnellru", Box::new(|rounds| if rounds > 0 { large_values_of_crate(bytes, keys) } else { 0 })),
                 (
                     "here",
                     Box::new(|rounds| match rounds {
                         0 => 0,
-                        _ => unsafe { rattle_large_values(KEYS as u32 / 2, keys.as_ptr(), keys.len()) },
+                        _ => unsafe { rattle_large_values(KEYS as u32 / 2, bytes.as_ptr(), bytes.len(), keys.as_ptr(), keys.len()) },
                     }),
                 ),
             ],

@@ -45,19 +45,27 @@ pub extern "C" fn rattle_texts(
     sum
 }
 
-/// Inserts values of 100 bytes into a map of at most `length` entries, and gets each. Returns a sum over their last
-/// bytes.
+/// Inserts values of 100 bytes into a map of at most `length` entries, each a copy of a part of `bytes`, and gets each.
+/// Returns a sum over their last bytes.
 #[unsafe(no_mangle)]
-pub extern "C" fn rattle_large_values(alloc: Global, length: u32, keys: &[u64]) -> u64 {
+pub extern "C" fn rattle_large_values(
+    alloc: Global,
+    length: u32,
+    bytes: &[u8],
+    keys: &[u64],
+) -> u64 {
     let mut map: LruMap<u64, [u8; 100]> = LruMap::new(
         alloc,
         ByLength::new(length),
         [1, 2, 3, 4],
         120,
     );
+    let (values, _) = bytes.as_chunks::<100>();
     let mut sum = 0u64;
     for key in keys {
-        let _ = map.insert(*key, [key.to_le_bytes()[0]; 100]);
+        if let Some(value) = values.get((*key % 64) as usize) {
+            let _ = map.insert(*key, *value);
+        }
     }
     for key in keys {
         if let Some(value) = map.get(key) {
