@@ -7,11 +7,11 @@
 #![tactic(auto)]
 
 mod calls;
-pub mod laws;
 mod lines;
+mod misses;
 
-pub use calls::call::{Answer, Call};
 pub use calls::runs::run_calls;
 pub use calls::summing::run_summing;
-pub use lines::outcome::{ReplayEnd, ReplayError, status};
 pub use lines::replays::replay;
+pub use misses::misses_on_map;
+pub use replay_model::{Answer, Call, ReplayEnd, ReplayError, laws, status};
