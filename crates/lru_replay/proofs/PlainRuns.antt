@@ -1,7 +1,7 @@
 -- References that are made one after another, and their answers.
 use Rattle.std.proofs.Common.{◌≡◌, ℕ, List, [], ◌∷◌, ◌++◌, map, Some, refl, ap}
-use Rattle.lru_replay.specs.declared.calls.call.Answer.{Answer}
-use Rattle.lru_replay.specs.Replies.{memory_report, found_all, said, all_said}
+use Rattle.replay_model.specs.declared.calls.Answer.{Answer}
+use Rattle.replay_model.specs.Replies.{memory_report, found_all, said, all_said}
 use Rattle.lru_theory.specs.References.{referenced, reference_to, FoundMemory}
 
 pub named_references : (S : Type 0) (keys : List ℕ) → map (referenced {S = S}) (map reference_to keys) ≡ map Some keys

@@ -1,9 +1,9 @@
 use Rattle.std.proofs.Common.{take, get_or, sym, ap, ◌∙◌, subst}
 use Rattle.std.proofs.lemmas.List.{take_more}
-use Rattle.lru_replay.specs.Replies.{memory_report, said, all_said}
+use Rattle.replay_model.specs.Replies.{memory_report, said, all_said}
 use Rattle.lru_theory.specs.References.{FoundMemory}
-use Rattle.lru_theory.proofs.PlainRuns.{found_more}
-use Rattle.lru_theory.proofs.plain.are_values.Goals as goal
+use Rattle.lru_replay.proofs.PlainRuns.{found_more}
+use Rattle.lru_replay.proofs.misses.are_values.Goals as goal
 
 pub loop-answer-preserved : goal.loop-answer-preserved
 loop-answer-preserved c =

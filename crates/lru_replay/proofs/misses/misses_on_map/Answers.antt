@@ -4,10 +4,10 @@ use Rattle.group_table.specs.Change.{count_up}
 use Rattle.lru_limits.specs.Mixing.{seeded}
 use Rattle.lru_model.specs.Kept.{KeepsToLength}
 use Rattle.recency.specs.Recency.{misses}
-use Rattle.lru_replay.specs.Replies.{all_said}
+use Rattle.replay_model.specs.Replies.{all_said}
 use Rattle.lru_theory.specs.References.{References, referenced}
-use Rattle.lru_theory.proofs.PlainRuns.{named_references}
-use Rattle.lru_theory.proofs.plain.misses_on_map.Goals as goal
+use Rattle.lru_replay.proofs.PlainRuns.{named_references}
+use Rattle.lru_replay.proofs.misses.misses_on_map.Goals as goal
 
 pub returns : goal.returns
 returns c =

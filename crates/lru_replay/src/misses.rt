@@ -2,11 +2,12 @@
 ghost use Rattle.std.specs.Prelude.{◌≡◌, ◌≤◌, ◌<◌, IfOk, reverse, map, nat_eq, true};
 ghost use Rattle.group_table.specs.Change.{count_up};
 ghost use Rattle.recency.specs.Recency.{misses};
-ghost use Rattle.lru_replay.specs.Replies.{all_said};
+ghost use Rattle.replay_model.specs.Replies.{all_said};
 ghost use Rattle.lru_theory.specs.References.{FoundMemory, reference_to};
 
-use crate::references_keep_the_newest;
-use lru_replay::{Answer, Call, run_calls};
+use crate::calls::runs::run_calls;
+use lru_theory::references_keep_the_newest;
+use replay_model::{Answer, Call};
 use schnellru::{ByLength, LruMap, RandomState, laws};
 use std::alloc::{AllocError, Global};
 

@@ -1,7 +1,7 @@
 use Rattle.std.proofs.Common.{◌≡◌, map, take, length}
 use Rattle.std.specs.Prelude.{vec_len, vec_capacity}
 use Rattle.lru_theory.specs.References.{reference_to}
-use Rattle.lru_theory.proofs.plain.references.Given as goal
+use Rattle.lru_replay.proofs.misses.references.Given as goal
 
 abbrev pub invariant-loop-key : goal.invariant-loop-key
 invariant-loop-key l = (l.calls.items ≡ map reference_to (take l.key-index l.key-items))
