@@ -1,5 +1,5 @@
 //! The misses that maps count, compared with the curve of `lru_trace`, which counts those for all lengths in one pass.
-use lru_theory::misses_on_map;
+use lru_replay::misses_on_map;
 use lru_trace::Curve;
 use std::alloc::Global;
 use std::test::Fail;
