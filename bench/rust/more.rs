@@ -2,14 +2,13 @@
 use crate::{seconds, spread};
 
 unsafe extern "C" {
-    fn rattle_texts(length: u32, texts: *const u8, bytes: usize, rounds: u64) -> u64;
+    fn rattle_texts(length: u32, texts: *const u8, bytes: usize, width: usize, rounds: u64) -> u64;
     fn rattle_large_values(length: u32, keys: *const u64, count: usize) -> u64;
     fn rattle_costs(limit: u64, keys: *const u64, count: usize) -> u64;
     fn rattle_walks(count: u64, rounds: u64) -> u64;
     fn rattle_copies(count: u64, rounds: u64) -> u64;
 }
 
-const WIDTH: usize = 16;
 const KEYS: u64 = 50_000;
 const MANY: u64 = 1_000_000;
 const SEED: [u64; 4] = [1, 2, 3, 4];
@@ -59,22 +58,33 @@ impl schnellru::Limiter<u64, u64> for ByCost {
     }
 }
 
-fn text_of(bytes: &[u8]) -> &str {
-    std::str::from_utf8(bytes).unwrap_or("")
+/// The bytes of a text, which the compiler does not know: a user's texts have many lengths.
+fn width() -> usize {
+    std::hint::black_box(16)
 }
 
-fn texts_of_crate(texts: &[u8], rounds: u64) -> u64 {
+fn texts_of_crate(texts: &str, width: usize, rounds: u64) -> u64 {
     let mut map: schnellru::LruMap<String, u64> =
         schnellru::LruMap::with_seed(schnellru::ByLength::new(KEYS as u32), SEED);
-    for (number, text) in texts.chunks(WIDTH).enumerate() {
-        map.insert(text_of(text).to_owned(), number as u64);
+    let mut rest = texts;
+    for number in 0..texts.len() as u64 {
+        let Some((text, after)) = rest.split_at_checked(width) else {
+            break;
+        };
+        map.insert(text.to_owned(), number);
+        rest = after;
     }
     let mut sum = 0u64;
     for _ in 0..rounds {
-        for text in texts.chunks(WIDTH) {
-            if let Some(value) = map.get(text_of(text)) {
+        let mut rest = texts;
+        for _ in 0..texts.len() {
+            let Some((text, after)) = rest.split_at_checked(width) else {
+                break;
+            };
+            if let Some(value) = map.get(text) {
                 sum = sum.wrapping_mul(31).wrapping_add(*value);
             }
+            rest = after;
         }
     }
     sum
@@ -132,7 +142,7 @@ fn clones_of_crate(rounds: u64) -> u64 {
     (0..rounds).map(|_| std::hint::black_box(map.clone()).len() as u64).sum()
 }
 
-fn loads<'a>(texts: &'a [u8], keys: &'a [u64]) -> Vec<Load<'a>> {
+fn loads<'a>(texts: &'a str, keys: &'a [u64]) -> Vec<Load<'a>> {
     let limit = 20 * KEYS;
     vec![
         (
@@ -140,8 +150,8 @@ fn loads<'a>(texts: &'a [u8], keys: &'a [u64]) -> Vec<Load<'a>> {
             KEYS,
             10,
             vec![
-                ("schnellru", Box::new(|rounds| texts_of_crate(texts, rounds))),
-                ("here", Box::new(|rounds| unsafe { rattle_texts(KEYS as u32, texts.as_ptr(), texts.len(), rounds) })),
+                ("schnellru", Box::new(|rounds| texts_of_crate(texts, width(), rounds))),
+                ("here", Box::new(|rounds| unsafe { rattle_texts(KEYS as u32, texts.as_ptr(), texts.len(), width(), rounds) })),
             ],
         ),
         (
@@ -197,7 +207,7 @@ fn loads<'a>(texts: &'a [u8], keys: &'a [u64]) -> Vec<Load<'a>> {
 
 /// Times the loads: the best of some rounds, with the engines taken in turn, without the fill.
 pub fn measure(tries: usize) {
-    let texts: Vec<u8> = (0..KEYS).flat_map(|n| format!("page {:011}", spread(n) % 100_000_000_000).into_bytes()).collect();
+    let texts: String = (0..KEYS).map(|n| format!("page {:011}", spread(n) % 100_000_000_000)).collect();
     let keys: Vec<u64> = (0..500_000).map(|n| spread(n % 70_000)).collect();
     println!("{:<28}{:>16}{:>16}", "ns a call", "schnellru", "here");
     for (name, calls, rounds, engines) in loads(&texts, &keys) {

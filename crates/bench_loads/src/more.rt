@@ -2,38 +2,44 @@
 use schnellru::{ByCost, ByLength, LruMap, UnlimitedCompact};
 use std::alloc::Global;
 
-/// The bytes of each text.
-const WIDTH: usize = 16;
-
-/// The text of these bytes.
-#[inline]
-fn text_of(bytes: &[u8]) -> &str {
-    str::from_utf8(bytes).unwrap_or("")
-}
-
-/// A map of at most `length` texts, with their numbers.
-fn map_of_texts(alloc: Global, length: u32, texts: &[u8]) -> LruMap<String, u64> {
+/// A map of at most `length` texts of `width` bytes, with their numbers.
+fn map_of_texts(alloc: Global, length: u32, texts: &str, width: usize) -> LruMap<String, u64> {
     let mut map = LruMap::new(alloc, ByLength::new(length), [1, 2, 3, 4], 40);
-    let mut number = 0u64;
-    for text in texts.chunks(WIDTH) {
-        if let Ok(text) = String::from_str(alloc, text_of(text)) {
+    let mut rest = texts;
+    for number in 0..texts.len() as u64 {
+        let Some((text, after)) = rest.split_at_checked(width) else {
+            break;
+        };
+        if let Ok(text) = String::from_str(alloc, text) {
             let _ = map.insert(text, number);
         }
-        number = number.wrapping_add(1);
+        rest = after;
     }
     map
 }
 
-/// Inserts the texts, and gets each by a `&str`, in each of `rounds` rounds. Returns a sum over the values.
+/// Inserts the texts of `width` bytes, and gets each by a `&str`, in each of `rounds` rounds. Returns a sum over the values.
 #[unsafe(no_mangle)]
-pub extern "C" fn rattle_texts(alloc: Global, length: u32, texts: &[u8], rounds: u64) -> u64 {
-    let mut map = map_of_texts(alloc, length, texts);
+pub extern "C" fn rattle_texts(
+    alloc: Global,
+    length: u32,
+    texts: &[u8],
+    width: usize,
+    rounds: u64,
+) -> u64 {
+    let texts = str::from_utf8(texts).unwrap_or("");
+    let mut map = map_of_texts(alloc, length, texts, width);
     let mut sum = 0u64;
     for _ in 0..rounds {
-        for text in texts.chunks(WIDTH) {
-            if let Some(value) = map.get(&text_of(text)) {
+        let mut rest = texts;
+        for _ in 0..texts.len() {
+            let Some((text, after)) = rest.split_at_checked(width) else {
+                break;
+            };
+            if let Some(value) = map.get(&text) {
                 sum = sum.wrapping_mul(31).wrapping_add(*value);
             }
+            rest = after;
         }
     }
     sum

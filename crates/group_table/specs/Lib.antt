@@ -16,6 +16,7 @@ pub mod Group
 pub mod Bytes
 pub mod Lanes
 pub mod Control
+pub mod FullBuckets
 pub mod Cells
 pub mod CellOwners
 pub mod CellLends

@@ -4,10 +4,10 @@ ghost use Rattle.std.specs.Prelude.{◌≡◌, ℕ, ◌+◌, ◌-◌, ◌%◌, �
 ghost use Rattle.std.specs.Prelude.{slice_set, Bool, if◌then◌else◌, nat_eq, nat_lt, ◌⊎◌, IfOk};
 ghost use Rattle.group_table.specs.Sizes.{IsPowerFromFour};
 ghost use Rattle.group_table.specs.Probe.{hash_tag};
-ghost use Rattle.group_table.specs.Bytes.{empty_byte, deleted_byte, IsTag, IsFreeByte};
+ghost use Rattle.group_table.specs.Bytes.{empty_byte, deleted_byte, IsTag};
 ghost use Rattle.group_table.specs.Control.{buckets_of, IsCircle};
 
-use crate::group::{Group, lowest_lane};
+use crate::group::Group;
 use std::alloc::{AllocError, Global};
 use std::marker::Model;
 
@@ -144,28 +144,6 @@ impl Control {
         ensures circle { IsCircle self.now }
     {
         Group::load(self.bytes.as_slice(), start)
-    }
-
-    // Returns the first full bucket from a bucket on, or the number of buckets if there is none. It reads sixteen bytes
-    // at once, because a branch on each bucket is mispredicted often.
-    #[inline]
-    pub(crate) fn next_full(&self, from: usize) -> usize
-        requires { from ≤ buckets_of self.now }
-        ensures bound { from ≤ result }
-        ensures within { result ≤ buckets_of self.now }
-        ensures full { result < buckets_of self.now → IsTag (slice_index self.now result) }
-        ensures between { (b : ℕ) → from ≤ b → b < result → IsFreeByte (slice_index self.now b) }
-    {
-        let count = self.buckets();
-        let mut start = from;
-        'groups: while start < count {
-            let full = self.group(start).match_full();
-            if full != 0 {
-                return (start + lowest_lane(full)).min(count);
-            }
-            start += 16;
-        }
-        count
     }
 
     // Writes the control byte of a bucket, and its repetition.

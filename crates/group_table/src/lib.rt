@@ -17,6 +17,7 @@ mod cells;
 mod control;
 mod entries;
 mod fields;
+mod full_buckets;
 pub mod group;
 mod link;
 mod neighbours;

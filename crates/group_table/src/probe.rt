@@ -59,7 +59,7 @@ enum Searched {
 }
 
 // Calls `f` with the entries with the tag in the group that begins here, until it accepts one.
-#[inline]
+#[inline(always)]
 fn search_group<T, F: FnMut(&T) -> bool>(
     control: &Control,
     entries: &Entries<T>,

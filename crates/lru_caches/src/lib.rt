@@ -7,17 +7,12 @@
 //! insertion.
 #![tactic(auto)]
 
-mod device;
 mod empty;
-mod file_device;
 mod memo;
 mod ordered_map;
 mod page_cache;
 
-pub use device::BlockDevice;
-pub use file_device::durable::Durable;
-pub use file_device::hashed::HashedFileDevice;
-pub use file_device::{FileDevice, FileError};
+pub use block_device::{BlockDevice, Durable, FileDevice, FileError, HashedFileDevice};
 pub use memo::Memo;
 pub use memo::loader::Loader;
 pub use memo::table::{MemoTable, Question};

@@ -2,11 +2,11 @@
 ghost use Rattle.std.specs.Prelude.{◌≡◌, ◌≢◌, ◌≤◌, ℕ, [], length, max, IsTrue, ◌↔◌, IfOk, IfErr, OnOk, OnErr, IsOk};
 ghost use Rattle.lru_caches.specs.Pages.{shown, ShowsTheSame, IsCached, numbers, numbers_after};
 
-use crate::device::BlockDevice;
 use crate::empty::empty_map;
 use crate::page_cache::pages::{
     Page, Pages, add_page, cached_block, make_room, overwrite, write_all_back,
 };
+use block_device::BlockDevice;
 use schnellru::{KeyHasher, RandomState, UnlimitedCompact};
 use std::alloc::Global;
 use std::marker::Model;

@@ -1,7 +1,6 @@
 //! The texts of the answers to calls, as the program would write them.
-use crate::text::Text;
 use lru_replay::Answer;
-use schnellru::{MoveReport, ReserveError, Updated};
+use row_model::{Text, write_figures, write_reserved, write_updated};
 use std::alloc::AllocError;
 
 /// Adds the text of each answer, with a line feed after it.
@@ -48,36 +47,7 @@ fn write_answer(out: &mut Text, answer: &Answer<u64, u64>) {
     }
 }
 
-/// Adds what an update did.
-pub fn write_updated(out: &mut Text, updated: Updated<u64>) {
-    match updated {
-        Updated::Replaced(value) => out.figure("replaced ", value),
-        Updated::Rejected(value) => out.figure("rejected ", value),
-        Updated::Absent(value) => out.figure("absent ", value),
-    }
-}
-
-/// Adds what a reservation did.
-pub fn write_reserved(out: &mut Text, reserved: Result<(), ReserveError>) {
-    match reserved {
-        Ok(()) => out.word("ok"),
-        Err(error) => out.error(error),
-    }
-}
-
 /// Adds whether a shrink gave the table fewer buckets.
-pub fn write_shrunk(out: &mut Text, is_smaller: bool) {
+fn write_shrunk(out: &mut Text, is_smaller: bool) {
     out.word(if is_smaller { "ok" } else { "kept" });
-}
-
-/// Adds the length, the capacity and the bytes of a map, and what its table moved.
-pub fn write_figures(out: &mut Text, [len, capacity, memory]: [u64; 3], report: MoveReport) {
-    out.figure("len ", len);
-    out.figure(" capacity ", capacity);
-    out.figure(" memory ", memory);
-    out.figure(" moved ", report.moved);
-    out.figure(" placed ", report.placed);
-    if report.shrunk > 0 {
-        out.figure(" shrunk ", report.shrunk);
-    }
 }

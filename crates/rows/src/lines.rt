@@ -1,7 +1,6 @@
 //! Rows of program lines: each is replayed in one piece, in single bytes, and with each read and each write failing.
-use crate::row::Row;
-use crate::streams::{Failure, Narrow, Slow, front_lines};
 use lru_replay::{ReplayEnd, ReplayError, replay, status};
+use row_model::{Failure, Narrow, Row, Slow, count_lines, error_at, front_lines};
 use std::alloc::Global;
 use std::io::{BufReader, ErrorKind};
 
@@ -10,15 +9,6 @@ const LONGEST_CUT: usize = 2000;
 
 /// How a replay ends.
 type End = Result<ReplayEnd, ReplayError>;
-
-/// The error of the read or write with this number. One that was interrupted is tried again instead.
-fn error_at(at: usize) -> ErrorKind {
-    match at % 3 {
-        0 => ErrorKind::BrokenPipe,
-        1 => ErrorKind::StorageFull,
-        _ => ErrorKind::Other,
-    }
-}
 
 /// Returns the answers to the lines.
 pub fn answers_of(alloc: Global, input: &[u8]) -> Vec<u8> {
@@ -123,13 +113,4 @@ fn with_failing_write(alloc: Global, row: &Row, at: usize) -> bool {
     );
     let is_read = lines.len().saturating_add(reader.len()) == row.input.len();
     end == Err(ReplayError::Write) && writer.has(text, 0) && is_read
-}
-
-/// The number of line feeds.
-fn count_lines(text: &[u8]) -> usize {
-    let mut lines = 0usize;
-    for byte in text {
-        lines = lines.saturating_add((*byte == b'\n') as usize);
-    }
-    lines
 }

@@ -3,24 +3,12 @@
 
 mod answers;
 mod calls;
-mod escapes;
-mod hasher;
-mod limiters;
 mod lines;
 mod maps;
-mod plain;
-mod report;
-mod row;
-mod streams;
-mod table;
-mod text;
-mod trials;
 
-use plain::Limit;
-use row::Row;
+use row_model::{Bounds, Limit, Row, Trial, agrees};
 use std::alloc::Global;
 use std::{env, fs, io};
-use trials::{Bounds, Trial};
 
 /// How many random calls are tried under each limit.
 const CALLS: u64 = 400_000;
@@ -73,7 +61,7 @@ fn answers_of(alloc: Global, input: &[u8]) -> Vec<u8> {
 /// Checks the row, prints the first difference, and returns whether there is none.
 fn holds(rt: &HostRuntime, row: &Row) -> io::Result<bool> {
     let text = answers_of(rt.alloc(), row.input.as_slice());
-    if !report::agrees(rt, row.name, text.as_slice(), row.text.as_slice())? {
+    if !agrees(rt, row.name, text.as_slice(), row.text.as_slice())? {
         return Ok(false);
     }
     if row.input.starts_with(b"map ") {
@@ -109,7 +97,7 @@ fn try_calls(rt: &HostRuntime, first: &str, bounds: Bounds) -> io::Result<bool> 
     let answers = answers_of(rt.alloc(), trial.input.as_str().as_bytes());
     let answers = str::from_utf8(answers.as_slice()).unwrap_or("");
     let answers = answers.replace(rt.alloc(), "kept\n", "ok\n")?;
-    report::agrees(
+    agrees(
         rt,
         first,
         answers.as_str().as_bytes(),

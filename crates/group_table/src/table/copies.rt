@@ -10,6 +10,7 @@ ghost use Rattle.group_table.specs.Copies.{Copies, IsPlaceCopy};
 use crate::control::Control;
 use crate::entries::Entries;
 use crate::fields::drop_first;
+use crate::full_buckets::FullBuckets;
 use crate::table::Table;
 use std::alloc::AllocError;
 
@@ -67,7 +68,8 @@ fn copy_entries<T: Drop, F: Fn(&T) -> Result<T, AllocError>>(
 {
     let count = control.buckets();
     let mut copies = Entries::with_places(entries.allocator(), count)?;
-    let mut b = control.next_full(0);
+    let mut walk = FullBuckets::of(control);
+    let mut b = walk.next(control);
     'entries: while b < count {
         match f(entries.get(b)) {
             Ok(copy) => copies.write(b, copy),
@@ -77,7 +79,7 @@ fn copy_entries<T: Drop, F: Fn(&T) -> Result<T, AllocError>>(
                 return Err(error);
             }
         }
-        b = control.next_full(b + 1);
+        b = walk.next(control);
     }
     Ok(copies)
 }

@@ -63,9 +63,9 @@ pub enum Failure {
 #[derive(Drop)]
 pub struct Narrow {
     /// What was written.
-    pub bytes: Vec<u8>,
+    bytes: Vec<u8>,
     /// How often it was flushed.
-    pub flushes: usize,
+    flushes: usize,
     /// How each flush fails.
     pub flush_fails: Option<ErrorKind>,
     most: usize,
@@ -130,6 +130,15 @@ impl Write for Narrow {
     }
 }
 
+/// The error of the read or write with this number. One that was interrupted is tried again instead.
+pub fn error_at(at: usize) -> ErrorKind {
+    match at % 3 {
+        0 => ErrorKind::BrokenPipe,
+        1 => ErrorKind::StorageFull,
+        _ => ErrorKind::Other,
+    }
+}
+
 /// The front of a text, up to the end of this many lines.
 pub fn front_lines(text: &[u8], lines: usize) -> &[u8] {
     let mut left = lines;
@@ -142,4 +151,13 @@ pub fn front_lines(text: &[u8], lines: usize) -> &[u8] {
         }
     }
     text
+}
+
+/// The number of line feeds.
+pub fn count_lines(text: &[u8]) -> usize {
+    let mut lines = 0usize;
+    for byte in text {
+        lines = lines.saturating_add((*byte == b'\n') as usize);
+    }
+    lines
 }

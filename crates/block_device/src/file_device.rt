@@ -114,7 +114,7 @@ impl<F: Read + Write + Seek, const N: usize> FileDevice<F, N> {
 
     /// Drops the copies and returns the file.
     ///
-    /// A [`PageCache`](crate::PageCache) returns the device by `close`, which syncs the file. After other writes, call
+    /// A page cache returns the device by `close`, which syncs the file. After other writes, call
     /// `sync` first.
     ///
     /// ```

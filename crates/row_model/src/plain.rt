@@ -1,6 +1,6 @@
 //! A plain list of pairs under a limit, which carries out calls as the documents of the map describe them.
 use crate::table::Table;
-use schnellru::{ReserveError, Updated};
+use lru_model::{ReserveError, Updated};
 use std::alloc::Global;
 
 /// What limits the list.
@@ -18,22 +18,22 @@ pub enum Limit {
 
 /// Pairs, oldest first. If memory runs out they are not what the calls make of them, and no trial agrees.
 #[derive(Drop)]
-pub struct Plain {
+pub(crate) struct Plain {
     /// What limits them.
-    pub limit: Limit,
+    pub(crate) limit: Limit,
     /// The pairs.
-    pub pairs: Vec<(u64, u64)>,
+    pub(crate) pairs: Vec<(u64, u64)>,
     /// The pairs that left since this was emptied.
-    pub left: Vec<(u64, u64)>,
+    pub(crate) left: Vec<(u64, u64)>,
     /// The sum of the values.
-    pub cost: u64,
+    pub(crate) cost: u64,
     /// What a map of these pairs returns about its table, under a limit by memory.
-    pub table: Table,
+    pub(crate) table: Table,
 }
 
 impl Plain {
     /// An empty list.
-    pub fn new(alloc: Global, limit: Limit) -> Plain {
+    pub(crate) fn new(alloc: Global, limit: Limit) -> Plain {
         Plain {
             limit,
             pairs: Vec::new(alloc),
@@ -44,7 +44,7 @@ impl Plain {
     }
 
     /// The number of pairs.
-    pub fn len(&self) -> u64 {
+    pub(crate) fn len(&self) -> u64 {
         self.pairs.len() as u64
     }
 
@@ -59,7 +59,7 @@ impl Plain {
     }
 
     /// The value of the key.
-    pub fn value(&self, key: u64) -> Option<u64> {
+    pub(crate) fn value(&self, key: u64) -> Option<u64> {
         for pair in &self.pairs {
             if pair.0 == key {
                 return Some(pair.1);
@@ -69,7 +69,7 @@ impl Plain {
     }
 
     /// Takes the pair at a place out, if there is one.
-    pub fn take(&mut self, place: usize) -> Option<(u64, u64)> {
+    pub(crate) fn take(&mut self, place: usize) -> Option<(u64, u64)> {
         if place >= self.pairs.len() {
             return None;
         }
@@ -79,31 +79,31 @@ impl Plain {
     }
 
     /// Takes the pair of the key out.
-    pub fn remove(&mut self, key: u64) -> Option<(u64, u64)> {
+    pub(crate) fn remove(&mut self, key: u64) -> Option<(u64, u64)> {
         self.take(self.place_of(key))
     }
 
     /// Takes the newest pair out.
-    pub fn pop_newest(&mut self) -> Option<(u64, u64)> {
+    pub(crate) fn pop_newest(&mut self) -> Option<(u64, u64)> {
         let len = self.pairs.len();
         self.take(len.wrapping_sub(1))
     }
 
     /// Takes all pairs out.
-    pub fn clear(&mut self) {
+    pub(crate) fn clear(&mut self) {
         self.pairs.clear();
         self.cost = 0;
     }
 
     /// Makes the pair of the key the newest, and returns its value.
-    pub fn get(&mut self, key: u64) -> Option<u64> {
+    pub(crate) fn get(&mut self, key: u64) -> Option<u64> {
         let pair = self.remove(key)?;
         self.push(pair);
         Some(pair.1)
     }
 
     /// Makes the pair of the key the oldest, and returns whether the key is there.
-    pub fn demote(&mut self, key: u64) -> bool {
+    pub(crate) fn demote(&mut self, key: u64) -> bool {
         match self.remove(key) {
             Some(pair) => {
                 self.put(0, pair);
@@ -114,7 +114,7 @@ impl Plain {
     }
 
     /// Gives a key that is there another value in its place, and evicts what is over the limit then.
-    pub fn update(&mut self, key: u64, value: u64) -> Updated<u64> {
+    pub(crate) fn update(&mut self, key: u64, value: u64) -> Updated<u64> {
         let place = self.place_of(key);
         let Some(old) = self.take(place) else {
             return Updated::Absent(value);
@@ -128,7 +128,7 @@ impl Plain {
     }
 
     /// Writes the value of a key that is there, and returns whether it is.
-    pub fn write(&mut self, key: u64, value: u64) -> bool {
+    pub(crate) fn write(&mut self, key: u64, value: u64) -> bool {
         let place = self.place_of(key);
         match self.take(place) {
             Some(_) => {
@@ -174,14 +174,14 @@ impl Plain {
     }
 
     /// Evicts the oldest pair.
-    pub fn evict(&mut self) {
+    pub(crate) fn evict(&mut self) {
         if let Some(pair) = self.take(0) {
             self.leave(pair);
         }
     }
 
     /// Inserts, and returns whether the key is there then.
-    pub fn insert(&mut self, key: u64, value: u64) -> bool {
+    pub(crate) fn insert(&mut self, key: u64, value: u64) -> bool {
         let is_stored = match self.remove(key) {
             Some(old) => self.is_replaced(old, value),
             None => self.is_placed((key, value)),
@@ -234,7 +234,7 @@ impl Plain {
     }
 
     /// Makes room for n more pairs.
-    pub fn reserve(&mut self, n: u64) -> Result<(), ReserveError> {
+    pub(crate) fn reserve(&mut self, n: u64) -> Result<(), ReserveError> {
         let pairs = self.len().saturating_add(n);
         match self.limit {
             Limit::Memory(most, entry_bytes) => self.table.reserve(pairs, most, entry_bytes),
@@ -243,13 +243,13 @@ impl Plain {
     }
 
     /// Moves the pairs into as few buckets as hold them.
-    pub fn shrink(&mut self) {
+    pub(crate) fn shrink(&mut self) {
         let len = self.len();
         self.table.shrink(len);
     }
 
     /// Takes this many pairs from the newest end, then from the oldest, and drops the others.
-    pub fn drain(&mut self, front: u64, back: u64) {
+    pub(crate) fn drain(&mut self, front: u64, back: u64) {
         self.left.clear();
         self.pairs.reverse();
         for _ in 0..front {

@@ -3,7 +3,7 @@
 //! Each function returns `false` if the text is malformed. Out of memory, bytes are missing.
 
 /// Adds the bytes that the text spells.
-pub fn unescape(out: &mut Vec<u8>, text: &str) -> bool {
+pub(crate) fn unescape(out: &mut Vec<u8>, text: &str) -> bool {
     let mut pieces = text.split('\\');
     add(out, pieces.next().unwrap_or(""));
     let mut is_good = true;

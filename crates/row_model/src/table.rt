@@ -1,21 +1,21 @@
 //! The figures of a table of at most 16 buckets, by the rules of `docs/TABLE.md`. Such a table has no deleted buckets,
 //! so its figures follow from the calls.
-use schnellru::ReserveError;
+use lru_model::ReserveError;
 
 /// The most buckets that links of 32 bits reach.
 const MOST_BUCKETS: u64 = 1 << 31;
 
 /// The number of buckets, and what was counted.
 #[derive(Clone, Copy, Default)]
-pub struct Table {
+pub(crate) struct Table {
     /// The buckets.
-    pub buckets: u64,
+    pub(crate) buckets: u64,
     /// The entries that inserts moved.
-    pub moved: u64,
+    pub(crate) moved: u64,
     /// The entries that inserts placed.
-    pub placed: u64,
+    pub(crate) placed: u64,
     /// The entries that shrinks moved.
-    pub shrunk: u64,
+    pub(crate) shrunk: u64,
 }
 
 /// The buckets for this many pairs: at least 4, and then twice as many until they take the pairs.
@@ -44,7 +44,7 @@ fn bytes(buckets: u64, entry_bytes: u64) -> u64 {
 
 impl Table {
     /// The pairs that the table takes.
-    pub fn capacity(&self) -> u64 {
+    pub(crate) fn capacity(&self) -> u64 {
         match self.buckets {
             0 => 0,
             16 => 14,
@@ -53,12 +53,12 @@ impl Table {
     }
 
     /// The bytes of the table.
-    pub fn bytes(&self, entry_bytes: u64) -> u64 {
+    pub(crate) fn bytes(&self, entry_bytes: u64) -> u64 {
         bytes(self.buckets, entry_bytes)
     }
 
     /// Moves this many pairs into a table that takes one more, and returns whether that is within the most bytes.
-    pub fn grow(&mut self, len: u64, most: u64, entry_bytes: u64) -> bool {
+    pub(crate) fn grow(&mut self, len: u64, most: u64, entry_bytes: u64) -> bool {
         let buckets = buckets_for(len.saturating_add(1));
         if bytes(buckets, entry_bytes) > most {
             return false;
@@ -69,7 +69,12 @@ impl Table {
     }
 
     /// Makes room for this many pairs, within the most bytes.
-    pub fn reserve(&mut self, pairs: u64, most: u64, entry_bytes: u64) -> Result<(), ReserveError> {
+    pub(crate) fn reserve(
+        &mut self,
+        pairs: u64,
+        most: u64,
+        entry_bytes: u64,
+    ) -> Result<(), ReserveError> {
         if pairs <= self.capacity() {
             return Ok(());
         }
@@ -85,7 +90,7 @@ impl Table {
     }
 
     /// Moves this many pairs into as few buckets as hold them.
-    pub fn shrink(&mut self, len: u64) {
+    pub(crate) fn shrink(&mut self, len: u64) {
         let buckets = buckets_for(len);
         if buckets < self.buckets {
             self.buckets = buckets;

@@ -1,5 +1,5 @@
 //! A text to which parts are added.
-use schnellru::ReserveError;
+use lru_model::ReserveError;
 use std::alloc::Global;
 use std::fmt::{Debug, Write};
 
@@ -29,18 +29,18 @@ impl Text {
     }
 
     /// Adds a number.
-    pub fn number(&mut self, number: u64) {
+    pub(crate) fn number(&mut self, number: u64) {
         let _ = write!(self.0, "{number}");
     }
 
     /// Adds a word and a number.
-    pub fn figure(&mut self, word: &str, number: u64) {
+    pub(crate) fn figure(&mut self, word: &str, number: u64) {
         self.word(word);
         self.number(number);
     }
 
     /// Adds why a reservation fails.
-    pub fn error(&mut self, error: ReserveError) {
+    pub(crate) fn error(&mut self, error: ReserveError) {
         let _ = write!(self.0, "{error}");
     }
 
@@ -63,7 +63,7 @@ impl Text {
     }
 
     /// Adds the key and the value.
-    pub fn pair(&mut self, (key, value): (u64, u64)) {
+    pub(crate) fn pair(&mut self, (key, value): (u64, u64)) {
         self.number(key);
         self.word(":");
         self.number(value);

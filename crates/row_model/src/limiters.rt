@@ -1,5 +1,5 @@
 //! Limiters that a row can name.
-use schnellru::{ByCost, ByLength, ByMemoryUsage, LinkType, Storing, Unlimited, UnlimitedCompact};
+use lru_limits::{ByCost, ByLength, ByMemoryUsage, LinkType, Storing, Unlimited, UnlimitedCompact};
 use std::marker::PhantomData;
 use test_helpers::{Alternating, Blanking, LinkedBy};
 

@@ -20,7 +20,7 @@ pub struct Row<'a> {
 
 impl<'a> Row<'a> {
     /// An empty row of this name.
-    pub fn new(alloc: Global, name: &'a str) -> Row<'a> {
+    fn new(alloc: Global, name: &'a str) -> Row<'a> {
         Row {
             name,
             input: Vec::new(alloc),

@@ -6,7 +6,7 @@ ghost use Rattle.lru_limits.specs.Mixing.{seeded};
 use crate::device::BlockDevice;
 use crate::file_device::durable::Durable;
 use crate::file_device::{FileError, read_block, sync_file, write_block};
-use schnellru::{KeyHasher, RandomState};
+use lru_limits::{KeyHasher, RandomState};
 use std::alloc::Global;
 use std::hash::BuildHasher;
 use std::io::{Read, Seek, Write};
@@ -96,7 +96,7 @@ impl<F: Read + Write + Seek, const N: usize> HashedFileDevice<F, N> {
 
     /// Drops the hashes and returns the file.
     ///
-    /// A [`PageCache`](crate::PageCache) returns the device by `close`, which syncs the file. After other writes, call
+    /// A page cache returns the device by `close`, which syncs the file. After other writes, call
     /// `sync` first.
     ///
     /// ```

@@ -1,8 +1,8 @@
 //! Rows of random calls, with the answers of a plain list of pairs.
-use crate::answers::{write_figures, write_reserved, write_updated};
 use crate::plain::{Limit, Plain};
+use crate::results::{write_figures, write_reserved, write_updated};
 use crate::text::Text;
-use schnellru::MoveReport;
+use lru_model::MoveReport;
 use std::alloc::Global;
 use test_helpers::Random;
 

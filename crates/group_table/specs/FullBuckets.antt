@@ -1,0 +1,23 @@
+-- What a walk over the full buckets has ahead. No public clause cites this module.
+use Rattle.std.specs.Prelude.{ℕ, ◌+◌, ◌<◌, ◌≤◌, ◌↔◌, List, slice_index}
+use Rattle.group_table.specs.Bytes.{IsTag, IsFreeByte}
+use Rattle.group_table.specs.Control.{buckets_of, IsCircle}
+use Rattle.group_table.specs.Lanes.{HasLane}
+use Rattle.group_table.specs.declared.full_buckets.FullBuckets.{FullBuckets}
+
+-- the lanes are the full ones of their group from a bucket on, and no bucket from there to the group is full
+pub record IsAhead (control : List ℕ) (walk : FullBuckets) (from : ℕ) : Type 0 where
+  pub circle : IsCircle control
+  pub within : from ≤ buckets_of control
+  pub reached : from ≤ walk.start + 16
+  pub inside : walk.start < buckets_of control
+  pub passed : (b : ℕ) → from ≤ b → b < walk.start → IsFreeByte (slice_index control b)
+  pub lanes : (lane : ℕ) → HasLane walk.lanes lane
+      ↔ ((lane < 16) × IsTag (slice_index control (walk.start + lane)) × (from ≤ walk.start + lane))
+
+-- the first full bucket from a bucket on, or the number of buckets if there is none
+pub record IsNextFull (control : List ℕ) (from next : ℕ) : Type 0 where
+  pub bound : from ≤ next
+  pub within : next ≤ buckets_of control
+  pub full : next < buckets_of control → IsTag (slice_index control next)
+  pub between : (b : ℕ) → from ≤ b → b < next → IsFreeByte (slice_index control b)

@@ -1,0 +1,31 @@
+//! The parts of the program `rows` that need no map: the form of a row, and what a plain list of pairs returns.
+//!
+//! - [`Row`]: a row of a data file, as `docs/ROWS.md` describes it.
+//! - [`Trial`]: random calls with the answers of a plain list, by [`Bounds`] and a [`Limit`].
+//! - [`Text`]: a text of answers; [`write_figures`], [`write_reserved`] and [`write_updated`] add what calls return.
+//! - [`Numbered`], [`number_of`] and [`Polynomial`]: the limiters and the hasher that a row names.
+//! - [`Slow`] and [`Narrow`]: a reader and a writer of few bytes a call, with a call that fails.
+//! - [`agrees`]: compares answers, and prints the first difference.
+#![tactic(auto)]
+
+mod escapes;
+mod hasher;
+mod limiters;
+mod plain;
+mod report;
+mod results;
+mod row;
+mod streams;
+mod table;
+mod text;
+mod trials;
+
+pub use hasher::Polynomial;
+pub use limiters::{Numbered, number_of};
+pub use plain::Limit;
+pub use report::agrees;
+pub use results::{write_figures, write_reserved, write_updated};
+pub use row::Row;
+pub use streams::{Failure, Narrow, Slow, count_lines, error_at, front_lines};
+pub use text::Text;
+pub use trials::{Bounds, Trial};
