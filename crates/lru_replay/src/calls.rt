@@ -1,6 +1,5 @@
 //! Runs of calls, as lists.
 
-pub(crate) mod call;
 pub(crate) mod pairs;
 pub(crate) mod runs;
 pub(crate) mod steps;

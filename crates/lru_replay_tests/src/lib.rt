@@ -1,5 +1,5 @@
-//! Tests of `lru_replay` and `lru_theory` through their public calls: what no contract of them says, which is what a run
-//! does when it runs out of memory, and the printed texts. The examples of the documents are tested here too.
+//! Tests of `lru_replay` through its public calls: what no contract says, which is what a run does when it runs out of
+//! memory, and the printed texts. The examples of the documents are tested here too.
 //!
 //! The program `rows` has the worked rows as data, with readers and writers that fail, and random calls.
 #![tactic(auto)]
@@ -9,6 +9,6 @@ mod callers;
 #[cfg(test)]
 mod examples;
 #[cfg(test)]
-mod refused;
+mod misses;
 #[cfg(test)]
-mod theory;
+mod refused;

@@ -18,11 +18,11 @@ use Rattle.lru_model.specs.State.{Contents, trim}
 use Rattle.recency.specs.Budgets.{affordable, cached_within}
 use Rattle.recency.specs.Recency.{IsExact}
 use Rattle.recency.proofs.Affordable.{spent, affords_all, affords_within}
-use Rattle.lru_replay.specs.declared.calls.call.Call.{Call}
-use Rattle.lru_replay.specs.declared.calls.call.Call.TheVariants as calls
-use Rattle.lru_replay.specs.CallRuns.{IsRun}
-use Rattle.lru_replay.specs.ListRuns.{ListCallStep, fronted}
-use Rattle.lru_replay.specs.Replies.{Reply, memory_report, found_all, value, made_reply}
+use Rattle.replay_model.specs.declared.calls.Call.{Call}
+use Rattle.replay_model.specs.declared.calls.Call.TheVariants as calls
+use Rattle.replay_model.specs.CallRuns.{IsRun}
+use Rattle.replay_model.specs.ListRuns.{ListCallStep, fronted}
+use Rattle.replay_model.specs.Replies.{Reply, memory_report, found_all, value, made_reply}
 use Rattle.lru_theory.specs.BudgetReferences.{offered}
 use Rattle.lru_theory.specs.References.{FoundMemory}
 use Rattle.lru_theory.proofs.BudgetLists.{key_cost, pair_of, spending, holding, popped, trimmed_is, found_is}

@@ -17,10 +17,10 @@ use Rattle.lru_model.specs.declared.results.ReserveError.{ReserveError}
 use Rattle.recency.specs.Inclusion.{KeyCall, refers, promotes, looks, after_call, after_calls}
 use Rattle.recency.specs.Inclusion.{removes as removal_of, clears as all_removed}
 use Rattle.recency.specs.Recency.{IsExact, is_in}
-use Rattle.lru_replay.specs.declared.calls.call.Call.{Call}
-use Rattle.lru_replay.specs.declared.calls.call.Call.TheVariants as calls
-use Rattle.lru_replay.specs.CallRuns.{IsRun, CallStep}
-use Rattle.lru_replay.specs.Replies.{Reply, memory_report, found_all, runs_out_with_pairs}
+use Rattle.replay_model.specs.declared.calls.Call.{Call}
+use Rattle.replay_model.specs.declared.calls.Call.TheVariants as calls
+use Rattle.replay_model.specs.CallRuns.{IsRun, CallStep}
+use Rattle.replay_model.specs.Replies.{Reply, memory_report, found_all, runs_out_with_pairs}
 use Rattle.lru_theory.specs.KeyCalls.{key_call, CallsOn}
 use Rattle.lru_theory.specs.References.{FoundMemory}
 use Rattle.lru_theory.proofs.ReferenceRuns.{head_of, tail_of}

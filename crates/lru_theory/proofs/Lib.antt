@@ -1,6 +1,5 @@
 pub mod KeySteps
 pub mod ReferenceRuns
 pub mod ReferenceSteps
-pub mod PlainRuns
 pub mod BudgetLists
 pub mod BudgetSteps

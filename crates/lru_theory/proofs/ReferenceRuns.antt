@@ -9,9 +9,9 @@ use Rattle.lru_model.specs.Kept.{KeepsToLength}
 use Rattle.lru_model.specs.Lists.{keys_of}
 use Rattle.lru_model.specs.State.{State, IsMap}
 use Rattle.recency.specs.Recency.{IsExact, is_in, cached, faults}
-use Rattle.lru_replay.specs.declared.calls.call.Call.{Call}
-use Rattle.lru_replay.specs.CallRuns.{IsRun, CallStep}
-use Rattle.lru_replay.specs.Replies.{Reply}
+use Rattle.replay_model.specs.declared.calls.Call.{Call}
+use Rattle.replay_model.specs.CallRuns.{IsRun, CallStep}
+use Rattle.replay_model.specs.Replies.{Reply}
 use Rattle.lru_theory.specs.References.{referenced, FoundMemory, References}
 use Rattle.lru_theory.proofs.ReferenceSteps.{Known, Refers, call_refers}
 

@@ -23,10 +23,10 @@ use Rattle.lru_model.specs.Place.{nothing_to_evict, finds_bucket, rehashes}
 use Rattle.lru_model.specs.Runs.{Step, inserts, makes_newest}
 use Rattle.lru_model.specs.State.{State, IsSized}
 use Rattle.recency.specs.Recency.{IsExact, is_in}
-use Rattle.lru_replay.specs.CallRuns.{CallStep}
-use Rattle.lru_replay.specs.Replies.{Reply, memory_report, found_all, runs_out}
-use Rattle.lru_replay.specs.declared.calls.call.Call.{Call}
-use Rattle.lru_replay.specs.declared.calls.call.Call.TheVariants as calls
+use Rattle.replay_model.specs.CallRuns.{CallStep}
+use Rattle.replay_model.specs.Replies.{Reply, memory_report, found_all, runs_out}
+use Rattle.replay_model.specs.declared.calls.Call.{Call}
+use Rattle.replay_model.specs.declared.calls.Call.TheVariants as calls
 use Rattle.lru_theory.specs.References.{referenced}
 
 pub clash : {A : Type 0} → false ≡ true → A

@@ -4,10 +4,10 @@ use Rattle.std.specs.List.{AllByRecursion}
 use Rattle.lru_limits.specs.Budget.{Budget, by_cost, charges}
 use Rattle.lru_model.specs.Exact.{HasTableFor}
 use Rattle.lru_model.specs.State.{State, IsMap}
-use Rattle.lru_replay.specs.declared.calls.call.Call.{Call}
-use Rattle.lru_replay.specs.declared.calls.call.Call.TheVariants as calls
-use Rattle.lru_replay.specs.CallRuns.{IsRun, CallStep}
-use Rattle.lru_replay.specs.Replies.{Reply}
+use Rattle.replay_model.specs.declared.calls.Call.{Call}
+use Rattle.replay_model.specs.declared.calls.Call.TheVariants as calls
+use Rattle.replay_model.specs.CallRuns.{IsRun, CallStep}
+use Rattle.replay_model.specs.Replies.{Reply}
 use Rattle.lru_theory.specs.References.{FoundMemory}
 
 -- the key that the call references, and the value that it inserts

@@ -4,10 +4,10 @@ use Rattle.lru_limits.specs.Limiters.{length_rules, length_offers}
 use Rattle.lru_model.specs.Kept.{KeepsToLength}
 use Rattle.lru_model.specs.State.{State, IsMap}
 use Rattle.recency.specs.Inclusion.{KeyCall, refers, promotes, removes, clears, looks}
-use Rattle.lru_replay.specs.declared.calls.call.Call.{Call}
-use Rattle.lru_replay.specs.declared.calls.call.Call.TheVariants as calls
-use Rattle.lru_replay.specs.CallRuns.{IsRun, CallStep}
-use Rattle.lru_replay.specs.Replies.{Reply}
+use Rattle.replay_model.specs.declared.calls.Call.{Call}
+use Rattle.replay_model.specs.declared.calls.Call.TheVariants as calls
+use Rattle.replay_model.specs.CallRuns.{IsRun, CallStep}
+use Rattle.replay_model.specs.Replies.{Reply}
 use Rattle.lru_theory.specs.References.{FoundMemory}
 
 -- What a call does to the keys. Updates, demotions, pops, drains, trims, gets by a hash and other limiters are left

@@ -4,10 +4,10 @@ use Rattle.std.specs.List.{AllByRecursion}
 use Rattle.lru_limits.specs.Limiters.{length_rules, length_offers}
 use Rattle.lru_model.specs.Kept.{KeepsToLength}
 use Rattle.lru_model.specs.State.{State, IsMap}
-use Rattle.lru_replay.specs.declared.calls.call.Call.{Call}
-use Rattle.lru_replay.specs.declared.calls.call.Call.TheVariants as calls
-use Rattle.lru_replay.specs.CallRuns.{IsRun, CallStep}
-use Rattle.lru_replay.specs.Replies.{Reply, memory_report, found_all}
+use Rattle.replay_model.specs.declared.calls.Call.{Call}
+use Rattle.replay_model.specs.declared.calls.Call.TheVariants as calls
+use Rattle.replay_model.specs.CallRuns.{IsRun, CallStep}
+use Rattle.replay_model.specs.Replies.{Reply, memory_report, found_all}
 
 -- the key that the call references: it inserts the key, or gets its value and inserts it if it is not there
 abbrev pub referenced : {K V S : Type 0} → Call K V S → Option K

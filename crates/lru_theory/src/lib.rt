@@ -16,10 +16,8 @@ ghost use Rattle.lru_theory.specs.BudgetReferences.{BudgetReferences};
 ghost use Rattle.lru_theory.specs.KeyCalls.{CallsOn};
 ghost use Rattle.lru_theory.specs.References.{References};
 
-mod plain;
-
-pub use plain::misses_on_map;
-use schnellru::{ByCost, ByLength, Costed, KeyHasher, laws};
+use lru_limits::{ByCost, ByLength, Costed, KeyHasher};
+use lru_model::laws;
 use std::hash::Hash;
 
 /// A run of references leaves the keys that were referenced last, `max_length` of them (`keys`). The map counts the
@@ -88,7 +86,7 @@ pub fn a_smaller_budget_is_included<K: Eq + Hash + Drop, V: Costed + Drop, S: Ke
         BudgetReferences V.cost K.eq S.hash_of value_of keys other large → old.limiter.limit ≤ other.limiter.limit →
         keys_of small.pairs ≡ take (length (keys_of small.pairs)) (keys_of large.pairs) }
 {
-    lru_replay::laws::granted_calls_are_exact::<K, V, ByCost, S>();
+    replay_model::laws::granted_calls_are_exact::<K, V, ByCost, S>();
     recency::a_larger_budget_never_misses_more::<K>();
 }
 

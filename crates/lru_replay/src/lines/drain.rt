@@ -1,10 +1,10 @@
 //! The line `drain`: pairs are taken out, and written as they go.
-ghost use Rattle.std.specs.Prelude.{ℕ, List, [], ◌++◌, Option, if◌then◌else◌, codes};
+ghost use Rattle.std.specs.Prelude.{ℕ, List};
 ghost use Rattle.lru_model.specs.Drains.{Drained};
-ghost use Rattle.lru_replay.specs.Output.{Writes, pairs_text, taken_text};
+ghost use Rattle.replay_model.specs.Output.{Writes, pairs_text};
 
-use crate::lines::outcome::ReplayError;
-use crate::lines::output::{write_bytes, write_next};
+use replay_model::ReplayError;
+use replay_model::lines::taken::{end_of_pairs, write_taken};
 use schnellru::{Insertion, LruMap};
 use std::io::Write;
 
@@ -28,34 +28,4 @@ pub fn write_drain<L: Insertion<u64, u64, u64>, W: Write>(
     }
     map.clear();
     end_of_pairs(writer, written, any)
-}
-
-/// Writes a pair after others, if there is one, unless a write has failed.
-fn write_taken<W: Write>(
-    writer: &mut W,
-    before: Result<(), ReplayError>,
-    any: bool,
-    taken: Option<(u64, u64)>,
-) -> Result<(), ReplayError>
-    ensures { (begun : Option (List ℕ)) (text : List ℕ) → Writes begun (W.contents writer.old) before text →
-        Writes begun (W.contents writer.new) result (text ++ taken_text any taken) }
-{
-    before?;
-    write_next(writer, any, taken)
-}
-
-/// Writes `-` if there were no pairs.
-fn end_of_pairs<W: Write>(
-    writer: &mut W,
-    before: Result<(), ReplayError>,
-    any: bool,
-) -> Result<(), ReplayError>
-    ensures { (begun : Option (List ℕ)) (text : List ℕ) → Writes begun (W.contents writer.old) before text →
-        Writes begun (W.contents writer.new) result (text ++ (if any then [] else codes "-")) }
-{
-    before?;
-    if any {
-        return Ok(());
-    }
-    write_bytes(writer, b"-")
 }

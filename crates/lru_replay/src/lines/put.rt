@@ -1,12 +1,12 @@
 //! The line `put`: an insert that writes its answer, and after it the pairs that were evicted, rejected or not stored.
 ghost use Rattle.std.specs.Prelude.{ℕ, Option};
-ghost use Rattle.lru_replay.specs.declared.lines.command.Command.TheVariants as commands;
-ghost use Rattle.lru_replay.specs.LineRuns.{AnswersCommand};
-ghost use Rattle.lru_replay.specs.Output.{Writes, reply_text};
-ghost use Rattle.lru_replay.specs.Replies.{Reply};
+ghost use Rattle.replay_model.specs.declared.lines.command.Command.TheVariants as commands;
+ghost use Rattle.replay_model.specs.LineRuns.{AnswersCommand};
+ghost use Rattle.replay_model.specs.Output.{Writes, reply_text};
+ghost use Rattle.replay_model.specs.Replies.{Reply};
 
-use crate::lines::outcome::ReplayError;
-use crate::lines::output::{write_bytes, write_given};
+use replay_model::ReplayError;
+use replay_model::lines::output::{write_bytes, write_given};
 use schnellru::{Insertion, LruMap};
 use std::io::Write;
 

@@ -3,24 +3,26 @@ ghost use Rattle.std.specs.Prelude.{◌≡◌, ◌↔◌, ℕ, List, IfSome, OnO
 ghost use Rattle.std.specs.Io.KnownBytes.{Appends, IsAtEnd};
 ghost use Rattle.std.specs.Option.{OnSome};
 ghost use Rattle.lru_model.specs.State.{IsSized};
-ghost use Rattle.lru_replay.specs.Lines.{lines_of, TakesFirst};
-ghost use Rattle.lru_replay.specs.Maps.{empty};
-ghost use Rattle.lru_replay.specs.Output.{Writes, no_limiter_text};
-ghost use Rattle.lru_replay.specs.Replay.{IsTextUnder, NamesNoLimit, WritesReplay, WritesSoFar, WritesCut};
-ghost use Rattle.lru_replay.specs.Replay.{WritesCutSoFar, Replays};
-ghost use Rattle.lru_replay.specs.LineRuns.{LineStep, AnswersLine, IsTextOf, Answers};
+ghost use Rattle.replay_model.specs.Lines.{lines_of, TakesFirst};
+ghost use Rattle.replay_model.specs.Maps.{empty};
+ghost use Rattle.replay_model.specs.Output.{Writes, no_limiter_text};
+ghost use Rattle.replay_model.specs.Replay.{IsTextUnder, NamesNoLimit, WritesReplay, WritesSoFar, WritesCut};
+ghost use Rattle.replay_model.specs.Replay.{WritesCutSoFar, Replays};
+ghost use Rattle.replay_model.specs.LineRuns.{LineStep, AnswersLine, IsTextOf, Answers};
 
 use crate::calls::steps::get;
-use crate::lines::command::{Command, Limit, command_of, limit_of};
 use crate::lines::drain::write_drain;
-use crate::lines::figures::{ReportsCost, figures_of};
-use crate::lines::line::{Ending, Line, read_line};
-use crate::lines::outcome::{ReplayEnd, ReplayError};
-use crate::lines::output::{
-    write_bytes, write_cost, write_figures, write_flag, write_insert, write_left, write_pairs,
+use crate::lines::figures::figures_of;
+use crate::lines::pairs::write_pairs;
+use crate::lines::put::write_put;
+use replay_model::lines::command::{Command, Limit, command_of, limit_of};
+use replay_model::lines::figures::ReportsCost;
+use replay_model::lines::line::{Ending, Line, read_line};
+use replay_model::lines::output::{
+    write_bytes, write_cost, write_figures, write_flag, write_insert, write_left,
     write_reservation, write_shrink, write_updated, write_value,
 };
-use crate::lines::put::write_put;
+use replay_model::{ReplayEnd, ReplayError};
 use schnellru::{
     ByCost, ByLength, ByMemoryUsage, Insertion, LruMap, RandomState, UnlimitedCompact,
 };

@@ -1,7 +1,7 @@
 use Rattle.std.proofs.Common.{◌≤◌, length, Result, Ok, Err, IfOk, OnOk}
 use Rattle.std.specs.List.{AllByRecursion}
-use Rattle.lru_replay.specs.CallRuns.{SetsNoLimiter}
-use Rattle.lru_replay.proofs.CallRuns.{run_holds}
+use Rattle.replay_model.specs.CallRuns.{SetsNoLimiter}
+use Rattle.replay_model.proofs.CallRuns.{run_holds}
 use Rattle.lru_replay_tests.proofs.callers.put_both.Goals as goal
 
 follows : {T E : Type 0} {P : T → Type 0} {Q : Type 0} (result : Result T E) → ((value : T) → P value → Q)

@@ -1,5 +1,5 @@
 use Rattle.std.proofs.Common.{inl, inr, refl}
-use Rattle.lru_replay.specs.Replies.{given, no_memory}
+use Rattle.replay_model.specs.Replies.{given, no_memory}
 use Rattle.lru_replay.proofs.lines.put.write_put.Goals as goal
 
 pub returns-in-Ok : goal.returns-in-Ok

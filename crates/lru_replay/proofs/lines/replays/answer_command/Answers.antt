@@ -2,13 +2,13 @@ use Rattle.std.proofs.Common.{ap, ◌∙◌, inl, inr, refl, subst}
 use Rattle.std.proofs.lemmas.Result.{err_from_is_err_and}
 use Rattle.std.specs.Prelude.{nat_eq}
 use Rattle.lru_model.specs.Lists.{lookup}
-use Rattle.lru_replay.specs.declared.lines.command.Command.TheVariants as commands
-use Rattle.lru_replay.specs.Grammar.{SpellsCommand}
-use Rattle.lru_replay.specs.Output.{bad_text, cost_text, figures_text, insert_text}
-use Rattle.lru_replay.specs.Output.{reply_text}
-use Rattle.lru_replay.specs.Replies.{flag, updated, value, pair, listed, reserved, shrunk, stats, done, insert_reply}
-use Rattle.lru_replay.proofs.AnsweredCommands.{carried_out}
-use Rattle.lru_replay.proofs.WrittenTexts.{writes_after, failed_front, inserted_text}
+use Rattle.replay_model.specs.declared.lines.command.Command.TheVariants as commands
+use Rattle.replay_model.specs.Grammar.{SpellsCommand}
+use Rattle.replay_model.specs.Output.{bad_text, cost_text, figures_text, insert_text}
+use Rattle.replay_model.specs.Output.{reply_text}
+use Rattle.replay_model.specs.Replies.{flag, updated, value, pair, listed, reserved, shrunk, stats, done, insert_reply}
+use Rattle.replay_model.proofs.AnsweredCommands.{carried_out}
+use Rattle.replay_model.proofs.WrittenTexts.{writes_after, failed_front, inserted_text}
 use Rattle.lru_replay.proofs.lines.replays.answer_command.Goals as goal
 
 pub returns-in-Some-Insert : goal.returns-in-Some-Insert

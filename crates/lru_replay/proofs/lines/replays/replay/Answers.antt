@@ -1,4 +1,4 @@
-use Rattle.lru_replay.proofs.EndedReplays.{exactly_no_limiter, cut_of_all}
+use Rattle.replay_model.proofs.EndedReplays.{exactly_no_limiter, cut_of_all}
 use Rattle.lru_replay.proofs.lines.replays.replay.Goals as goal
 
 pub returns-clause-no_limiter : goal.returns-clause-no_limiter

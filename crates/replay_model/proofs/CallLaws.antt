@@ -1,0 +1,99 @@
+-- What holds of runs of a map's steps holds of runs of calls.
+use Rattle.std.proofs.Common.{◌≡◌, ℕ, Bool, List, [], ◌∷◌, refl, sym, ◌∙◌, subst, inl, inr, ◌⊎◌}
+use Rattle.std.specs.List.{AllByRecursion}
+use Rattle.lru_limits.specs.Rules.{Rules, Offers}
+use Rattle.lru_model.specs.Calls.{written}
+use Rattle.lru_model.specs.Runs.{Step, AnyStep, Run, ends, goes_on}
+use Rattle.lru_model.specs.State.{State, contents, IsSized, IsMap}
+use Rattle.replay_model.specs.CallRuns.{IsRun, CallStep, SummingStep, KeepsCost, SetsNoLimiter}
+use Rattle.replay_model.specs.Replies.{Reply}
+use Rattle.replay_model.specs.declared.calls.Call.{Call}
+use Rattle.replay_model.specs.declared.calls.Call.TheVariants as calls
+use Rattle.replay_model.proofs.CallKinds.{Kind, calls_map, stays, writes_value, sets_limiter, kind_of, any_step}
+
+module _ {K V S H : Type 0} (rules : Rules K V S) (offers : Offers K V S K) (eq : K → K → Bool)
+    (hash_of : H → K → ℕ) where
+  -- a run of calls is one of any steps of the map
+  pub any_run : (old : State K V S H) (calls : List (Call K V S)) (replies : List (Reply K V)) (new : State K V S H)
+      → IsRun (CallStep rules offers eq hash_of) (IsMap eq) old calls replies new
+      → Run (AnyStep rules offers eq hash_of) new old
+  any_run old [] [] new same = subst (Run (AnyStep rules offers eq hash_of) new) same ends
+  any_run old (call ∷ calls) (reply ∷ replies) new (mid, step, map, run) =
+      elim (any_step call (kind_of call reply step)) [
+        | inl any ↦ goes_on mid any map.sized (any_run mid calls replies new run)
+        | inr same ↦ subst (Run (AnyStep rules offers eq hash_of) new) same (any_run mid calls replies new run)
+      ]
+  any_run old calls replies new none = absurd none
+
+-- What each step of the map keeps of a limit, and the limit itself, each call keeps that sets no other limiter.
+--     limit           the limit of a limiter
+--     Within n st     the map is within the limit n
+--     IsStep, Keeps   a step of a run, and what is known of a call that is carried out
+module _ {K V S H N : Type 0} (rules : Rules K V S) (offers : Offers K V S K) (eq : K → K → Bool)
+    (hash_of : H → K → ℕ) (limit : S → N) (Within : N → State K V S H → Type 0)
+    (law : (old new : State K V S H) → Run (Step rules offers eq hash_of) new old → Within (limit old.limiter) old
+    → Within (limit old.limiter) new)
+    (stays_so : (old new : State K V S H) → Run (Step rules offers eq hash_of) new old
+    → limit new.limiter ≡ limit old.limiter)
+    (IsStep : State K V S H → Call K V S → Reply K V → State K V S H → Type 0)
+    (Keeps : State K V S H → Call K V S → Type 0)
+    (kinds : (old new : State K V S H) (call : Call K V S) (reply : Reply K V) → IsStep old call reply new
+    → (Keeps old call × Kind rules offers eq hash_of old new call) ⊎ (new ≡ old))
+    (writes : (n : N) (st : State K V S H) (key : K) (v : V) → Keeps st (calls.Write key v) → Within n st
+    → Within n (written (eq key) v st))
+    {Holds : State K V S H → Type 0} (sized : (st : State K V S H) → Holds st → IsSized st) where
+  abbrev Stays : State K V S H → State K V S H → Type 0
+  Stays old new = Within (limit old.limiter) new × (limit new.limiter ≡ limit old.limiter)
+
+  unchanged : (old new : State K V S H) → new ≡ old → Within (limit old.limiter) old → Stays old new
+  unchanged old new e within = subst (Stays old) (sym e) (within, refl)
+
+  kind_within : (old new : State K V S H) → IsSized new → (call : Call K V S) → SetsNoLimiter call → Keeps old call
+      → Kind rules offers eq hash_of old new call → Within (limit old.limiter) old → Stays old new
+  kind_within old new ok call none kept (calls_map step names) within =
+      let one : Run (Step rules offers eq hash_of) new old = goes_on new step ok ends in
+      (law old new one within, stays_so old new one)
+  kind_within old new ok call none kept (stays e) within = unchanged old new e within
+  kind_within old new ok call none kept (writes_value key v is e) within =
+      subst (Stays old) (sym e) (writes (limit old.limiter) old key v (subst (Keeps old) is kept) within, refl)
+  kind_within old new ok call none kept (sets_limiter s is e) within = absurd (subst SetsNoLimiter is none)
+
+  pub run_within : (n : N) (old : State K V S H) (calls : List (Call K V S)) (replies : List (Reply K V))
+      (new : State K V S H) → IsRun IsStep Holds old calls replies new → AllByRecursion SetsNoLimiter calls
+      → limit old.limiter ≡ n → Within n old → IsRun IsStep (Within n) old calls replies new
+  run_within n old [] [] new same none is within = same
+  run_within n old (call ∷ calls) (reply ∷ replies) new (mid, step, holds, run) (one, none) is within =
+      let begun : Within (limit old.limiter) old = subst (λ m. Within m old) (sym is) within in
+      let after : Stays old mid = elim (kinds old mid call reply step) [
+        | inl known ↦ kind_within old mid (sized mid holds) call one known.0 known.1 begun
+        | inr same ↦ unchanged old mid same begun
+      ] in
+      let kept : Within n mid = subst (λ m. Within m mid) is after.0 in
+      (mid, step, kept, run_within n mid calls replies new run none (after.1 ∙ is) kept)
+  run_within n old calls replies new p none is within = absurd p
+
+module _ {K V S H : Type 0} {rules : Rules K V S} {offers : Offers K V S K} {eq : K → K → Bool}
+    {hash_of : H → K → ℕ} where
+  -- a call of either run is a step of the map, or changes nothing
+  pub call_moves : (old new : State K V S H) (call : Call K V S) (reply : Reply K V)
+      → CallStep rules offers eq hash_of old call reply new → AnyStep rules offers eq hash_of old new ⊎ (new ≡ old)
+  call_moves old new call reply step = any_step call (kind_of call reply step)
+
+  pub summing_moves : (cost : K → V → ℕ) (account : S → ℕ) (old new : State K V S H) (call : Call K V S)
+      (reply : Reply K V) → SummingStep rules offers eq hash_of cost account old call reply new
+      → AnyStep rules offers eq hash_of old new ⊎ (new ≡ old)
+  summing_moves cost account old new call reply (inl (keeps, step)) = call_moves old new call reply step
+  summing_moves cost account old new call reply (inr (differs, is, same)) = inr same
+
+  -- of each call that is carried out nothing else is known,
+  pub call_kinds : (old new : State K V S H) (call : Call K V S) (reply : Reply K V)
+      → CallStep rules offers eq hash_of old call reply new
+      → (Unit {0} × Kind rules offers eq hash_of old new call) ⊎ (new ≡ old)
+  call_kinds old new call reply step = inl (tt, kind_of call reply step)
+
+  -- or, under a summing limiter, that it keeps the cost
+  pub summing_kinds : (cost : K → V → ℕ) (account : S → ℕ) (old new : State K V S H) (call : Call K V S)
+      (reply : Reply K V) → SummingStep rules offers eq hash_of cost account old call reply new
+      → (KeepsCost eq cost account (contents old) call × Kind rules offers eq hash_of old new call) ⊎ (new ≡ old)
+  summing_kinds cost account old new call reply (inl (keeps, step)) = inl (keeps, kind_of call reply step)
+  summing_kinds cost account old new call reply (inr (differs, is, same)) = inr same

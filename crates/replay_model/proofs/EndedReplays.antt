@@ -1,0 +1,308 @@
+-- The first line and the others together, and how a replay ends.
+use Rattle.std.proofs.Common.{◌≡◌, ℕ, ◌<◌, List, [], ◌∷◌, ◌++◌, append_assoc, length, refl, sym, ap, ◌∙◌, subst, inl}
+use Rattle.std.proofs.Common.{inr, ◌⊎◌, arith, Option, Some, None, Result, Ok, Err, IfSome, OnOk, ◌↔◌}
+use Rattle.std.proofs.lemmas.List.{append-nil}
+use Rattle.std.specs.Io.KnownBytes.{Appends, Keeps}
+use Rattle.std.proofs.KnownBytes.{Appends-nil, Appends-kept, Consumes-nil}
+use Rattle.lru_limits.specs.Budget.{Budget}
+use Rattle.lru_limits.specs.Rules.{Rules, Offers}
+use Rattle.lru_model.specs.State.{IsSized}
+use Rattle.std.proofs.lemmas.Option.{IfSome_then}
+use Rattle.replay_model.specs.declared.lines.command.Limit.{Limit}
+use Rattle.replay_model.specs.declared.lines.command.Limit.TheVariants as limits
+use Rattle.replay_model.specs.declared.lines.line.Ending.{Ending}
+use Rattle.replay_model.specs.declared.lines.line.Ending.TheVariants as endings
+use Rattle.replay_model.specs.declared.lines.outcome.ReplayEnd.{ReplayEnd}
+use Rattle.replay_model.specs.declared.lines.outcome.ReplayEnd.TheVariants as ends
+use Rattle.replay_model.specs.declared.lines.outcome.ReplayError.{ReplayError}
+use Rattle.replay_model.specs.declared.lines.outcome.ReplayError.TheVariants as errors
+use Rattle.replay_model.specs.Grammar.{SpellsLimit}
+use Rattle.replay_model.specs.Lines.{lines_of, TakesFed, TakesRest, TakesLine, TakesPart, TakesFirst}
+use Rattle.replay_model.specs.Output.{Begins, Fails, no_limiter_text}
+use Rattle.replay_model.specs.Replay.{IsTextUnder, IsReplay, NamesNoLimit, IsOutput, SoFar}
+use Rattle.replay_model.specs.Replay.{WritesCut, WritesCutSoFar, Replays}
+use Rattle.lru_limits.specs.Limiters.{length_rules, length_offers, memory_rules, no_rules, all_offers}
+use Rattle.replay_model.specs.Limits.{cost_rules, cost_offers, no_cost, cost_reported}
+use Rattle.replay_model.specs.Maps.{Map, empty}
+use Rattle.lru_model.specs.Sizes.{default_entry_bytes, max_of_32_bits, max_of_64_bits}
+use Rattle.replay_model.specs.LineRuns.{IsTextOf, Answers}
+use Rattle.replay_model.proofs.LineLists.{lines_of-fed, lines_of-last, lines_at_end, lines_left, takes_line_before}
+use Rattle.replay_model.proofs.LineRuns.{some_line_run, line_run_sized, line_run-append}
+use Rattle.replay_model.proofs.ByteLists.{Consumes_end}
+use Rattle.lru_model.proofs.CallerLemmas.{empty_is_sound}
+use Rattle.replay_model.proofs.AlwaysOffers.{AlwaysOffers, length_always, cost_always, all_always}
+use Rattle.replay_model.proofs.SpelledLines.{limit_or}
+
+-- what is said of the lines after the first, said of all lines
+after_first : (a b : Option (List ℕ)) (first : List ℕ) (P Q : List ℕ → Type 0) → TakesFed a b first
+    → ((rest input : List ℕ) → lines_of input ≡ first ∷ lines_of rest → P rest → Q input) → IfSome b P → IfSome a Q
+after_first None b first P Q taken f h = tt
+after_first (Some x) None first P Q (lacks, p) f h = absurd p
+after_first (Some x) (Some y) first P Q (lacks, p) f h = f y x (ap lines_of p ∙ lines_of-fed first y lacks) h
+
+-- the input is one line, which no line feed ends
+only_first : (a b : Option (List ℕ)) (first : List ℕ) (Q : List ℕ → Type 0) → TakesRest a b first
+    → ((input : List ℕ) → lines_of input ≡ lines_of first → Q input) → IfSome a Q
+only_first a b first Q taken f = IfSome_then a (lines_at_end a a b [] first (tt, tt, Consumes-nil a) taken) f
+
+-- The first line names no limit, or there is none.
+none_first : (lines : List (List ℕ)) → lines ≡ [] → NamesNoLimit lines
+none_first lines e limit first others is spells = let h : [] ≡ first ∷ others = sym e ∙ is in absurd (cc)
+
+none_named : (lines others : List (List ℕ)) (first : List ℕ) → lines ≡ first ∷ others
+    → ((limit : Limit) → SpellsLimit first limit → ⊥) → NamesNoLimit lines
+none_named lines others first e none limit other more is spells =
+    let same : first ≡ other = (let h : first ∷ others ≡ other ∷ more = sym e ∙ is in cc) in
+    none limit (subst (λ l. SpellsLimit l limit) (sym same) spells)
+
+pub no_limit : (a b : Option (List ℕ)) (ending : Ending) (first : List ℕ) → TakesLine a b ending first
+    → ((limit : Limit) → SpellsLimit first limit → ⊥)
+    → IfSome a (λ input. NamesNoLimit (lines_of input))
+no_limit None b ending first taken none = tt
+no_limit (Some x) None endings.Feed first taken none = absurd taken.1
+no_limit (Some x) (Some y) endings.Feed first taken none = none_named (lines_of x) (lines_of y) first
+    (ap lines_of taken.1 ∙ lines_of-fed first y taken.0) none
+no_limit (Some x) b endings.InputEnd first (taken, some) none = only_first (Some x) b first
+    (λ input. NamesNoLimit (lines_of input)) taken
+    (λ input same. none_named (lines_of input) [] first (same ∙ lines_of-last first taken.0 some) none)
+no_limit (Some x) b endings.Nothing first (taken, nothing) none = only_first (Some x) b first
+    (λ input. NamesNoLimit (lines_of input)) taken
+    (λ input same. none_first (lines_of input) (same ∙ ap lines_of nothing))
+
+-- A text of the first n lines goes on for more lines.
+module _ {S : Type 0} (rules : Rules ℕ ℕ S) (offers : Offers ℕ ℕ S ℕ) (reported : S → Option ℕ)
+    (offered : AlwaysOffers offers) (old : Map S) (sized : IsSized old) where
+  text_goes_on : (lines more : List (List ℕ)) (text : List ℕ) → IsTextOf rules offers reported old lines text
+      → (u : List ℕ) × IsTextOf rules offers reported old (lines ++ more) (text ++ u)
+  text_goes_on lines more text (now, run) =
+      let (u, new, others) = some_line_run rules offers reported offered now
+      (line_run_sized rules offers reported old lines text now sized run) more in
+      (u, (new, line_run-append rules offers reported old lines text now more u new run others))
+
+under_goes_on : (limit : Limit) (lines more : List (List ℕ)) (text : List ℕ) → IsTextUnder limit lines text
+    → (u : List ℕ) × IsTextUnder limit (lines ++ more) (text ++ u)
+under_goes_on (limits.Length most) = text_goes_on length_rules length_offers no_cost length_always
+    (empty most default_entry_bytes max_of_32_bits) (empty_is_sound default_entry_bytes max_of_32_bits)
+under_goes_on (limits.Memory budget entry_bytes) = text_goes_on memory_rules all_offers no_cost all_always
+    (empty budget entry_bytes max_of_32_bits) (empty_is_sound entry_bytes max_of_32_bits)
+under_goes_on (limits.Cost most) =
+    let budget : Budget = record { limit = most; cost = 0 } in
+    text_goes_on cost_rules cost_offers cost_reported cost_always (empty budget default_entry_bytes max_of_64_bits)
+    (empty_is_sound default_entry_bytes max_of_64_bits)
+under_goes_on limits.Compact = text_goes_on no_rules all_offers no_cost all_always
+    (empty (record {}) default_entry_bytes max_of_32_bits)
+    (empty_is_sound default_entry_bytes max_of_32_bits)
+
+no_lines_under : (limit : Limit) → IsTextUnder limit [] []
+no_lines_under (limits.Length most) = (empty most default_entry_bytes max_of_32_bits, ([], refl, refl))
+no_lines_under (limits.Memory budget entry_bytes) = (empty budget entry_bytes max_of_32_bits, ([], refl, refl))
+no_lines_under (limits.Cost most) =
+    (empty (record { limit = most; cost = 0 }) default_entry_bytes max_of_64_bits, ([], refl, refl))
+no_lines_under limits.Compact = (empty (record {}) default_entry_bytes max_of_32_bits, ([], refl, refl))
+
+-- So each list of lines has something written of it,
+some_output : (lines : List (List ℕ)) → (text : List ℕ) × IsOutput lines text
+some_output [] = (no_limiter_text, inr (none_first [] refl, refl))
+some_output (first ∷ lines) = by (limit_or first)
+  where
+    by : ((limit : Limit) × SpellsLimit first limit) ⊎ ((limit : Limit) → SpellsLimit first limit → ⊥)
+        → (text : List ℕ) × IsOutput (first ∷ lines) text
+    by (inl (limit, spells)) = let (text, is) = under_goes_on limit [] lines [] (no_lines_under limit) in
+        (text, inl (limit, first, lines, refl, spells, is))
+    by (inr none) = (no_limiter_text, inr (none_named (first ∷ lines) lines first refl none, refl))
+
+-- and what is written of the first n lines goes on for more.
+output_goes_on : (lines more : List (List ℕ)) (text : List ℕ) → SoFar IsOutput lines text → (u : List ℕ)
+    × IsOutput (lines ++ more) (text ++ u)
+output_goes_on [] more text none = let (u, is) = some_output more in
+    (u, subst (λ l. IsOutput more (l ++ u)) (sym none) is)
+output_goes_on (line ∷ lines) more text (inl (limit, first, others, same, spells, is)) =
+    let (u, goes) = under_goes_on limit others more text is in
+    (u, inl (limit, first, others ++ more, ap (λ ls. ls ++ more) same, spells, goes))
+output_goes_on (line ∷ lines) more text (inr (none, is)) = (
+  [],
+  inr (
+    none_named (line ∷ lines ++ more) (lines ++ more) line refl
+        (λ limit spells. none limit line lines refl spells),
+    append-nil text ∙ is,
+  ),
+)
+
+-- What is cut within what the lines read write is cut within what all lines write.
+pub cut_of_all : (a b w v : Option (List ℕ)) → WritesCutSoFar a b w v → WritesCut a w v
+cut_of_all a b w v (inl (cut, at_end)) = cut
+cut_of_all None b w v h = tt
+cut_of_all (Some x) None w v (inr (lines, text, rest, is, reads, begun)) = absurd reads.2
+cut_of_all (Some x) (Some y) w v (inr (lines, text, rest, is, reads, (part, (more, front), wrote))) =
+    let (u, goes) = output_goes_on lines (lines_of (rest ++ y)) text is in (
+      text ++ u,
+      subst (λ ls. IsOutput ls (text ++ u)) (sym (lines_left x y lines rest reads)) goes,
+      (part, (more ++ u, ap (λ l. l ++ u) front ∙ append_assoc part more u), wrote),
+    )
+
+-- `NoLimiter` comes exactly if no limit is named.
+pub exactly_no_limiter : (a b w v : Option (List ℕ)) (end : Result ReplayEnd ReplayError) → Replays a b w v end
+    → OnOk end (IfSome a (λ input. (end ≡ Ok ends.NoLimiter) ↔ NamesNoLimit (lines_of input)))
+exactly_no_limiter a b w v (Ok ends.Done) (done, at_end) = IfSome_then a done
+    (λ input (text, (limit, first, others, is, spells, run), wrote).
+    (λ other. absurd (done_is_done other), λ names. absurd (names limit first others is spells)))
+  where
+    done_is_done : (let done : Result ReplayEnd ReplayError = Ok ends.Done in done) ≡ Ok ends.NoLimiter → ⊥
+    done_is_done e = cc
+exactly_no_limiter a b w v (Ok ends.NoLimiter) (none, reads, wrote) = IfSome_then a none
+    (λ input is. (λ same. is, λ names. refl))
+exactly_no_limiter a b w v (Err e) h = tt
+
+-- What was read and written stays true while the writer's bytes stay the same.
+pub replays-kept : (a b w v u : Option (List ℕ)) (end : Result ReplayEnd ReplayError) → Keeps v u → Replays a b w v end
+    → Replays a b w u end
+replays-kept a b w v u (Ok ends.Done) keeps (done, at_end) =
+    (IfSome_then a done (λ input (text, is, wrote). (text, is, Appends-kept w v u text wrote keeps)), at_end)
+replays-kept a b w v u (Ok ends.NoLimiter) keeps (none, reads, wrote) =
+    (none, reads, Appends-kept w v u no_limiter_text wrote keeps)
+replays-kept a b w v u (Err errors.Read) keeps (lines, text, part, is, reads, wrote) =
+    (lines, text, part, is, reads, Appends-kept w v u text wrote keeps)
+replays-kept a b w v u (Err errors.Write) keeps (inl (cut, at_end)) = inl (
+  IfSome_then a cut
+      (λ input (text, is, (part, front, wrote)). (text, is, (part, front, Appends-kept w v u part wrote keeps))),
+  at_end,
+)
+replays-kept a b w v u (Err errors.Write) keeps (inr (lines, text, rest, is, reads, (part, front, wrote))) =
+    inr (lines, text, rest, is, reads, (part, front, Appends-kept w v u part wrote keeps))
+
+-- all of a text is a beginning of it
+all_of : (w v : Option (List ℕ)) (text : List ℕ) → Appends w v text → Begins w v text
+all_of w v text wrote = (text, ([], sym (append-nil text)), wrote)
+
+so_far_output : (lines : List (List ℕ)) (text : List ℕ) → SoFar IsReplay lines text → SoFar IsOutput lines text
+so_far_output [] text is = is
+so_far_output (first ∷ others) text is = inl is
+
+-- The flush failed: all text of the lines that were read was written before.
+pub flush_failed : (a b w v : Option (List ℕ)) (end : Result ReplayEnd ReplayError) → Replays a b w v end
+    → Replays a b w v (Err errors.Write)
+flush_failed None b w v end h = inl (tt, tt)
+flush_failed (Some x) b w v (Ok ends.Done) ((text, is, wrote), at_end) =
+    inl ((text, inl is, all_of w v text wrote), at_end)
+flush_failed (Some x) b w v (Ok ends.NoLimiter) (none, (line, inr rest), wrote) =
+    inl ((no_limiter_text, inr (none, refl), all_of w v no_limiter_text wrote), rest.2)
+flush_failed (Some x) None w v (Ok ends.NoLimiter) (none, (line, inl fed), wrote) = absurd fed.1
+flush_failed (Some x) (Some y) w v (Ok ends.NoLimiter) (none, (line, inl fed), wrote) =
+    let first : lines_of x ≡ line ∷ lines_of y = ap lines_of fed.1 ∙ lines_of-fed line y fed.0 in
+    let unnamed : (limit : Limit) → SpellsLimit line limit → ⊥ = λ limit spells. none limit line
+    (lines_of y) first spells in
+    inr (
+      line ∷ [],
+      no_limiter_text,
+      [],
+      inr (none_named (line ∷ []) [] line refl unnamed, refl),
+      takes_line_before (Some x) (Some y) (Some y) line [] [] fed (tt, tt, refl),
+      all_of w v no_limiter_text wrote,
+    )
+flush_failed (Some x) b w v (Err errors.Read) (lines, text, part, is, reads, wrote) =
+    inr (lines, text, part, so_far_output lines text is, reads, all_of w v text wrote)
+flush_failed (Some x) b w v (Err errors.Write) h = h
+
+-- A read failed in the first line.
+pub first_failed : (a b w : Option (List ℕ)) (part : List ℕ) → TakesPart a b part → Replays a b w w (Err errors.Read)
+first_failed a b w part taken = ([], [], part, refl, (tt, taken.0, taken.1), Appends-nil w)
+
+-- The first line names no limit.
+module _ (a b w v : Option (List ℕ)) (ending : Ending) (first : List ℕ)
+    (none : (limit : Limit) → SpellsLimit first limit → ⊥) (taken : TakesLine a b ending first) where
+  takes_first : TakesFirst a b
+  takes_first = by ending taken
+    where
+      by : (ending : Ending) → TakesLine a b ending first → TakesFirst a b
+      by endings.Feed fed = (first, inl fed)
+      by endings.InputEnd rest = (first, inr rest.0)
+      by endings.Nothing rest = (first, inr rest.0)
+
+  pub no_limiter : Appends w v no_limiter_text → Replays a b w v (Ok ends.NoLimiter)
+  no_limiter wrote = (no_limit a b ending first taken none, takes_first, wrote)
+
+  -- a write of that failed
+  pub no_limiter_cut : (e : ReplayError) → Fails e w v no_limiter_text → Replays a b w v (Err e)
+  no_limiter_cut errors.Read (same, begun) = absurd (cc same)
+  no_limiter_cut errors.Write (same, begun) = by a b ending taken (no_limit a b ending first taken none)
+    where
+      by : (a b : Option (List ℕ)) (ending : Ending) → TakesLine a b ending first
+          → IfSome a (λ input. NamesNoLimit (lines_of input)) → WritesCutSoFar a b w v
+      by None b ending taken names = inl (tt, tt)
+      by (Some x) None endings.Feed fed names = absurd fed.1
+      by (Some x) (Some y) endings.Feed fed names = inr (
+        first ∷ [],
+        no_limiter_text,
+        [],
+        inr (none_named (first ∷ []) [] first refl none, refl),
+        takes_line_before (Some x) (Some y) (Some y) first [] [] fed (tt, tt, refl),
+        begun,
+      )
+      by (Some x) b endings.InputEnd rest names = inl ((no_limiter_text, inr (names, refl), begun), rest.0.2)
+      by (Some x) b endings.Nothing rest names = inl ((no_limiter_text, inr (names, refl), begun), rest.0.2)
+
+spelled_some : (line : List ℕ) (limit : Limit) → SpellsLimit line limit → 0 < length line
+spelled_some line (limits.Length n) (fits, is) = omega (arith, ap length is)
+spelled_some line limit (fits, is) = omega (arith, ap length is)
+
+-- a line without a line feed is all that was left
+rest_taken : (a b : Option (List ℕ)) (ending : Ending) (line : List ℕ) → (ending ≡ endings.Feed → ⊥)
+    → TakesLine a b ending line → TakesRest a b line
+rest_taken a b endings.Feed line not_fed taken = absurd (not_fed refl)
+rest_taken a b endings.InputEnd line not_fed taken = taken.0
+rest_taken a b endings.Nothing line not_fed taken = taken.0
+
+-- The first line is all there is.
+pub done_first : (a b w : Option (List ℕ)) (ending : Ending) (first : List ℕ) (limit : Limit) → SpellsLimit first limit
+    → (ending ≡ endings.Feed → ⊥) → TakesLine a b ending first
+    → Replays a b w w (Ok ends.Done)
+done_first a b w ending first limit spells not_fed line =
+    let taken = rest_taken a b ending first not_fed line in (
+      only_first a b first (λ input. (text : List ℕ) × IsReplay (lines_of input) text × Appends w w text) taken
+          (λ input same. (
+            [],
+            (
+              limit,
+              first,
+              [],
+              same ∙ lines_of-last first taken.0 (spelled_some first limit spells),
+              spells,
+              no_lines_under limit,
+            ),
+            Appends-nil w,
+          )),
+      taken.2,
+    )
+
+-- The others were answered after the first.
+module _ (a b c w v : Option (List ℕ)) (first : List ℕ) (limit : Limit) (spells : SpellsLimit first limit)
+    (taken : TakesFed a b first) where
+  pub done_others : Answers (IsTextUnder limit) b c w v (Ok tt) → Replays a c w v (Ok ends.Done)
+  done_others (done, at_end) = (
+    after_first a b first _ _ taken
+        (λ rest input all (text, is, wrote). (text, (limit, first, lines_of rest, all, spells, is), wrote)) done,
+    Consumes_end a b c _ taken.1 at_end,
+  )
+
+  pub others_failed : (e : ReplayError) → Answers (IsTextUnder limit) b c w v (Err e) → Replays a c w v (Err e)
+  others_failed errors.Read (lines, text, part, is, reads, wrote) = (
+    first ∷ lines,
+    text,
+    part,
+    (limit, first, lines, refl, spells, is),
+    takes_line_before a b c first lines part taken reads,
+    wrote,
+  )
+  others_failed errors.Write (inl (cut, at_end)) = inl (
+    after_first a b first _ _ taken (λ rest input all (text, is, begun).
+        (text, inl (limit, first, lines_of rest, all, spells, is), begun)) cut,
+    Consumes_end a b c _ taken.1 at_end,
+  )
+  others_failed errors.Write (inr (lines, text, rest, is, reads, begun)) = inr (
+    first ∷ lines,
+    text,
+    rest,
+    inl (limit, first, lines, refl, spells, is),
+    takes_line_before a b c first lines rest taken reads,
+    begun,
+  )
