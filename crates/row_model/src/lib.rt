@@ -2,12 +2,15 @@
 //!
 //! - [`Row`]: a row of a data file, as `docs/ROWS.md` describes it.
 //! - [`Trial`]: random calls with the answers of a plain list, by [`Bounds`] and a [`Limit`].
-//! - [`Text`]: a text of answers; [`write_figures`], [`write_reserved`] and [`write_updated`] add what calls return.
+//! - [`calls_of`]: the calls that lines spell.
+//! - [`Text`]: a text of answers; [`write_answers`] adds the answers to calls.
 //! - [`Numbered`], [`number_of`] and [`Polynomial`]: the limiters and the hasher that a row names.
 //! - [`Slow`] and [`Narrow`]: a reader and a writer of few bytes a call, with a call that fails.
 //! - [`agrees`]: compares answers, and prints the first difference.
 #![tactic(auto)]
 
+mod answers;
+mod calls;
 mod escapes;
 mod hasher;
 mod limiters;
@@ -20,11 +23,12 @@ mod table;
 mod text;
 mod trials;
 
+pub use answers::write_answers;
+pub use calls::calls_of;
 pub use hasher::Polynomial;
 pub use limiters::{Numbered, number_of};
 pub use plain::Limit;
 pub use report::agrees;
-pub use results::{write_figures, write_reserved, write_updated};
 pub use row::Row;
 pub use streams::{Failure, Narrow, Slow, count_lines, error_at, front_lines};
 pub use text::Text;

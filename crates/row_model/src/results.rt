@@ -3,7 +3,7 @@ use crate::text::Text;
 use lru_model::{MoveReport, ReserveError, Updated};
 
 /// Adds what an update did.
-pub fn write_updated(out: &mut Text, updated: Updated<u64>) {
+pub(crate) fn write_updated(out: &mut Text, updated: Updated<u64>) {
     match updated {
         Updated::Replaced(value) => out.figure("replaced ", value),
         Updated::Rejected(value) => out.figure("rejected ", value),
@@ -12,7 +12,7 @@ pub fn write_updated(out: &mut Text, updated: Updated<u64>) {
 }
 
 /// Adds what a reservation did.
-pub fn write_reserved(out: &mut Text, reserved: Result<(), ReserveError>) {
+pub(crate) fn write_reserved(out: &mut Text, reserved: Result<(), ReserveError>) {
     match reserved {
         Ok(()) => out.word("ok"),
         Err(error) => out.error(error),
@@ -20,7 +20,7 @@ pub fn write_reserved(out: &mut Text, reserved: Result<(), ReserveError>) {
 }
 
 /// Adds the length, the capacity and the bytes of a map, and what its table moved.
-pub fn write_figures(out: &mut Text, [len, capacity, memory]: [u64; 3], report: MoveReport) {
+pub(crate) fn write_figures(out: &mut Text, [len, capacity, memory]: [u64; 3], report: MoveReport) {
     out.figure("len ", len);
     out.figure(" capacity ", capacity);
     out.figure(" memory ", memory);

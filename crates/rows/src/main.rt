@@ -1,8 +1,6 @@
 //! Runs the rows of data files, and rows of random calls. `docs/ROWS.md` has their form.
 #![tactic(auto)]
 
-mod answers;
-mod calls;
 mod lines;
 mod maps;
 

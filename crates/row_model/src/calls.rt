@@ -1,6 +1,6 @@
 //! Calls on a map, as lines spell them.
-use lru_replay::Call;
-use row_model::{Numbered, number_of};
+use crate::limiters::{Numbered, number_of};
+use replay_model::Call;
 use std::alloc::Global;
 
 /// The calls that the lines spell, by the names of the program's lines if they have them. A line that spells no call

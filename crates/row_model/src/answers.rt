@@ -1,6 +1,7 @@
 //! The texts of the answers to calls, as the program would write them.
-use lru_replay::Answer;
-use row_model::{Text, write_figures, write_reserved, write_updated};
+use crate::results::{write_figures, write_reserved, write_updated};
+use crate::text::Text;
+use replay_model::Answer;
 use std::alloc::AllocError;
 
 /// Adds the text of each answer, with a line feed after it.
