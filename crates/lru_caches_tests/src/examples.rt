@@ -3,14 +3,12 @@ ghost use Rattle.std.specs.Prelude.{◌≡◌, ◌*◌};
 
 use crate::disk::{Disk, DiskError};
 use lru_caches::{
-    BlockDevice, Durable, FileDevice, FileError, HashedFileDevice, Loader, Memo, MemoTable,
-    OrderedMap, PageCache, PageError, Question, Unclosed,
+    BlockDevice, Loader, Memo, MemoTable, OrderedMap, PageCache, PageError, Question, Unclosed,
 };
 use map_helpers::{is_pair, is_value};
 use schnellru::{ByLength, RandomState};
 use std::alloc::AllocError;
 use std::cell::Cell;
-use std::io::Cursor;
 use std::test::Fail;
 use test_helpers::{all, check};
 
@@ -50,29 +48,8 @@ fn of_the_page_cache(rt: HostRuntime) {
 }
 
 #[test]
-fn of_the_file_devices_and_the_errors(rt: HostRuntime) -> Result<(), Fail> {
+fn of_the_errors(rt: HostRuntime) -> Result<(), Fail> {
     let alloc = rt.alloc();
-    let file = Cursor::new(*b"zeroone.two.");
-    let mut device: FileDevice<_, 4> = FileDevice::new(alloc, file, 3)?;
-    let file = Cursor::new(*b"zeroone.two.");
-    let mut hashed: HashedFileDevice<_, 4> = HashedFileDevice::new(alloc, file, 3)?;
-    check!(rt; all!(
-        device.len() == 3,
-        device.write(1, b"uno.") == Ok(()),
-        device.read(1) == Ok(*b"uno."),
-        device.read(9) == Err(FileError::NoBlock),
-        device.file().position() == 8,
-        device.sync() == Ok(()),
-        hashed.len() == 3,
-        hashed.write(1, b"uno.") == Ok(()),
-        hashed.read(1) == Ok(*b"uno."),
-        hashed.file().position() == 8
-    ));
-    let bytes = device.into_file().into_inner();
-    check!(rt; bytes.starts_with(b"zerouno."));
-    let bytes = hashed.into_file().into_inner();
-    check!(rt; bytes.starts_with(b"zerouno."));
-    check!(rt; Cursor::new([0u8; 4]).make_durable().is_ok());
     let (failed, memory): (PageError<u64>, PageError<u64>) = (
         PageError::Device(1),
         PageError::Memory,

@@ -1,6 +1,5 @@
-//! What no contract says: how often functions and devices are called, what is in files, that calls find memory unless a
-//! request for it is refused, and that caches give their memory back.
-mod files;
+//! What no contract says: how often functions and devices are called, that calls find memory unless a request for it is
+//! refused, and that caches give their memory back.
 mod memory;
 mod memos;
 mod pages;
@@ -13,11 +12,6 @@ use test_helpers::check;
 fn functions_are_called_if_a_result_is_not_stored(rt: HostRuntime) {
     check!(rt; memos::calls_that_agree(rt.alloc()) == memos::CALLS);
     check!(rt; recursion::answers(rt.alloc()) == 1);
-}
-
-#[test]
-fn files_contain_what_was_written(rt: HostRuntime) {
-    check!(rt; files::calls_that_agree(rt.alloc()) == files::CALLS);
 }
 
 /// No insert into an ordered map fails above some number of keys.

@@ -17,7 +17,7 @@ const MOST: u64 = 80;
 /// How many calls of the disk the lists need together, from another program.
 pub const NEEDED: u64 = 310;
 
-/// A number of calls that is left of a disk that works. No test makes so many.
+/// A number of calls that is left of a disk that works. No test makes this number of calls.
 const WORKS: u64 = 1 << 60;
 
 type Cache<'a> = PageCache<u64, Disk<'a>>;

@@ -1,13 +1,13 @@
 //! The devices on a file, compared with a plain list of blocks.
-use lru_caches::{BlockDevice, FileDevice, HashedFileDevice};
+use block_device::{BlockDevice, FileDevice, HashedFileDevice};
 use std::alloc::Global;
 use std::io::Cursor;
-use test_helpers::Random;
+use test_helpers::{Random, check};
 
-/// How many writes are made.
-pub const CALLS: u64 = 100_000;
+// How many writes are made.
+const CALLS: u64 = 100_000;
 
-/// The number of blocks of the file.
+// The number of blocks of the file.
 const BLOCKS: u64 = 10_000;
 
 // A file of blocks that are zero. Out of memory, it lacks blocks.
@@ -15,9 +15,9 @@ fn file(alloc: Global) -> Cursor<Vec<u8>> {
     Cursor::new(vec![in alloc; 0u8; 80_000].unwrap_or(Vec::new(alloc)))
 }
 
-/// Writes random blocks to both devices, and reads others. Returns after how many writes these agree with a list. If a
-/// file does not contain the list in the end, none do.
-pub fn calls_that_agree(alloc: Global) -> u64 {
+// Writes random blocks to both devices, and reads others. Returns after how many writes these agree with a list. If a
+// file does not contain the list in the end, none do.
+fn calls_that_agree(alloc: Global) -> u64 {
     let copies: Result<FileDevice<_, 8>, _> = FileDevice::new(alloc, file(alloc), BLOCKS);
     let hashes: Result<HashedFileDevice<_, 8>, _> = HashedFileDevice::new(
         alloc,
@@ -53,4 +53,9 @@ fn contains(bytes: &[u8], model: &[[u8; 8]; BLOCKS as usize]) -> bool {
         right = right & (block == expected.as_slice());
     }
     right
+}
+
+#[test]
+fn files_contain_what_was_written(rt: HostRuntime) {
+    check!(rt; calls_that_agree(rt.alloc()) == CALLS);
 }

@@ -1,0 +1,7 @@
+//! Tests of what no clause of `block_device` says, through its public calls.
+#![tactic(auto)]
+
+#[cfg(test)]
+mod examples;
+#[cfg(test)]
+mod files;
