@@ -20,6 +20,7 @@ mod figures;
 mod find;
 pub(crate) mod get_or_insert;
 pub(crate) mod insert;
+mod insert_new;
 mod keep;
 mod leave;
 mod look_up;

@@ -1,6 +1,6 @@
 -- What becomes of a pair in a bucket: its value is replaced, or it is removed. No public clause cites this module.
 use Rattle.std.specs.Prelude.{◌≡◌, ℕ, ◌+◌, Bool, true, false, Some}
-use Rattle.group_table.specs.Bucket.{marks_of, entry_at, room as room_of, room_at}
+use Rattle.group_table.specs.Bucket.{marks_of, room as room_of, room_at}
 use Rattle.group_table.specs.Change.{Removes}
 use Rattle.lru_limits.specs.Rules.{Rules, Offers, Replaced}
 use Rattle.lru_model.specs.Lists.{lookup_entry}
@@ -8,7 +8,7 @@ use Rattle.lru_model.specs.State.{State, Leaves, contents, notified_of}
 use Rattle.lru_model.specs.Calls.{left_of}
 use Rattle.lru_model.specs.Inserts.{replacement, unkept_of, with_removed}
 use Rattle.lru_model.specs.Updates.{with_updated}
-use Rattle.ordered_table.specs.OrderedTable.{OrderedTable, with_pair, without_bucket}
+use Rattle.ordered_table.specs.OrderedTable.{OrderedTable, Takes, with_pair, without_bucket}
 
 -- The limiter accepted the new value for the pair in a bucket, which keeps its place.
 pub record IsReplaced {K V S : Type 0} (by : Replaced K V S) (b : ℕ) (old new : OrderedTable K V) (limiter : S)
@@ -32,13 +32,9 @@ pub record IsRemoved {K V S : Type 0} (rules : Rules K V S) (by : Replaced K V S
 pub record IsTakenOut {K V S : Type 0} (rules : Rules K V S) (b : ℕ) (old new : OrderedTable K V) (limiter : S)
     (result : K × V) (after : S) : Type 0 where
   pub pair : K × V
-  pub there : entry_at old.slots b ≡ Some pair
+  pub taken : Takes old new b pair
   pub left : Some result ≡ left_of rules limiter (Some pair)
   pub notified : after ≡ notified_of rules (Some pair) limiter
-  pub slots : Removes old.slots new.slots b
-  pub order : new.order ≡ without_bucket b old.order
-  pub insertions : new.insertions ≡ old.insertions
-  pub room : room_of (marks_of new.slots) ≡ room_of (marks_of old.slots) + room_at (marks_of new.slots) b
 
 -- The limiter was offered a new value for the pair of the key, in a map. The result is whether the limiter accepts the
 -- value, and the value that the map does not keep.

@@ -1,13 +1,9 @@
 use Rattle.schnellru.proofs.map.leave.take_out.Goals as goal
 
 pub returns-clause-taken : goal.returns-clause-taken
-returns-clause-taken g c = let took = c.take.ensures.taken in record {
+returns-clause-taken g c = record {
   pair = c.take.result;
-  there = took.pair;
+  taken = c.take.ensures.taken;
   left = c.notify.ensures.pair;
   notified = c.notify.ensures.limiter;
-  slots = took.removed;
-  order = took.order;
-  insertions = took.insertions;
-  room = took.room;
 }

@@ -6,12 +6,8 @@ returns-clause-taken g c = let (b, is, took) = c.take_oldest.ensures.taken in (
   is,
   record {
     pair = c.take_oldest.result;
-    there = took.pair;
+    taken = took;
     left = c.notify.ensures.pair;
     notified = c.notify.ensures.limiter;
-    slots = took.removed;
-    order = took.order;
-    insertions = took.insertions;
-    room = took.room;
   },
 )

@@ -1,0 +1,170 @@
+//! Inserting a key that is not there: the limiter takes it in, and its entry is stored.
+ghost use Rattle.std.specs.Prelude.{◌≡◌, ◌∷◌, None, IsTrue};
+ghost use Rattle.lru_model.specs.Lists.{lookup_entry};
+ghost use Rattle.lru_model.specs.State.{contents, room};
+ghost use Rattle.lru_model.specs.Inserts.{Insert, PlacesNew, PlacesAndTrims};
+ghost use Rattle.lru_model.specs.Place.{HasNoBucket};
+ghost use Rattle.lru_model.specs.MayTake.{MayTakeEach, MayTakeNew};
+ghost use Rattle.lru_model.specs.Callbacks.{noting, noting_offers, noted};
+ghost use Rattle.schnellru.specs.Inside.Passing.{Passes};
+
+use crate::map::LruMap;
+use lru_limits::{Insertion, KeyHasher, Limiter, LookupKey};
+use ordered_table::OrderedTable;
+use std::alloc::AllocError;
+use std::hash::Hash;
+
+// The bytes of the largest entry whose insert is a call. A call copies its arguments, and a large value costs more than
+// the call saves.
+const SMALL: usize = 32;
+
+impl<K: Eq + Hash, V, L: Limiter<K, V>, S: KeyHasher<K>> LruMap<K, V, L, S> {
+    // Inserts a key that is not there. The compiler knows the size, so only one of the two calls is in the program.
+    #[inline(always)]
+    pub(crate) fn insert_new<I: LookupKey<K>, F: FnMut(K, V)>(
+        &mut self,
+        hash: u64,
+        key: I,
+        value: V,
+        sink: &mut F,
+    ) -> Result<bool, AllocError>
+    where
+        L: Insertion<K, V, I>,
+        requires callable { MayTakeNew L.rules F.FnMut L.offers I.names key value (contents self.old) sink.old }
+        requires hash { (k : K) → IsTrue (I.names key k) → hash ≡ S.hash_of self.old.hasher k }
+        requires absent { lookup_entry (I.names key) self.old.pairs ≡ None }
+        ensures passed { Passes F.FnMut sink.old sink.new (λ before after. Insert (noting L.rules)
+            (noting_offers L.offers) I.names S.hash_of key value
+            (noted before self.old) result (noted after self.new)) }
+    {
+        if OrderedTable::<K, V, L::LinkType>::entry_bytes() > SMALL {
+            self.insert_absent(hash, key, value, sink)
+        } else {
+            self.insert_by_call(hash, key, value, sink)
+        }
+    }
+
+    // The same, out of line.
+    #[inline(never)]
+    fn insert_by_call<I: LookupKey<K>, F: FnMut(K, V)>(
+        &mut self,
+        hash: u64,
+        key: I,
+        value: V,
+        sink: &mut F,
+    ) -> Result<bool, AllocError>
+    where
+        L: Insertion<K, V, I>,
+        requires callable { MayTakeNew L.rules F.FnMut L.offers I.names key value (contents self.old) sink.old }
+        requires hash { (k : K) → IsTrue (I.names key k) → hash ≡ S.hash_of self.old.hasher k }
+        requires absent { lookup_entry (I.names key) self.old.pairs ≡ None }
+        ensures passed { Passes F.FnMut sink.old sink.new (λ before after. Insert (noting L.rules)
+            (noting_offers L.offers) I.names S.hash_of key value
+            (noted before self.old) result (noted after self.new)) }
+    {
+        self.insert_absent(hash, key, value, sink)
+    }
+
+    // The same, in line.
+    #[inline(always)]
+    fn insert_absent<I: LookupKey<K>, F: FnMut(K, V)>(
+        &mut self,
+        hash: u64,
+        key: I,
+        value: V,
+        sink: &mut F,
+    ) -> Result<bool, AllocError>
+    where
+        L: Insertion<K, V, I>,
+        requires callable { MayTakeNew L.rules F.FnMut L.offers I.names key value (contents self.old) sink.old }
+        requires hash { (k : K) → IsTrue (I.names key k) → hash ≡ S.hash_of self.old.hasher k }
+        requires absent { lookup_entry (I.names key) self.old.pairs ≡ None }
+        ensures passed { Passes F.FnMut sink.old sink.new (λ before after. Insert (noting L.rules)
+            (noting_offers L.offers) I.names S.hash_of key value
+            (noted before self.old) result (noted after self.new)) }
+    {
+        // One match, and no `?`, which would copy the pair once more.
+        match self
+            .limiter
+            .on_insert(self.alloc, self.entries.len(), key, value)
+        {
+            Ok(Some(pair)) => self.insert_pair(hash, pair, sink),
+            Ok(None) => Ok(false),
+            Err(error) => Err(error),
+        }
+    }
+
+    // Evicts the oldest pair, if the limiter would be over its limit with one more, and stores a pair that the limiter
+    // returned. Then evicts the oldest pairs while the limiter is over its limit.
+    fn insert_pair<F: FnMut(K, V)>(
+        &mut self,
+        hash: u64,
+        pair: (K, V),
+        sink: &mut F,
+    ) -> Result<bool, AllocError>
+        requires callable { MayTakeEach L.rules F.FnMut (pair ∷ self.old.pairs) sink.old }
+        requires hash { hash ≡ S.hash_of self.old.hasher pair.0 }
+        requires absent { lookup_entry (K.eq pair.0) self.old.pairs ≡ None }
+        ensures passed { Passes F.FnMut sink.old sink.new (λ before after. PlacesNew (noting L.rules)
+            S.hash_of pair (noted before self.old) result (noted after self.new)) }
+    {
+        self.make_room(sink);
+        // The call below takes the two apart: a pair would lie in memory that each insert clears first.
+        let (key, value) = pair;
+        if self.growth_left() == 0 {
+            return self.insert_without_growth(hash, key, value, sink);
+        }
+        self.store_in_room(hash, (key, value));
+        Ok(self.evict_over_limit(sink))
+    }
+
+    // Stores the pair if there is no growth left. Then only a deleted bucket can take it, and this has to be tested.
+    // Out of line, so that other inserts need no such test.
+    #[cold]
+    #[inline(never)]
+    fn insert_without_growth<F: FnMut(K, V)>(
+        &mut self,
+        hash: u64,
+        key: K,
+        value: V,
+        sink: &mut F,
+    ) -> Result<bool, AllocError>
+        requires callable { MayTakeEach L.rules F.FnMut ((key, value) ∷ self.old.pairs) sink.old }
+        requires hash { hash ≡ S.hash_of self.old.hasher key }
+        requires absent { lookup_entry (K.eq key) self.old.pairs ≡ None }
+        requires no_room { room self.old ≡ 0 }
+        ensures passed { Passes F.FnMut sink.old sink.new (λ before after. PlacesAndTrims (noting L.rules)
+            S.hash_of (key, value) (noted before self.old) result (noted after self.new)) }
+    {
+        // An empty map is rehashed, which takes no memory, even if a deleted bucket could take the pair.
+        if self.is_empty() {
+            return self.insert_without_bucket(hash, (key, value), sink);
+        }
+        match self.store_in_bucket(hash, (key, value)) {
+            Ok(()) => Ok(self.evict_over_limit(sink)),
+            Err(pair) => self.insert_without_bucket(hash, pair, sink),
+        }
+    }
+
+    // Stores a pair that no bucket takes, and evicts what is over the limit then. Under `ByMemoryUsage` each new pair
+    // may come here. Out of line, so that the code of other inserts stays short.
+    #[inline(never)]
+    fn insert_without_bucket<F: FnMut(K, V)>(
+        &mut self,
+        hash: u64,
+        pair: (K, V),
+        sink: &mut F,
+    ) -> Result<bool, AllocError>
+        requires callable { MayTakeEach L.rules F.FnMut (pair ∷ self.old.pairs) sink.old }
+        requires hash { hash ≡ S.hash_of self.old.hasher pair.0 }
+        requires absent { lookup_entry (K.eq pair.0) self.old.pairs ≡ None }
+        requires no_bucket { HasNoBucket hash self.old }
+        ensures passed { Passes F.FnMut sink.old sink.new (λ before after. PlacesAndTrims (noting L.rules)
+            S.hash_of pair (noted before self.old) result (noted after self.new)) }
+    {
+        if !self.store_without_bucket(hash, pair, sink)? {
+            return Ok(false);
+        }
+        Ok(self.evict_over_limit(sink))
+    }
+}
