@@ -1,26 +1,26 @@
 -- How the fields of a walk hold what is left of it. No public clause cites this module.
-use Rattle.std.specs.Prelude.{◌≡◌, ℕ, List, [], ◌∷◌, ◌++◌, length, take, nat_eq, if◌then◌else◌, Option, None, Some}
+use Rattle.std.specs.Prelude.{◌≡◌, ℕ, ◌<◌, List, [], ◌∷◌, ◌++◌, length, take, nat_eq, if◌then◌else◌, Some}
 use Rattle.ordered_table.specs.OrderedTable.{OrderedTable, IsLinked, entries_in}
 use Rattle.lru_model.specs.Lists.{first as first_bucket, last as last_bucket}
 
 -- the buckets from this one on
-abbrev pub from_bucket : Option ℕ → List ℕ → List ℕ
-from_bucket None order = []
-from_bucket (Some b) [] = []
-from_bucket (Some b) (c ∷ cs) = if nat_eq c b then c ∷ cs else from_bucket (Some b) cs
+abbrev pub from_bucket : ℕ → List ℕ → List ℕ
+from_bucket b [] = []
+from_bucket b (c ∷ cs) = if nat_eq c b then c ∷ cs else from_bucket b cs
 
 module _ {K V : Type 0} (t : OrderedTable K V) where
   -- the next pairs of the walk, `left` in number, from the one in the bucket `front` on
-  abbrev pub rest_of : Option ℕ → ℕ → List (K × V)
+  abbrev pub rest_of : ℕ → ℕ → List (K × V)
   rest_of front left = entries_in t.slots (take left (from_bucket front t.order))
 
   -- some buckets were returned from the front, some from the back, and `left` buckets are left between
-  pub record IsRest (front back : Option ℕ) (left : ℕ) : Type 0 where
+  pub record IsRest (front back left : ℕ) : Type 0 where
     pub linked : IsLinked t
     pub before : List ℕ
     pub middle : List ℕ
     pub after : List ℕ
     pub order : t.order ≡ before ++ (middle ++ after)
     pub count : length middle ≡ left
-    pub first : front ≡ first_bucket (middle ++ after)
-    pub last : back ≡ last_bucket (before ++ middle)
+    -- `front` and `back` are the ends of these, and any numbers if none is left
+    pub first : 0 < left → first_bucket middle ≡ Some front
+    pub last : 0 < left → last_bucket middle ≡ Some back

@@ -190,6 +190,24 @@ impl<K, V, N: LinkType> LinkedTable<K, V, N> {
         bucket_of(self.chain.table.get(b).newer)
     }
 
+    // The same as `older` for a bucket that is not the last of the order. For the last one, the number says nothing.
+    #[inline]
+    pub(crate) fn older_unless_last(&self, b: usize) -> usize
+        requires { IsFull self.now.slots b }
+        ensures older { (c : ℕ) → bucket_after b self.now.order ≡ Some c → result ≡ c }
+    {
+        self.chain.table.get(b).older.into_usize()
+    }
+
+    // The same as `newer` for a bucket that is not the first of the order. For the first one, the number says nothing.
+    #[inline]
+    pub(crate) fn newer_unless_first(&self, b: usize) -> usize
+        requires { IsFull self.now.slots b }
+        ensures newer { (c : ℕ) → bucket_before b self.now.order ≡ Some c → result ≡ c }
+    {
+        self.chain.table.get(b).newer.into_usize()
+    }
+
     // Lends the pair in a full bucket for writing. The keys fit the table if the written key has the same hash.
     #[inline]
     pub(crate) fn pair_mut(&mut self, b: usize) -> &mut Pair<K, V>

@@ -1,4 +1,4 @@
-//! `OrderedTable`: a table whose entries are in an order. Its links show the last promotion one call later.
+//! `OrderedTable`: a table whose entries are in an order. Its links may show the last promotion one call later.
 ghost use Rattle.std.specs.Prelude.{◌≡◌, ℕ, ◌+◌, ◌<◌, false, [], length, Some, IfSome, IfNone, IsTrue};
 ghost use Rattle.std.specs.Borrow.{sem};
 ghost use Rattle.group_table.specs.Bucket.{empty, marks_of, IsFull, entry_at, room};
@@ -194,6 +194,26 @@ impl<K, V, N: LinkType> OrderedTable<K, V, N> {
         ensures newer { result ≡ bucket_before b self.now.order }
     {
         promoted::newer(&self.linked, self.promoted, b)
+    }
+
+    /// The same as `older` for a bucket that is not the last of the order, without a test of whether it is. For the last
+    /// one, the number says nothing.
+    #[inline]
+    pub fn older_unless_last(&self, b: usize) -> usize
+        requires { IsFull self.now.slots b }
+        ensures older { (c : ℕ) → bucket_after b self.now.order ≡ Some c → result ≡ c }
+    {
+        promoted::older_unless_last(&self.linked, self.promoted, b)
+    }
+
+    /// The same as `newer` for a bucket that is not the first of the order, without a test of whether it is. For the
+    /// first one, the number says nothing.
+    #[inline]
+    pub fn newer_unless_first(&self, b: usize) -> usize
+        requires { IsFull self.now.slots b }
+        ensures newer { (c : ℕ) → bucket_before b self.now.order ≡ Some c → result ≡ c }
+    {
+        promoted::newer_unless_first(&self.linked, self.promoted, b)
     }
 
     /// Lends the pair in a full bucket for writing. The keys fit the table if the written key has the same hash.

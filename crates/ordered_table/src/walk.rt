@@ -25,8 +25,10 @@ pub(crate) mod keys;
 #[derive(Drop)]
 pub struct Walk<'a, K, V, N: LinkType> {
     entries: &'a OrderedTable<K, V, N>,
-    front: Option<usize>,
-    back: Option<usize>,
+    // The buckets of the first and of the last pair that is left, and how many are left. If none is, the buckets say
+    // nothing: a step then tests the number alone.
+    front: usize,
+    back: usize,
     left: usize,
 }
 
@@ -53,9 +55,9 @@ impl<'a, K, V, N: LinkType> Iterator for Walk<'a, K, V, N> {
         if self.left == 0 {
             return None;
         }
-        let b = self.front?;
+        let b = self.front;
         let pair = self.entries.pair(b);
-        self.front = self.entries.older(b);
+        self.front = self.entries.older_unless_last(b);
         self.left -= 1;
         Some((&pair.key, &pair.value))
     }
@@ -78,9 +80,9 @@ impl<'a, K, V, N: LinkType> DoubleEndedIterator for Walk<'a, K, V, N> {
         if self.left == 0 {
             return None;
         }
-        let b = self.back?;
+        let b = self.back;
         let pair = self.entries.pair(b);
-        self.back = self.entries.newer(b);
+        self.back = self.entries.newer_unless_first(b);
         self.left -= 1;
         Some((&pair.key, &pair.value))
     }
@@ -136,8 +138,8 @@ impl<K, V, N: LinkType> OrderedTable<K, V, N> {
     {
         Walk {
             entries: self,
-            front: self.first(),
-            back: self.last(),
+            front: self.first().unwrap_or(0),
+            back: self.last().unwrap_or(0),
             left: self.len(),
         }
     }

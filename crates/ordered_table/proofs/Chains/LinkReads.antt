@@ -33,6 +33,10 @@ module _ {N : Type 0} {number : N → ℕ} {link : ℕ → N} {none : N}
   leads_to None l e bounds some = absurd (some refl)
   leads_to (Some y) l e bounds some = ap Some (sym (ap number e ∙ laws.number_of_link y (bounds y refl)))
 
+  -- the number of a link to a bucket
+  number_at : (o : Option ℕ) (l : N) → l ≡ link_to link none o → (c : ℕ) → o ≡ Some c → c < number none → number l ≡ c
+  number_at o l is c e bound = ap number (is ∙ ap (link_to link none) e) ∙ laws.number_of_link c bound
+
   read_link : (r o : Option ℕ) (l : N) → l ≡ link_to link none o → ((y : ℕ) → o ≡ Some y → y < number none)
       → IfNone r (l ≡ none) → IfSome r (λ b. (l ≢ none) × (b ≡ number l)) → r ≡ o
   read_link None o l e bounds at_none at_some = sym (end_by_link laws o bounds (sym e ∙ at_none))
@@ -84,6 +88,15 @@ module _ {N : Type 0} {number : N → ℕ} {link : ℕ → N} {none : N}
         newer_shown r at_none at_some =
             read_link r (bucket_before b order) entry.newer (newer_link laws whole.chain b inside entry is)
             (λ y e. chained_below whole.chain y (before_in b y order whole.chain.distinct e)) at_none at_some
+
+        -- what its links lead to
+        pub older_number : (c : ℕ) → bucket_after b order ≡ Some c → number entry.older ≡ c
+        older_number c e = number_at (bucket_after b order) entry.older (older_link laws whole.chain b inside entry is) c e
+            (chained_below whole.chain c (after_in b c order e))
+
+        pub newer_number : (c : ℕ) → bucket_before b order ≡ Some c → number entry.newer ≡ c
+        newer_number c e = number_at (bucket_before b order) entry.newer (newer_link laws whole.chain b inside entry is)
+            c e (chained_below whole.chain c (before_in b c order whole.chain.distinct e))
 
         -- the bucket with no newer one is the newest already
         pub newest_already : entry.newer ≡ none → order ≡ b ∷ without_bucket b order

@@ -161,6 +161,11 @@ abbrev pub Follows : List ℕ → Option ℕ → ℕ → Option ℕ → Type 0
 Follows order front b next = (front ≡ Some b → next ≡ first_bucket order)
     × (front ≢ Some b → next ≡ bucket_after b order)
 
+-- the number that the links lead to from b, if they lead anywhere: the first of all if b is the front
+abbrev pub LeadsTo : List ℕ → ℕ → ℕ → ℕ → Type 0
+LeadsTo order f b next = (b ≡ f → first_bucket order ≡ Some next)
+    × (b ≢ f → (c : ℕ) → bucket_after b order ≡ Some c → next ≡ c)
+
 module _ (order : List ℕ) (d : AllPairs ◌≢◌ order) (b : ℕ) (there : Contains order b) where
   pub older_skips : (front next : Option ℕ) → IfSome front (Contains order) → Follows order front b next
       → (c : ℕ) → next ≡ Some c → front ≡ Some c → bucket_after c order ≡ bucket_after b (in_front front order)
@@ -187,6 +192,31 @@ module _ (order : List ℕ) (d : AllPairs ◌≢◌ order) (b : ℕ) (there : Co
         let is = follows.1 (λ k. h (same_Some f b k)) in
         is ∙ after_other order d f inn b there (λ k. h (sym k)) (λ k. keeps f (is ∙ k) refl)
   ]
+
+  -- the same for a number that the links lead to, which says nothing if they lead nowhere
+  module _ (f : ℕ) (inn : Contains order f) (next : ℕ) (leads : LeadsTo order f b next) where
+    led : (o : Option ℕ) × Follows order (Some f) b o × ((c : ℕ) → o ≡ Some c → next ≡ c)
+    led = elim (cases_eq b f) [
+      | inl h ↦ (
+        first_bucket order,
+        (λ _. refl, λ other. absurd (other (ap Some (sym h)))),
+        λ c e. same_Some next c (sym (leads.0 h) ∙ e),
+      )
+      | inr h ↦ (bucket_after b order, (λ e. absurd (h (sym (same_Some f b e))), λ _. refl), leads.1 h)
+    ]
+
+    pub front_skipped : next ≡ f → (past : ℕ) → ((c : ℕ) → bucket_after f order ≡ Some c → past ≡ c)
+        → (c : ℕ) → bucket_after b (in_front (Some f) order) ≡ Some c → past ≡ c
+    front_skipped same past is c e = elim (none_or led.0) [
+      | inl none ↦ absurd (none-some c (sym none
+          ∙ older_keeps (Some f) led.0 inn led.1 (λ x some. absurd (none-some x (sym none ∙ some))) ∙ e))
+      | inr (n, some) ↦
+          is c (older_skips (Some f) led.0 inn led.1 f (some ∙ ap Some (sym (led.2 n some) ∙ same)) refl ∙ e)
+    ]
+
+    pub front_kept : next ≢ f → (c : ℕ) → bucket_after b (in_front (Some f) order) ≡ Some c → next ≡ c
+    front_kept other c e = led.2 c (older_keeps (Some f) led.0 inn led.1
+        (λ x some k. other (led.2 x some ∙ sym (same_Some f x k))) ∙ e)
 
   pub newer_itself : (front : Option ℕ) → IfSome front (Contains order) → front ≡ Some b
       → None ≡ bucket_before b (in_front front order)

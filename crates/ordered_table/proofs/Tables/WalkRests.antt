@@ -1,7 +1,7 @@
 -- What is left of a walk over a linked table.
 use Rattle.std.proofs.Common.{◌≡◌, ℕ, ◌-◌, ◌<◌, List, [], ◌∷◌, ◌++◌, length, take, Option, Some, None, refl, sym, ap}
 use Rattle.std.proofs.Common.{◌∙◌, subst, arith, eq-eqb, ne_eqb, append-nil}
-use Rattle.std.specs.Prelude.{◌≢◌, AllPairs, Contains, option_to_list}
+use Rattle.std.specs.Prelude.{◌≢◌, AllPairs, Contains, option_to_list, unwrap_or}
 use Rattle.std.specs.List.{AllByRecursion}
 use Rattle.std.proofs.lemmas.List.{append_assoc, take_at, length-append}
 use Rattle.std.proofs.lemmas.Option.{none-some, same_Some}
@@ -26,11 +26,11 @@ apart_behind x xs b ys d e = distinct_head x (xs ++ b ∷ ys) d
     (subst (Contains (xs ++ b ∷ ys)) (sym e) (in_behind xs b ys))
 
 -- from the first of the last buckets on
-from_cut : (xs ys : List ℕ) → AllPairs ◌≢◌ (xs ++ ys) → from_bucket (first_bucket ys) (xs ++ ys) ≡ ys
-from_cut xs [] d = refl
-from_cut [] (y ∷ ys) d = rw (eq-eqb y y refl) refl
-from_cut (x ∷ xs) (y ∷ ys) d = rw (ne_eqb x y (apart_behind x xs y ys d))
-    (from_cut xs (y ∷ ys) (distinct_tail x (xs ++ y ∷ ys) d))
+from_cut : (xs : List ℕ) (b : ℕ) (ys : List ℕ) → AllPairs ◌≢◌ (xs ++ b ∷ ys)
+    → from_bucket b (xs ++ b ∷ ys) ≡ b ∷ ys
+from_cut [] b ys d = rw (eq-eqb b b refl) refl
+from_cut (x ∷ xs) b ys d = rw (ne_eqb x b (apart_behind x xs b ys d))
+    (from_cut xs b ys (distinct_tail x (xs ++ b ∷ ys) d))
 
 after_cut : (xs : List ℕ) (b : ℕ) (ys : List ℕ) → AllPairs ◌≢◌ (xs ++ b ∷ ys) → bucket_after b (xs ++ b ∷ ys)
     ≡ first_bucket ys
@@ -59,6 +59,10 @@ last_split b [] e = absurd (none-some b e)
 last_split b (x ∷ []) e = ([], ap (λ c. c ∷ []) (same_Some x b e))
 last_split b (x ∷ y ∷ ys) e = let r = last_split b (y ∷ ys) e in (x ∷ r.0, ap (λ l. x ∷ l) r.1)
 
+first_none : (xs : List ℕ) → first_bucket xs ≡ None → 0 < length xs → ⊥
+first_none [] e some = absurd (omega (arith, some))
+first_none (x ∷ xs) e some = none-some x (sym e)
+
 last_none : (xs : List ℕ) → last_bucket xs ≡ None → 0 < length xs → ⊥
 last_none [] e some = absurd (omega (arith, some))
 last_none (x ∷ []) e some = none-some x (sym e)
@@ -73,9 +77,15 @@ module _ (P : ℕ → Type 0) where
   all_front [] ys h = tt
   all_front (x ∷ xs) ys h = (h.0, all_front xs ys h.1)
 
+-- an option that is not none
+some_or : (o : Option ℕ) (d : ℕ) → (o ≡ None → ⊥) → o ≡ Some (unwrap_or o d)
+some_or None d some = absurd (some refl)
+some_or (Some b) d some = refl
+
 module _ {K V : Type 0} (t : OrderedTable K V) where
   -- the whole order is left
-  pub rest-whole : IsLinked t → IsRest t (first_bucket t.order) (last_bucket t.order) (length t.order)
+  pub rest-whole : IsLinked t
+      → IsRest t (unwrap_or (first_bucket t.order) 0) (unwrap_or (last_bucket t.order) 0) (length t.order)
   rest-whole linked = record {
     linked = linked;
     before = [];
@@ -83,20 +93,27 @@ module _ {K V : Type 0} (t : OrderedTable K V) where
     after = [];
     order = sym (append-nil t.order);
     count = refl;
-    first = ap first_bucket (sym (append-nil t.order));
-    last = refl;
+    first = λ some. some_or (first_bucket t.order) 0 (λ e. first_none t.order e some);
+    last = λ some. some_or (last_bucket t.order) 0 (λ e. last_none t.order e some);
   }
 
-  module _ (front back : Option ℕ) (left : ℕ) (rest : IsRest t front back left) where
+  module _ (front back left : ℕ) (rest : IsRest t front back left) where
     whole_distinct : AllPairs ◌≢◌ (rest.before ++ (rest.middle ++ rest.after))
     whole_distinct = subst (AllPairs ◌≢◌) rest.order rest.linked.distinct
 
     pub rest-is : rest_of t front left ≡ entries_in t.slots rest.middle
-    rest-is = ap (entries_in t.slots) (
-        ap (λ o. take left (from_bucket o t.order)) rest.first
-        ∙ ap (λ l. take left (from_bucket (first_bucket (rest.middle ++ rest.after)) l)) rest.order
-        ∙ ap (take left) (from_cut rest.before (rest.middle ++ rest.after) whole_distinct)
-        ∙ take_at rest.middle rest.after left rest.count)
+    rest-is = ap (entries_in t.slots) (go rest.middle rest.count rest.order rest.first)
+      where
+        go : (ms : List ℕ) → length ms ≡ left → t.order ≡ rest.before ++ (ms ++ rest.after)
+            → (0 < left → first_bucket ms ≡ Some front) → take left (from_bucket front t.order) ≡ ms
+        go [] count is first = ap (λ n. take n (from_bucket front t.order)) (sym count)
+        go (m ∷ ms) count is first =
+            let same = same_Some m front (first (omega (arith, count))) in
+            ap (λ b. take left (from_bucket b t.order)) (sym same)
+            ∙ ap (λ l. take left (from_bucket m l)) is
+            ∙ ap (take left) (from_cut rest.before m (ms ++ rest.after)
+            (subst (AllPairs ◌≢◌) is rest.linked.distinct))
+            ∙ take_at (m ∷ ms) rest.after left count
 
     middle_full : AreFull t.slots rest.middle
     middle_full =
@@ -108,88 +125,105 @@ module _ {K V : Type 0} (t : OrderedTable K V) where
     pub rest-length : length (rest_of t front left) ≡ left
     rest-length = ap length rest-is ∙ entries-length t.slots rest.middle middle_full ∙ rest.count
 
-  module _ (front back : Option ℕ) (left : ℕ) (rest : IsRest t front back left) (some : 0 < left) where
-    back_is : back ≡ last_bucket rest.middle
-    back_is = rest.last ∙ go rest.middle rest.count
+  module _ (front back left : ℕ) (rest : IsRest t front back left) (some : 0 < left) where
+    -- the first that is left
+    cut_front : (ms : List ℕ) × (rest.middle ≡ front ∷ ms)
+    cut_front = go rest.middle rest.count (rest.first some)
       where
-        go : (ms : List ℕ) → length ms ≡ left → last_bucket (rest.before ++ ms) ≡ last_bucket ms
-        go [] c = absurd (omega (arith, c, some))
-        go (m ∷ ms) c = last_behind rest.before m ms
+        go : (ms : List ℕ) → length ms ≡ left → first_bucket ms ≡ Some front → (ns : List ℕ) × (ms ≡ front ∷ ns)
+        go [] c e = absurd (omega (arith, c, some))
+        go (m ∷ ms) c e = (ms, ap (λ x. x ∷ ms) (same_Some m front e))
 
-    -- there is a bucket behind
-    pub back-some : back ≡ None → ⊥
-    back-some none = last_none rest.middle (sym back_is ∙ none) (omega (arith, rest.count, some))
+    front_order : t.order ≡ rest.before ++ front ∷ (cut_front.0 ++ rest.after)
+    front_order = rest.order ∙ ap (λ l. rest.before ++ (l ++ rest.after)) cut_front.1
 
-    module _ (b : ℕ) where
-      -- the first that is left
-      module _ (at : front ≡ Some b) where
-        cut_front : (ms : List ℕ) × (rest.middle ≡ b ∷ ms)
-        cut_front = go rest.middle rest.count (sym rest.first ∙ at)
-          where
-            go : (ms : List ℕ) → length ms ≡ left → first_bucket (ms ++ rest.after) ≡ Some b → (ns : List ℕ)
-                × (ms ≡ b ∷ ns)
-            go [] c e = absurd (omega (arith, c, some))
-            go (m ∷ ms) c e = (ms, ap (λ x. x ∷ ms) (same_Some m b e))
+    pub front-full : IsFull t.slots front
+    front-full = (subst (AreFull t.slots) cut_front.1 (middle_full front back left rest)).0
 
-        front_order : t.order ≡ rest.before ++ b ∷ (cut_front.0 ++ rest.after)
-        front_order = rest.order ∙ ap (λ l. rest.before ++ (l ++ rest.after)) cut_front.1
+    -- the next one is the bucket after it, if there is one
+    module _ (next : ℕ) (is : (c : ℕ) → bucket_after front t.order ≡ Some c → next ≡ c) where
+      pub front-next : IsRest t next back (left - 1)
+      front-next = record {
+        linked = rest.linked;
+        before = rest.before ++ front ∷ [];
+        middle = cut_front.0;
+        after = rest.after;
+        order = front_order ∙ sym (append_assoc rest.before (front ∷ []) (cut_front.0 ++ rest.after));
+        count = omega (arith, rest.count, ap length cut_front.1);
+        first = λ more. first_of cut_front.0
+            (omega (arith, rest.count, ap length cut_front.1, more))
+            (ap (bucket_after front) front_order ∙ after_cut rest.before front (cut_front.0 ++ rest.after)
+            (subst (AllPairs ◌≢◌) front_order rest.linked.distinct));
+        last = λ more. last_of_more cut_front.0 (omega (arith, rest.count, ap length cut_front.1, more))
+            (ap last_bucket (sym cut_front.1) ∙ rest.last some);
+      }
+        where
+          first_of : (ms : List ℕ) → 0 < length ms → bucket_after front t.order ≡ first_bucket (ms ++ rest.after)
+              → first_bucket ms ≡ Some next
+          first_of [] some e = absurd (omega (arith, some))
+          first_of (m ∷ ms) some e = ap Some (sym (is m e))
 
-        pub front-full : IsFull t.slots b
-        front-full = (subst (AreFull t.slots) cut_front.1 (middle_full front back left rest)).0
+          last_of_more : (ms : List ℕ) → 0 < length ms → last_bucket (front ∷ ms) ≡ Some back
+              → last_bucket ms ≡ Some back
+          last_of_more [] some e = absurd (omega (arith, some))
+          last_of_more (m ∷ ms) some e = e
 
-        pub front-next : IsRest t (bucket_after b t.order) back (left - 1)
-        front-next = record {
-          linked = rest.linked;
-          before = rest.before ++ b ∷ [];
-          middle = cut_front.0;
-          after = rest.after;
-          order = front_order ∙ sym (append_assoc rest.before (b ∷ []) (cut_front.0 ++ rest.after));
-          count = omega (arith, rest.count, ap length cut_front.1);
-          first = ap (bucket_after b) front_order ∙ after_cut rest.before b (cut_front.0 ++ rest.after)
-              (subst (AllPairs ◌≢◌) front_order rest.linked.distinct);
-          last = rest.last ∙ ap (λ l. last_bucket (rest.before ++ l)) cut_front.1
-              ∙ ap last_bucket (sym (append_assoc rest.before (b ∷ []) cut_front.0));
-        }
+      pub front-cut : (p : K × V) → entry_at t.slots front ≡ Some p
+          → rest_of t front left ≡ p ∷ rest_of t next (left - 1)
+      unfolding cut_front front-next
+      front-cut p there = rest-is front back left rest ∙ ap (entries_in t.slots) cut_front.1
+          ∙ ap (λ o. option_to_list o ++ entries_in t.slots cut_front.0) there
+          ∙ ap (λ l. p ∷ l) (sym (rest-is next back (left - 1) front-next))
 
-        pub front-cut : (p : K × V) → entry_at t.slots b ≡ Some p → rest_of t front left ≡ p
-            ∷ rest_of t (bucket_after b t.order) (left - 1)
-        unfolding cut_front front-next
-        front-cut p there = rest-is front back left rest ∙ ap (entries_in t.slots) cut_front.1
-            ∙ ap (λ o. option_to_list o ++ entries_in t.slots cut_front.0) there
-            ∙ ap (λ l. p ∷ l) (sym (rest-is (bucket_after b t.order) back (left - 1) front-next))
+    -- the last that is left
+    cut_back : (ms : List ℕ) × (rest.middle ≡ ms ++ back ∷ [])
+    cut_back = last_split back rest.middle (rest.last some)
 
-      -- the last that is left
-      module _ (at : back ≡ Some b) where
-        cut_back : (ms : List ℕ) × (rest.middle ≡ ms ++ b ∷ [])
-        cut_back = last_split b rest.middle (sym back_is ∙ at)
+    back_order : t.order ≡ (rest.before ++ cut_back.0) ++ back ∷ rest.after
+    back_order = rest.order ∙ ap (λ l. rest.before ++ (l ++ rest.after)) cut_back.1
+        ∙ ap (λ l. rest.before ++ l) (append_assoc cut_back.0 (back ∷ []) rest.after)
+        ∙ sym (append_assoc rest.before cut_back.0 (back ∷ rest.after))
 
-        back_order : t.order ≡ (rest.before ++ cut_back.0) ++ b ∷ rest.after
-        back_order = rest.order ∙ ap (λ l. rest.before ++ (l ++ rest.after)) cut_back.1
-            ∙ ap (λ l. rest.before ++ l) (append_assoc cut_back.0 (b ∷ []) rest.after)
-            ∙ sym (append_assoc rest.before cut_back.0 (b ∷ rest.after))
+    pub back-full : IsFull t.slots back
+    back-full = (all_behind (λ c. IsFull t.slots c) cut_back.0 (back ∷ [])
+        (subst (AreFull t.slots) cut_back.1 (middle_full front back left rest))).0
 
-        pub back-full : IsFull t.slots b
-        back-full = (all_behind (λ c. IsFull t.slots c) cut_back.0 (b ∷ [])
-            (subst (AreFull t.slots) cut_back.1 (middle_full front back left rest))).0
+    -- the next one from the back is the bucket before it, if there is one
+    module _ (next : ℕ) (is : (c : ℕ) → bucket_before back t.order ≡ Some c → next ≡ c) where
+      pub back-next : IsRest t front next (left - 1)
+      back-next = record {
+        linked = rest.linked;
+        before = rest.before;
+        middle = cut_back.0;
+        after = back ∷ rest.after;
+        order = back_order ∙ append_assoc rest.before cut_back.0 (back ∷ rest.after);
+        count = omega (arith, rest.count, ap length cut_back.1, length-append cut_back.0 (back ∷ []));
+        first = λ more. first_of cut_back.0
+            (omega (arith, rest.count, ap length cut_back.1, length-append cut_back.0 (back ∷ []), more))
+            (ap first_bucket (sym cut_back.1) ∙ rest.first some);
+        last = λ more. last_of cut_back.0
+            (omega (arith, rest.count, ap length cut_back.1, length-append cut_back.0 (back ∷ []), more))
+            (ap (bucket_before back) back_order ∙ before_cut (rest.before ++ cut_back.0) back rest.after
+            (subst (AllPairs ◌≢◌) back_order rest.linked.distinct));
+      }
+        where
+          first_of : (ms : List ℕ) → 0 < length ms → first_bucket (ms ++ back ∷ []) ≡ Some front
+              → first_bucket ms ≡ Some front
+          first_of [] some e = absurd (omega (arith, some))
+          first_of (m ∷ ms) some e = e
 
-        pub back-next : IsRest t front (bucket_before b t.order) (left - 1)
-        back-next = record {
-          linked = rest.linked;
-          before = rest.before;
-          middle = cut_back.0;
-          after = b ∷ rest.after;
-          order = back_order ∙ append_assoc rest.before cut_back.0 (b ∷ rest.after);
-          count = omega (arith, rest.count, ap length cut_back.1, length-append cut_back.0 (b ∷ []));
-          first = rest.first ∙ ap (λ l. first_bucket (l ++ rest.after)) cut_back.1
-              ∙ ap first_bucket (append_assoc cut_back.0 (b ∷ []) rest.after);
-          last = ap (bucket_before b) back_order ∙ before_cut (rest.before ++ cut_back.0) b rest.after
-              (subst (AllPairs ◌≢◌) back_order rest.linked.distinct);
-        }
+          last_of : (ms : List ℕ) → 0 < length ms → bucket_before back t.order ≡ last_bucket (rest.before ++ ms)
+              → last_bucket ms ≡ Some next
+          last_of [] some e = absurd (omega (arith, some))
+          last_of (m ∷ ms) some e =
+              let found = some_or (last_bucket (m ∷ ms)) 0 (λ none. last_none (m ∷ ms) none some) in
+              found ∙ ap Some (sym (is (unwrap_or (last_bucket (m ∷ ms)) 0)
+              (e ∙ last_behind rest.before m ms ∙ found)))
 
-        pub back-cut : (p : K × V) → entry_at t.slots b ≡ Some p → rest_of t front left ≡ rest_of t front (left - 1)
-            ++ p ∷ []
-        unfolding cut_back back-next
-        back-cut p there = rest-is front back left rest ∙ ap (entries_in t.slots) cut_back.1
-            ∙ entries-append t.slots cut_back.0 (b ∷ [])
-            ∙ ap (λ o. entries_in t.slots cut_back.0 ++ (option_to_list o ++ [])) there
-            ∙ ap (λ l. l ++ p ∷ []) (sym (rest-is front (bucket_before b t.order) (left - 1) back-next))
+      pub back-cut : (p : K × V) → entry_at t.slots back ≡ Some p
+          → rest_of t front left ≡ rest_of t front (left - 1) ++ p ∷ []
+      unfolding cut_back back-next
+      back-cut p there = rest-is front back left rest ∙ ap (entries_in t.slots) cut_back.1
+          ∙ entries-append t.slots cut_back.0 (back ∷ [])
+          ∙ ap (λ o. entries_in t.slots cut_back.0 ++ (option_to_list o ++ [])) there
+          ∙ ap (λ l. l ++ p ∷ []) (sym (rest-is front next (left - 1) back-next))

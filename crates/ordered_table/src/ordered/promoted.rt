@@ -1,6 +1,6 @@
 //! The order of a table in which the bucket `promoted`, if there is one, is the newest. Its links may still show it
 //! elsewhere.
-ghost use Rattle.std.specs.Prelude.{◌≡◌, ◌≢◌, ◌<◌, length, Some, None, IfSome, MatchBool};
+ghost use Rattle.std.specs.Prelude.{◌≡◌, ◌≢◌, ◌<◌, ℕ, length, Some, None, IfSome, MatchBool};
 ghost use Rattle.group_table.specs.Bucket.{IsFull};
 ghost use Rattle.lru_model.specs.Lists.{first as first_bucket, last as last_bucket};
 ghost use Rattle.ordered_table.specs.OrderedTable.{IsLinked, in_front, bucket_after, bucket_before};
@@ -84,6 +84,25 @@ pub(crate) fn older<K, V, N: LinkType>(
     requires full { IsFull table.now.slots b }
     ensures { result ≡ bucket_after b (in_front promoted table.now.order) }
 {
+    match promoted {
+        // The links show the order.
+        None => table.older(b),
+        Some(_) => older_past(table, promoted, b),
+    }
+}
+
+// The same. It passes over the promoted bucket where the links show it.
+#[inline]
+fn older_past<K, V, N: LinkType>(
+    table: &LinkedTable<K, V, N>,
+    promoted: Option<usize>,
+    b: usize,
+) -> Option<usize>
+    requires linked { IsLinked table.now }
+    requires promoted { IfSome promoted (IsFull table.now.slots) }
+    requires full { IsFull table.now.slots b }
+    ensures { result ≡ bucket_after b (in_front promoted table.now.order) }
+{
     let next = if is_at(promoted, b) {
         table.first()
     } else {
@@ -108,6 +127,25 @@ pub(crate) fn newer<K, V, N: LinkType>(
     requires full { IsFull table.now.slots b }
     ensures { result ≡ bucket_before b (in_front promoted table.now.order) }
 {
+    match promoted {
+        // The links show the order.
+        None => table.newer(b),
+        Some(_) => newer_past(table, promoted, b),
+    }
+}
+
+// The same. It passes over the promoted bucket where the links show it.
+#[inline]
+fn newer_past<K, V, N: LinkType>(
+    table: &LinkedTable<K, V, N>,
+    promoted: Option<usize>,
+    b: usize,
+) -> Option<usize>
+    requires linked { IsLinked table.now }
+    requires promoted { IfSome promoted (IsFull table.now.slots) }
+    requires full { IsFull table.now.slots b }
+    ensures { result ≡ bucket_before b (in_front promoted table.now.order) }
+{
     if is_at(promoted, b) {
         return None;
     }
@@ -115,6 +153,53 @@ pub(crate) fn newer<K, V, N: LinkType>(
         Some(c) if is_at(promoted, c) => table.newer(c).or(promoted),
         Some(c) => Some(c),
         None => promoted,
+    }
+}
+
+// The same as `older` for a bucket that is not the last of the order. For the last one, the number says nothing.
+#[inline]
+pub(crate) fn older_unless_last<K, V, N: LinkType>(
+    table: &LinkedTable<K, V, N>,
+    promoted: Option<usize>,
+    b: usize,
+) -> usize
+    requires linked { IsLinked table.now }
+    requires promoted { IfSome promoted (IsFull table.now.slots) }
+    requires full { IsFull table.now.slots b }
+    ensures { (c : ℕ) → bucket_after b (in_front promoted table.now.order) ≡ Some c → result ≡ c }
+{
+    match promoted {
+        None => table.older_unless_last(b),
+        Some(p) => {
+            let next = if b == p {
+                table.newest()
+            } else {
+                table.older_unless_last(b)
+            };
+            if next == p {
+                table.older_unless_last(p)
+            } else {
+                next
+            }
+        }
+    }
+}
+
+// The same as `newer` for a bucket that is not the first of the order. For the first one, the number says nothing.
+#[inline]
+pub(crate) fn newer_unless_first<K, V, N: LinkType>(
+    table: &LinkedTable<K, V, N>,
+    promoted: Option<usize>,
+    b: usize,
+) -> usize
+    requires linked { IsLinked table.now }
+    requires promoted { IfSome promoted (IsFull table.now.slots) }
+    requires full { IsFull table.now.slots b }
+    ensures { (c : ℕ) → bucket_before b (in_front promoted table.now.order) ≡ Some c → result ≡ c }
+{
+    match promoted {
+        None => table.newer_unless_first(b),
+        Some(_) => newer_past(table, promoted, b).unwrap_or(b),
     }
 }
 

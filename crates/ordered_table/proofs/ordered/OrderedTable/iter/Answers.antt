@@ -14,4 +14,5 @@ returns-clause-runs_back g c =
 pub invariant_of-result : goal.invariant_of-result
 invariant_of-result g c =
     let t = c.args.self.now in
-    rw (c.first.ensures.first, c.last.ensures.last, c.len.ensures.len) (rest-whole t c.len.ensures.linked)
+    rw (c.unwrap_or.ensures, c.unwrap_or-2.ensures, c.first.ensures.first, c.last.ensures.last, c.len.ensures.len)
+    (rest-whole t c.len.ensures.linked)

@@ -1,8 +1,8 @@
 use Rattle.std.proofs.Common.{sym, ◌∙◌}
 use Rattle.std.proofs.lemmas.Option.{none-some}
 use Rattle.ordered_table.proofs.Tables.PromotedOrders.{promoted_in, Follows, older_skips, older_keeps}
-use Rattle.ordered_table.proofs.ordered.promoted.older.Goals.{then-is_at, else-is_at}
-use Rattle.ordered_table.proofs.ordered.promoted.older.Goals as goal
+use Rattle.ordered_table.proofs.ordered.promoted.older_past.Goals.{then-is_at, else-is_at}
+use Rattle.ordered_table.proofs.ordered.promoted.older_past.Goals as goal
 
 pub returns-in-Some : goal.returns-in-Some
 returns-in-Some g c =

@@ -1,7 +1,7 @@
 use Rattle.std.proofs.Common.{sym, ap, ◌∙◌}
 use Rattle.std.specs.Option.{option_or}
 use Rattle.ordered_table.proofs.Tables.PromotedOrders.{promoted_in, newer_itself, newer_skips, newer_keeps, newer_none}
-use Rattle.ordered_table.proofs.ordered.promoted.newer.Goals as goal
+use Rattle.ordered_table.proofs.ordered.promoted.newer_past.Goals as goal
 
 pub returns-then-is_at : goal.returns-then-is_at
 returns-then-is_at g c =
