@@ -1,4 +1,4 @@
-//! Inserting a key that is not there: the limiter takes it in, and its entry is stored.
+//! Inserting a key that is not there. If the limiter accepts it, the map stores the entry that the limiter returns.
 ghost use Rattle.std.specs.Prelude.{◌≡◌, ◌∷◌, None, IsTrue};
 ghost use Rattle.lru_model.specs.Lists.{lookup_entry};
 ghost use Rattle.lru_model.specs.State.{contents, room};
@@ -14,12 +14,12 @@ use ordered_table::OrderedTable;
 use std::alloc::AllocError;
 use std::hash::Hash;
 
-// The bytes of the largest entry whose insert is a call. A call copies its arguments, and a large value costs more than
-// the call saves.
+// An entry of more bytes is inserted in line at its caller, because a call would copy its key and its value once more. A
+// smaller one is inserted by a call: in line, its code would take registers from the loop that it is in.
 const SMALL: usize = 32;
 
 impl<K: Eq + Hash, V, L: Limiter<K, V>, S: KeyHasher<K>> LruMap<K, V, L, S> {
-    // Inserts a key that is not there. The compiler knows the size, so only one of the two calls is in the program.
+    // Inserts a key that is not there. The compiler knows the size of an entry, so the program contains no test.
     #[inline(always)]
     pub(crate) fn insert_new<I: LookupKey<K>, F: FnMut(K, V)>(
         &mut self,
