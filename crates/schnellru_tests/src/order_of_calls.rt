@@ -6,10 +6,10 @@ ghost use Rattle.std.specs.Cmp.{nat_eq_equiv};
 ghost use Rattle.lru_limits.specs.Stores.{ReturnsPairIf, answers, given-names};
 
 use map_helpers::{insert_all, map_of};
-use schnellru::{Insertion, Limiter, LruMap};
+use schnellru::{Insertion, Limiter, LruMap, Storing};
 use std::alloc::{AllocError, Global};
 use std::cell::Cell;
-use test_helpers::{Hog, check};
+use test_helpers::{Counted, Hog, check};
 
 /// The calls that are noted, each as a digit.
 const IS_OVER: u64 = 1;
@@ -52,7 +52,7 @@ impl<'a> Noting<'a> {
 /// The greatest value that replaces another one.
 const GREATEST: u64 = 100;
 
-impl Limiter<u64, u64> for Noting<'_> {
+impl<V> Limiter<u64, V> for Noting<'_> {
     type LinkType = u32;
 
     ghost rules = { record {
@@ -67,7 +67,7 @@ impl Limiter<u64, u64> for Noting<'_> {
         length > self.most
     }
 
-    fn on_removed(&mut self, _key: &mut u64, _value: &mut u64) {
+    fn on_removed(&mut self, _key: &mut u64, _value: &mut V) {
         note(self.trace, REMOVED);
     }
 
@@ -189,4 +189,21 @@ fn the_limiter_is_asked_once(rt: HostRuntime) {
     let _ = insert_all(&mut map, 1..=3);
     call(&mut map);
     check!(rt; trace.get() == 4_514_114_116_161_210);
+}
+
+/// Inserts three entries of 48 bytes, which are inserted in line, into a map of at most two. Returns the calls of the
+/// limiter, and how many hashers were built.
+fn large_inserts(alloc: Global) -> (u64, u64) {
+    let trace = Cell::new(0u64);
+    let limiter = Storing(Noting::new(2, 1000, &trace));
+    let mut map = LruMap::with_hasher(alloc, limiter, Counted(Cell::new(0)), 48);
+    for key in 0..3u64 {
+        let _ = map.insert(key, [key; 4]);
+    }
+    (trace.get(), map.hasher().0.get())
+}
+
+#[test]
+fn a_large_entry_is_inserted_once(rt: HostRuntime) {
+    check!(rt; large_inserts(rt.alloc()) == (5_111_121, 3));
 }

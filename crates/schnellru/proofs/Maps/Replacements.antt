@@ -32,15 +32,15 @@ module _ {K V S : Type 0} (rules : Rules K V S) (by : Replaced K V S) (old new :
 
   taken_is : out.pair ≡ (k, v)
   taken_is = same_Some out.pair (k, v)
-      (sym out.taken.pair ∙ entry_at-refilled old.slots b (k, v) (full_by_entry (bucket_at old.slots b) was there))
+      (sym out.takes.pair ∙ entry_at-refilled old.slots b (k, v) (full_by_entry (bucket_at old.slots b) was there))
 
   -- a replacement was refused, and the pair taken out
   pub is_removed : IsRemoved rules by b old new l
   is_removed = record {
-    slots = subst (λ p. Removes (with_pair old b p).slots new.slots b) pair_is out.taken.removed;
-    order = out.taken.order;
-    insertions = out.taken.insertions;
-    room = out.taken.room ∙ ap (λ m. room m + room_at (marks_of new.slots) b) (marks_of-refilled old.slots b (k, v));
+    slots = subst (λ p. Removes (with_pair old b p).slots new.slots b) pair_is out.takes.removed;
+    order = out.takes.order;
+    insertions = out.takes.insertions;
+    room = out.takes.room ∙ ap (λ m. room m + room_at (marks_of new.slots) b) (marks_of-refilled old.slots b (k, v));
     notified = out.notified ∙ (λ i.
         (rules.on_removed (notified i) ((taken_is ∙ pair_is) i).0 ((taken_is ∙ pair_is) i).1).limiter);
   }

@@ -19,7 +19,7 @@ module _ {K V S : Type 0} (rules : Rules K V S) (t u : OrderedTable K V) (b : �
     (out : IsTakenOut rules b t u limiter result notified) where
   -- the others stay, in their order
   pub taken_pairs : pairs_of u ≡ entries_in t.slots (without_bucket b t.order)
-  taken_pairs = ap (entries_in u.slots) out.taken.order ∙ removed-entries t.slots u.slots b out.taken.removed t.order
+  taken_pairs = ap (entries_in u.slots) out.takes.order ∙ removed-entries t.slots u.slots b out.takes.removed t.order
 
   -- if that is the pair that was to leave, the answer and the limiter are those that it leaves
   module _ (pair : Option (K × V)) (is : pair ≡ Some out.pair) where
@@ -34,8 +34,8 @@ module _ {K V S : Type 0} (rules : Rules K V S) (t u : OrderedTable K V) (b : �
   taken_frees place is = record {
     bucket = b;
     there = is;
-    freed = states-removed t.slots u.slots b out.taken.removed;
-    others = out.taken.order;
+    freed = states-removed t.slots u.slots b out.takes.removed;
+    others = out.takes.order;
   }
 
   module _ {H : Type 0} (first : IsLinked t) (next : IsLinked u) (fields : Fields S H) where
@@ -44,11 +44,11 @@ module _ {K V S : Type 0} (rules : Rules K V S) (t u : OrderedTable K V) (b : �
     taken_leaves left pairs_are notified_is = record {
       is = λ i. record (state_of u (record fields { limiter = notified_is i })) {
         pairs = pairs_are i;
-        counts = counts_of (out.taken.insertions i) fields;
+        counts = counts_of (out.takes.insertions i) fields;
       };
-      room = frees_room t u b first next (length-removed t.slots u.slots b out.taken.removed)
-          (ap (λ o. suc (length o)) out.taken.order
-          ∙ shorter t first b (full_by_entry (bucket_at t.slots b) out.pair out.taken.pair)) out.taken.room;
+      room = frees_room t u b first next (length-removed t.slots u.slots b out.takes.removed)
+          (ap (λ o. suc (length o)) out.takes.order
+          ∙ shorter t first b (full_by_entry (bucket_at t.slots b) out.pair out.takes.pair)) out.takes.room;
     }
 
     -- what holds of a map holds of what is left
@@ -57,8 +57,8 @@ module _ {K V S : Type 0} (rules : Rules K V S) (t u : OrderedTable K V) (b : �
         → Holds eq hash_of u (record fields { limiter = notified })
     taken_holds {eq} laws hash_of holds fits =
         leaves_holds fields eq hash_of t u (record { pairs = pairs_of u; limiter = notified }) notified holds next fits
-        (length-removed t.slots u.slots b out.taken.removed)
+        (length-removed t.slots u.slots b out.takes.removed)
         (taken_leaves (record { pairs = pairs_of u; limiter = notified }) refl refl)
-        (subst (AreDistinct eq) (others_are t first b out.pair out.taken.pair (eq out.pair.0) laws
+        (subst (AreDistinct eq) (others_are t first b out.pair out.takes.pair (eq out.pair.0) laws
         (λ x y e. laws.congr out.pair.0 x y e) holds.map.distinct (laws.refl out.pair.0) ∙ sym taken_pairs)
         (distinct_without eq (eq out.pair.0) (pairs_of t) holds.map.distinct))

@@ -32,7 +32,7 @@ pub record IsRemoved {K V S : Type 0} (rules : Rules K V S) (by : Replaced K V S
 pub record IsTakenOut {K V S : Type 0} (rules : Rules K V S) (b : ℕ) (old new : OrderedTable K V) (limiter : S)
     (result : K × V) (after : S) : Type 0 where
   pub pair : K × V
-  pub taken : Takes old new b pair
+  pub takes : Takes old new b pair
   pub left : Some result ≡ left_of rules limiter (Some pair)
   pub notified : after ≡ notified_of rules (Some pair) limiter
 

@@ -1,10 +1,8 @@
 //! `insert` and its forms.
-ghost use Rattle.std.specs.Prelude.{◌≡◌, ◌+◌, true, false, None, Some, IfSome, IfOk, Ok, OnErr, List};
-ghost use Rattle.std.specs.Prelude.{IsTrue};
+ghost use Rattle.std.specs.Prelude.{◌≡◌, true, Some, IfSome, IfOk, Ok, OnErr, List, IsTrue};
 ghost use Rattle.lru_model.specs.Lists.{first, IsFront};
-ghost use Rattle.lru_model.specs.State.{contents, room, IsMap};
-ghost use Rattle.lru_model.specs.Inserts.{Insert, IsOutOfMemory, kept_of};
-ghost use Rattle.lru_model.specs.Inserts.{unkept_value};
+ghost use Rattle.lru_model.specs.State.{contents, IsMap};
+ghost use Rattle.lru_model.specs.Inserts.{Insert, IsOutOfMemory, kept_of, unkept_value};
 ghost use Rattle.lru_model.specs.Theorems.{SaysWhether, Stores};
 ghost use Rattle.lru_model.specs.MayTake.{MayTakeInserted};
 ghost use Rattle.lru_model.specs.Callbacks.{noting, noting_offers, noted, CalledWith, InsertPasses};

@@ -1,4 +1,5 @@
 //! Inserting a key that is not there. If the limiter accepts it, the map stores the entry that the limiter returns.
+//! Nothing here requires `K: Drop` or `V: Drop`, so a body that forgets a pair does not compile.
 ghost use Rattle.std.specs.Prelude.{◌≡◌, ◌∷◌, None, IsTrue};
 ghost use Rattle.lru_model.specs.Lists.{lookup_entry};
 ghost use Rattle.lru_model.specs.State.{contents, room};
@@ -14,12 +15,14 @@ use ordered_table::OrderedTable;
 use std::alloc::AllocError;
 use std::hash::Hash;
 
-// An entry of more bytes is inserted in line at its caller, because a call would copy its key and its value once more. A
-// smaller one is inserted by a call: in line, its code would take registers from the loop that it is in.
+// The most bytes of a small entry, with its links. A larger entry is inserted in line at its caller, because a call would
+// copy its key and its value once more. A small one is inserted by a call: in line, its code would take registers from
+// the loop that it is in.
 const SMALL: usize = 32;
 
 impl<K: Eq + Hash, V, L: Limiter<K, V>, S: KeyHasher<K>> LruMap<K, V, L, S> {
-    // Inserts a key that is not there. The compiler knows the size of an entry, so the program contains no test.
+    // Inserts a key that is not there. The compiler knows the size of an entry, which `entry_bytes` of the table
+    // returns, so the program need not test it.
     #[inline(always)]
     pub(crate) fn insert_new<I: LookupKey<K>, F: FnMut(K, V)>(
         &mut self,
@@ -38,7 +41,7 @@ impl<K: Eq + Hash, V, L: Limiter<K, V>, S: KeyHasher<K>> LruMap<K, V, L, S> {
             (noted before self.old) result (noted after self.new)) }
     {
         if OrderedTable::<K, V, L::LinkType>::entry_bytes() > SMALL {
-            self.insert_absent(hash, key, value, sink)
+            self.insert_in_line(hash, key, value, sink)
         } else {
             self.insert_by_call(hash, key, value, sink)
         }
@@ -62,12 +65,12 @@ impl<K: Eq + Hash, V, L: Limiter<K, V>, S: KeyHasher<K>> LruMap<K, V, L, S> {
             (noting_offers L.offers) I.names S.hash_of key value
             (noted before self.old) result (noted after self.new)) }
     {
-        self.insert_absent(hash, key, value, sink)
+        self.insert_in_line(hash, key, value, sink)
     }
 
     // The same, in line.
     #[inline(always)]
-    fn insert_absent<I: LookupKey<K>, F: FnMut(K, V)>(
+    fn insert_in_line<I: LookupKey<K>, F: FnMut(K, V)>(
         &mut self,
         hash: u64,
         key: I,
@@ -109,7 +112,8 @@ impl<K: Eq + Hash, V, L: Limiter<K, V>, S: KeyHasher<K>> LruMap<K, V, L, S> {
             S.hash_of pair (noted before self.old) result (noted after self.new)) }
     {
         self.make_room(sink);
-        // The call below takes the two apart: a pair would lie in memory that each insert clears first.
+        // `insert_without_growth` takes the key and the value apart, because a pair would lie in memory that each insert
+        // clears first.
         let (key, value) = pair;
         if self.growth_left() == 0 {
             return self.insert_without_growth(hash, key, value, sink);

@@ -134,9 +134,7 @@ impl<K: Eq + Hash, V, L: Limiter<K, V>, S: KeyHasher<K>> LruMap<K, V, L, S> {
     {
         take_out_oldest(&mut self.entries, &mut self.limiter)
     }
-}
 
-impl<K: Eq + Hash, V, L: Limiter<K, V>, S: KeyHasher<K>> LruMap<K, V, L, S> {
     // Evicts the oldest pair, if the limiter would be over its limit with one more.
     #[inline]
     pub(super) fn make_room<F: FnMut(K, V)>(&mut self, sink: &mut F)

@@ -39,7 +39,7 @@ impl<K: Eq + Hash, V, L: Limiter<K, V>, S: KeyHasher<K>> LruMap<K, V, L, S> {
         ensures map { (new : State K V L S) → Get (Q.names key.now) self.old (option_copied_mut result) new
             → IsMap K.eq new }
     {
-        // Always in line, because the compiler finds it too long with its search, and would call it.
+        // This function is always in line. Its search makes it so long that the compiler would call it.
         let b = self.find(key)?;
         self.promote_at(b);
         Some(&mut self.entries.pair_mut(b).value)

@@ -125,6 +125,7 @@ impl<'a, K: Eq + Hash, V, L: Limiter<K, V>, S: KeyHasher<K>> IterMut<'a, K, V, L
     ///     *value = 100;
     /// }
     /// ```
+    #[tactic(auto, using(ordered_table::proofs::Tables::Places::got_in, crate::proofs::Positions::last_place))]
     pub fn lend_next_back(&mut self) -> (&K, &mut V)
         requires some { walk_start self.old < walk_end self.old }
         ensures* writes_back { sem 𝓛 (lends_last K.row V.row L.row S.row L.LinkType.row S.Hasher.row K.Hash L.Limiter

@@ -24,13 +24,13 @@ returns-clause-step g c =
     let rules = g.L.Limiter.rules in let t = m.entries in let u = c.take_out.new.entries in
     let l = c.take_out.new.limiter in
     let at = sym c.first.ensures.first ∙ c.in_ok-b.was in
-    let is = newest_is t holds.linked c.in_ok-b.b at out.pair out.taken.pair in
+    let is = newest_is t holds.linked c.in_ok-b.b at out.pair out.takes.pair in
     rw (← c.self.view_is) (record {
       pair = taken_left rules t u c.in_ok-b.b m.limiter l c.take_out.result out _ is;
       state = taken_leaves rules t u c.in_ok-b.b m.limiter l c.take_out.result out holds.linked
           c.take_out.ensures.linked _ _
           (taken_pairs rules t u c.in_ok-b.b m.limiter l c.take_out.result out
-          ∙ sym (others_newest t holds.linked c.in_ok-b.b at out.pair out.taken.pair))
+          ∙ sym (others_newest t holds.linked c.in_ok-b.b at out.pair out.takes.pair))
           (taken_notified rules t u c.in_ok-b.b m.limiter l c.take_out.result out _ is);
     })
 

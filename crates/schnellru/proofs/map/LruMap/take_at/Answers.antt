@@ -25,14 +25,14 @@ returns-clause-step g c = λ names one at.
     (rw (← c.self.view_is) at at) in
     let took = c.take_out in let out = took.ensures.taken in
     let rules = g.L.Limiter.rules in let t = m.entries in let u = took.new.entries in let l = took.new.limiter in
-    let key = ap (λ o. unwrap_or o found.0) (sym found.1 ∙ out.taken.pair) in
+    let key = ap (λ o. unwrap_or o found.0) (sym found.1 ∙ out.takes.pair) in
     let named = subst (λ p. names p.0 ≡ true) key found.2 in
-    let is = pair_found t holds.linked c.args.b out.pair out.taken.pair names laws one holds.map.distinct named in
+    let is = pair_found t holds.linked c.args.b out.pair out.takes.pair names laws one holds.map.distinct named in
     rw (← c.self.view_is) (record {
       pair = taken_left rules t u c.args.b m.limiter l took.result out _ is;
       state = taken_leaves rules t u c.args.b m.limiter l took.result out holds.linked took.ensures.linked _ _
           (taken_pairs rules t u c.args.b m.limiter l took.result out
-          ∙ sym (others_are t holds.linked c.args.b out.pair out.taken.pair names laws one holds.map.distinct named))
+          ∙ sym (others_are t holds.linked c.args.b out.pair out.takes.pair names laws one holds.map.distinct named))
           (taken_notified rules t u c.args.b m.limiter l took.result out _ is);
     })
 

@@ -19,13 +19,13 @@ returns-clause-step g c =
     let holds = c.self.invariant in let out = c.take_out_oldest.ensures.taken.2 in
     let rules = g.L.Limiter.rules in let t = m.entries in let u = c.take_out_oldest.new.entries in
     let l = c.take_out_oldest.new.limiter in
-    let is = oldest_is t holds.linked c.take_out_oldest.ensures.taken.0 c.take_out_oldest.ensures.taken.1 out.pair out.taken.pair in
+    let is = oldest_is t holds.linked c.take_out_oldest.ensures.taken.0 c.take_out_oldest.ensures.taken.1 out.pair out.takes.pair in
     rw (← c.self.view_is) (record {
       pair = taken_left rules t u c.take_out_oldest.ensures.taken.0 m.limiter l c.take_out_oldest.result out _ is;
       state = taken_leaves rules t u c.take_out_oldest.ensures.taken.0 m.limiter l c.take_out_oldest.result out holds.linked
           c.take_out_oldest.ensures.linked _ _
           (taken_pairs rules t u c.take_out_oldest.ensures.taken.0 m.limiter l c.take_out_oldest.result out
-          ∙ sym (others_oldest t holds.linked c.take_out_oldest.ensures.taken.0 c.take_out_oldest.ensures.taken.1 out.pair out.taken.pair))
+          ∙ sym (others_oldest t holds.linked c.take_out_oldest.ensures.taken.0 c.take_out_oldest.ensures.taken.1 out.pair out.takes.pair))
           (taken_notified rules t u c.take_out_oldest.ensures.taken.0 m.limiter l c.take_out_oldest.result out _ is);
     })
 

@@ -3,7 +3,7 @@ use Rattle.schnellru.proofs.map.leave.take_out.Goals as goal
 pub returns-clause-taken : goal.returns-clause-taken
 returns-clause-taken g c = record {
   pair = c.take.result;
-  taken = c.take.ensures.taken;
+  takes = c.take.ensures.taken;
   left = c.notify.ensures.pair;
   notified = c.notify.ensures.limiter;
 }

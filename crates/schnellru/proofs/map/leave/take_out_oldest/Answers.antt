@@ -6,7 +6,7 @@ returns-clause-taken g c = let (b, is, took) = c.take_oldest.ensures.taken in (
   is,
   record {
     pair = c.take_oldest.result;
-    taken = took;
+    takes = took;
     left = c.notify.ensures.pair;
     notified = c.notify.ensures.limiter;
   },

@@ -6,7 +6,7 @@ use Rattle.lru_model.specs.Callbacks.{noted}
 use Rattle.schnellru.specs.Inside.Fields.{fields_of}
 use Rattle.ordered_table.proofs.Tables.BucketPairs.{pairs-length}
 use Rattle.ordered_table.proofs.Tables.Searches.{lookup_alike}
-use Rattle.schnellru.proofs.map.LruMap.insert_absent.Goals as goal
+use Rattle.schnellru.proofs.map.LruMap.insert_in_line.Goals as goal
 
 pub insert_pair-requires-clause-hash : goal.insert_pair-requires-clause-hash
 insert_pair-requires-clause-hash g c =
