@@ -1,11 +1,12 @@
 -- The newest pair of a linked table: a pair that comes first, and one that is written there.
-use Rattle.std.proofs.Common.{◌≡◌, ℕ, Bool, true, ◌∷◌, ◌++◌, Some, None, sym, ap, ◌∙◌, subst}
+use Rattle.std.proofs.Common.{◌≡◌, ℕ, Bool, true, List, [], ◌∷◌, ◌++◌, Some, None, refl, sym, ap, ◌∙◌, subst}
 use Rattle.std.specs.Prelude.{option_to_list}
 use Rattle.std.specs.Cmp.{IsEquivalence}
 use Rattle.group_table.specs.Bucket.{bucket_at, entry_at, marks_of}
 use Rattle.group_table.proofs.RefillLemmas.{marks_of-refilled}
 use Rattle.group_table.proofs.SearchLemmas.{full_by_entry}
-use Rattle.lru_model.specs.Lists.{without, front, after, last, without_last, newest_value, set_newest}
+use Rattle.lru_model.specs.Lists.{is_empty, first as first_pair, without, front, after, last, without_last}
+use Rattle.lru_model.specs.Lists.{newest_value, set_newest}
 use Rattle.ordered_table.specs.OrderedTable.{OrderedTable, IsLinked, KeysFit, pairs_of, entries_in, without_bucket}
 use Rattle.ordered_table.specs.OrderedTable.{with_pair}
 use Rattle.lru_model.specs.Lists.{first as first_bucket, last as last_bucket}
@@ -18,6 +19,16 @@ use Rattle.lru_model.proofs.PairLists.DistinctKeys.{AreDistinct, distinct_first}
 use Rattle.ordered_table.proofs.Tables.BucketPairs.{pair_found, others_are, places_are, oldest_is, others_oldest}
 use Rattle.schnellru.proofs.Maps.HeldMaps.{alike_holds}
 use Rattle.schnellru.proofs.Maps.Writes.{written_first, kept_holds}
+
+-- an empty list has no newest pair
+pub record HasNoNewest {K V : Type 0} (pairs : List (K × V)) : Type 0 where
+  pub first : first_pair pairs ≡ None
+  pub value : newest_value pairs ≡ None
+  pub set : (w : V) → set_newest pairs w ≡ pairs
+
+pub none_newest : {K V : Type 0} (pairs : List (K × V)) → is_empty pairs ≡ true → HasNoNewest pairs
+none_newest [] h = record { first = refl; value = refl; set = λ w. refl }
+none_newest (p ∷ ps) h = absurd cc
 
 -- the pair in the bucket b of t comes first, in v
 module _ {K V : Type 0} (t v : OrderedTable K V) (linked : IsLinked t) (b : ℕ) (p : K × V) (there : entry_at t.slots b

@@ -1,22 +1,26 @@
 -- A pair of a linked table is written, or comes first.
-use Rattle.std.proofs.Common.{◌≡◌, ℕ, Bool, true, cond, List, [], ◌∷◌, ◌++◌, Some, sym, ap, ◌∙◌, subst}
-use Rattle.std.proofs.Common.{◌⊎◌, inl}
-use Rattle.std.specs.Prelude.{option_to_list}
+use Rattle.std.proofs.Common.{◌≡◌, ◌≢◌, ℕ, Bool, true, false, cond, List, [], ◌∷◌, ◌++◌, Some, refl, sym, ap, ◌∙◌, subst}
+use Rattle.std.proofs.Common.{◌⊎◌, inl, eq-eqb, ne_eqb}
+use Rattle.std.specs.Prelude.{option_to_list, Contains, AllPairs}
 use Rattle.std.specs.Cmp.{IsEquivalence}
 use Rattle.std.specs.Map.{set_value}
 use Rattle.std.specs.List.{IsDistinct}
 use Rattle.std.proofs.lemmas.Map.{keys-set_value}
+use Rattle.std.proofs.lemmas.Option.{none-some, same_Some}
 use Rattle.group_table.specs.Bucket.{IsFull, bucket_at, entry_at, refilled}
 use Rattle.group_table.proofs.RefillLemmas.{entry_at-refilled, marks_of-refilled}
 use Rattle.group_table.proofs.SearchLemmas.{full_by_entry}
-use Rattle.lru_model.specs.Lists.{keys_of, set_entry}
+use Rattle.lru_model.specs.Lists.{keys_of, set_entry, place_of}
 use Rattle.ordered_table.specs.OrderedTable.{OrderedTable, IsLinked, KeysFit, pairs_of, entries_in, without_bucket}
 use Rattle.ordered_table.specs.OrderedTable.{with_pair}
 use Rattle.schnellru.specs.Inside.Fields.{Fields}
 use Rattle.schnellru.specs.Inside.Holds.{state_of, Holds}
+use Rattle.schnellru.specs.Lending.Values.{set_value_in}
 use Rattle.lru_model.specs.Calls.{written}
 use Rattle.ordered_table.proofs.Tables.OrderCuts.{without_lacks, entries-apart, entries-cut}
 use Rattle.lru_model.proofs.PairLists.DistinctKeys.{AreDistinct, NoneNamed}
+use Rattle.lru_model.proofs.PairLists.Members.{Contains-here, Contains-later}
+use Rattle.ordered_table.proofs.Chains.Orders.{distinct_head, distinct_tail}
 use Rattle.ordered_table.proofs.Tables.BucketPairs.{cut_here, cut_pairs, unnamed}
 use Rattle.schnellru.proofs.Maps.HeldMaps.{alike_holds}
 
@@ -44,6 +48,42 @@ module _ {K V : Type 0} (names : K → Bool) (p : K × V) (named : names p.0 ≡
   value_end w (x ∷ xs) ys h = ap
       (λ y. cond y ((x.0, w) ∷ (xs ++ p ∷ ys)) (x ∷ set_value names (xs ++ p ∷ ys) w)) h.0
       ∙ ap (λ l. x ∷ l) (value_end w xs ys h.1)
+
+module _ {K V : Type 0} (names : K → Bool) where
+  -- the bucket of the named key is one of the buckets
+  place_there : (pairs : List (K × V)) (places : List ℕ) (b : ℕ) → place_of names pairs places ≡ Some b
+      → Contains places b
+  place_there [] places b at = absurd (none-some b at)
+  place_there (p ∷ ps) [] b at = absurd (none-some b at)
+  place_there (p ∷ ps) (c ∷ cs) b at = go (λ e. place_there ps cs b e) (names p.0) refl
+    where
+      go : (place_of names ps cs ≡ Some b → Contains cs b) → (y : Bool) → names p.0 ≡ y → Contains (c ∷ cs) b
+      go later true is = subst (Contains (c ∷ cs))
+          (same_Some c b (ap (λ y. cond y (Some c) (place_of names ps cs)) (sym is) ∙ at)) (Contains-here c cs)
+      go later false is = Contains-later c b cs
+          (later (ap (λ y. cond y (Some c) (place_of names ps cs)) (sym is) ∙ at))
+
+  -- what is written to the bucket of the named key is written to its pair
+  pub written_there : (w : V) (pairs : List (K × V)) (places : List ℕ) (b : ℕ) → AllPairs ◌≢◌ places
+      → place_of names pairs places ≡ Some b → set_value_in b w pairs places ≡ set_value names pairs w
+  written_there w [] places b distinct at = refl
+  written_there w (p ∷ ps) [] b distinct at = absurd (none-some b at)
+  written_there w (p ∷ ps) (c ∷ cs) b distinct at =
+      go (λ e. written_there w ps cs b (distinct_tail c cs distinct) e) (names p.0) refl
+    where
+      go : (place_of names ps cs ≡ Some b → set_value_in b w ps cs ≡ set_value names ps w)
+          → (y : Bool) → names p.0 ≡ y → set_value_in b w (p ∷ ps) (c ∷ cs) ≡ set_value names (p ∷ ps) w
+      go later true is =
+          ap (λ y. cond y ((p.0, w) ∷ ps) (p ∷ set_value_in b w ps cs))
+          (eq-eqb c b (same_Some c b (ap (λ y. cond y (Some c) (place_of names ps cs)) (sym is) ∙ at)))
+          ∙ sym (ap (λ y. cond y ((p.0, w) ∷ ps) (p ∷ set_value names ps w)) is)
+      go later false is =
+          let rest = ap (λ y. cond y (Some c) (place_of names ps cs)) (sym is) ∙ at in
+          ap (λ y. cond y ((p.0, w) ∷ ps) (p ∷ set_value_in b w ps cs))
+          (ne_eqb c b (λ same. distinct_head c cs distinct
+          (subst (Contains cs) (sym same) (place_there ps cs b rest))))
+          ∙ ap (λ l. p ∷ l) (later rest)
+          ∙ sym (ap (λ y. cond y ((p.0, w) ∷ ps) (p ∷ set_value names ps w)) is)
 
 -- the pair of the named key is in the bucket b of t, and stays at its place
 module _ {K V : Type 0} (t : OrderedTable K V) (linked : IsLinked t) (b : ℕ) (p : K × V)

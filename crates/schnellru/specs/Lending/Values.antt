@@ -1,5 +1,5 @@
 -- What a map ends as, once a reference into it has ended.
-use Rattle.std.specs.Prelude.{◌≡◌, ℕ, Bool, Option, Some, OnSome, IfNone, ⊤}
+use Rattle.std.specs.Prelude.{◌≡◌, ℕ, Bool, List, [], ◌∷◌, Option, Some, OnSome, IfNone, ⊤, if◌then◌else◌, nat_eq}
 use Rattle.std.specs.Option.{option_copied_mut}
 use Rattle.std.specs.Borrow.{Fml, RattleType, Bor, MutBor, follows, follows_so, Lends, LendsIf, LendsSo}
 use Rattle.std.specs.HashMap.Lent.{HashMembers}
@@ -12,6 +12,17 @@ use Rattle.lru_model.specs.State.{State}
 use Rattle.lru_model.specs.Calls.{written}
 use Rattle.schnellru.specs.contracts.map.LruMap.{the_row}
 use mathlib.Core.Option.{none}
+
+-- the pairs with the value w in the pair of bucket b; `places` lists the buckets of the pairs, in their order
+abbrev pub set_value_in : {K V : Type 0} → ℕ → V → List (K × V) → List ℕ → List (K × V)
+set_value_in b w [] places = []
+set_value_in b w (pair ∷ pairs) [] = pair ∷ pairs
+set_value_in b w (pair ∷ pairs) (c ∷ places) =
+    if nat_eq c b then (pair.0, w) ∷ pairs else pair ∷ set_value_in b w pairs places
+
+-- the map with the value w in the pair of bucket b
+abbrev pub written_in : {K V S H : Type 0} → ℕ → V → State K V S H → State K V S H
+written_in b w st = record st { pairs = set_value_in b w st.pairs st.table.places }
 
 module _ (K V L S N H : RattleType) (key : HashMembers K.Denot)
     (limits : limiter.Ghosts L.Denot K.Denot V.Denot N.Denot)
@@ -51,6 +62,10 @@ module _ (K V L S N H : RattleType) (key : HashMembers K.Denot)
     -- the same for a reference that is always there
     abbrev pub lends_newest_value : MutBor V.Denot → Fml
     lends_newest_value r = Lends map_row V m r (λ last. record m.now { pairs = set_newest m.now.pairs last })
+
+    -- the pair in bucket b ends with the last value that was written through r
+    abbrev pub lends_value_in : ℕ → MutBor V.Denot → Fml
+    lends_value_in b r = Lends map_row V m r (λ last. written_in b last m.now)
 
     -- the pair at position i ends with the last value that was written through r
     abbrev pub lends_value_at : ℕ → Bor K.Denot × MutBor V.Denot → Fml

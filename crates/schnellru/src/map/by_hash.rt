@@ -41,7 +41,7 @@ impl<K: Eq + Hash, V, L: Limiter<K, V>, S: KeyHasher<K>> LruMap<K, V, L, S> {
     {
         let b = self.find_by(hash, is_eq)?;
         self.promote_at(b);
-        Some(&mut self.entries.pair_mut(b).value)
+        Some(self.value_in_mut(b))
     }
 
     /// Returns the value of an entry that `is_eq` accepts. The order stays. `is_eq` is called as `get_by_hash` calls
@@ -93,7 +93,7 @@ impl<K: Eq + Hash, V, L: Limiter<K, V>, S: KeyHasher<K>> LruMap<K, V, L, S> {
         ensures map { (key : K) (last : V) → IsMap K.eq (written (K.eq key) last self.old) }
     {
         let b = self.find_by(hash, is_eq)?;
-        Some(&mut self.entries.pair_mut(b).value)
+        Some(self.value_in_mut(b))
     }
 
     // Returns the bucket of the entry that `is_eq` accepts, if there is one.

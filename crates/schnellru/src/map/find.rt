@@ -2,7 +2,9 @@
 ghost use Rattle.std.specs.Prelude.{◌≡◌, ℕ, ◌<◌, Bool, List, Some, None, IfSome, IfNone, IsTrue, Contains, length};
 ghost use Rattle.lru_model.specs.Lists.{lookup_entry, last, without_last, after};
 ghost use Rattle.lru_model.specs.State.{place_in, Frees, IsMap};
-ghost use Rattle.lru_model.specs.Calls.{promoted, demoted, RemoveEntry};
+ghost use Rattle.lru_model.specs.Calls.{promoted, demoted, written, RemoveEntry};
+ghost use Rattle.std.specs.Borrow.{sem};
+ghost use Rattle.schnellru.specs.Lending.Values.{written_in};
 
 use crate::map::LruMap;
 use crate::map::leave::take_out;
@@ -11,6 +13,8 @@ use ordered_table::Pair;
 use std::hash::Hash;
 
 impl<K: Eq + Hash, V, L: Limiter<K, V>, S: KeyHasher<K>> LruMap<K, V, L, S> {
+    ghost use Rattle.schnellru.specs.Lending.Values.{lends_value_in};
+
     // Returns the bucket of the pair of a key, if the key is there. Always in line: in a program with many look-ups the
     // compiler would call it from each.
     #[inline(always)]
@@ -43,6 +47,21 @@ impl<K: Eq + Hash, V, L: Limiter<K, V>, S: KeyHasher<K>> LruMap<K, V, L, S> {
             lookup_entry names self.now.pairs ≡ Some (result.now.key, result.now.value) }
     {
         self.entries.pair(b)
+    }
+
+    // Lends the value in a bucket for writing.
+    #[inline]
+    pub(super) fn value_in_mut(&mut self, b: usize) -> &mut V
+        requires { Contains self.old.table.places b }
+        ensures* writes_back { sem 𝓛 (lends_value_in K.row V.row L.row S.row L.LinkType.row S.Hasher.row K.Hash L.Limiter
+            L.LinkType.LinkType S.KeyHasher S.Hasher.Hasher self.entry b result) }
+        ensures pair { (names : K → Bool) → ((x y : K) → IsTrue (names x) → names y ≡ K.eq x y) →
+            place_in names self.old ≡ Some b →
+            (key : K) × (lookup_entry names self.old.pairs ≡ Some (key, result.now)) }
+        ensures written { (names : K → Bool) (last : V) → place_in names self.old ≡ Some b →
+            written_in b last self.old ≡ written names last self.old }
+    {
+        &mut self.entries.pair_mut(b).value
     }
 
     // Makes the pair in a bucket the newest.

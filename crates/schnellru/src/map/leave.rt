@@ -53,7 +53,10 @@ impl<K: Eq + Hash, V, L: Limiter<K, V>, S: KeyHasher<K>> LruMap<K, V, L, S> {
         ensures freed { IfSome result (λ _. Frees (first self.old.table.places) self.old.table self.new.table) }
         ensures map { IsMap K.eq self.new }
     {
-        let b = self.entries.first()?;
+        if self.is_empty() {
+            return None;
+        }
+        let b = self.entries.newest();
         Some(take_out(&mut self.entries, &mut self.limiter, b))
     }
 

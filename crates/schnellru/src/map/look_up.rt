@@ -42,7 +42,7 @@ impl<K: Eq + Hash, V, L: Limiter<K, V>, S: KeyHasher<K>> LruMap<K, V, L, S> {
         // This function is always in line. Its search makes it so long that the compiler would call it.
         let b = self.find(key)?;
         self.promote_at(b);
-        Some(&mut self.entries.pair_mut(b).value)
+        Some(self.value_in_mut(b))
     }
 
     /// Returns the entry of a key, and makes it the newest.
@@ -143,8 +143,12 @@ impl<K: Eq + Hash, V, L: Limiter<K, V>, S: KeyHasher<K>> LruMap<K, V, L, S> {
         ensures value { option_copied_mut result ≡ newest_value self.old.pairs }
         ensures map { (last : V) → IsMap K.eq (record self.old { pairs = set_newest self.old.pairs last }) }
     {
-        let b = self.entries.first()?;
-        Some(&mut self.entries.pair_mut(b).value)
+        if self.is_empty() {
+            // Nothing at run time: it opens the map, whose invariant the clause `map` needs.
+            let _ = &self.entries;
+            return None;
+        }
+        Some(self.newest_value_mut())
     }
 
     // The same for a map with pairs.
@@ -234,7 +238,7 @@ impl<K: Eq + Hash, V, L: Limiter<K, V>, S: KeyHasher<K>> LruMap<K, V, L, S> {
         ensures map { (last : V) → IsMap K.eq (written (Q.names key.now) last self.old) }
     {
         let b = self.find(key)?;
-        Some(&mut self.entries.pair_mut(b).value)
+        Some(self.value_in_mut(b))
     }
 
     /// Returns the oldest entry. The order stays.
@@ -268,7 +272,10 @@ impl<K: Eq + Hash, V, L: Limiter<K, V>, S: KeyHasher<K>> LruMap<K, V, L, S> {
     pub fn peek_newest(&self) -> Option<(&K, &V)>
         ensures { option_map deref_pair result ≡ first self.now.pairs }
     {
-        let pair = self.entries.pair(self.entries.first()?);
+        if self.is_empty() {
+            return None;
+        }
+        let pair = self.entries.pair(self.entries.newest());
         Some((&pair.key, &pair.value))
     }
 }

@@ -1,13 +1,10 @@
-use Rattle.std.proofs.Common.{◌≡◌, true, Some, refl, sym, ap, ◌∙◌, subst, unwrap_or}
+use Rattle.std.proofs.Common.{◌≡◌, true, Some, refl, sym, ap, ◌∙◌}
 use Rattle.std.proofs.lemmas.Option.{same_Some}
-use Rattle.ordered_table.proofs.Tables.BucketPairs.{pair_found}
-use Rattle.ordered_table.proofs.Tables.Searches.{pair_of_place}
 use Rattle.lru_model.proofs.States.Promotions.{written_is_map}
-use Rattle.schnellru.proofs.Maps.Writes.{kept_holds, kept_state}
 use Rattle.schnellru.proofs.map.LruMap.peek_by_hash_mut.Goals as goal
 
 pub returns-in_err-b : goal.returns-in_err-b
-returns-in_err-b g c = rw (c.from_residual.ensures, ← c.self.view_is) (
+returns-in_err-b g c = rw c.from_residual.ensures (
   (refl, λ w. tt, refl),
   record {
     writes_back = tt;
@@ -16,38 +13,16 @@ returns-in_err-b g c = rw (c.from_residual.ensures, ← c.self.view_is) (
   },
 )
 
-pub invariant_of-self-lent : goal.invariant_of-self-lent
-invariant_of-self-lent g c = λ w.
-    let m = c.self.inside in
-    let holds = c.self.invariant in let now = c.pair_mut.result.now in let laws = g.met.K.Eq.laws in
-    let hash_of = g.S.KeyHasher.hash_of in
-    kept_holds m.entries holds.linked c.in_ok-b.b (now.key, now.value) c.pair_mut.ensures.pair
-    (g.K.PartialEq.eq now.key) laws (λ x y h. laws.congr now.key x y h) (laws.refl now.key)
-    holds.map.distinct _ w hash_of holds
-    (c.pair_mut.ensures.linked (now.key, w)) (c.pair_mut.ensures.fits (hash_of m.hasher) holds.fits (now.key, w) refl)
-
 pub returns : goal.returns
 returns g c =
-    let t = c.self.inside.entries in let holds = c.self.invariant in let now = c.pair_mut.result.now in
-    let b = c.in_ok-b.b in
-    let eq = g.K.PartialEq.eq in let laws = g.met.K.Eq.laws in
-    let (p, gives, there, at) = c.in_ok-b.ensures.found in let names = eq p.0 in
-    let one : (x y : _) → names x ≡ true → names y ≡ eq x y = λ x y h. laws.congr p.0 x y h in
-    let (q, in_bucket, accepts) = pair_of_place t holds.linked names laws one holds.map.distinct b at in
-    let key : q ≡ (now.key, now.value) = ap (λ o. unwrap_or o q) (sym in_bucket ∙ c.pair_mut.ensures.pair) in
-    let named : names now.key ≡ true = subst (λ p. names p.0 ≡ true) key accepts in
-    let same : p ≡ (now.key, now.value) = same_Some p (now.key, now.value) (sym there
-    ∙ pair_found t holds.linked b (now.key, now.value) c.pair_mut.ensures.pair names laws one holds.map.distinct
-    named) in rw (← c.self.view_is) (
+    let laws = g.met.K.Eq.laws in let value = c.value_in_mut.result.now in
+    let (p, gives, there, at) = c.in_ok-b.ensures.found in let names = g.K.PartialEq.eq p.0 in
+    let one : (x y : _) → names x ≡ true → names y ≡ g.K.PartialEq.eq x y = λ x y h. laws.congr p.0 x y h in
+    let (key, found) = c.value_in_mut.ensures.pair names one at in
+    let same = same_Some p (key, value) (sym there ∙ found) in (
       (
         refl,
-        λ w. (
-          p,
-          gives,
-          ap (λ x. Some x.1) (sym same),
-          kept_state t holds.linked b (now.key, now.value) c.pair_mut.ensures.pair names laws one named
-              holds.map.distinct _ w,
-        ),
+        λ w. (p, gives, ap (λ x. Some x.1) (sym same), c.value_in_mut.ensures.written names w at),
         tt,
       ),
       record {
