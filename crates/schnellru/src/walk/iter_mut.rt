@@ -109,7 +109,7 @@ impl<'a, K: Eq + Hash, V, L: Limiter<K, V>, S: KeyHasher<K>> IterMut<'a, K, V, L
         let at = self.start;
         match self.front {
             Some(b) => {
-                self.front = self.map.older(b);
+                self.front = self.map.older(at, b);
                 self.start += 1;
                 self.map.pair_at_mut(at, b)
             }
@@ -135,7 +135,7 @@ impl<'a, K: Eq + Hash, V, L: Limiter<K, V>, S: KeyHasher<K>> IterMut<'a, K, V, L
         let at = self.end - 1;
         match self.back {
             Some(b) => {
-                self.back = self.map.newer(b);
+                self.back = self.map.newer(at, b);
                 self.end = at;
                 self.map.pair_at_mut(at, b)
             }
@@ -205,7 +205,7 @@ impl<K: Eq + Hash, V, L: Limiter<K, V>, S: KeyHasher<K>> LruMap<K, V, L, S> {
         let (mut next, _) = self.ends();
         let mut at = 0;
         'pairs: while let Some(b) = next {
-            next = self.older(b);
+            next = self.older(at, b);
             self.write_at(at, b, &mut f);
             at += 1;
         }

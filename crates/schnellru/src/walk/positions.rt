@@ -1,5 +1,5 @@
 //! The bucket of each pair by its position, counted from the newest, which iterators need.
-ghost use Rattle.std.specs.Prelude.{◌≡◌, ℕ, ◌+◌, length, slice_get, Some, IfSome, Contains};
+ghost use Rattle.std.specs.Prelude.{◌≡◌, ◌+◌, length, slice_get, Some};
 ghost use Rattle.std.specs.Borrow.{sem};
 ghost use Rattle.std.specs.Map.Iter.{deref_pair_mut};
 ghost use Rattle.lru_model.specs.Lists.{last_of};
@@ -17,29 +17,37 @@ impl<K: Eq + Hash, V, L: Limiter<K, V>, S: KeyHasher<K>> LruMap<K, V, L, S> {
         ensures newest { result.0 ≡ slice_get self.now.table.places 0 }
         ensures oldest { result.1 ≡ last_of (length self.now.pairs) self.now.table.places }
         ensures places { length self.now.table.places ≡ length self.now.pairs }
-        ensures there { IfSome result.0 (Contains self.now.table.places) }
     {
-        (self.entries.first(), self.entries.last())
+        if self.entries.len() == 0 {
+            return (None, None);
+        }
+        (Some(self.entries.newest()), Some(self.entries.oldest()))
     }
 
-    // The bucket after this one, towards the oldest.
+    // The bucket after bucket `b`, which is at position `at`, towards the oldest.
     #[inline]
-    pub(crate) fn older(&self, b: usize) -> Option<usize>
-        requires { Contains self.now.table.places b }
-        ensures next { (i : ℕ) → slice_get self.now.table.places i ≡ Some b →
-            result ≡ slice_get self.now.table.places (i + 1) }
-        ensures there { IfSome result (Contains self.now.table.places) }
+    pub(crate) fn older(&self, at: usize, b: usize) -> Option<usize>
+        requires { slice_get self.now.table.places at ≡ Some b }
+        ensures next { result ≡ slice_get self.now.table.places (at + 1) }
     {
-        self.entries.older(b)
+        if self.entries.len() - at > 1 {
+            Some(self.entries.older_unless_last(b))
+        } else {
+            None
+        }
     }
 
-    // The bucket before this one, towards the newest.
+    // The bucket before bucket `b`, which is at position `at`, towards the newest.
     #[inline]
-    pub(crate) fn newer(&self, b: usize) -> Option<usize>
-        requires { Contains self.now.table.places b }
-        ensures { (i : ℕ) → slice_get self.now.table.places i ≡ Some b → result ≡ last_of i self.now.table.places }
+    pub(crate) fn newer(&self, at: usize, b: usize) -> Option<usize>
+        requires { slice_get self.now.table.places at ≡ Some b }
+        ensures { result ≡ last_of at self.now.table.places }
     {
-        self.entries.newer(b)
+        if at > 0 {
+            Some(self.entries.newer_unless_first(b))
+        } else {
+            None
+        }
     }
 
     // Lends the pair in bucket `b`, which is at position `at` counted from the newest, its value for writing.

@@ -10,7 +10,6 @@ pub pairs-init : goal.pairs-init
 pairs-init g c = record {
   callable = c.requires.callable;
   next = c.ends-next.ensures.newest;
-  there = c.ends-next.ensures.there;
   written = written_none g.F.FnMut c.args.self.now.pairs c.args.f;
   state = refl;
   places = c.ends-next.ensures.places;
@@ -22,8 +21,7 @@ pairs-preserved g c =
     let i = c.pairs.invariant in let (pair, value, there, writes, same) = c.write_at.ensures.writes in
     rw same (record {
       callable = c.write_at.ensures.callable;
-      next = c.older-next.ensures.next c.pairs.at (sym i.next ∙ c.in-Some.is);
-      there = c.older-next.ensures.there;
+      next = c.older-next.ensures.next;
       written = written_more g.F.FnMut c.args.self.now.pairs c.args.f c.pairs.at c.pairs.self.pairs c.pairs.f
           i.written
           pair value c.write_at.new.f there writes;

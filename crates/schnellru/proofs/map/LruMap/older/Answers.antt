@@ -1,19 +1,19 @@
-use Rattle.std.proofs.Common.{◌∙◌, ap, suc, arith, ◌+◌, ◌≡◌, Some}
-use Rattle.std.specs.Prelude.{slice_get}
-use Rattle.std.proofs.lemmas.Option.{slice_get-get_or}
-use Rattle.ordered_table.proofs.Tables.Places.{after_at}
-use Rattle.schnellru.proofs.Positions.{some_in}
+use Rattle.std.proofs.Common.{◌+◌, sym, arith}
+use Rattle.std.proofs.lemmas.Option.{slice_get_past}
+use Rattle.ordered_table.proofs.Tables.Places.{got_in}
+use Rattle.schnellru.proofs.Positions.{next_place}
 use Rattle.schnellru.proofs.map.LruMap.older.Goals as goal
 
-pub returns-clause-next : goal.returns-clause-next
-returns-clause-next g c = λ i there.
-    let order = c.self.inside.entries.order in
-    let next : suc i ≡ i + 1 = omega arith in
-    rw (← c.self.view_is) (c.older.ensures.older ∙ after_at order i c.args.b c.self.invariant.linked.distinct
-    (rw (← c.self.view_is) at there) ∙ ap (slice_get order) next)
+pub older_unless_last-requires : goal.older_unless_last-requires
+older_unless_last-requires g c = c.self.invariant.linked.only c.args.b
+    (got_in c.self.inside.entries.order c.args.at c.args.b (rw (← c.self.view_is) at c.requires))
 
-pub returns-clause-there : goal.returns-clause-there
-returns-clause-there g c =
-    let order = c.self.inside.entries.order in let (i, within, is) = rw (← c.self.view_is) at c.requires in
-    rw (← c.self.view_is) (some_in order (suc i) c.older.result (c.older.ensures.older
-    ∙ after_at order i c.args.b c.self.invariant.linked.distinct (slice_get-get_or order i c.args.b within ∙ ap Some is)))
+pub returns-then-len-at-gt1 : goal.returns-then-len-at-gt1
+returns-then-len-at-gt1 g c = let order = c.self.inside.entries.order in
+    rw (← c.self.view_is) (record { next = next_place order c.args.at c.args.b c.older_unless_last.result
+        c.self.invariant.linked.distinct (rw (← c.self.view_is) at c.requires)
+        (omega (arith, c.if-len-at-gt1.true, c.len.ensures.len)) c.older_unless_last.ensures.older })
+
+pub returns-else-len-at-gt1 : goal.returns-else-len-at-gt1
+returns-else-len-at-gt1 g c = rw (← c.self.view_is) (record { next = sym (slice_get_past c.self.inside.entries.order
+    (c.args.at + 1) (omega (arith, c.if-len-at-gt1.false, c.len.ensures.len))) })
