@@ -1,6 +1,6 @@
 //! `LinkedTable`: a table whose entries have links to their newer and older neighbours, so a promotion or a removal walks
 //! nowhere.
-ghost use Rattle.std.specs.Prelude.{◌≡◌, ◌≢◌, ℕ, ◌+◌, ◌<◌, false, [], ◌∷◌, ◌++◌, length, Some, None, IfSome};
+ghost use Rattle.std.specs.Prelude.{◌≡◌, ℕ, ◌+◌, ◌<◌, false, [], ◌∷◌, ◌++◌, length, Some, IfSome};
 ghost use Rattle.std.specs.Prelude.{IfNone, IsTrue, replicate};
 ghost use Rattle.std.specs.Borrow.{sem};
 ghost use Rattle.group_table.specs.Bucket.{empty, marks_of, IsFull, entry_at, room, room_at};
@@ -156,8 +156,8 @@ impl<K, V, N: LinkType> LinkedTable<K, V, N> {
         self.chain.oldest.into_usize()
     }
 
-    // Returns the bucket after a full one in the order, towards the oldest. For the last bucket of the order, the number
-    // says nothing.
+    // Returns the bucket after a full one in the order, towards the oldest. For the last bucket of the order, the
+    // number says nothing.
     #[inline]
     pub(crate) fn older_unless_last(&self, b: usize) -> usize
         requires { IsFull self.now.slots b }
@@ -166,8 +166,8 @@ impl<K, V, N: LinkType> LinkedTable<K, V, N> {
         self.chain.table.get(b).older.into_usize()
     }
 
-    // Returns the bucket before a full one in the order, towards the newest. For the first bucket of the order, the number
-    // says nothing.
+    // Returns the bucket before a full one in the order, towards the newest. For the first bucket of the order, the
+    // number says nothing.
     #[inline]
     pub(crate) fn newer_unless_first(&self, b: usize) -> usize
         requires { IsFull self.now.slots b }

@@ -1,7 +1,7 @@
 //! `OrderedTable`: a table whose entries are in an order. Its links may show the last promotion one call later.
 ghost use Rattle.std.specs.Prelude.{◌≡◌, ℕ, ◌+◌, ◌<◌, false, [], length, Some, IfSome, IfNone, IsTrue};
 ghost use Rattle.std.specs.Borrow.{sem};
-ghost use Rattle.group_table.specs.Bucket.{empty, marks_of, IsFull, entry_at, room};
+ghost use Rattle.group_table.specs.Bucket.{marks_of, IsFull, entry_at, room};
 ghost use Rattle.group_table.specs.Change.{no_insertions};
 ghost use Rattle.ordered_table.specs.OrderedTable.{IsLinked, KeysFit, with_pair};
 ghost use Rattle.ordered_table.specs.EntrySize.{entry_size};
@@ -162,8 +162,8 @@ impl<K, V, N: LinkType> OrderedTable<K, V, N> {
         promoted::oldest(&self.linked, self.promoted)
     }
 
-    /// Returns the bucket after a full one in the order, towards the oldest. For the last bucket of the order, the number
-    /// says nothing.
+    /// Returns the bucket after a full one in the order, towards the oldest. For the last bucket of the order, the
+    /// number says nothing.
     #[inline]
     pub fn older_unless_last(&self, b: usize) -> usize
         requires { IsFull self.now.slots b }

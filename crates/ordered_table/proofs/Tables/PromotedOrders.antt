@@ -85,12 +85,6 @@ promoted_kept t u None linked other same full = tt
 promoted_kept t u (Some f) linked other same full =
     other.only f (subst (λ o. Contains o f) (sym same) (linked.all f full))
 
--- the bucket in front is in the order
-pub promoted_in : {K V : Type 0} (t : OrderedTable K V) (front : Option ℕ) → IsLinked t
-    → IfSome front (IsFull t.slots) → IfSome front (Contains t.order)
-promoted_in t None linked full = tt
-promoted_in t (Some f) linked full = linked.all f full
-
 -- the number that the links lead to from b, if they lead anywhere: the first of all if b is the front
 abbrev pub LeadsTo : List ℕ → ℕ → ℕ → ℕ → Type 0
 LeadsTo order f b next = (b ≡ f → first_bucket order ≡ Some next)
@@ -167,7 +161,8 @@ module _ (order : List ℕ) (d : AllPairs ◌≢◌ order) (f : ℕ) (there : Co
       front_kept other c e = elim (cases_eq b f) [
         | inl h ↦
             let first = leads.0 h in
-            same_Some next c (sym (first_stays (λ k. other (same_Some next f (sym first ∙ k))) ∙ first) ∙ after_front h c e)
+            let stays = first_stays (λ k. other (same_Some next f (sym first ∙ k))) in
+            same_Some next c (sym (stays ∙ first) ∙ after_front h c e)
         | inr h ↦ leads.1 h c (after_other h (λ k. other (leads.1 h f k)) ∙ e)
       ]
 

@@ -1,6 +1,6 @@
 //! The order of a table in which the bucket `promoted`, if there is one, is the newest. Its links may still show it
 //! elsewhere.
-ghost use Rattle.std.specs.Prelude.{◌≡◌, ◌≢◌, ◌<◌, ℕ, length, Some, None, IfSome, MatchBool};
+ghost use Rattle.std.specs.Prelude.{◌≡◌, ◌<◌, ℕ, length, Some, None, IfSome};
 ghost use Rattle.group_table.specs.Bucket.{IsFull};
 ghost use Rattle.lru_model.specs.Lists.{first as first_bucket, last as last_bucket};
 ghost use Rattle.ordered_table.specs.OrderedTable.{IsLinked, in_front, bucket_after, bucket_before};
@@ -48,8 +48,8 @@ pub(crate) fn oldest<K, V, N: LinkType>(
     }
 }
 
-// Returns the bucket after a full one in the order, towards the oldest. For the last bucket of the order, the number says
-// nothing.
+// Returns the bucket after a full one in the order, towards the oldest. For the last bucket of the order, the number
+// says nothing.
 #[inline]
 pub(crate) fn older_unless_last<K, V, N: LinkType>(
     table: &LinkedTable<K, V, N>,
@@ -94,6 +94,7 @@ pub(crate) fn newer_unless_first<K, V, N: LinkType>(
     match promoted {
         None => table.newer_unless_first(b),
         Some(p) => {
+            // The links show no bucket before the first, and the promoted one is in front of it.
             if table.newest() == b {
                 return p;
             }

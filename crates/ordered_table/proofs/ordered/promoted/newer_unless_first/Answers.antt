@@ -1,7 +1,8 @@
 use Rattle.std.proofs.Common.{ap, sym, ◌∙◌, Some}
 use Rattle.std.proofs.lemmas.Option.{same_Some}
 use Rattle.ordered_table.proofs.Tables.PromotedOrders.{before_newest, before_past, before_kept}
-use Rattle.ordered_table.proofs.ordered.promoted.newer_unless_first.Goals.{else-next-p-via-then-next-p+else-newest-p, else-next-p-via-else-next-p}
+use Rattle.ordered_table.proofs.ordered.promoted.newer_unless_first.Goals.{else-next-p-via-then-next-p+else-newest-p}
+use Rattle.ordered_table.proofs.ordered.promoted.newer_unless_first.Goals.{else-next-p-via-else-next-p}
 use Rattle.ordered_table.proofs.ordered.promoted.newer_unless_first.Goals as goal
 
 pub returns-then-newest-b : goal.returns-then-newest-b

@@ -14,11 +14,13 @@ pub returns-then-next-p : goal.returns-then-next-p
 returns-then-next-p g c =
     let linked = c.requires.linked in let full = rw c.in-Some.is at c.requires.promoted in
     rw c.in-Some.is (front_skipped c.args.table.now.order linked.distinct c.in-Some.p (linked.all c.in-Some.p full)
-    c.args.b (linked.all c.args.b c.requires.full) c.if-b-p.next (leads g (goal.at.returns-then-next-p g c).Joined-b-p) c.if-next-p.true _
+    c.args.b (linked.all c.args.b c.requires.full) c.if-b-p.next
+    (leads g (goal.at.returns-then-next-p g c).Joined-b-p) c.if-next-p.true _
     c.older_unless_last-then-next-p.ensures.older)
 
 pub returns-else-next-p : goal.returns-else-next-p
 returns-else-next-p g c =
     let linked = c.requires.linked in let full = rw c.in-Some.is at c.requires.promoted in
     rw c.in-Some.is (front_kept c.args.table.now.order linked.distinct c.in-Some.p (linked.all c.in-Some.p full)
-    c.args.b (linked.all c.args.b c.requires.full) c.if-b-p.next (leads g (goal.at.returns-else-next-p g c).Joined-b-p) c.if-next-p.false)
+    c.args.b (linked.all c.args.b c.requires.full) c.if-b-p.next
+    (leads g (goal.at.returns-else-next-p g c).Joined-b-p) c.if-next-p.false)

@@ -6,8 +6,7 @@ use Rattle.ordered_table.proofs.ordered.promoted.oldest.Goals as goal
 pub returns-then-newest-p : goal.returns-then-newest-p
 returns-then-newest-p g c =
     let linked = c.requires.linked in let full = rw c.in-Some.is at c.requires.promoted in
-    rw c.in-Some.is (oldest_alone c.args.table.now.order linked.distinct c.in-Some.p
-    (linked.all c.in-Some.p full)
+    rw c.in-Some.is (oldest_alone c.args.table.now.order linked.distinct c.in-Some.p (linked.all c.in-Some.p full)
     (c.oldest-b.ensures.oldest ∙ ap Some (sym c.if-p-b.true)) (c.newest.ensures.newest ∙ ap Some c.if-newest-p.true))
 
 pub returns-else-newest-p : goal.returns-else-newest-p
