@@ -1,6 +1,6 @@
 //! `LinkedTable`: a table whose entries have links to their newer and older neighbours, so a promotion or a removal walks
 //! nowhere.
-ghost use Rattle.std.specs.Prelude.{◌≡◌, ◌≢◌, ℕ, ◌+◌, ◌<◌, false, [], ◌∷◌, ◌++◌, length, Some, None, IfSome};
+ghost use Rattle.std.specs.Prelude.{◌≡◌, ℕ, ◌+◌, ◌<◌, false, [], ◌∷◌, ◌++◌, length, Some, IfSome};
 ghost use Rattle.std.specs.Prelude.{IfNone, IsTrue, replicate};
 ghost use Rattle.std.specs.Borrow.{sem};
 ghost use Rattle.group_table.specs.Bucket.{empty, marks_of, IsFull, entry_at, room, room_at};
@@ -13,7 +13,7 @@ ghost use Rattle.lru_model.specs.Lists.{first as first_bucket, last as last_buck
 ghost use Rattle.ordered_table.specs.Chain.{pair_slots};
 ghost use Rattle.ordered_table.specs.OrderedTable.{bucket_after, bucket_before};
 
-use crate::linked::chain::{Chain, is_max};
+use crate::linked::chain::Chain;
 use crate::ordered::Pair;
 use group_table::{LinkType, Table};
 use lru_limits::LookupKey;
@@ -138,14 +138,6 @@ impl<K, V, N: LinkType> LinkedTable<K, V, N> {
         &self.chain.table.get(b).pair
     }
 
-    // Returns the bucket of the newest pair, if there is one.
-    #[inline]
-    pub(crate) fn first(&self) -> Option<usize>
-        ensures first { result ≡ first_bucket self.now.order }
-    {
-        bucket_of(self.chain.newest)
-    }
-
     // Returns the bucket of the newest pair of a table that is not empty.
     #[inline]
     pub(crate) fn newest(&self) -> usize
@@ -164,33 +156,8 @@ impl<K, V, N: LinkType> LinkedTable<K, V, N> {
         self.chain.oldest.into_usize()
     }
 
-    // Returns the bucket of the oldest pair, if there is one.
-    #[inline]
-    pub(crate) fn last(&self) -> Option<usize>
-        ensures last { result ≡ last_bucket self.now.order }
-    {
-        bucket_of(self.chain.oldest)
-    }
-
-    // Returns the bucket after a full one in the order, towards the oldest, if there is one.
-    #[inline]
-    pub(crate) fn older(&self, b: usize) -> Option<usize>
-        requires { IsFull self.now.slots b }
-        ensures older { result ≡ bucket_after b self.now.order }
-    {
-        bucket_of(self.chain.table.get(b).older)
-    }
-
-    // Returns the bucket before a full one in the order, towards the newest, if there is one.
-    #[inline]
-    pub(crate) fn newer(&self, b: usize) -> Option<usize>
-        requires { IsFull self.now.slots b }
-        ensures newer { result ≡ bucket_before b self.now.order }
-    {
-        bucket_of(self.chain.table.get(b).newer)
-    }
-
-    // The same as `older` for a bucket that is not the last of the order. For the last one, the number says nothing.
+    // Returns the bucket after a full one in the order, towards the oldest. For the last bucket of the order, the
+    // number says nothing.
     #[inline]
     pub(crate) fn older_unless_last(&self, b: usize) -> usize
         requires { IsFull self.now.slots b }
@@ -199,7 +166,8 @@ impl<K, V, N: LinkType> LinkedTable<K, V, N> {
         self.chain.table.get(b).older.into_usize()
     }
 
-    // The same as `newer` for a bucket that is not the first of the order. For the first one, the number says nothing.
+    // Returns the bucket before a full one in the order, towards the newest. For the first bucket of the order, the
+    // number says nothing.
     #[inline]
     pub(crate) fn newer_unless_first(&self, b: usize) -> usize
         requires { IsFull self.now.slots b }
@@ -334,18 +302,5 @@ impl<K: Eq + Hash, V, N: LinkType> LinkedTable<K, V, N> {
         self.chain
             .table
             .find(hash, |entry| key.is_key(&entry.pair.key))
-    }
-}
-
-// The bucket that a link leads to.
-#[inline]
-fn bucket_of<N: LinkType>(link: N) -> Option<usize>
-    ensures none { IfNone result (link ≡ N.MAX) }
-    ensures some { IfSome result (λ b. (link ≢ N.MAX) × (b ≡ N.number link)) }
-{
-    if is_max(link) {
-        None
-    } else {
-        Some(link.into_usize())
     }
 }

@@ -1,7 +1,7 @@
 //! `OrderedTable`: a table whose entries are in an order. Its links may show the last promotion one call later.
 ghost use Rattle.std.specs.Prelude.{◌≡◌, ℕ, ◌+◌, ◌<◌, false, [], length, Some, IfSome, IfNone, IsTrue};
 ghost use Rattle.std.specs.Borrow.{sem};
-ghost use Rattle.group_table.specs.Bucket.{empty, marks_of, IsFull, entry_at, room};
+ghost use Rattle.group_table.specs.Bucket.{marks_of, IsFull, entry_at, room};
 ghost use Rattle.group_table.specs.Change.{no_insertions};
 ghost use Rattle.ordered_table.specs.OrderedTable.{IsLinked, KeysFit, with_pair};
 ghost use Rattle.ordered_table.specs.EntrySize.{entry_size};
@@ -144,14 +144,6 @@ impl<K, V, N: LinkType> OrderedTable<K, V, N> {
         self.linked.pair(b)
     }
 
-    /// Returns the bucket of the newest pair, if there is one.
-    #[inline]
-    pub fn first(&self) -> Option<usize>
-        ensures first { result ≡ first_bucket self.now.order }
-    {
-        promoted::first(&self.linked, self.promoted)
-    }
-
     /// Returns the bucket of the newest pair of a table that is not empty.
     #[inline]
     pub fn newest(&self) -> usize
@@ -170,34 +162,8 @@ impl<K, V, N: LinkType> OrderedTable<K, V, N> {
         promoted::oldest(&self.linked, self.promoted)
     }
 
-    /// Returns the bucket of the oldest pair, if there is one.
-    #[inline]
-    pub fn last(&self) -> Option<usize>
-        ensures last { result ≡ last_bucket self.now.order }
-    {
-        promoted::last(&self.linked, self.promoted)
-    }
-
-    /// Returns the bucket after a full one in the order, towards the oldest, if there is one.
-    #[inline]
-    pub fn older(&self, b: usize) -> Option<usize>
-        requires { IsFull self.now.slots b }
-        ensures older { result ≡ bucket_after b self.now.order }
-    {
-        promoted::older(&self.linked, self.promoted, b)
-    }
-
-    /// Returns the bucket before a full one in the order, towards the newest, if there is one.
-    #[inline]
-    pub fn newer(&self, b: usize) -> Option<usize>
-        requires { IsFull self.now.slots b }
-        ensures newer { result ≡ bucket_before b self.now.order }
-    {
-        promoted::newer(&self.linked, self.promoted, b)
-    }
-
-    /// The same as `older` for a bucket that is not the last of the order, without a test of whether it is. For the last
-    /// one, the number says nothing.
+    /// Returns the bucket after a full one in the order, towards the oldest. For the last bucket of the order, the
+    /// number says nothing.
     #[inline]
     pub fn older_unless_last(&self, b: usize) -> usize
         requires { IsFull self.now.slots b }
@@ -206,8 +172,8 @@ impl<K, V, N: LinkType> OrderedTable<K, V, N> {
         promoted::older_unless_last(&self.linked, self.promoted, b)
     }
 
-    /// The same as `newer` for a bucket that is not the first of the order, without a test of whether it is. For the
-    /// first one, the number says nothing.
+    /// Returns the bucket before a full one in the order, towards the newest. For the first bucket of the order, the
+    /// number says nothing.
     #[inline]
     pub fn newer_unless_first(&self, b: usize) -> usize
         requires { IsFull self.now.slots b }

@@ -136,11 +136,17 @@ impl<K, V, N: LinkType> OrderedTable<K, V, N> {
         ensures linked { IsLinked self.now }
         ensures fits { length self.now.order < 2 ^ 64 }
     {
+        let left = self.len();
+        let (front, back) = if left == 0 {
+            (0, 0)
+        } else {
+            (self.newest(), self.oldest())
+        };
         Walk {
             entries: self,
-            front: self.first().unwrap_or(0),
-            back: self.last().unwrap_or(0),
-            left: self.len(),
+            front,
+            back,
+            left,
         }
     }
 }

@@ -1,7 +1,7 @@
 -- What is read of a table whose links keep the order of its full buckets.
 use Rattle.std.proofs.Common.{◌≡◌, ◌≢◌, ℕ, ◌<◌, List, [], ◌∷◌, length, Option, Some, None, refl, ap}
 use Rattle.std.proofs.Common.{sym, ◌∙◌, arith}
-use Rattle.std.specs.Prelude.{Contains, IfSome, IfNone}
+use Rattle.std.specs.Prelude.{Contains}
 use Rattle.std.proofs.lemmas.Option.{none-some}
 use Rattle.group_table.specs.Link.{IsLinkType}
 use Rattle.group_table.specs.Bucket.{Slot, IsFull, entry_at}
@@ -37,24 +37,8 @@ module _ {N : Type 0} {number : N → ℕ} {link : ℕ → N} {none : N}
   number_at : (o : Option ℕ) (l : N) → l ≡ link_to link none o → (c : ℕ) → o ≡ Some c → c < number none → number l ≡ c
   number_at o l is c e bound = ap number (is ∙ ap (link_to link none) e) ∙ laws.number_of_link c bound
 
-  read_link : (r o : Option ℕ) (l : N) → l ≡ link_to link none o → ((y : ℕ) → o ≡ Some y → y < number none)
-      → IfNone r (l ≡ none) → IfSome r (λ b. (l ≢ none) × (b ≡ number l)) → r ≡ o
-  read_link None o l e bounds at_none at_some = sym (end_by_link laws o bounds (sym e ∙ at_none))
-  read_link (Some b) o l e bounds at_none at_some =
-      ap Some at_some.1 ∙ sym (leads_to o l e bounds (λ is. at_some.0 (e ∙ ap (link_to link none) is)))
-
   module _ {K V : Type 0} {slots : List (Slot (Entry K V N))} {newest oldest : N} {order : List ℕ}
       (whole : IsWhole number link none slots newest oldest order) where
-    pub newest_shown : (r : Option ℕ) → IfNone r (newest ≡ none)
-        → IfSome r (λ b. (newest ≢ none) × (b ≡ number newest)) → r ≡ first_bucket order
-    newest_shown r = read_link r (first_bucket order) newest whole.chain.newest_first
-        (λ y e. chained_below whole.chain y (first_in order y e))
-
-    pub last_shown : (r : Option ℕ) → IfNone r (oldest ≡ none) → IfSome r (λ b. (oldest ≢ none) × (b ≡ number oldest))
-        → r ≡ last_bucket order
-    last_shown r = read_link r (last_bucket order) oldest whole.chain.oldest_last
-        (λ y e. chained_below whole.chain y (last_in order y e))
-
     pub first_shown : 0 < length order → first_bucket order ≡ Some (number newest)
     first_shown p = leads_to (first_bucket order) newest whole.chain.newest_first
         (λ y e. chained_below whole.chain y (first_in order y e)) (first_some order p)
@@ -77,18 +61,6 @@ module _ {N : Type 0} {number : N → ℕ} {link : ℕ → N} {none : N}
       inside = whole.all b full_entry
 
       module _ (entry : Entry K V N) (is : entry_at slots b ≡ Some entry) where
-        pub older_shown : (r : Option ℕ) → IfNone r (entry.older ≡ none)
-            → IfSome r (λ c. (entry.older ≢ none) × (c ≡ number entry.older)) → r ≡ bucket_after b order
-        older_shown r at_none at_some =
-            read_link r (bucket_after b order) entry.older (older_link laws whole.chain b inside entry is)
-            (λ y e. chained_below whole.chain y (after_in b y order e)) at_none at_some
-
-        pub newer_shown : (r : Option ℕ) → IfNone r (entry.newer ≡ none)
-            → IfSome r (λ c. (entry.newer ≢ none) × (c ≡ number entry.newer)) → r ≡ bucket_before b order
-        newer_shown r at_none at_some =
-            read_link r (bucket_before b order) entry.newer (newer_link laws whole.chain b inside entry is)
-            (λ y e. chained_below whole.chain y (before_in b y order whole.chain.distinct e)) at_none at_some
-
         -- what its links lead to
         pub older_number : (c : ℕ) → bucket_after b order ≡ Some c → number entry.older ≡ c
         older_number c e = number_at (bucket_after b order) entry.older (older_link laws whole.chain b inside entry is) c e

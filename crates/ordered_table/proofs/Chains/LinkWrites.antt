@@ -51,16 +51,6 @@ module _ {K V N : Type 0} (slots : List (Slot (Entry K V N))) (b : ℕ) (entry :
         others = entry_at-refilled_other slots b next;
       }
 
-  -- a write of the older link, if the newer one is known
-  pub SetsLinks-older : (newer older : N) → newer_at slots b ≡ Some newer
-      → SetsLinks slots (set slots b
-      (refilled (bucket_at slots b) (record { pair = entry.pair; newer = entry.newer; older = older }))) b newer older
-  SetsLinks-older newer older known =
-      let same : entry.newer ≡ newer = same_Some _ _ (sym (ap (option_map (λ x. x.newer)) there) ∙ known) in
-      subst (λ n. SetsLinks slots (set slots b
-      (refilled (bucket_at slots b) (record { pair = entry.pair; newer = entry.newer; older = older }))) b n older) same
-      (SetsLinks-written entry.newer older)
-
   module _ (number : N → ℕ) (at to : N) (is : b ≡ number at) where
     -- a write of the link of one kind
     set_link : (kind other : Entry K V N → N) (next : Entry K V N)

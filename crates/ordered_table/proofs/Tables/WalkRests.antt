@@ -59,10 +59,6 @@ last_split b [] e = absurd (none-some b e)
 last_split b (x ∷ []) e = ([], ap (λ c. c ∷ []) (same_Some x b e))
 last_split b (x ∷ y ∷ ys) e = let r = last_split b (y ∷ ys) e in (x ∷ r.0, ap (λ l. x ∷ l) r.1)
 
-first_none : (xs : List ℕ) → first_bucket xs ≡ None → 0 < length xs → ⊥
-first_none [] e some = absurd (omega (arith, some))
-first_none (x ∷ xs) e some = none-some x (sym e)
-
 last_none : (xs : List ℕ) → last_bucket xs ≡ None → 0 < length xs → ⊥
 last_none [] e some = absurd (omega (arith, some))
 last_none (x ∷ []) e some = none-some x (sym e)
@@ -84,23 +80,21 @@ some_or (Some b) d some = refl
 
 module _ {K V : Type 0} (t : OrderedTable K V) where
   -- the whole order is left
-  pub rest-whole : IsLinked t
-      → IsRest t (unwrap_or (first_bucket t.order) 0) (unwrap_or (last_bucket t.order) 0) (length t.order)
-  rest-whole linked = record {
+  pub rest-whole : (front back : ℕ) → IsLinked t
+      → (0 < length t.order → (first_bucket t.order ≡ Some front) × (last_bucket t.order ≡ Some back))
+      → IsRest t front back (length t.order)
+  rest-whole front back linked ends = record {
     linked = linked;
     before = [];
     middle = t.order;
     after = [];
     order = sym (append-nil t.order);
     count = refl;
-    first = λ some. some_or (first_bucket t.order) 0 (λ e. first_none t.order e some);
-    last = λ some. some_or (last_bucket t.order) 0 (λ e. last_none t.order e some);
+    first = λ some. (ends some).0;
+    last = λ some. (ends some).1;
   }
 
   module _ (front back left : ℕ) (rest : IsRest t front back left) where
-    whole_distinct : AllPairs ◌≢◌ (rest.before ++ (rest.middle ++ rest.after))
-    whole_distinct = subst (AllPairs ◌≢◌) rest.order rest.linked.distinct
-
     pub rest-is : rest_of t front left ≡ entries_in t.slots rest.middle
     rest-is = ap (entries_in t.slots) (go rest.middle rest.count rest.order rest.first)
       where

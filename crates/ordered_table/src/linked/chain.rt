@@ -239,7 +239,7 @@ fn moved_link<N: LinkType>(links: &[N], link: N) -> N
 
 // Returns whether a link is `MAX`, which leads to no bucket.
 #[inline]
-pub(crate) fn is_max<N: LinkType>(link: N) -> bool
+fn is_max<N: LinkType>(link: N) -> bool
     ensures { MatchBool result (link ≡ N.MAX) (link ≢ N.MAX) }
 {
     link.into_usize() == N::MAX.into_usize()

@@ -16,11 +16,11 @@ impl<K, V, N: LinkType> OrderedTable<K, V, N> {
         if index >= self.len() {
             return None;
         }
-        let mut at = self.first();
+        let mut at = self.newest();
         'links: for _ in 0..index {
-            at = self.older(at?);
+            at = self.older_unless_last(at);
         }
-        at
+        Some(at)
     }
 
     /// Returns the index of a full bucket in the order, counted from 0, the newest.
@@ -32,10 +32,11 @@ impl<K, V, N: LinkType> OrderedTable<K, V, N> {
     {
         // Nothing at run time: it shows the proof that an index fits.
         let _ = self.len();
-        let mut newer = self.newer(b);
+        let first = self.newest();
+        let mut at = b;
         let mut index = 0;
-        'links: while let Some(found) = newer {
-            newer = self.newer(found);
+        'links: while at != first {
+            at = self.newer_unless_first(at);
             index += 1;
         }
         index

@@ -1,6 +1,6 @@
 -- After n steps `at` is the bucket at index n.
-use Rattle.std.proofs.Common.{◌≡◌, slice_get}
+use Rattle.std.proofs.Common.{◌≡◌, Some, slice_get}
 use Rattle.ordered_table.proofs.ordered.OrderedTable.at_index.Given as goal
 
 abbrev pub invariant-links : goal.invariant-links
-invariant-links g l = l.at ≡ slice_get l.self.order l.counter
+invariant-links g l = slice_get l.self.order l.counter ≡ Some l.at

@@ -1,60 +1,33 @@
-use Rattle.std.proofs.Common.{◌≡◌, ℕ, ◌+◌, zero, suc, List, slice_get, Some, None, refl, ap, sym, ◌∙◌, subst, arith}
-use Rattle.std.proofs.lemmas.Option.{none-some, slice_get_within, slice_get-get_or}
-use Rattle.lru_model.specs.Lists.{last_of}
-use Rattle.ordered_table.proofs.Tables.Places.{got_in, before_at, get_none}
+use Rattle.std.proofs.Common.{◌≡◌, ℕ, ◌+◌, zero, suc, slice_get, Some, ap, sym, ◌∙◌, subst, arith}
+use Rattle.std.specs.Prelude.{slice_index_or}
+use Rattle.std.proofs.lemmas.Option.{same_Some, slice_get_within, slice_get-get_or}
+use Rattle.ordered_table.proofs.Tables.Places.{before_at, first_at, same_position}
 use Rattle.ordered_table.proofs.ordered.OrderedTable.index_of.Goals as goal
 
--- the bucket before position i is at the position before
-before : (order : List ℕ) (i b : ℕ) → last_of i order ≡ Some b
-    → (n : ℕ) × (i ≡ suc n) × (slice_get order n ≡ Some b)
-before order zero b e = absurd (none-some b e)
-before order (suc n) b e = (n, refl, e)
-
-pub links-init : goal.links-init
-links-init g c =
-    let order = c.args.self.now.order in let linked = c.len.ensures.linked in
-    let (i, within, is) = linked.all c.args.b c.requires in
-    let there : slice_get order i ≡ Some c.args.b = slice_get-get_or order i c.args.b within ∙ ap Some is in (
-      i,
-      c.newer-newer.ensures.newer ∙ before_at order i c.args.b linked.distinct there,
-      subst (λ j. slice_get order j ≡ Some c.args.b) (omega arith) there,
-    )
-
-pub newer-newer-requires-in-Some : goal.newer-newer-requires-in-Some
-newer-newer-requires-in-Some g c =
-    let order = c.args.self.now.order in let (i, is, there) = c.links.invariant in
-    let (n, at, found) = before order i c.in-Some.found (sym is ∙ c.in-Some.is) in
-    c.len.ensures.linked.only c.in-Some.found (got_in order n c.in-Some.found found)
-
-pub overflow_add-index : goal.overflow_add-index
-overflow_add-index g c =
-    let order = c.args.self.now.order in let (i, is, there) = c.links.invariant in
-    let (n, at, found) = before order i c.in-Some.found (sym is ∙ c.in-Some.is) in
-    omega (arith, at, slice_get_within order (i + c.links.index) c.args.b there, c.len.ensures.len)
-
-pub links-smaller : goal.links-smaller
-links-smaller g c =
-    let order = c.args.self.now.order in let (i, is, there) = c.links.invariant in
-    omega (arith, slice_get_within order (i + c.links.index) c.args.b there)
-
 pub links-preserved : goal.links-preserved
-links-preserved g c =
-    let order = c.args.self.now.order in let (i, is, there) = c.links.invariant in
-    let (n, at, found) = before order i c.in-Some.found (sym is ∙ c.in-Some.is) in (
-      n,
-      c.newer-newer-in-Some.ensures.newer ∙ before_at order n c.in-Some.found c.len.ensures.linked.distinct found,
-      subst (λ j. slice_get order j ≡ Some c.args.b) (omega (arith, at)) there,
-    )
+links-preserved g c = let (i, at, there) = c.links.invariant in go i at there
+  where
+    go : (i : ℕ) → slice_get c.args.self.now.order i ≡ Some c.links.at
+        → slice_get c.args.self.now.order (i + c.links.index) ≡ Some c.args.b
+        → (n : ℕ) × (slice_get c.args.self.now.order n ≡ Some c.newer_unless_first-at.result)
+        × (slice_get c.args.self.now.order (n + (c.links.index + 1)) ≡ Some c.args.b)
+    go zero at there =
+        let first = sym at ∙ sym (first_at c.args.self.now.order) ∙ c.newest-first.ensures.newest in
+        absurd (c.links-test.true (same_Some c.links.at c.newest-first.result first))
+    go (suc n) at there =
+        let order = c.args.self.now.order in let d = c.links.at in
+        let within = slice_get_within order (suc n) d at in
+        let found = slice_get-get_or order n d (omega (arith, within)) in
+        let is = c.newer_unless_first-at.ensures.newer (slice_index_or order n d)
+        (before_at order (suc n) d c.len.ensures.linked.distinct at ∙ found) in (
+          n,
+          found ∙ ap Some (sym is),
+          subst (λ j. slice_get order j ≡ Some c.args.b) (omega arith) there,
+        )
 
 pub returns : goal.returns
-returns g c = let (i, is, there) = c.links.invariant in record { index = go i (sym is ∙ c.in_default.is) there }
-  where
-    go : (i : ℕ) → last_of i c.args.self.now.order ≡ None
-        → slice_get c.args.self.now.order (i + c.links.index) ≡ Some c.args.b
-        → slice_get c.args.self.now.order c.links.index ≡ Some c.args.b
-    go zero none there = subst (λ j. slice_get c.args.self.now.order j ≡ Some c.args.b) (omega arith) there
-    go (suc n) none there = absurd (omega (
-      arith,
-      get_none c.args.self.now.order n none,
-      slice_get_within c.args.self.now.order (suc n + c.links.index) c.args.b there,
-    ))
+returns g c =
+    let order = c.args.self.now.order in let (i, at, there) = c.links.invariant in
+    let zeroth = same_position order i 0 c.links.at c.len.ensures.linked.distinct at
+    (sym (first_at order) ∙ c.newest-first.ensures.newest ∙ ap Some (sym c.links-test.false)) in
+    record { index = subst (λ j. slice_get order j ≡ Some c.args.b) (omega (arith, zeroth)) there }

@@ -1,11 +1,10 @@
--- `newer` is the bucket before position i of the order, and `index` further is the bucket `b`.
+-- `at` is the bucket at some position of the order, and `index` further is the bucket `b`.
 use Rattle.std.proofs.Common.{◌≡◌, ℕ, ◌+◌, ◌-◌, length, slice_get, Some}
-use Rattle.lru_model.specs.Lists.{last_of}
 use Rattle.ordered_table.proofs.ordered.OrderedTable.index_of.Given as goal
 
 abbrev pub invariant-links : goal.invariant-links
 invariant-links g l =
-    (i : ℕ) × (l.newer ≡ last_of i l.self.order) × (slice_get l.self.order (i + l.index) ≡ Some l.b)
+    (i : ℕ) × (slice_get l.self.order i ≡ Some l.at) × (slice_get l.self.order (i + l.index) ≡ Some l.b)
 
 abbrev pub decreases-links : goal.decreases-links
 decreases-links g l = length l.self.order - l.index

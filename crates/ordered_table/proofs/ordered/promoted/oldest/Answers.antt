@@ -1,17 +1,24 @@
-use Rattle.std.proofs.Common.{sym, ap, ◌∙◌, Some}
-use Rattle.std.specs.Prelude.{unwrap_or}
-use Rattle.ordered_table.proofs.Tables.PromotedOrders.{promoted_in, oldest_skips, last_keeps}
+use Rattle.std.proofs.Common.{ap, sym, ◌∙◌, Some}
+use Rattle.std.proofs.lemmas.Option.{same_Some}
+use Rattle.ordered_table.proofs.Tables.PromotedOrders.{oldest_past, oldest_alone, oldest_kept}
 use Rattle.ordered_table.proofs.ordered.promoted.oldest.Goals as goal
 
-pub returns-then-is_at : goal.returns-then-is_at
-returns-then-is_at g c =
-    let linked = c.requires.linked in let inn = promoted_in c.args.table.now c.args.promoted linked c.requires.promoted in
-    oldest_skips c.args.table.now.order linked.distinct c.args.promoted inn c.oldest-b.result c.oldest-b.ensures.oldest
-    (rw c.if-is_at.true at c.is_at.ensures)
-    ∙ ap (λ o. Some (unwrap_or o c.oldest-b.result)) (sym c.newer.ensures.newer) ∙ ap Some (sym c.unwrap_or.ensures)
+pub returns-then-newest-p : goal.returns-then-newest-p
+returns-then-newest-p g c =
+    let linked = c.requires.linked in let full = rw c.in-Some.is at c.requires.promoted in
+    rw c.in-Some.is (oldest_alone c.args.table.now.order linked.distinct c.in-Some.p (linked.all c.in-Some.p full)
+    (c.oldest-b.ensures.oldest ∙ ap Some (sym c.if-p-b.true)) (c.newest.ensures.newest ∙ ap Some c.if-newest-p.true))
 
-pub returns : goal.returns
-returns g c =
-    let linked = c.requires.linked in let inn = promoted_in c.args.table.now c.args.promoted linked c.requires.promoted in
-    sym (last_keeps c.args.table.now.order linked.distinct c.args.promoted inn c.oldest-b.result c.oldest-b.ensures.oldest
-    (rw c.if-is_at.false at c.is_at.ensures))
+pub returns-else-newest-p : goal.returns-else-newest-p
+returns-else-newest-p g c =
+    let linked = c.requires.linked in let full = rw c.in-Some.is at c.requires.promoted in
+    rw c.in-Some.is (oldest_past c.args.table.now.order linked.distinct c.in-Some.p (linked.all c.in-Some.p full)
+    (c.oldest-b.ensures.oldest ∙ ap Some (sym c.if-p-b.true))
+    (λ e. c.if-newest-p.false (same_Some c.newest.result c.in-Some.p (sym c.newest.ensures.newest ∙ e)))
+    c.newer_unless_first.result c.newer_unless_first.ensures.newer)
+
+pub returns-in_default : goal.returns-in_default
+returns-in_default g c =
+    let linked = c.requires.linked in let full = rw c.in-Some.is at c.requires.promoted in
+    rw c.in-Some.is (oldest_kept c.args.table.now.order linked.distinct c.in-Some.p (linked.all c.in-Some.p full)
+    c.oldest-b.result c.oldest-b.ensures.oldest c.if-p-b.false)
