@@ -80,9 +80,6 @@ module _ {K V : Type 0} (t : OrderedTable K V) (linked : IsLinked t) where
       pair_found = ap (lookup_entry names) cut_pairs ∙ cut_found names p named (entries_in t.slots cut_here.before)
           (entries_in t.slots cut_here.after) unnamed
 
-      pub value_found : lookup names (pairs_of t) ≡ Some p.1
-      value_found = lookup-entry names (pairs_of t) ∙ ap (option_map (λ e. e.1)) pair_found
-
       -- the place of the pair
       pub place_found : place_of names (pairs_of t) t.order ≡ Some b
       place_found = (λ i. place_of names (cut_pairs i) (cut_here.whole i))
