@@ -2,19 +2,19 @@
 use Rattle.std.proofs.Common.{◌≡◌, ℕ, suc, Bool, true, false, List, [], ◌∷◌, ◌++◌, length, Some, None, refl, sym, ap}
 use Rattle.std.proofs.Common.{◌∙◌, subst, arith, append-nil, inl, inr}
 use Rattle.std.specs.Cmp.{IsEquivalence}
-use Rattle.std.specs.Prelude.{Contains, option_to_list, option_map}
+use Rattle.std.specs.Prelude.{Contains, option_to_list}
 use Rattle.std.specs.List.{AllByRecursion}
 use Rattle.group_table.specs.Bucket.{Slot, empty, deleted, IsFull, bucket_at, entry_at}
 use Rattle.group_table.specs.Change.{Removes}
 use Rattle.group_table.proofs.SearchLemmas.{entry_by_full, full_by_entry}
 use Rattle.std.proofs.lemmas.List.Elements.{Contains-append_left}
 use Rattle.lru_model.specs.Lists.{place_of, other_places, front_places, after}
-use Rattle.lru_model.specs.Lists.{lookup, lookup_entry, without, first, last, without_first, without_last}
+use Rattle.lru_model.specs.Lists.{lookup_entry, without, first, last, without_first, without_last}
 use Rattle.ordered_table.specs.OrderedTable.{OrderedTable, IsLinked, entries_in, pairs_of, without_bucket}
 use Rattle.lru_model.specs.Lists.{first as first_bucket, last as last_bucket}
 use Rattle.lru_model.proofs.PairLists.DistinctKeys.{AreDistinct, NoneNamed, none_found}
 use Rattle.ordered_table.proofs.Chains.Orders.{first_in, no_first, last_in, length-without}
-use Rattle.lru_model.proofs.PairLists.NamedPairs.{lookup-entry, cut_found, cut_without, others_unnamed, last_end}
+use Rattle.lru_model.proofs.PairLists.NamedPairs.{cut_found, cut_without, others_unnamed, last_end}
 use Rattle.lru_model.proofs.PairLists.NamedPairs.{without_last_end}
 use Rattle.ordered_table.proofs.Tables.OrderCuts.{Cut, cut_at, cut_first, cut_last, cut_without as order_without}
 use Rattle.ordered_table.proofs.Tables.OrderCuts.{without_lacks, entries-cut, entries-without, entries-apart}
