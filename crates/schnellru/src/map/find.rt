@@ -71,6 +71,7 @@ impl<K: Eq + Hash, V, L: Limiter<K, V>, S: KeyHasher<K>> LruMap<K, V, L, S> {
         ensures promoted { (names : K → Bool) → ((x y : K) → IsTrue (names x) → names y ≡ K.eq x y) →
             place_in names self.old ≡ Some b → self.new ≡ promoted names self.old }
         ensures there { Contains self.new.table.places b }
+        ensures map { IsMap K.eq self.new }
     {
         self.entries.promote(b);
     }
@@ -79,8 +80,9 @@ impl<K: Eq + Hash, V, L: Limiter<K, V>, S: KeyHasher<K>> LruMap<K, V, L, S> {
     #[inline]
     pub(super) fn demote_at(&mut self, b: usize)
         requires { Contains self.old.table.places b }
-        ensures { (names : K → Bool) → ((x y : K) → IsTrue (names x) → names y ≡ K.eq x y) →
+        ensures demoted { (names : K → Bool) → ((x y : K) → IsTrue (names x) → names y ≡ K.eq x y) →
             place_in names self.old ≡ Some b → self.new ≡ demoted names self.old }
+        ensures map { IsMap K.eq self.new }
     {
         self.entries.demote(b);
     }

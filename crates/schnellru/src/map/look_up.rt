@@ -90,8 +90,6 @@ impl<K: Eq + Hash, V, L: Limiter<K, V>, S: KeyHasher<K>> LruMap<K, V, L, S> {
         match self.find(key) {
             Some(b) => {
                 self.promote_at(b);
-                // Nothing at run time: it opens the map, whose invariant is the clause `map`.
-                let _ = &self.entries;
                 true
             }
             None => false,
@@ -118,8 +116,6 @@ impl<K: Eq + Hash, V, L: Limiter<K, V>, S: KeyHasher<K>> LruMap<K, V, L, S> {
         match self.find(key) {
             Some(b) => {
                 self.demote_at(b);
-                // Nothing at run time: it opens the map, whose invariant is the clause `map`.
-                let _ = &self.entries;
                 true
             }
             None => false,

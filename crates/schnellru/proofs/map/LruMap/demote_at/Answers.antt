@@ -17,11 +17,14 @@ invariant_of-self g c =
     (g.K.PartialEq.eq p.0) laws (λ x y h. laws.congr p.0 x y h) (laws.refl p.0) holds.map.distinct _
     g.S.KeyHasher.hash_of holds e.linked
 
-pub returns : goal.returns
-returns g c = λ names one at.
+pub returns-clause-demoted : goal.returns-clause-demoted
+returns-clause-demoted g c = λ names one at.
     let m = c.self.inside in let t = m.entries in let holds = c.self.invariant in let e = c.demote.ensures in
     let laws = g.met.K.Eq.laws in
     let (p, there, named) = pair_of_place t holds.linked names laws one holds.map.distinct c.args.b
     (rw (← c.self.view_is) at at) in
     rw (← c.self.view_is) (demoted_state t c.demote.new.self holds.linked c.args.b p there e.slots e.order e.insertions
     names laws one named holds.map.distinct _)
+
+pub returns-clause-map : goal.returns-clause-map
+returns-clause-map g c = (invariant_of-self g c).map

@@ -32,3 +32,6 @@ returns-clause-promoted g c = λ names one at.
     (rw (← c.self.view_is) at at) in
     rw (← c.self.view_is) (promoted_state t c.promote.new.self holds.linked c.args.b p there e.slots e.order
     e.insertions names laws one named holds.map.distinct _)
+
+pub returns-clause-map : goal.returns-clause-map
+returns-clause-map g c = (invariant_of-self g c).map
