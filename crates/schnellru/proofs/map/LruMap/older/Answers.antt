@@ -10,10 +10,14 @@ older_unless_last-requires g c = c.self.invariant.linked.only c.args.b
 
 pub returns-then-len-at-gt1 : goal.returns-then-len-at-gt1
 returns-then-len-at-gt1 g c = let order = c.self.inside.entries.order in
-    rw (← c.self.view_is) (record { next = next_place order c.args.at c.args.b c.older_unless_last.result
-        c.self.invariant.linked.distinct (rw (← c.self.view_is) at c.requires)
-        (omega (arith, c.if-len-at-gt1.true, c.len.ensures.len)) c.older_unless_last.ensures.older })
+    rw (← c.self.view_is) (record {
+      next = next_place order c.args.at c.args.b c.older_unless_last.result
+          c.self.invariant.linked.distinct (rw (← c.self.view_is) at c.requires)
+          (omega (arith, c.if-len-at-gt1.true, c.len.ensures.len)) c.older_unless_last.ensures.older;
+    })
 
 pub returns-else-len-at-gt1 : goal.returns-else-len-at-gt1
-returns-else-len-at-gt1 g c = rw (← c.self.view_is) (record { next = sym (slice_get_past c.self.inside.entries.order
-    (c.args.at + 1) (omega (arith, c.if-len-at-gt1.false, c.len.ensures.len))) })
+returns-else-len-at-gt1 g c = rw (← c.self.view_is) (record {
+  next = sym (slice_get_past c.self.inside.entries.order
+      (c.args.at + 1) (omega (arith, c.if-len-at-gt1.false, c.len.ensures.len)));
+})
