@@ -29,7 +29,7 @@ pub enum FileError {
     #[error("the file has changed")]
     Changed,
     /// Out of memory for a copy or a hash of each block.
-    #[error("no memory")]
+    #[error("out of memory")]
     Memory,
 }
 

@@ -7,7 +7,6 @@ use Rattle.group_table.specs.Layout.{slots_of, marks_by, IsValid}
 use Rattle.group_table.proofs.SizeLemmas.{full_capacity-lt, full_capacity-small}
 use Rattle.group_table.proofs.BucketLemmas.{some_empty, room_is, used_count-marks_of, deleted_count-marks_of}
 use Rattle.group_table.proofs.BucketLemmas.{deleted_count-none, empty_not_deleted, bucket_at-past}
-use Rattle.group_table.proofs.CountedMarks.{IsTable-counted}
 use Rattle.group_table.proofs.LayoutLemmas.{length-laid_out, length-marks_by, power_of}
 
 module _ {T : Type 0} (control : List ℕ) (entries : List (Option T)) (r : ℕ) (valid : IsValid control entries r) where
@@ -50,8 +49,10 @@ module _ {T : Type 0} (control : List ℕ) (entries : List (Option T)) (r : ℕ)
 
   pub IsTable-by : IsTable (marks_by control entries)
   IsTable-by =
-      let same = length-marks_by control entries valid.laid_out in
-      IsTable-counted (marks_by control entries) (rw same bucket_count) (omega (arith, used_is, ap full_capacity same))
-      (elim valid.laid_out.counts
-      [ inl w ↦ omega (arith, w.0, same) | inr w ↦ omega (arith, w.1, same, valid.laid_out.fits) ])
-      (λ small. none_deleted_small (omega (arith, small, same)))
+      let same = length-marks_by control entries valid.laid_out in record {
+        count = rw same bucket_count;
+        addressable = elim valid.laid_out.counts
+            [ inl w ↦ omega (arith, w.0, same) | inr w ↦ omega (arith, w.1, same, valid.laid_out.fits) ];
+        used_within = omega (arith, used_is, ap full_capacity same);
+        none_deleted = λ small. none_deleted_small (omega (arith, small, same));
+      }

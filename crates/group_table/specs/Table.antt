@@ -1,8 +1,7 @@
 -- What a contract sees of a `Table`, and what it knows of any.
 use Rattle.std.specs.Prelude.{◌≡◌, ℕ, ◌+◌, ◌^◌, ◌<◌, ◌≤◌, List, length, count_by, slice_set}
 use Rattle.group_table.specs.Sizes.{IsBucketCount, full_capacity}
-use Rattle.group_table.specs.Bucket.{Slot, Mark, empty, bucket_at, refilled, is_deleted, is_used, entry_count, room}
-use Rattle.group_table.specs.Probe.{probed, IsFirstFree}
+use Rattle.group_table.specs.Bucket.{Slot, Mark, bucket_at, refilled, is_deleted, is_used}
 
 -- how many insertions the table has made: of entries that were new to it, and of entries that it moved
 pub record Insertions : Type 0 where
@@ -23,13 +22,5 @@ pub record IsTable (marks : List Mark) : Type 0 where
   pub count : IsBucketCount (length marks)
   pub addressable : length marks + 16 < 2 ^ 63
   pub used_within : count_by is_used marks ≤ full_capacity (length marks)
-  pub within : entry_count marks + room marks ≤ full_capacity (length marks)
-  -- up to 16 buckets none is deleted, so each entry that is taken out gives growth left back
-  pub exact : length marks ≤ 16 → entry_count marks + room marks ≡ full_capacity (length marks)
+  -- up to 16 buckets none is deleted
   pub none_deleted : length marks ≤ 16 → count_by is_deleted marks ≡ 0
-  -- with buckets, one is empty, and a search for any hash finds a free one
-  pub some_empty : 0 < length marks → (b : ℕ) × (b < length marks) × (bucket_at marks b ≡ empty)
-  pub some_free : 0 < length marks → (hash : ℕ) → (b : ℕ) × (b < length marks) × IsFirstFree marks hash b
-  -- in n steps a search of n buckets visits each
-  pub visits_each : (hash b : ℕ) → b < length marks
-      → (step : ℕ) × (step < length marks) × (probed (length marks) hash step ≡ b)

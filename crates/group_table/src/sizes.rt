@@ -16,8 +16,8 @@ pub fn full_capacity(buckets: usize) -> usize
     }
 }
 
-/// Returns the number of buckets for `capacity` entries, which is 0 or below `max`, one more than the greatest number
-/// of a link. Returns `None` if there is no such number, or eight times the capacity overflows.
+/// Returns the number of buckets for `capacity` entries: 0 for none, else a power of two. Returns `None` if it is not
+/// below `max`, the number of the link type's `MAX`, or if eight times the capacity overflows.
 #[tactic(auto, unfolding(crate::specs::Sizes::buckets_for))]
 pub fn buckets_for_capacity(capacity: usize, max: usize) -> Option<usize>
     ensures value { result ≡ buckets_for max capacity }

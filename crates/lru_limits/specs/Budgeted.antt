@@ -27,11 +27,11 @@ pub record IsBudgeted {K V S : Type 0} (rules : Rules K V S) (offers : Offers K 
   pub refuses : (s : S) (n : ℕ) (k : K) (v : V) → accepts s k v ≡ false → offers.on_insert s n k v s None
   -- an offer never runs out of memory
   pub finds : (s : S) (n : ℕ) (k : K) (v : V) → offers.may_run_out s n k v → ⊥
-  -- a removal changes neither key nor value, and a replacement no value
+  -- a removal and a replacement change neither a key nor a value
   pub leaves : (s : S) (k : K) (v : V)
       → ((rules.on_removed s k v).key ≡ k) × ((rules.on_removed s k v).value ≡ v)
   pub replaces : (s : S) (n : ℕ) (k i : K) (v w : V) → let r = offers.on_replace s n k i v w in
-      (r.old_value ≡ v) × (r.new_value ≡ w)
+      (r.key ≡ k) × (r.old_value ≡ v) × (r.new_value ≡ w)
   -- a limiter that is made has its budget, and the running total 0
   pub made_budget : (b : ℕ) → budget (made b) ≡ b
   pub made_empty : (b : ℕ) → account (made b) ≡ 0
@@ -65,7 +65,7 @@ weighs-budgeted weight = record {
   refuses = λ b n k v refused. kept-out b _ k v (can_add b.limit b.cost (weight k v)) refused;
   finds = λ b n k v out_of_memory. out_of_memory;
   leaves = λ b k v. (refl, refl);
-  replaces = λ b n k i v w. (refl, refl);
+  replaces = λ b n k i v w. (refl, refl, refl);
   made_budget = λ limit. refl;
   made_empty = λ limit. refl;
   set_budget = λ limit b. refl;

@@ -49,13 +49,13 @@ impl RandomState {
     /// ```
     /// let state = RandomState::with_seeds([5, 6, 7, 8]);
     /// ```
-    pub fn with_seeds(words: [u64; 4]) -> RandomState
-        ensures { result ≡ seeded words }
+    pub fn with_seeds(seeds: [u64; 4]) -> RandomState
+        ensures { result ≡ seeded seeds }
     {
         RandomState {
-            state: words[0] ^ STATE,
-            word_key: words[1] ^ WORD_KEY,
-            rest_key: folded(words[2] ^ REST_KEY, words[3] ^ REST_FACTOR),
+            state: seeds[0] ^ STATE,
+            word_key: seeds[1] ^ WORD_KEY,
+            rest_key: folded(seeds[2] ^ REST_KEY, seeds[3] ^ REST_FACTOR),
         }
     }
 }

@@ -13,12 +13,12 @@
 //! `docs/LIMITERS.md` shows how to write a limiter and a look-up key of your own.
 #![tactic(auto)]
 
-pub mod accounts;
-pub mod admission;
-pub mod hasher;
-pub mod keys;
-pub mod limiter;
-pub mod limiters;
+mod accounts;
+mod admission;
+mod hasher;
+mod keys;
+mod limiter;
+mod limiters;
 
 pub use accounts::{Budgeted, ByCost, ByWeight, Costed, Summing};
 pub use admission::Admission;

@@ -10,6 +10,8 @@ mod by_text_length;
 #[cfg(test)]
 mod examples;
 #[cfg(test)]
+mod few;
+#[cfg(test)]
 mod limiters;
 #[cfg(test)]
 mod removed_keys;

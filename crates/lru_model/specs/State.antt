@@ -54,7 +54,7 @@ pub record State (K V S H : Type 0) : Type 0 where
 -- what holds of the bucket states and the counts of every map with n pairs
 pub record IsSound (n entry_bytes max : ℕ) (marks : List Mark) (counts : Counts) : Type 0 where
   pub table : IsTable marks
-  -- each pair has a bucket, and each full bucket a pair
+  -- the number of full buckets is the number of pairs
   pub taken : entry_count marks ≡ n
   -- links reach every bucket
   pub reachable : (length marks ≡ 0) ⊎ (length marks < max)

@@ -46,12 +46,13 @@ module _ {K V S : Type 0} (terms : Terms K V S) (rules : Rules K V S) where
         cannot_store : lookup_entry (eq key) old.pairs ≡ None → can_store key value (contents old) ≡ false →
             result ≡ Err (key, value) → new ≡ old →
             TryInsert result new
-        -- There is no growth left, and none is made,
-        unready : lookup_entry (eq key) old.pairs ≡ None → IsUnready new →
-            result ≡ Err (key, value) →
+        -- The limiter can store the pair, but no growth is left, and a reservation fails, or leaves a limiter that
+        -- cannot store the pair.
+        unready : lookup_entry (eq key) old.pairs ≡ None → can_store key value (contents old) ≡ true →
+            IsUnready new → result ≡ Err (key, value) →
             TryInsert result new
-        -- or the pair is inserted.
-        inserted : lookup_entry (eq key) old.pairs ≡ None →
+        -- The limiter can store the pair, and it is inserted.
+        inserted : lookup_entry (eq key) old.pairs ≡ None → can_store key value (contents old) ≡ true →
             (ready : State K V S H) → IsReady rules old ready → can_store key value (contents ready) ≡ true →
             result ≡ Ok tt → Insert rules offers eq hash_of key value ready (Ok true) new →
             TryInsert result new

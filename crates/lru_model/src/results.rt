@@ -1,5 +1,6 @@
 //! The types that the calls of a map return, except the types of std.
 
+use std::fmt::Display;
 use thiserror::Error;
 
 /// What an insert did, with the value that the map does not keep.
@@ -54,14 +55,14 @@ pub enum Updated<V> {
 /// ```
 #[derive(Clone, Copy, Debug, PartialEq, Eq, Error)]
 pub enum ReserveError {
-    /// There is no table for that many entries.
+    /// There is no larger table that holds the entries, or their number overflows.
     #[error("too large")]
     TooLarge = 1,
     /// The limiter refused the table.
-    #[error("refused")]
+    #[error("the limiter refused the larger table")]
     Refused = 2,
     /// Out of memory.
-    #[error("no memory")]
+    #[error("out of memory")]
     Memory = 3,
 }
 
@@ -72,12 +73,13 @@ pub enum ReserveError {
 /// assert_eq!(rt; answer, Err(GetOrInsertError::Caller(7)));
 /// ```
 #[derive(Debug, Drop, PartialEq, Eq, Error)]
+#[error_bound(E: Display)]
 pub enum GetOrInsertError<E> {
     /// Out of memory.
-    #[error("no memory")]
+    #[error("out of memory")]
     Memory,
     /// The closure failed.
-    #[error("the closure failed")]
+    #[error("the closure failed: {0}")]
     Caller(E),
 }
 

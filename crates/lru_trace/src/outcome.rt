@@ -24,7 +24,7 @@ pub enum TraceError {
     #[error("write failed")]
     Write = 2,
     /// Out of memory.
-    #[error("no memory")]
+    #[error("out of memory")]
     Memory = 3,
 }
 

@@ -21,7 +21,7 @@ fn of_the_errors(rt: HostRuntime) -> Result<(), Fail> {
     for (error, text) in [
         (TraceError::Read, "read failed"),
         (TraceError::Write, "write failed"),
-        (TraceError::Memory, "no memory"),
+        (TraceError::Memory, "out of memory"),
     ] {
         check!(rt; format!(in rt.alloc(); "{error}")?.as_str() == text);
     }

@@ -28,7 +28,7 @@ pub use lru_limits::{
     UnlimitedCompact,
 };
 pub use lru_model::{GetOrInsertError, Inserted, MoveReport, ReserveError, Updated, laws};
-pub use map::{DEFAULT_ENTRY_BYTES, LruMap};
+pub use map::LruMap;
 pub use ordered_table::{Keys, Values, Walk};
 pub use walk::Iter;
 pub use walk::drain::Drain;

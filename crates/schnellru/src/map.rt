@@ -2,7 +2,7 @@
 //! each bucket of its table, and its counts.
 ghost use Rattle.std.specs.Prelude.{◌≡◌};
 ghost use Rattle.lru_limits.specs.Mixing.{seeded};
-ghost use Rattle.lru_model.specs.Sizes.{default_entry_bytes, max_of_32_bits};
+ghost use Rattle.lru_model.specs.Sizes.{max_of_32_bits};
 ghost use Rattle.ordered_table.specs.EntrySize.{entry_size};
 ghost use Rattle.lru_model.specs.State.{State, empty_map};
 
@@ -36,9 +36,6 @@ mod trim;
 mod try_insert;
 pub(crate) mod update;
 
-/// The bytes of an entry that `LruMap::default` assumes.
-pub const DEFAULT_ENTRY_BYTES: usize = 32;
-
 /// A hash map that keeps its entries in the order of their use, within the limit of a limiter.
 ///
 /// `get` and `insert` make an entry the newest. The limiter decides which entries the map accepts, how large the table
@@ -58,8 +55,8 @@ pub const DEFAULT_ENTRY_BYTES: usize = 32;
 ///
 /// # The bytes of an entry
 ///
-/// `with_limiter` computes the bytes of an entry, and `default` assumes 32. The other constructors take the number, as
-/// `entry_bytes`. The map computes `memory_usage`, and the sizes that it passes to `on_grow`, from this number. An
+/// `default`, `with_limiter` and `with_limiter_and_hasher` compute the bytes of an entry. The other constructors take the
+/// number, as `entry_bytes`. The map computes `memory_usage`, and the sizes that it passes to `on_grow`, from this number. An
 /// entry contains a key, a value and two links of a type `N`, so the number is `size_of::<(N, N, (K, V))>()`. It is 24
 /// for `u64` keys, `u32` values and links of 32 bits, and 32 for `u64` keys and values and links of 64 bits.
 ///
@@ -143,9 +140,9 @@ impl<K: Eq + Hash, V, L: Limiter<K, V>, S: KeyHasher<K>> LruMap<K, V, L, S> {
         }
     }
 
-    /// Makes an empty map with the default limiter and hasher, and `DEFAULT_ENTRY_BYTES` bytes an entry.
+    /// Makes an empty map with the default limiter and hasher, and computes the bytes of an entry.
     ///
-    /// The seeds of the default hasher are 1, 2, 3 and 4, so everyone knows its hashes. Cost: `O(1)`.
+    /// The seeds of the default hasher are 1, 2, 3 and 4, so everyone knows its hashes. Cost: `O(1)`, and no memory.
     ///
     /// ```
     /// let mut map: LruMap<u64, u64, UnlimitedCompact> = LruMap::default(alloc);
@@ -157,15 +154,16 @@ impl<K: Eq + Hash, V, L: Limiter<K, V>, S: KeyHasher<K>> LruMap<K, V, L, S> {
         L: Default,
         S: Default,
         ensures { (limiter : L) × (hasher : S) × L.is_default limiter × S.is_default hasher
-            × (result ≡ empty_map limiter hasher default_entry_bytes (L.LinkType.number L.LinkType.MAX)) }
+            × (result ≡ empty_map limiter hasher (entry_size K.row V.row L.LinkType.row)
+            (L.LinkType.number L.LinkType.MAX)) }
     {
-        LruMap::with_hasher(alloc, L::default(), S::default(), DEFAULT_ENTRY_BYTES)
+        LruMap::with_limiter(alloc, L::default())
     }
 
-    /// Makes an empty map with this limiter, the default hasher, and the size of a bucket as `entry_bytes`.
+    /// Makes an empty map with this limiter and the default hasher, and computes the bytes of an entry.
     ///
     /// The seeds of the default hasher are 1, 2, 3 and 4, so everyone knows its hashes. If strangers choose the keys,
-    /// call `new` with seeds that nobody can guess. Cost: `O(1)`, and no memory.
+    /// call `with_limiter_and_hasher`, or `new` with seeds that nobody can guess. Cost: `O(1)`, and no memory.
     ///
     /// ```
     /// let mut map: LruMap<u64, u64> = LruMap::with_limiter(alloc, ByLength::new(3));
@@ -180,8 +178,25 @@ impl<K: Eq + Hash, V, L: Limiter<K, V>, S: KeyHasher<K>> LruMap<K, V, L, S> {
             × (result ≡ empty_map limiter hasher (entry_size K.row V.row L.LinkType.row)
             (L.LinkType.number L.LinkType.MAX)) }
     {
+        LruMap::with_limiter_and_hasher(alloc, limiter, S::default())
+    }
+
+    /// Makes an empty map with this limiter and this hasher, and computes the bytes of an entry. Cost: `O(1)`, and no
+    /// memory.
+    ///
+    /// ```
+    /// let seeded = RandomState::with_seeds([5, 6, 7, 8]);
+    /// let map: LruMap<u64, u64> = LruMap::with_limiter_and_hasher(alloc, ByLength::new(3), seeded);
+    /// assert!(rt; map.is_empty());
+    /// ```
+    ///
+    /// After schnellru's `LruMap::with_hasher`, which takes the same arguments.
+    pub fn with_limiter_and_hasher(alloc: Global, limiter: L, hasher: S) -> Self
+        ensures { result ≡ empty_map limiter hasher (entry_size K.row V.row L.LinkType.row)
+            (L.LinkType.number L.LinkType.MAX) }
+    {
         let entry_bytes = OrderedTable::<K, V, L::LinkType>::entry_bytes();
-        LruMap::with_hasher(alloc, limiter, S::default(), entry_bytes)
+        LruMap::with_hasher(alloc, limiter, hasher, entry_bytes)
     }
 }
 
@@ -213,10 +228,10 @@ impl<K: Eq + Hash, V, L: Limiter<K, V>> LruMap<K, V, L, RandomState> {
     /// ```
     ///
     /// After schnellru's `LruMap::with_seed`.
-    pub fn with_seed(alloc: Global, limiter: L, seed: [u64; 4], entry_bytes: usize) -> Self
-        ensures { result ≡ empty_map limiter (seeded seed) entry_bytes (L.LinkType.number L.LinkType.MAX) }
+    pub fn with_seed(alloc: Global, limiter: L, seeds: [u64; 4], entry_bytes: usize) -> Self
+        ensures { result ≡ empty_map limiter (seeded seeds) entry_bytes (L.LinkType.number L.LinkType.MAX) }
     {
-        LruMap::new(alloc, limiter, seed, entry_bytes)
+        LruMap::new(alloc, limiter, seeds, entry_bytes)
     }
 }
 

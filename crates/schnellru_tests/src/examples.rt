@@ -261,6 +261,8 @@ fn of_new_maps(alloc: Global) -> bool {
     );
     let usage = LruMap::<u32, u32, UnlimitedCompact>::memory_usage_for_memory_budget(512, 16);
     let held = held & all!(map.limiter().max_memory_usage() == 84, usage == 288);
+    let map: LruMap<u64, u64> = LruMap::with_limiter_and_hasher(alloc, ByLength::new(3), seeded);
+    let held = held & map.is_empty();
     let mut map: LruMap<u32, u32, ByMemoryUsage> = LruMap::with_memory_budget(
         alloc,
         84,

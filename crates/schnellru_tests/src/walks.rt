@@ -25,7 +25,7 @@ fn is_printed(alloc: Global, map: &Map) -> bool {
     walk.next();
     match format!(in alloc; "{map:?} {walk:?} {failed}, {memory}") {
         Ok(text) => text.as_str()
-            == "LruMap { len: 3, .. } [(2, 20), (1, 100)] the closure failed, no memory",
+            == "LruMap { len: 3, .. } [(2, 20), (1, 100)] the closure failed: 1, out of memory",
         Err(_) => false,
     }
 }

@@ -2,14 +2,13 @@
 use Rattle.std.proofs.Common.{ℕ, Bool, [], refl, arith, inl}
 use Rattle.group_table.specs.Sizes.{full_capacity}
 use Rattle.group_table.specs.Table.{IsTable}
-use Rattle.group_table.proofs.CountedMarks.{IsTable-counted}
 use Rattle.lru_model.specs.Sizes.{usage}
 use Rattle.lru_model.specs.State.{IsSound, IsMap, no_counts, empty_map}
 use Rattle.lru_model.proofs.PairLists.DistinctKeys.{none_distinct}
 
 no_table : IsTable []
 unfolding full_capacity
-no_table = IsTable-counted [] (inl refl) (omega arith) (omega arith) (λ _. refl)
+no_table = record { count = inl refl; addressable = omega arith; used_within = omega arith; none_deleted = λ _. refl }
 
 pub empty_is_sound : (entry_bytes max : ℕ) → IsSound 0 entry_bytes max [] no_counts
 unfolding usage

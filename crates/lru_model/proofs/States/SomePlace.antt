@@ -11,7 +11,7 @@ use Rattle.group_table.specs.Bucket.{room as room_of}
 use Rattle.group_table.specs.Probe.{IsFirstFree}
 use Rattle.group_table.specs.Change.{MayFill, count_up}
 use Rattle.group_table.proofs.BucketLemmas.{room_is, used_count-split, count_by-set}
-use Rattle.group_table.proofs.CountedMarks.{IsTable-counted}
+use Rattle.group_table.proofs.CountedMarks.{facts}
 use Rattle.lru_limits.specs.Rules.{Rules}
 use Rattle.lru_model.specs.Sizes.{Target, no_table, same_table, new_table, usage}
 use Rattle.lru_model.specs.State.{State, Contents, buckets, room, contents, IsSound, IsSized, Leaves, FirstFreeIs}
@@ -158,9 +158,16 @@ module _ {K V S H : Type 0} where
 
         sized : IsSized new
         sized = record {
-          table = IsTable-counted marks (subst IsBucketCount (sym same) ok.table.count)
-              (omega (arith, used, ap full_capacity same)) (omega (arith, same, ok.table.addressable))
-              (λ small. omega (arith, counts is_deleted, ok.table.none_deleted (omega (arith, small, same))));
+          table = record {
+            count = subst IsBucketCount (sym same) ok.table.count;
+            addressable = omega (arith, same, ok.table.addressable);
+            used_within = omega (arith, used, ap full_capacity same);
+            none_deleted = λ small. omega (
+              arith,
+              counts is_deleted,
+              ok.table.none_deleted (omega (arith, small, same)),
+            );
+          };
           taken = omega (arith, counts is_full, ap (λ t. cond {A = ℕ} t 1 0) first.free_there, ok.taken);
           reachable = subst (λ n. (n ≡ 0) ⊎ (n < old.max)) (sym same) ok.reachable;
           usable = subst (λ n. (bytes : ℕ) × (usage old.entry_bytes n ≡ Some bytes)) (sym same) ok.usable;
@@ -175,7 +182,7 @@ module _ {K V S H : Type 0} where
         × FillsBucket hash old.table new.table × IsSized new
     some_filled hash r =
         let (b, within, first) =
-        ok.table.some_free (omega (arith, room_is old.table.marks, r, full_capacity-at_most (buckets old))) hash in
+        (facts ok.table).some_free (omega (arith, room_is old.table.marks, r, full_capacity-at_most (buckets old))) hash in
         fill_first hash b within first (inl r)
 
 module _ {K V S H : Type 0} (rules : Rules K V S) (hash_of : H → K → ℕ) (pair : K × V) (old : State K V S H)
@@ -310,7 +317,7 @@ module _ {K V S H : Type 0} (rules : Rules K V S) (hash_of : H → K → ℕ) (p
   full_ends some none = go (bucket_at old.table.marks free.0) refl
     where
       free : (b : ℕ) × (b < buckets old) × IsFirstFree old.table.marks hash b
-      free = ok.table.some_free (omega (arith, none, spent, spent_within, some, full_capacity-at_most (buckets old)))
+      free = (facts ok.table).some_free (omega (arith, none, spent, spent_within, some, full_capacity-at_most (buckets old)))
           hash
 
       go : (m : Mark) → bucket_at old.table.marks free.0 ≡ m → Ends

@@ -9,7 +9,6 @@ use Rattle.group_table.specs.Sizes.{full_capacity, IsBucketCount}
 use Rattle.group_table.specs.Bucket.{Mark, empty, deleted, full, is_full, is_used, is_deleted, room as room_of}
 use Rattle.group_table.specs.Table.{IsTable}
 use Rattle.group_table.proofs.BucketLemmas.{room_is}
-use Rattle.group_table.proofs.CountedMarks.{IsTable-counted}
 use Rattle.lru_model.specs.Sizes.{usage}
 use Rattle.lru_model.specs.State.{State, Counts, buckets, IsSound, IsSized}
 use Rattle.lru_model.proofs.TableSizes.Growth.{full_capacity-at_most}
@@ -70,15 +69,16 @@ module _ {K V S H : Type 0} (old : State K V S H) (ok : IsSized old) (pairs : Li
 
   module _ (none_deleted : buckets old ≤ 16 → d ≡ 0) where
     table-marked : IsTable marked
-    table-marked = IsTable-counted marked (subst IsBucketCount (sym length-marked) ok.table.count)
-        (omega (arith, used-marked, within, ap full_capacity length-marked))
-        (omega (arith, length-marked, ok.table.addressable))
-        (λ small. omega (
-          arith,
-          count-row is_deleted (length pairs) d (buckets old - length pairs - d),
-          none_deleted
-              (omega (arith, small, length-marked)),
-        ))
+    table-marked = record {
+      count = subst IsBucketCount (sym length-marked) ok.table.count;
+      addressable = omega (arith, length-marked, ok.table.addressable);
+      used_within = omega (arith, used-marked, within, ap full_capacity length-marked);
+      none_deleted = λ small. omega (
+        arith,
+        count-row is_deleted (length pairs) d (buckets old - length pairs - d),
+        none_deleted (omega (arith, small, length-marked)),
+      );
+    }
 
     -- With these pairs they are a map's, as large as old.
     pub sized-marked : (counts : Counts) → counts.moved < 2 ^ 64 → counts.placed < 2 ^ 64

@@ -139,9 +139,9 @@ module _ {K V S H : Type 0} (terms : Terms K V S) (rules : Rules K V S) (offers 
       → TryInsert terms rules key value old offers eq hash_of result new → Says result new
   says result new sized (there pair found r e) = rw (r, e) stays
   says result new sized (cannot_store absent full r e) = rw (r, e) stays
-  says result new sized (unready absent (not_reserved none error step) r) = rw r
+  says result new sized (unready absent can (not_reserved none error step) r) = rw r
       (refuses (Err error) new none step sized)
-  says result new sized (unready absent (cannot_store_then none step full) r) = rw r
+  says result new sized (unready absent can (cannot_store_then none step full) r) = rw r
       (refuses (Ok tt) new none step sized)
-  says result new sized (inserted absent ready is place r step) =
+  says result new sized (inserted absent can ready is place r step) =
       rw r (adds_after ready new is place absent step sized)

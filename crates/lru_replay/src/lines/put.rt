@@ -1,4 +1,4 @@
-//! The line `put`: an insert that writes its answer, and after it the pairs that were evicted, rejected or not stored.
+//! The line `put`: an insert that writes its answer, and after it the pairs that the map lost.
 ghost use Rattle.std.specs.Prelude.{ℕ, Option};
 ghost use Rattle.replay_model.specs.declared.lines.command.Command.TheVariants as commands;
 ghost use Rattle.replay_model.specs.LineRuns.{AnswersCommand};
@@ -10,8 +10,8 @@ use replay_model::lines::output::{write_bytes, write_given};
 use schnellru::{Insertion, LruMap};
 use std::io::Write;
 
-/// Inserts, and writes the answer, and after it the pairs that were evicted, rejected or not stored. If there is no
-/// memory to list these, nothing changes.
+/// Inserts, and writes the answer, and after it the pairs that were evicted, removed for a rejected value, or not
+/// stored. If there is no memory to list these, nothing changes.
 pub fn write_put<L: Insertion<u64, u64, u64>, W: Write>(
     map: &mut LruMap<u64, u64, L>,
     key: u64,

@@ -17,8 +17,8 @@ use std::alloc::AllocError;
 use std::hash::{BuildHasher, Hash};
 
 impl<K: Eq + Hash, V, N: LinkType> LinkedTable<K, V, N> {
-    // Moves all pairs into a table of `buckets` buckets, in the same order. If the number of buckets stays, so does the
-    // table.
+    // Moves all pairs into a table of `buckets` buckets, in the same order. If the table has that many buckets already,
+    // the pairs are rehashed in place.
     //
     // Cost: `O(buckets)` of both tables, and a hash for each pair.
     //

@@ -108,7 +108,7 @@ pub(crate) fn newer_unless_first<K, V, N: LinkType>(
     }
 }
 
-// Makes the promoted bucket, if there is one, the newest by the links, too. None is the promoted one then.
+// Makes the promoted bucket, if there is one, the newest by the links, too. Afterwards no promotion waits.
 #[inline(always)]
 pub(crate) fn settle<K, V, N: LinkType>(
     table: &mut LinkedTable<K, V, N>,

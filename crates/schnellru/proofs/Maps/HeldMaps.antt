@@ -4,6 +4,7 @@ use Rattle.std.proofs.Common.{Some, sym, ap, ◌∙◌, subst, arith}
 use Rattle.group_table.specs.Sizes.{full_capacity}
 use Rattle.group_table.specs.Bucket.{Mark, marks_of, room, room_at, is_used, bucket_at}
 use Rattle.group_table.proofs.BucketLemmas.{length-marks_of, entry_count-marks_of}
+use Rattle.group_table.proofs.CountedMarks.{facts}
 use Rattle.lru_model.specs.Sizes.{usage}
 use Rattle.lru_model.specs.State.{Contents, IsSized, GivesBack, Leaves}
 use Rattle.ordered_table.specs.OrderedTable.{OrderedTable, IsLinked, KeysFit, pairs_of}
@@ -50,8 +51,8 @@ module _ {K V : Type 0} (old new : OrderedTable K V) (b : ℕ) (first : IsLinked
       news,
       olds,
       one,
-      first.table.exact small,
-      last.table.exact (omega (arith, same, small)),
+      (facts first.table).exact small,
+      (facts last.table).exact (omega (arith, same, small)),
       entry_count-marks_of old.slots,
       entry_count-marks_of new.slots,
       ap full_capacity same,

@@ -14,8 +14,7 @@ impl<
     L: Limiter<K, V> + Clone,
     S: KeyHasher<K> + Clone + Drop,
 > LruMap<K, V, L, S> {
-    /// Copies the map: the same entries in the same order, the same limiter, hasher, buckets and counts, each by its
-    /// clone.
+    /// Clones the entries in order, the limiter and the hasher, into a table of the same buckets and counts.
     ///
     /// ```
     /// let mut copy = map.clone()?;

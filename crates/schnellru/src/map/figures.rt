@@ -20,6 +20,8 @@ impl<K: Eq + Hash, V, L: Limiter<K, V>, S: KeyHasher<K>> LruMap<K, V, L, S> {
     /// ```
     /// assert_eq!(rt; map.len(), 3);
     /// ```
+    ///
+    /// After schnellru's `LruMap::len`.
     #[inline]
     pub fn len(&self) -> usize
         ensures len { result ≡ length self.now.pairs }
@@ -31,8 +33,11 @@ impl<K: Eq + Hash, V, L: Limiter<K, V>, S: KeyHasher<K>> LruMap<K, V, L, S> {
     /// Returns whether the map is empty. Cost: `O(1)`.
     ///
     /// ```
-    /// assert!(rt; map.is_empty());
+    /// let map: LruMap<u64, u32> = LruMap::with_hasher(alloc, ByLength::new(3), RandomState::default(), 24);
+    /// assert!(rt; map.is_empty() && map.memory_usage() == 0);
     /// ```
+    ///
+    /// After schnellru's `LruMap::is_empty`.
     #[inline]
     pub fn is_empty(&self) -> bool
         ensures { result ≡ is_empty self.now.pairs }
@@ -46,9 +51,12 @@ impl<K: Eq + Hash, V, L: Limiter<K, V>, S: KeyHasher<K>> LruMap<K, V, L, S> {
     /// Cost: `O(1)`.
     ///
     /// ```
+    /// let mut map: LruMap<u64, u64, UnlimitedCompact> = LruMap::default(alloc);
     /// assert_eq!(rt; map.try_reserve(7), Ok(()));
     /// assert_eq!(rt; (map.guaranteed_capacity(), map.len()), (7, 0));
     /// ```
+    ///
+    /// After schnellru's `LruMap::guaranteed_capacity`.
     pub fn guaranteed_capacity(&self) -> usize
         ensures { result ≡ length self.now.pairs + room self.now }
     {
@@ -62,8 +70,14 @@ impl<K: Eq + Hash, V, L: Limiter<K, V>, S: KeyHasher<K>> LruMap<K, V, L, S> {
     /// bytes are 64 + 4 + 16 = 84. Cost: `O(1)`.
     ///
     /// ```
+    /// let mut map: LruMap<u32, u32, ByMemoryUsage> = LruMap::with_memory_budget(alloc, 84, [1, 2, 3, 4], 16);
+    /// for n in 1..=4 {
+    ///     map.insert(n, n)?;
+    /// }
     /// assert!(rt; map.len() == 3 && map.memory_usage() == 84 && map.peek(&1).is_none());
     /// ```
+    ///
+    /// After schnellru's `LruMap::memory_usage`.
     pub fn memory_usage(&self) -> usize
         ensures { usage self.now.entry_bytes (buckets self.now) ≡ Some result }
     {
@@ -94,8 +108,11 @@ impl<K: Eq + Hash, V, L: Limiter<K, V>, S: KeyHasher<K>> LruMap<K, V, L, S> {
     /// Returns the limiter. Cost: `O(1)`.
     ///
     /// ```
+    /// let old = map.set_limiter(ByLength::new(1));
     /// assert_eq!(rt; map.limiter().max_length(), 1);
     /// ```
+    ///
+    /// After schnellru's `LruMap::limiter`.
     pub fn limiter(&self) -> &L
         ensures { result.now ≡ self.now.limiter }
     {
@@ -130,6 +147,8 @@ impl<K: Eq + Hash, V, L: Limiter<K, V>, S: KeyHasher<K>> LruMap<K, V, L, S> {
     /// ```
     ///
     /// Cost: `O(1)`.
+    ///
+    /// After schnellru's `LruMap::limiter_mut`.
     pub fn limiter_mut(&mut self) -> &mut L
         ensures* writes_back { sem 𝓛 (lends_limiter K.row V.row L.row S.row L.LinkType.row S.Hasher.row K.Hash L.Limiter
             L.LinkType.LinkType S.KeyHasher S.Hasher.Hasher self.entry result) }

@@ -15,8 +15,8 @@ use std::hash::Hash;
 impl<K: Eq + Hash, V, L: Limiter<K, V>, S: KeyHasher<K>> LruMap<K, V, L, S> {
     ghost use Rattle.schnellru.specs.Lending.Values.{lends_value_in};
 
-    // Returns the bucket of the pair of a key, if the key is there. Always in line: in a program with many look-ups the
-    // compiler would call it from each.
+    // Returns the bucket of the pair of a key, if the key is there. `inline(always)`: in a program with many look-ups
+    // the compiler would not inline it.
     #[inline(always)]
     pub(crate) fn find<Q: LookupKey<K>>(&self, key: &Q) -> Option<usize>
         ensures found { IfSome result (λ b. place_in (Q.names key.now) self.now ≡ Some b) }

@@ -67,6 +67,8 @@ impl<K: Eq + Hash + Drop, V: Drop, L: Limiter<K, V>, S: KeyHasher<K>> LruMap<K, 
     /// # Errors
     ///
     /// Fails as `insert` does, after the closure was called.
+    ///
+    /// schnellru has no such call.
     pub fn ensure_newest<I: LookupKey<K> + Drop, F: FnOnce() -> V>(
         &mut self,
         key: I,
@@ -74,7 +76,7 @@ impl<K: Eq + Hash + Drop, V: Drop, L: Limiter<K, V>, S: KeyHasher<K>> LruMap<K, 
     ) -> Result<bool, AllocError>
     where
         L: Insertion<K, V, I>,
-        requires { lookup (I.names key) self.old.pairs ≡ None → F.pre make }
+        requires callable { lookup (I.names key) self.old.pairs ≡ None → F.pre make }
         ensures step { MakesNewest L.rules L.offers I.names S.hash_of (F.post make) key self.old result self.new }
         ensures says { SaysNewest (I.names key) result self.new }
         ensures out_of_memory { OnErr result
@@ -95,7 +97,7 @@ impl<K: Eq + Hash + Drop, V: Drop, L: Limiter<K, V>, S: KeyHasher<K>> LruMap<K, 
     ) -> Result<bool, AllocError>
     where
         L: Insertion<K, V, I>,
-        requires { lookup (I.names key) self.old.pairs ≡ None → F.pre make }
+        requires callable { lookup (I.names key) self.old.pairs ≡ None → F.pre make }
         ensures { MakesNewest L.rules L.offers I.names S.hash_of (F.post make) key self.old result self.new }
     {
         let hash = self.hasher.hash_named(&key);
@@ -133,7 +135,7 @@ impl<K: Eq + Hash + Drop, V: Drop, L: Limiter<K, V>, S: KeyHasher<K>> LruMap<K, 
     ) -> Result<&mut V, NotLent<AllocError>>
     where
         L: Insertion<K, V, I>,
-        requires { lookup (I.names key) self.old.pairs ≡ None → F.pre make }
+        requires callable { lookup (I.names key) self.old.pairs ≡ None → F.pre make }
         ensures* writes_back { sem 𝓛 (lends_or K.row V.row L.row S.row L.LinkType.row S.Hasher.row K.Hash L.Limiter
             L.LinkType.LinkType S.KeyHasher S.Hasher.Hasher self.entry
             (GetsOrInserts L.rules L.offers I.names S.hash_of (F.post make) key self.old) result) }
@@ -168,7 +170,7 @@ impl<K: Eq + Hash + Drop, V: Drop, L: Limiter<K, V>, S: KeyHasher<K>> LruMap<K, 
     ) -> Result<Option<&mut V>, AllocError>
     where
         L: Insertion<K, V, I>,
-        requires { lookup (I.names key) self.old.pairs ≡ None → F.pre make }
+        requires callable { lookup (I.names key) self.old.pairs ≡ None → F.pre make }
         ensures* writes_back { sem 𝓛 (lends_made K.row V.row L.row S.row L.LinkType.row S.Hasher.row K.Hash L.Limiter
             L.LinkType.LinkType S.KeyHasher S.Hasher.Hasher self.entry
             (GetsOrInserts L.rules L.offers I.names S.hash_of (F.post make) key self.old) result) }
@@ -191,6 +193,8 @@ impl<K: Eq + Hash + Drop, V: Drop, L: Limiter<K, V>, S: KeyHasher<K>> LruMap<K, 
     ///
     /// `Caller` contains the error of the closure; nothing has changed then. `Memory`: the closure was called, and the
     /// insert failed as `insert` does. The oldest entries may have been evicted.
+    ///
+    /// schnellru has no such call.
     pub fn ensure_newest_fallible<I: LookupKey<K> + Drop, E, F: FnOnce() -> Result<V, E>>(
         &mut self,
         key: I,
@@ -198,7 +202,7 @@ impl<K: Eq + Hash + Drop, V: Drop, L: Limiter<K, V>, S: KeyHasher<K>> LruMap<K, 
     ) -> Result<bool, GetOrInsertError<E>>
     where
         L: Insertion<K, V, I>,
-        requires { lookup (I.names key) self.old.pairs ≡ None → F.pre make }
+        requires callable { lookup (I.names key) self.old.pairs ≡ None → F.pre make }
         ensures step { MakesNewestIfMade L.rules L.offers I.names S.hash_of
             (F.post make) key self.old result self.new }
         ensures says { SaysNewest (I.names key) result self.new }
@@ -221,7 +225,7 @@ impl<K: Eq + Hash + Drop, V: Drop, L: Limiter<K, V>, S: KeyHasher<K>> LruMap<K, 
     ) -> Result<bool, GetOrInsertError<E>>
     where
         L: Insertion<K, V, I>,
-        requires { lookup (I.names key) self.old.pairs ≡ None → F.pre make }
+        requires callable { lookup (I.names key) self.old.pairs ≡ None → F.pre make }
         ensures { MakesNewestIfMade L.rules L.offers I.names S.hash_of (F.post make) key self.old result self.new }
     {
         let hash = self.hasher.hash_named(&key);
@@ -251,7 +255,7 @@ impl<K: Eq + Hash + Drop, V: Drop, L: Limiter<K, V>, S: KeyHasher<K>> LruMap<K, 
     ) -> Result<&mut V, NotLent<GetOrInsertError<E>>>
     where
         L: Insertion<K, V, I>,
-        requires { lookup (I.names key) self.old.pairs ≡ None → F.pre make }
+        requires callable { lookup (I.names key) self.old.pairs ≡ None → F.pre make }
         ensures* writes_back { sem 𝓛 (lends_or K.row V.row L.row S.row L.LinkType.row S.Hasher.row K.Hash L.Limiter
             L.LinkType.LinkType S.KeyHasher S.Hasher.Hasher self.entry
             (GetsOrInsertsIfMade L.rules L.offers I.names S.hash_of (F.post make) key self.old) result) }
@@ -282,7 +286,7 @@ impl<K: Eq + Hash + Drop, V: Drop, L: Limiter<K, V>, S: KeyHasher<K>> LruMap<K, 
     ) -> Result<Option<&mut V>, GetOrInsertError<E>>
     where
         L: Insertion<K, V, I>,
-        requires { lookup (I.names key) self.old.pairs ≡ None → F.pre make }
+        requires callable { lookup (I.names key) self.old.pairs ≡ None → F.pre make }
         ensures* writes_back { sem 𝓛 (lends_made K.row V.row L.row S.row L.LinkType.row S.Hasher.row K.Hash L.Limiter
             L.LinkType.LinkType S.KeyHasher S.Hasher.Hasher self.entry
             (GetsOrInsertsIfMade L.rules L.offers I.names S.hash_of (F.post make) key self.old) result) }

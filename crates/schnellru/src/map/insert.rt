@@ -66,12 +66,12 @@ impl<K: Eq + Hash + Drop, V: Drop, L: Limiter<K, V>, S: KeyHasher<K>> LruMap<K, 
 }
 
 impl<K: Eq + Hash, V: Drop, L: Limiter<K, V>, S: KeyHasher<K>> LruMap<K, V, L, S> {
-    /// The same as `insert`, and passes each entry that is evicted, rejected or not stored to the callback, with what
-    /// `on_removed` wrote to it.
+    /// The same as `insert`, and passes to the callback the entries that the map loses, with what `on_removed` wrote to
+    /// them: the evicted entries, oldest first, the entry that is removed because its new value is rejected, and an
+    /// entry that `on_insert` returned but the map could not store.
     ///
-    /// These are the evicted entries, oldest first, the entry whose new value is rejected, and the new entry if it
-    /// could not be stored, even if the result is an `Err`. Each is passed on once, before the limiter is called again.
-    /// A value that is replaced is not passed on, nor is a new key for which `on_insert` returns no entry.
+    /// Each is passed on once, before the limiter is called again, even if the result is an `Err`. A value that is
+    /// replaced is not passed on. Neither is a new entry that `on_insert` rejects: the limiter drops it.
     ///
     /// ```
     /// let mut left = None;
@@ -84,6 +84,8 @@ impl<K: Eq + Hash, V: Drop, L: Limiter<K, V>, S: KeyHasher<K>> LruMap<K, V, L, S
     /// # Errors
     ///
     /// Fails as `insert` does. The new entry was passed to the callback then, unless `on_insert` ran out of memory.
+    ///
+    /// schnellru has no such call.
     #[inline(always)]
     pub fn insert_with<I: LookupKey<K>, F: FnMut(K, V)>(
         &mut self,
@@ -117,7 +119,7 @@ impl<K: Eq + Hash, V, L: Limiter<K, V>, S: KeyHasher<K>> LruMap<K, V, L, S> {
     /// The same as `insert_with`, and returns the value that the map does not keep, if the key is there: the old one,
     /// or the new one if the limiter rejects it, with what `on_replace` wrote to it.
     ///
-    /// The map drops nothing: an entry that is evicted, rejected or not stored is passed to the callback, and a value
+    /// The map drops nothing: an entry that is evicted, removed or not stored is passed to the callback, and a value
     /// that is replaced or rejected is returned. The limiter drops the offered key if the key is there, and the key and
     /// the value if `on_insert` rejects them or runs out of memory.
     ///

@@ -1,4 +1,4 @@
-//! An insert that returns the entries that it evicts, rejects or does not store.
+//! An insert that returns the entries that it evicts, removes or cannot store.
 ghost use Rattle.std.specs.Prelude.{◌≡◌, ◌+◌, ◌<◌, ◌++◌, [], ◌∷◌, true, Ok, IfOk, IfSome, OnErr};
 ghost use Rattle.std.specs.Vec.{vec_len, vec_capacity};
 ghost use Rattle.lru_model.specs.Callbacks.{InsertPasses};
@@ -22,7 +22,8 @@ impl<K: Eq + Hash + Drop, V: Drop, L: Limiter<K, V>, S: KeyHasher<K>> LruMap<K, 
     /// assert!(rt; done == Ok(true) && left.as_slice() == [(1, 10)].as_slice());
     /// ```
     ///
-    /// Cost: as `insert`, and memory for one entry more than the map contains.
+    /// Cost: as `insert`, and memory for one entry more than the map contains, even if nothing is evicted. On a large
+    /// map call `insert_with`.
     ///
     /// # Errors
     ///

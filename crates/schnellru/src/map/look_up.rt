@@ -39,7 +39,7 @@ impl<K: Eq + Hash, V, L: Limiter<K, V>, S: KeyHasher<K>> LruMap<K, V, L, S> {
         ensures map { (new : State K V L S) → Get (Q.names key.now) self.old (option_copied_mut result) new
             → IsMap K.eq new }
     {
-        // This function is always in line. Its search makes it so long that the compiler would call it.
+        // `inline(always)`: with the search inside, the compiler would no longer inline this function.
         let b = self.find(key)?;
         self.promote_at(b);
         Some(self.value_in_mut(b))

@@ -25,7 +25,7 @@ impl<K: Eq + Hash, V, L: Limiter<K, V>, S: KeyHasher<K>> LruMap<K, V, L, S> {
     ///
     /// After std's `Vec::pop_if`; schnellru has no such call.
     pub fn pop_oldest_if<F: FnOnce(&K, &V) -> bool>(&mut self, accepts: F) -> Option<(K, V)>
-        requires { (key : Bor K) (value : Bor V) → last self.old.pairs ≡ Some (key.now, value.now)
+        requires callable { (key : Bor K) (value : Bor V) → last self.old.pairs ≡ Some (key.now, value.now)
             → F.pre accepts key value }
         ensures step { PopOldestIf L.rules (Says (F.post accepts)) self.old result self.new }
         ensures freed { IfSome result (λ _. Frees (last self.old.table.places) self.old.table self.new.table) }
@@ -60,7 +60,7 @@ impl<K: Eq + Hash, V, L: Limiter<K, V>, S: KeyHasher<K>> LruMap<K, V, L, S> {
         &mut self,
         release: F,
     ) -> Result<Option<(K, V)>, E>
-        requires { (key : Bor K) (value : Bor V) → last self.old.pairs ≡ Some (key.now, value.now)
+        requires callable { (key : Bor K) (value : Bor V) → last self.old.pairs ≡ Some (key.now, value.now)
             → F.pre release key value }
         ensures step { TryPopOldest L.rules (Says (F.post release)) self.old result self.new }
         ensures freed { IfOk result (λ popped. IfSome popped (λ _.

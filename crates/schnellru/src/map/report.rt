@@ -16,6 +16,8 @@ impl<K: Eq + Hash, V, L: Limiter<K, V>, S: KeyHasher<K>> LruMap<K, V, L, S> {
     /// ```
     /// assert_eq!(rt; map.move_report(), MoveReport { moved: 0, placed: 3, shrunk: 0 });
     /// ```
+    ///
+    /// schnellru has no such call.
     pub fn move_report(&self) -> MoveReport
         ensures moved { result.moved ≡ self.now.counts.moved }
         ensures placed { result.placed ≡ self.now.counts.placed }

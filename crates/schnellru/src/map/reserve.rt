@@ -18,6 +18,7 @@ impl<K: Eq + Hash, V, L: Limiter<K, V>, S: KeyHasher<K>> LruMap<K, V, L, S> {
     /// Otherwise the limiter is queried for a larger table.
     ///
     /// ```
+    /// let mut map: LruMap<u64, u64, UnlimitedCompact> = LruMap::default(alloc);
     /// assert_eq!(rt; map.try_reserve(7), Ok(()));
     /// assert_eq!(rt; (map.guaranteed_capacity(), map.len()), (7, 0));
     /// ```
@@ -27,9 +28,11 @@ impl<K: Eq + Hash, V, L: Limiter<K, V>, S: KeyHasher<K>> LruMap<K, V, L, S> {
     ///
     /// # Errors
     ///
-    /// Each error leaves the entries and the table as they are. `TooLarge`: no table that the links can number holds
-    /// `len` + n entries, or its bytes would pass `isize::MAX - 15`. `Refused`: the limiter refused the table.
-    /// `Memory`: out of memory. After `Refused` and `Memory` the limiter keeps what it noted when it was queried.
+    /// Each error leaves the entries and the table as they are. `TooLarge`: `len` + n overflows, or is more than half of
+    /// what the table may hold, and there is no larger table for it: links cannot number one, or its bytes would pass
+    /// `isize::MAX - 15`. The table is not rehashed then, even if it would hold the entries. `Refused`: the limiter
+    /// refused the larger table. `Memory`: out of memory. After `Refused` and `Memory` the limiter keeps what it noted
+    /// when it was queried.
     ///
     /// After schnellru's `LruMap::try_reserve`.
     pub fn try_reserve(&mut self, n: usize) -> Result<(), ReserveError>

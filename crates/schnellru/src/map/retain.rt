@@ -46,6 +46,8 @@ impl<K: Eq + Hash, V, L: Limiter<K, V>, S: KeyHasher<K>> LruMap<K, V, L, S> {
     /// ```
     ///
     /// Cost: as `retain`, with one call of the callback for each removed entry.
+    ///
+    /// schnellru has no such call.
     pub fn retain_with<F: FnMut(&K, &V) -> bool, G: FnMut(K, V)>(
         &mut self,
         mut keep: F,

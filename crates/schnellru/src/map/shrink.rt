@@ -17,6 +17,9 @@ impl<K: Eq + Hash, V, L: Limiter<K, V>, S: KeyHasher<K>> LruMap<K, V, L, S> {
     /// shrink a map that is about to grow.
     ///
     /// ```
+    /// let mut map: LruMap<u64, u64, UnlimitedCompact> = LruMap::default(alloc);
+    /// assert_eq!(rt; map.try_reserve(7), Ok(()));
+    /// assert_eq!(rt; map.get_or_insert(1, || 10)?.copied(), Some(10));
     /// assert_eq!(rt; map.shrink_to_fit(), Ok(true));
     /// assert_eq!(rt; (map.len(), map.guaranteed_capacity()), (1, 3));
     /// assert_eq!(rt; map.shrink_to_fit(), Ok(false));

@@ -153,7 +153,7 @@ impl<K: Eq + Hash, V, L: Limiter<K, V>, S: KeyHasher<K>> LruMap<K, V, L, S> {
         }
     }
 
-    // Moves all pairs to a table of `count` buckets, which is counted, and stores the pair there. If the number of
+    // Moves all pairs to a table of `count` buckets, counts the moves, and stores the pair there. If the number of
     // buckets stays and there are no pairs, this needs no memory.
     #[cold]
     fn store_after_move<F: FnMut(K, V)>(

@@ -67,6 +67,8 @@ impl<K: Eq + Hash, V, L: Limiter<K, V>, S: KeyHasher<K>> LruMap<K, V, L, S> {
     /// ```
     ///
     /// Cost: as `trim`, with one call of the callback for each evicted entry.
+    ///
+    /// schnellru has no such call.
     pub fn trim_with<F: FnMut(K, V)>(&mut self, sink: &mut F)
         requires callable { MayTakeEach L.rules F.FnMut self.old.pairs sink.old }
         ensures step { Trims L.rules self.old self.new }
@@ -93,6 +95,8 @@ impl<K: Eq + Hash, V, L: Limiter<K, V>, S: KeyHasher<K>> LruMap<K, V, L, S> {
     /// ```
     ///
     /// Cost: as `set_limiter`, with one call of the callback for each evicted entry.
+    ///
+    /// schnellru has no such call.
     pub fn set_limiter_with<F: FnMut(K, V)>(&mut self, limiter: L, sink: &mut F) -> L
         requires callable { MayTakeEach L.rules F.FnMut self.old.pairs sink.old }
         ensures limiter { result ≡ self.old.limiter }

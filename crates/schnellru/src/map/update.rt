@@ -49,6 +49,8 @@ impl<K: Eq + Hash, V, L: Limiter<K, V>, S: KeyHasher<K>> LruMap<K, V, L, S> {
     /// ```
     ///
     /// Cost: as `update`, with one call of the callback for each entry that it gets.
+    ///
+    /// schnellru has no such call.
     pub fn update_with<I: LookupKey<K> + Drop, F: FnMut(K, V)>(
         &mut self,
         key: I,

@@ -80,6 +80,8 @@ impl<'a, K: Eq + Hash, V, L: Limiter<K, V>, S: KeyHasher<K>> IterMut<'a, K, V, L
     ///     *value = 100;
     /// }
     /// ```
+    ///
+    /// Cost: `O(1)`.
     pub fn next_back(&mut self) -> Option<(&K, &mut V)>
         ensures* writes_back { sem 𝓛
             (lends_next_back K.row V.row L.row S.row L.LinkType.row S.Hasher.row K.Hash L.Limiter
@@ -100,6 +102,8 @@ impl<'a, K: Eq + Hash, V, L: Limiter<K, V>, S: KeyHasher<K>> IterMut<'a, K, V, L
     ///     *value = 200;
     /// }
     /// ```
+    ///
+    /// Cost: `O(1)`.
     pub fn lend_next(&mut self) -> (&K, &mut V)
         requires some { walk_start self.old < walk_end self.old }
         ensures* writes_back { sem 𝓛 (lends_first K.row V.row L.row S.row L.LinkType.row S.Hasher.row K.Hash L.Limiter
@@ -125,6 +129,8 @@ impl<'a, K: Eq + Hash, V, L: Limiter<K, V>, S: KeyHasher<K>> IterMut<'a, K, V, L
     ///     *value = 100;
     /// }
     /// ```
+    ///
+    /// Cost: `O(1)`.
     #[tactic(auto, using(ordered_table::proofs::Tables::Places::got_in, crate::proofs::Positions::last_place))]
     pub fn lend_next_back(&mut self) -> (&K, &mut V)
         requires some { walk_start self.old < walk_end self.old }

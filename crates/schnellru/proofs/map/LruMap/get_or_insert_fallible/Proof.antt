@@ -62,7 +62,7 @@ get_or_insert_fallible_spec 𝓤 𝓛 𝓜 𝓡 wired K V L S N H I E F LK LV LL
     let ls = (κs.1.0, K.lives) ∷ (κs.1.1.0, V.lives) ∷ (κs.1.1.1.0, L.lives) ∷ (κs.1.1.1.1.0, S.lives)
     ∷ (κs.1.1.1.1.1.0, N.lives) ∷ (κs.1.1.1.1.1.1.0, H.lives) ∷ (κs.1.1.1.1.1.1.1.0, I.lives)
     ∷ (κs.1.1.1.1.1.1.1.1.0, E.lives) ∷ (κs.1.1.1.1.1.1.1.1.1.0, F.lives) ∷ [] in
-    let more = f.requires-1 K V L S N H I E F kE kEd kP kPd kH kHd lL lLd nL nLd nC nCd sK sKd sB
+    let more = f.requires-callable K V L S N H I E F kE kEd kP kPd kH kHd lL lLd nL nLd nC nCd sK sKd sB
     sBd hH hHd kDd vDd hDd iL iLd iH iHd iE iEd iP iPd fF fFd lI lId iDd fDd 𝓛 κs 𝓜.mem 𝓡.returns r i make in
     let required = Outlive 𝓤 ls more in
     let one = ‵ (flft κs.0 qs.0) in let ofK = ‵ (flft κs.1.0 qs.1.0) in let ofV = ‵ (flft κs.1.1.0 qs.1.1.0) in

@@ -1,5 +1,6 @@
 use Rattle.std.proofs.Common.{arith, length}
 use Rattle.group_table.specs.Bucket.{marks_of}
+use Rattle.group_table.proofs.CountedMarks.{facts}
 use Rattle.lru_model.proofs.TableSizes.Growth.{full_capacity-at_most}
 use Rattle.ordered_table.proofs.Tables.BucketPairs.{pairs-length}
 use Rattle.schnellru.proofs.map.LruMap.guaranteed_capacity.Goals as goal
@@ -13,7 +14,7 @@ overflow_add-result g c =
       c.room.ensures.room,
       pairs-length t c.self.invariant.linked,
       sized.taken,
-      sized.table.within,
+      (facts sized.table).within,
       sized.table.addressable,
       full_capacity-at_most (length (marks_of t.slots)),
     )

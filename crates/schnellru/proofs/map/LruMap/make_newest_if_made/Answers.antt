@@ -6,7 +6,7 @@ use Rattle.lru_model.proofs.Theorems.PlainInserts.{plain_insert}
 use Rattle.schnellru.proofs.map.LruMap.make_newest_if_made.Goals as goal
 
 pub make-requires : goal.make-requires
-make-requires g c = c.requires
+make-requires g c = c.requires.callable
     (no_named_value (g.I.LookupKey.names c.args.key) c.args.self.now.pairs c.in-None.ensures.none)
 
 pub returns-in-Some : goal.returns-in-Some

@@ -1,8 +1,9 @@
-use Rattle.std.proofs.Common.{ap, sym, subst, ◌∙◌, ◌∷◌}
+use Rattle.std.proofs.Common.{arith, ap, sym, subst, ◌∙◌, ◌∷◌}
 use Rattle.lru_model.specs.State.{IsSized}
 use Rattle.schnellru.specs.Inside.Holds.{state_of}
 use Rattle.lru_model.specs.Callbacks.{noting, noted}
 use Rattle.schnellru.specs.Inside.Fields.{fields_of}
+use Rattle.lru_model.proofs.TableSizes.SizedMarks.{fits}
 use Rattle.lru_model.proofs.States.Placements.{grown_place, denied_place, no_target_place}
 use Rattle.lru_model.specs.MayTake.{MayTakeEach}
 use Rattle.schnellru.proofs.map.LruMap.store_after_growth.Goals as goal
@@ -55,6 +56,12 @@ returns-in-None-clause-passed g c =
           (noted after c.store_without_growth-in-None.new.self) sized c.args.hash
           c.requires.hash c.requires.outgrown _ (sym c.in-None.ensures.next) step,
     )
+
+pub store_after_move-requires-clause-paid : goal.store_after_move-requires-clause-paid
+store_after_move-requires-clause-paid g c = λ few.
+    let map = c.self.invariant.map in
+    let none = rw (← c.self.view_is) at c.requires.outgrown.no_bucket.no_room in
+    omega (arith, map.paid.ahead few, fits map.sized, none)
 
 pub store_after_move-requires-clause-callable : goal.store_after_move-requires-clause-callable
 store_after_move-requires-clause-callable g c =

@@ -9,7 +9,8 @@ returns-then-not-can_store g c =
 
 pub returns-then-not-get_ready_for : goal.returns-then-not-get_ready_for
 returns-then-not-get_ready_for g c =
-    unready c.requires.absent (c.get_ready_for.ensures.unready c.if-not-get_ready_for.true) refl
+    unready c.requires.absent (sym c.can_store.ensures.storable ∙ c.if-not-can_store.false)
+    (c.get_ready_for.ensures.unready c.if-not-get_ready_for.true) refl
 
 pub add-requires-clause-hash : goal.add-requires-clause-hash
 add-requires-clause-hash g c = λ k named. c.requires.hash k named
@@ -23,5 +24,5 @@ add-requires-clause-absent g c =
 pub returns : goal.returns
 returns g c =
     let yes = c.if-not-get_ready_for.false in
-    inserted c.requires.absent _ (c.get_ready_for.ensures.ready yes) (c.get_ready_for.ensures.storable yes) refl
+    inserted c.requires.absent (sym c.can_store.ensures.storable ∙ c.if-not-can_store.false) _ (c.get_ready_for.ensures.ready yes) (c.get_ready_for.ensures.storable yes) refl
     c.add.ensures

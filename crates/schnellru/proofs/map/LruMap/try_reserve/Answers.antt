@@ -1,9 +1,12 @@
-use Rattle.std.proofs.Common.{refl, ap, ◌∙◌, arith}
+use Rattle.std.proofs.Common.{◌<◌, refl, ap, ◌∙◌, arith}
 use Rattle.std.proofs.lemmas.Bool.{false≢true}
 use Rattle.group_table.specs.Sizes.{full_capacity}
+use Rattle.lru_model.proofs.TableSizes.Growth.{full_capacity-at_most}
+use Rattle.lru_model.specs.State.{buckets}
 use Rattle.lru_model.specs.Reservations.{NeedsGrowthFor, unchanged, rehashed, too_many, enough_room}
 use Rattle.lru_model.specs.Reservations.{no_memory_to_rehash}
 use Rattle.lru_model.proofs.TableSizes.NextTable.{stays}
+use Rattle.lru_model.proofs.TableSizes.SizedMarks.{own_count}
 use Rattle.lru_model.proofs.States.Reservations.{some_there}
 use Rattle.lru_model.proofs.Theorems.Reservations.{makes_room_if_ok}
 use Rattle.schnellru.proofs.map.LruMap.try_reserve.Goals as goal
@@ -21,6 +24,20 @@ pub returns-then-full_capacity-pairs-clause-room : goal.returns-then-full_capaci
 returns-then-full_capacity-pairs-clause-room g c =
     makes_room_if_ok g.L.Limiter.rules c.args.n c.args.self.now c.len.ensures.map.sized c.reserve_larger.result
     c.reserve_larger.new.self c.reserve_larger.ensures.step
+
+pub move_to-requires-clause-count : goal.move_to-requires-clause-count
+move_to-requires-clause-count g c =
+    let table = c.bucket_count-buckets.ensures in
+    let takes = c.full_capacity.ensures ∙ ap full_capacity table.count in
+    let some : 0 < buckets c.args.self.now = omega (
+      arith,
+      c.if-n-growth_left.false,
+      c.in-Some.ensures.1,
+      c.if-full_capacity-pairs.false,
+      takes,
+      full_capacity-at_most (buckets c.args.self.now),
+    ) in
+    rw table.count (own_count table.map.sized some)
 
 pub move_to-requires-clause-usable : goal.move_to-requires-clause-usable
 move_to-requires-clause-usable g c =
