@@ -20,7 +20,7 @@ ghost use Rattle.lru_model.specs.Callbacks.{InsertPasses};
 ghost use Rattle.lru_model.specs.Inserts.{Insert, replacement, IsOutOfMemory};
 ghost use Rattle.lru_model.specs.Exact.{IsDetermined, NeverRunsOut, EndsExactly, EndsIfLanded, InsertsInList};
 ghost use Rattle.lru_model.specs.Exact.{Ending, EndsAlike, LookAlike, AlwaysGrants, HasTables};
-ghost use Rattle.lru_model.specs.Theorems.{PaysForMoves, CountsPlacings, Stores, KeepsValues, IsRefusedGrowth};
+ghost use Rattle.lru_model.specs.Theorems.{PaysByStoring, CountsPlacings, Stores, KeepsValues, IsRefusedGrowth};
 ghost use Rattle.lru_model.specs.Theorems.{EvictsOldest, SaysWhether};
 
 use lru_limits::{Insertion, KeyHasher, Limiter, LookupKey};
@@ -232,7 +232,7 @@ pub fn inserts_pay_for_moves<
     ensures rise { (key : I) (value : V) (old : State K V L S) (result : Result Bool AllocError) (new : State K V L S) →
         IsSized old →
         Insert L.rules L.offers I.names S.hash_of key value old result new →
-        PaysForMoves 0 old new }
+        PaysByStoring old new }
     ensures paid { (key : I) (value : V) (old : State K V L S) (result : Result Bool AllocError) (new : State K V L S) →
         IsSized old → IsPaid (potential old) old.counts →
         Insert L.rules L.offers I.names S.hash_of key value old result new →

@@ -26,7 +26,7 @@ use std::hash::Hash;
 pub fn calls_pay_for_moves<K: Eq + Hash, V, L: Insertion<K, V, K>, S: KeyHasher<K>>()
     ensures rise { (old new : State K V L S) (calls : List (Call K V L)) (replies : List (Reply K V)) →
         IsRun (CallStep L.rules L.offers K.eq S.hash_of) (IsMap K.eq)
-        old calls replies new → IsSized old → (anew : ℕ) × PaysForMoves anew old new }
+        old calls replies new → IsSized old → PaysForMoves old new }
 {
     laws::runs_pay_for_moves::<K, V, K, L, S>();
 }

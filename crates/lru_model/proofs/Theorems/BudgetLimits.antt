@@ -75,7 +75,7 @@ module _ {K V S : Type 0} {rules : Rules K V S} {offers : Offers K V S K} {accou
 
     pub step_budget : (old new : State K V S H) → Step rules offers names hash_of old new
         → budget new.limiter ≡ budget old.limiter
-    step_budget old new s = (step_changes keeps_budget old new s).2.moves
+    step_budget old new s = (step_changes keeps_budget old new s).3.moves
 
     pub step_keeps_total : (old new : State K V S H) → Step rules offers names hash_of old new
         → IsSummed cost account old → account old.limiter ≤ budget old.limiter

@@ -1,14 +1,14 @@
 //! What is proved of each call, whichever it is. A step is what one call makes of a map (`specs/Runs`): `Step` for the
 //! calls that write nothing through a reference, and `AnyStep` also for writes to a value or to the limiter.
 
-ghost use Rattle.std.specs.Prelude.{◌≡◌, ℕ, ◌+◌, ◌≤◌, Bool, length};
+ghost use Rattle.std.specs.Prelude.{◌≡◌, ℕ, ◌+◌, ◌≤◌, ◌⊎◌, Bool, true, length, Ok};
 ghost use Rattle.std.specs.List.{IsDistinct};
 ghost use Rattle.lru_limits.specs.Budget.{Budget};
 ghost use Rattle.lru_model.specs.Lists.{keys_of, IsFront};
 ghost use Rattle.lru_model.specs.State.{State, IsSized, IsMap};
 ghost use Rattle.lru_model.specs.Runs.{Step, AnyStep, StepAmong};
-ghost use Rattle.lru_model.specs.Shrinks.{RehashedByShrink};
-ghost use Rattle.lru_model.specs.Theorems.{PaysForMoves, UsesAtMost, IsSummed, others};
+ghost use Rattle.lru_model.specs.Shrinks.{Shrink};
+ghost use Rattle.lru_model.specs.Theorems.{PaysByStoring, PaysForMoves, UsesAtMost, IsSummed, others};
 
 use lru_limits::{
     ByCost, ByLength, ByMemoryUsage, ByWeight, Costed, Insertion, KeyHasher, Limiter, LookupKey,
@@ -36,7 +36,9 @@ pub fn calls_keep_sums<K: Eq + Hash, V, I: LookupKey<K>, L: Summing<K, V, I>, S:
 {}
 
 /// Each call pays for what it moves: the count of moved entries and the potential together rise by at most two for each
-/// entry that it stores, and by one for each entry that a shrink rehashes.
+/// entry that it stores, and by one for each entry that a shrink rehashes, while neither the count of stored entries nor
+/// the count of rehashed entries has reached `u64::MAX` (`rise`). Unless the call shrinks the table, it counts no entry
+/// as rehashed, and pays by the entries that it stores alone, whatever the count of rehashed entries (`stored`).
 pub fn calls_pay_for_moves<
     K: Eq + Hash,
     V,
@@ -44,9 +46,12 @@ pub fn calls_pay_for_moves<
     L: Insertion<K, V, I>,
     S: KeyHasher<K>,
 >()
-    ensures { (old new : State K V L S) →
+    ensures rise { (old new : State K V L S) →
         AnyStep L.rules L.offers I.names S.hash_of old new →
-        IsSized old → (anew : ℕ) × RehashedByShrink anew old new × PaysForMoves anew old new }
+        IsSized old → PaysForMoves old new }
+    ensures stored { (old new : State K V L S) →
+        AnyStep L.rules L.offers I.names S.hash_of old new →
+        IsSized old → PaysByStoring old new ⊎ Shrink old (Ok true) new }
 {}
 
 /// With `ByLength` each call leaves the limiter as it is, and at most `max_length` entries, if there were no more

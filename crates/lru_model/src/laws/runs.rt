@@ -42,7 +42,7 @@ pub fn runs_pay_for_moves<
 >()
     ensures rise { (old new : State K V L S) →
         Run (AnyStep L.rules L.offers I.names S.hash_of) new old →
-        IsSized old → (anew : ℕ) × PaysForMoves anew old new }
+        IsSized old → PaysForMoves old new }
 {}
 
 /// Any calls evict from the old end alone: of the entries whose keys none of them names, those that are left are the
