@@ -33,8 +33,7 @@ mod shrinks;
 
 pub use calls::{
     calls_add_one_pair, calls_evict_the_oldest, calls_keep_maps, calls_keep_sums,
-    calls_keep_the_cost, calls_keep_the_length, calls_keep_the_memory_usage, calls_keep_the_weight,
-    calls_pay_for_moves,
+    calls_keep_the_budget, calls_keep_the_length, calls_keep_the_memory_usage, calls_pay_for_moves,
 };
 pub use kept::{
     inserts_leave_the_newest, inserts_with_room_are_exact, maps_keep_to_their_length,
@@ -42,8 +41,7 @@ pub use kept::{
 };
 pub use runs::{
     runs_begin_with_maps, runs_evict_the_oldest, runs_keep_maps, runs_keep_sums,
-    runs_keep_the_cost, runs_keep_the_length, runs_keep_the_memory_usage, runs_keep_the_weight,
-    runs_pay_for_moves,
+    runs_keep_the_budget, runs_keep_the_length, runs_keep_the_memory_usage, runs_pay_for_moves,
 };
 pub use shrinks::{shrinks_keep_the_list, shrinks_leave_a_tight_table, shrinks_pay_for_moves};
 

@@ -42,7 +42,8 @@ module _ {K V S H I : Type 0} {rules : Rules K V S} {offers : Offers K V S I} {n
     step_changes old new (removes test result h) = (_, _, inl refl, remove_changes k.keeps old test result new h)
     step_changes old new (pops_oldest result h) = (_, _, inl refl, pop_oldest_changes k.keeps old result new h)
     step_changes old new (pops_newest result h) = (_, _, inl refl, pop_newest_changes k.keeps old result new h)
-    step_changes old new (drains newest oldest result h) = (_, _, inl refl, drain_changes k.keeps old newest oldest result new h)
+    step_changes old new (drains newest oldest result h) =
+        (_, _, inl refl, drain_changes k.keeps old newest oldest result new h)
     step_changes old new (clears e) = rw e (_, _, inl refl, cleared_changes k.keeps old)
     step_changes old new (reserves n result h) = (_, _, inl refl, reserve_changes k.keeps.way n old result new h)
     step_changes old new (shrinks result h) =
@@ -59,7 +60,8 @@ module _ {K V S H I : Type 0} {rules : Rules K V S} {offers : Offers K V S I} {n
     any_changes write set old new (calls h) = step_changes old new h
     any_changes write set old new (writes test value e) = rw e
         (_, _, inl refl, written_changes rules R old test value (write (contents old) test value))
-    any_changes write set old new (sets_limiter s e) = rw e (_, _, inl refl, set_changes rules R old s (set (contents old) s))
+    any_changes write set old new (sets_limiter s e) = rw e
+        (_, _, inl refl, set_changes rules R old s (set (contents old) s))
 
     pub run_keeps : (new old : State K V S H) → Run (Step rules offers names hash_of) new old
         → R (contents old) (contents new)
