@@ -258,16 +258,11 @@ pub fn refused_growth_keeps_half<K: Eq + Hash, V, L: Limiter<K, V>, S: KeyHasher
         new.pairs ≡ pair ∷ without_last old.pairs }
 {}
 
-/// An insertion into the table evicts nothing if the table grows, or is rehashed and at most half full then. It evicts
-/// only if the table cannot grow, because the limiter refuses or there is no larger table, even if it then runs out of
-/// memory.
+/// An insertion into the table evicts nothing if the table grows. It evicts only if the table would be more than half
+/// full and cannot grow, because the limiter refuses or there is no larger table, even if it then runs out of memory.
 pub fn growth_keeps_the_list<K: Eq + Hash, V, L: Limiter<K, V>, S: KeyHasher<K>>()
     ensures grown { (pair : K × V) (old new : State K V L S) →
         buckets new ≢ buckets old →
-        Place L.rules S.hash_of pair old placed new →
-        new.pairs ≡ pair ∷ old.pairs }
-    ensures rehashed { (pair : K × V) (old new : State K V L S) →
-        length old.pairs + 1 ≤ full_capacity (buckets old) / 2 →
         Place L.rules S.hash_of pair old placed new →
         new.pairs ≡ pair ∷ old.pairs }
     ensures otherwise { (pair : K × V) (old new : State K V L S) →

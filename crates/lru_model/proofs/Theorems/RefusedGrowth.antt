@@ -163,11 +163,5 @@ module _ {K V S H : Type 0} (rules : Rules K V S) (hash_of : H → K → ℕ) (p
           (other w.1.same_table)
     ]
 
-    pub rehashed_keeps : length old.pairs + 1 ≤ full_capacity (buckets old) / 2 → new.pairs ≡ pair ∷ old.pairs
-    rehashed_keeps few = elim (place_keeps placed new refl step) [
-      | inl k ↦ k.pairs
-      | inr w ↦ absurd (omega (arith, few, w.0.above_half))
-    ]
-
     pub keeps_or_refused : (new.pairs ≡ pair ∷ old.pairs) ⊎ IsRefusedGrowth rules old
     keeps_or_refused = elim (place_keeps placed new refl step) [ inl k ↦ inl k.pairs | inr w ↦ inr w.0 ]
