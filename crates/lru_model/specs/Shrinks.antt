@@ -1,5 +1,5 @@
 -- What `shrink_to_fit` does.
-use Rattle.std.specs.Prelude.{◌≡◌, ℕ, ◌≤◌, ◌<◌, ◌⊎◌, Bool, true, false, length, Some, IfSome, Result, Ok, IsErr}
+use Rattle.std.specs.Prelude.{◌≡◌, ℕ, ◌≤◌, ◌<◌, Bool, true, false, length, Some, IfSome, Result, Ok, IsErr}
 use Rattle.std.specs.declared.alloc.AllocError.{AllocError}
 use Rattle.group_table.specs.Sizes.{buckets_for}
 use Rattle.group_table.specs.Change.{count_up}
@@ -32,7 +32,3 @@ module _ {K V S H : Type 0} where
     no_memory_to_shrink : (count : ℕ) → IsLooseFor count old → 0 < length old.pairs →
         IsErr result → new ≡ old →
         Shrink old result new
-
--- a call rehashes this number of entries as a shrink: none, or all entries of a map that it shrinks
-abbrev pub RehashedByShrink : {K V S H : Type 0} → ℕ → State K V S H → State K V S H → Type 0
-RehashedByShrink anew old new = (anew ≡ 0) ⊎ (Shrink old (Ok true) new × (anew ≡ length old.pairs))

@@ -5,7 +5,6 @@ use Rattle.std.specs.List.{filter}
 use Rattle.std.specs.Prelude.{Some, None, Result, Ok}
 use Rattle.std.specs.declared.alloc.AllocError.{AllocError}
 use Rattle.group_table.specs.Sizes.{full_capacity}
-use Rattle.group_table.specs.Change.{count_up}
 use Rattle.lru_limits.specs.Rules.{Rules, Offers}
 use Rattle.lru_model.specs.Sizes.{usage}
 use Rattle.lru_model.specs.Lists.{IsFront, lookup_entry, without}
@@ -20,14 +19,23 @@ CountsPlacings old new = new.placings < 2 ^ 64 - 1 → new.moved < 2 ^ 64 - 1 �
     new.placings + old.moved + old.placed ≡ old.placings + new.moved + new.placed
 
 module _ {K V S H : Type 0} where
-  -- `moved` and the potential together rise by at most 2 for each entry stored, and by 1 for each of `anew` entries
-  -- that shrinks rehashed, unless the count of stored entries has stopped at its maximum
-  pub record PaysForMoves (anew : ℕ) (old new : State K V S H) : Type 0 where
+  -- `moved` and the potential together rise by at most 2 for each entry stored, unless the count of stored entries has
+  -- stopped at its maximum. No entry is counted as rehashed by a shrink.
+  pub record PaysByStoring (old new : State K V S H) : Type 0 where
     pub placed : old.counts.placed ≤ new.counts.placed
-    pub shrunk : new.counts.shrunk ≡ count_up old.counts.shrunk anew
+    pub shrunk : new.counts.shrunk ≡ old.counts.shrunk
     pub moved : new.counts.placed < 2 ^ 64 - 1 →
         new.counts.moved + potential new + 2 * old.counts.placed
-        ≤ old.counts.moved + potential old + 2 * new.counts.placed + anew
+        ≤ old.counts.moved + potential old + 2 * new.counts.placed
+
+  -- `moved` and the potential together rise by at most 2 for each entry stored, and by 1 for each entry that shrinks
+  -- rehashed, unless one of these two counts has stopped at its maximum
+  pub record PaysForMoves (old new : State K V S H) : Type 0 where
+    pub placed : old.counts.placed ≤ new.counts.placed
+    pub shrunk : old.counts.shrunk ≤ new.counts.shrunk
+    pub moved : new.counts.placed < 2 ^ 64 - 1 → new.counts.shrunk < 2 ^ 64 - 1 →
+        new.counts.moved + potential new + 2 * old.counts.placed + old.counts.shrunk
+        ≤ old.counts.moved + potential old + 2 * new.counts.placed + new.counts.shrunk
 
   -- the table uses at most n bytes
   abbrev pub UsesAtMost : ℕ → State K V S H → Type 0
@@ -66,8 +74,9 @@ module _ {K V S H : Type 0} (rules : Rules K V S) where
   pub record IsRefusedGrowth (st : State K V S H) : Type 0 where
     pub is_full : HasPairsButNoGrowth st
     pub above_half : full_capacity (buckets st) / 2 < length st.pairs + 1
-    pub known : State K V S H
-    pub refused : CannotGrow rules st known
+    -- the map after its limiter was queried
+    pub mid : State K V S H
+    pub refused : CannotGrow rules st mid
 
   -- What the result of an insert says. If it is true, the pair of the key is the newest, and the limiter is not over
   -- its limit. If it is false or an error, the key is not there.

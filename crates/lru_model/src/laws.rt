@@ -20,7 +20,7 @@ ghost use Rattle.lru_model.specs.Callbacks.{InsertPasses};
 ghost use Rattle.lru_model.specs.Inserts.{Insert, replacement, IsOutOfMemory};
 ghost use Rattle.lru_model.specs.Exact.{IsDetermined, NeverRunsOut, EndsExactly, EndsIfLanded, InsertsInList};
 ghost use Rattle.lru_model.specs.Exact.{Ending, EndsAlike, LookAlike, AlwaysGrants, HasTables};
-ghost use Rattle.lru_model.specs.Theorems.{PaysForMoves, CountsPlacings, Stores, KeepsValues, IsRefusedGrowth};
+ghost use Rattle.lru_model.specs.Theorems.{PaysByStoring, CountsPlacings, Stores, KeepsValues, IsRefusedGrowth};
 ghost use Rattle.lru_model.specs.Theorems.{EvictsOldest, SaysWhether};
 
 use lru_limits::{Insertion, KeyHasher, Limiter, LookupKey};
@@ -33,8 +33,7 @@ mod shrinks;
 
 pub use calls::{
     calls_add_one_pair, calls_evict_the_oldest, calls_keep_maps, calls_keep_sums,
-    calls_keep_the_cost, calls_keep_the_length, calls_keep_the_memory_usage, calls_keep_the_weight,
-    calls_pay_for_moves,
+    calls_keep_the_budget, calls_keep_the_length, calls_keep_the_memory_usage, calls_pay_for_moves,
 };
 pub use kept::{
     inserts_leave_the_newest, inserts_with_room_are_exact, maps_keep_to_their_length,
@@ -42,8 +41,7 @@ pub use kept::{
 };
 pub use runs::{
     runs_begin_with_maps, runs_evict_the_oldest, runs_keep_maps, runs_keep_sums,
-    runs_keep_the_cost, runs_keep_the_length, runs_keep_the_memory_usage, runs_keep_the_weight,
-    runs_pay_for_moves,
+    runs_keep_the_budget, runs_keep_the_length, runs_keep_the_memory_usage, runs_pay_for_moves,
 };
 pub use shrinks::{shrinks_keep_the_list, shrinks_leave_a_tight_table, shrinks_pay_for_moves};
 
@@ -232,7 +230,7 @@ pub fn inserts_pay_for_moves<
     ensures rise { (key : I) (value : V) (old : State K V L S) (result : Result Bool AllocError) (new : State K V L S) →
         IsSized old →
         Insert L.rules L.offers I.names S.hash_of key value old result new →
-        PaysForMoves 0 old new }
+        PaysByStoring old new }
     ensures paid { (key : I) (value : V) (old : State K V L S) (result : Result Bool AllocError) (new : State K V L S) →
         IsSized old → IsPaid (potential old) old.counts →
         Insert L.rules L.offers I.names S.hash_of key value old result new →
@@ -260,16 +258,11 @@ pub fn refused_growth_keeps_half<K: Eq + Hash, V, L: Limiter<K, V>, S: KeyHasher
         new.pairs ≡ pair ∷ without_last old.pairs }
 {}
 
-/// An insertion into the table evicts nothing if the table grows, or is rehashed and at most half full then. It evicts
-/// only if the table cannot grow, because the limiter refuses or there is no larger table, even if it then runs out of
-/// memory.
+/// An insertion into the table evicts nothing if the table grows. It evicts only if the table would be more than half
+/// full and cannot grow, because the limiter refuses or there is no larger table, even if it then runs out of memory.
 pub fn growth_keeps_the_list<K: Eq + Hash, V, L: Limiter<K, V>, S: KeyHasher<K>>()
     ensures grown { (pair : K × V) (old new : State K V L S) →
         buckets new ≢ buckets old →
-        Place L.rules S.hash_of pair old placed new →
-        new.pairs ≡ pair ∷ old.pairs }
-    ensures rehashed { (pair : K × V) (old new : State K V L S) →
-        length old.pairs + 1 ≤ full_capacity (buckets old) / 2 →
         Place L.rules S.hash_of pair old placed new →
         new.pairs ≡ pair ∷ old.pairs }
     ensures otherwise { (pair : K × V) (old new : State K V L S) →

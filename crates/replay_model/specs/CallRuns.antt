@@ -41,7 +41,7 @@ module _ {K V S : Type 0} where
   HasPlainSearch hash_of (calls.PeekByHash hash key) = hash_tag (hash_of key) ≡ hash_tag hash → hash_of key ≡ hash
   HasPlainSearch hash_of call = Unit {0}
 
-  -- the call names keys that pass the test alone, and does not pop the newest pair
+  -- the call names only keys that pass the test, and does not pop the newest pair
   abbrev pub NamesAmong : (K → K → Bool) → (K → Bool) → Call K V S → Type 0
   NamesAmong eq test (calls.Insert key v) = AreAmong (eq key) test
   NamesAmong eq test (calls.InsertWith key v) = AreAmong (eq key) test

@@ -15,7 +15,7 @@ ghost use Rattle.replay_model.specs.Maps.{Map};
 ghost use Rattle.replay_model.specs.Replies.{Reply, memory_report};
 
 use lru_limits::{
-    ByCost, ByLength, ByMemoryUsage, Costed, Insertion, KeyHasher, Limiter, RandomState, Summing,
+    Budgeted, ByLength, ByMemoryUsage, Insertion, KeyHasher, Limiter, RandomState, Summing,
 };
 use lru_model::laws;
 use std::hash::Hash;
@@ -26,7 +26,7 @@ use std::hash::Hash;
 pub fn calls_pay_for_moves<K: Eq + Hash, V, L: Insertion<K, V, K>, S: KeyHasher<K>>()
     ensures rise { (old new : State K V L S) (calls : List (Call K V L)) (replies : List (Reply K V)) →
         IsRun (CallStep L.rules L.offers K.eq S.hash_of) (IsMap K.eq)
-        old calls replies new → IsSized old → (anew : ℕ) × PaysForMoves anew old new }
+        old calls replies new → IsSized old → PaysForMoves old new }
 {
     laws::runs_pay_for_moves::<K, V, K, L, S>();
 }
@@ -74,22 +74,19 @@ pub fn calls_keep_the_memory_usage<K: Eq + Hash + Drop, V: Drop, S: KeyHasher<K>
     laws::runs_keep_the_memory_usage::<K, V, S>();
 }
 
-/// With `ByCost` the cost is at most the limit after each of the calls, if that held before and the cost was the sum of
-/// the costs of the pairs, and none sets another limiter.
-pub fn calls_keep_the_cost<K: Eq + Hash + Drop, V: Costed + Drop, S: KeyHasher<K>>()
-    ensures cost { (old new : State K V ByCost S) (calls : List (Call K V ByCost)) (replies : List (Reply K V)) →
-        IsRun (SummingStep ⟦<ByCost as Limiter<K, V>>⟧.rules ⟦<ByCost as Insertion<K, V, K>>⟧.offers K.eq
-        S.hash_of ⟦<ByCost as Summing<K, V, K>>⟧.cost_of
-        ⟦<ByCost as Summing<K, V, K>>⟧.account) (IsMap K.eq) old calls replies new →
-        AllByRecursion SetsNoLimiter calls →
-        IsSummed ⟦<ByCost as Summing<K, V, K>>⟧.cost_of ⟦<ByCost as Summing<K, V, K>>⟧.account old →
-        old.limiter.cost ≤ old.limiter.limit →
-        IsRun (SummingStep ⟦<ByCost as Limiter<K, V>>⟧.rules ⟦<ByCost as Insertion<K, V, K>>⟧.offers K.eq
-        S.hash_of ⟦<ByCost as Summing<K, V, K>>⟧.cost_of
-        ⟦<ByCost as Summing<K, V, K>>⟧.account) (λ st. st.limiter.cost ≤ old.limiter.limit) old calls replies new }
+/// With any limiter that has a budget, as `ByCost` and `ByWeight` have, the running total is at most the budget after
+/// each of the calls, if that held before and the total was the sum of the costs of the pairs, and none sets another
+/// limiter.
+pub fn calls_keep_the_budget<K: Eq + Hash, V, L: Budgeted<K, V>, S: KeyHasher<K>>()
+    ensures total { (old new : State K V L S) (calls : List (Call K V L)) (replies : List (Reply K V)) →
+        IsRun (SummingStep L.rules L.offers K.eq S.hash_of L.cost_of L.account) (IsMap K.eq) old calls replies new →
+        AllByRecursion SetsNoLimiter calls → IsSummed L.cost_of L.account old →
+        L.account old.limiter ≤ L.budget_of old.limiter →
+        IsRun (SummingStep L.rules L.offers K.eq S.hash_of L.cost_of L.account)
+        (λ st. L.account st.limiter ≤ L.budget_of old.limiter) old calls replies new }
 {
-    laws::runs_keep_the_cost::<K, V, S>();
-    laws::runs_keep_sums::<K, V, K, ByCost, S>();
+    laws::runs_keep_the_budget::<K, V, L, S>();
+    laws::runs_keep_sums::<K, V, K, L, S>();
 }
 
 /// If the limiter permits every growth, as `ByLength`, `ByCost` and the unlimited ones do, and the tables that the

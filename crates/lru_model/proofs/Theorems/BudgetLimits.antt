@@ -1,6 +1,6 @@
 -- A limit by a budget, as `ByCost` and `ByWeight` have: each call of a map keeps it, and so does a run of calls.
 use Rattle.std.proofs.Common.{◌≡◌, ℕ, ◌≤◌, Bool, false, Option, Some, None, Result, refl, sym}
-use Rattle.std.proofs.Common.{ap, ◌∙◌, subst, arith, ◌⊎◌, inl, inr}
+use Rattle.std.proofs.Common.{ap, ◌∙◌, arith, ◌⊎◌, inl, inr}
 use Rattle.std.proofs.lemmas.Bool.Decides.{nat_tests}
 use Rattle.std.specs.Prelude.{nat_lt}
 use Rattle.std.specs.declared.alloc.AllocError.{AllocError}
@@ -75,7 +75,7 @@ module _ {K V S : Type 0} {rules : Rules K V S} {offers : Offers K V S K} {accou
 
     pub step_budget : (old new : State K V S H) → Step rules offers names hash_of old new
         → budget new.limiter ≡ budget old.limiter
-    step_budget old new s = (step_changes keeps_budget old new s).2.moves
+    step_budget old new s = (step_changes keeps_budget old new s).3.moves
 
     pub step_keeps_total : (old new : State K V S H) → Step rules offers names hash_of old new
         → IsSummed cost account old → account old.limiter ≤ budget old.limiter
@@ -85,11 +85,10 @@ module _ {K V S : Type 0} {rules : Rules K V S} {offers : Offers K V S K} {accou
 
     pub run_keeps_total : (new old : State K V S H) → Run (Step rules offers names hash_of) new old
         → IsSummed cost account old → account old.limiter ≤ budget old.limiter
-        → account new.limiter ≤ budget old.limiter
+        → account new.limiter ≤ budget new.limiter
     run_keeps_total new old ends was within = within
     run_keeps_total new old (goes_on mid s sized r) was within =
-        subst (λ n. account new.limiter ≤ n) (step_budget old mid s)
-        (run_keeps_total new mid r (step_summed sums old mid s was) (step_keeps_total old mid s was within))
+        run_keeps_total new mid r (step_summed sums old mid s was) (step_keeps_total old mid s was within)
 
 -- a get that inserts is a step
 pub made-step : {K V S H : Type 0} {rules : Rules K V S} {offers : Offers K V S K} {names : K → K → Bool}

@@ -203,7 +203,7 @@ module _ {K V H : Type 0} (eq : K → K → Bool) (old new : State K V ℕ H) wh
   pub keeps_on : {hash_of : H → K → ℕ} → KeepsToLength old → IsSized new
       → Step length_rules length_offers eq hash_of old new → KeepsToLength new
   keeps_on {hash_of} keeps sized step =
-      let stays = (step_changes keeps_limiter old new step).2.moves in
+      let stays = (step_changes keeps_limiter old new step).3.moves in
       let same = any_step_same old new (calls step) in
       record {
         within = rw stays (step_stays_short eq hash_of old new step keeps.within);
@@ -239,7 +239,7 @@ module _ {K V H : Type 0} (eq : K → K → Bool) (old : State K V ℕ H) (keeps
       let call = inserts key value (Ok kept) step in
       record {
         keeps_on = keeps_on eq before new was.keeps_on sized call;
-        limiter = (step_changes keeps_limiter before new call).2.moves ∙ was.limiter;
+        limiter = (step_changes keeps_limiter before new call).3.moves ∙ was.limiter;
         pairs = (leaves_newest eq key value before (Ok kept) new was.keeps_on step).newest
             ∙ (λ j. take (was.limiter j) ((stored_key (eq key) key (was.pairs j), value) ∷ without (eq key)
             (was.pairs j)))

@@ -4,9 +4,8 @@ use native.Mathlib.Decide.{dec_lt}
 use Rattle.group_table.specs.Sizes.{full_capacity}
 use Rattle.lru_limits.specs.Rules.{Rules}
 use Rattle.lru_model.specs.State.{State, Counts, buckets, potential, Contents, IsSized, IsAhead, IsPaid, IsMap, Leaves}
-use Rattle.lru_model.specs.Theorems.{PaysForMoves}
 use Rattle.lru_model.proofs.TableSizes.Growth.{full_capacity-at_most, usage_addressable}
-use Rattle.lru_model.proofs.Theorems.Potential.{bounded_of}
+use Rattle.lru_model.proofs.Theorems.Potential.{Pays, bounded_of}
 use Rattle.lru_model.proofs.Theorems.TableGrowth.{Tables, IsNextCount, Changes}
 use Rattle.lru_model.proofs.PairLists.DistinctKeys.{AreDistinct}
 
@@ -20,7 +19,7 @@ paid_ahead {n} {counts} moved ahead = record { moved = go (dec_lt counts.shrunk 
 
 module _ {K V S H : Type 0} where
   -- a change that pays for its moves keeps the bound, if counts that cannot rise are as large as they can be
-  pub paid_after : {anew : ℕ} (old new : State K V S H) → PaysForMoves anew old new → new.counts.moved < 2 ^ 64
+  pub paid_after : {anew : ℕ} (old new : State K V S H) → Pays anew old new → new.counts.moved < 2 ^ 64
       → buckets new < 2 ^ 63 → IsPaid (potential old) old.counts → IsPaid (potential new) new.counts
   paid_after {anew} old new p moved addressable paid = paid_ahead moved
       (λ below. go below (dec_lt new.counts.placed (2 ^ 64 - 1)))

@@ -1,14 +1,55 @@
 -- Inserts pay for the entries that they move.
-use Rattle.std.proofs.Common.{◌≡◌, ℕ, ◌+◌, ◌^◌, ◌<◌, ◌≤◌, length, refl, ap, arith}
+use Rattle.std.proofs.Common.{◌≡◌, ℕ, ◌+◌, ◌*◌, ◌-◌, ◌^◌, ◌<◌, ◌≤◌, length, ap, arith}
+use Rattle.group_table.specs.Change.{count_up}
 use Rattle.group_table.specs.Sizes.{full_capacity, IsBucketCount}
 use Rattle.lru_model.specs.State.{State, buckets, room, potential, IsSized, count_insert}
-use Rattle.lru_model.specs.Theorems.{PaysForMoves}
+use Rattle.lru_model.specs.Theorems.{PaysByStoring, PaysForMoves}
 use Rattle.lru_model.proofs.TableSizes.SizedMarks.{fits}
 use Rattle.lru_model.proofs.TableSizes.Growth.{full_capacity-at_most}
 
 module _ {K V S H : Type 0} where
-  pub pays_trans : {m n : ℕ} {old mid new : State K V S H} → PaysForMoves m old mid → PaysForMoves n mid new
-      → PaysForMoves (m + n) old new
+  -- `moved` and the potential together rise by at most 2 for each entry stored, and by 1 for each of `anew` entries
+  -- that shrinks rehashed, unless the count of stored entries has stopped at its maximum
+  pub record Pays (anew : ℕ) (old new : State K V S H) : Type 0 where
+    pub placed : old.counts.placed ≤ new.counts.placed
+    pub shrunk : new.counts.shrunk ≡ count_up old.counts.shrunk anew
+    pub moved : new.counts.placed < 2 ^ 64 - 1 →
+        new.counts.moved + potential new + 2 * old.counts.placed
+        ≤ old.counts.moved + potential old + 2 * new.counts.placed + anew
+
+  pub pays_for_moves : {anew : ℕ} {old new : State K V S H} → old.counts.shrunk < 2 ^ 64 → Pays anew old new
+      → PaysForMoves old new
+  pays_for_moves bound p = record {
+    placed = p.placed;
+    shrunk = omega (arith, bound, p.shrunk);
+    moved = λ h below. omega (arith, p.moved h, p.shrunk, below);
+  }
+
+  pub pays_by_storing : {old new : State K V S H} → old.counts.shrunk < 2 ^ 64 → Pays 0 old new
+      → PaysByStoring old new
+  pays_by_storing bound p = record {
+    placed = p.placed;
+    shrunk = omega (arith, bound, p.shrunk);
+    moved = λ h. omega (arith, p.moved h);
+  }
+
+  -- one after another
+  pub moves_paid_self : (st : State K V S H) → PaysForMoves st st
+  moves_paid_self st = record { placed = omega arith; shrunk = omega arith; moved = λ h below. omega arith }
+
+  pub moves_paid_trans : {old mid new : State K V S H} → PaysForMoves old mid → PaysForMoves mid new
+      → PaysForMoves old new
+  moves_paid_trans p q = record {
+    placed = omega (arith, p.placed, q.placed);
+    shrunk = omega (arith, p.shrunk, q.shrunk);
+    moved = λ h below. omega (
+      arith,
+      p.moved (omega (arith, q.placed, h)) (omega (arith, q.shrunk, below)),
+      q.moved h below,
+    );
+  }
+
+  pub pays_trans : {m n : ℕ} {old mid new : State K V S H} → Pays m old mid → Pays n mid new → Pays (m + n) old new
   pays_trans {m} {n} p q = record {
     placed = omega (arith, p.placed, q.placed);
     shrunk = omega (arith, p.shrunk, q.shrunk);
@@ -18,7 +59,7 @@ module _ {K V S H : Type 0} where
   -- no count of moves changes, and the potential does not rise
   pub pays_calm : (old new : State K V S H) → old.counts.shrunk < 2 ^ 64
       → record new.counts { placings = old.counts.placings } ≡ old.counts
-      → potential new ≤ potential old → PaysForMoves 0 old new
+      → potential new ≤ potential old → Pays 0 old new
   pays_calm old new bound e f =
       let p = ap (λ c. c.placed) e in let m = ap (λ c. c.moved) e in let s = ap (λ c. c.shrunk) e in record {
         placed = omega arith;
@@ -26,12 +67,9 @@ module _ {K V S H : Type 0} where
         moved = λ _. omega arith;
       }
 
-  pub pays_self : (st : State K V S H) → st.counts.shrunk < 2 ^ 64 → PaysForMoves 0 st st
-  pays_self st bound = pays_calm st st bound refl (omega arith)
-
   -- a pair is placed
   pub pays_placing : (old new : State K V S H) (moves : ℕ) → old.counts.placed < 2 ^ 64 → old.counts.shrunk < 2 ^ 64
-      → new.counts ≡ count_insert moves old.counts → moves + potential new ≤ potential old + 2 → PaysForMoves 0 old new
+      → new.counts ≡ count_insert moves old.counts → moves + potential new ≤ potential old + 2 → Pays 0 old new
   pays_placing old new moves bound few e f =
       let m = ap (λ c. c.moved) e in let p = ap (λ c. c.placed) e in let s = ap (λ c. c.shrunk) e in record {
         placed = omega arith;

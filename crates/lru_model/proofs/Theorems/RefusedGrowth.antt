@@ -71,7 +71,7 @@ module _ {K V S H : Type 0} (rules : Rules K V S) (hash_of : H → K → ℕ) (p
       → new.pairs ≡ pair ∷ left.pairs → buckets new ≡ buckets old
       → KeepsAll new ⊎ (IsRefusedGrowth rules old × GivesWay new)
   eviction_keeps_half f l mid c n one left gone new half there same = inr (
-    record { is_full = f; above_half = l; known = mid; refused = c },
+    record { is_full = f; above_half = l; mid = mid; refused = c },
     record {
       half = omega (arith, ap length there, half (left_length n mid left c gone));
       one = λ small.
@@ -99,7 +99,7 @@ module _ {K V S H : Type 0} (rules : Rules K V S) (hash_of : H → K → ℕ) (p
   place_keeps outcome new q (grown b count bytes t g m) =
       inl (record {
         pairs = ap (λ st. st.pairs) (placed_if (asked rules bytes old) new _ _ _ outcome q m).state;
-        large = λ refusal. not_granted count bytes t g refusal.known refusal.refused;
+        large = λ refusal. not_granted count bytes t g refusal.mid refusal.refused;
       })
   place_keeps outcome new q (not_grown b mid c (nothing_to_evict e o n)) = refused-not_placed (sym o ∙ q)
   place_keeps outcome new q (not_grown b mid c (finds_bucket n pos one half left gone fills o p)) =
@@ -117,7 +117,7 @@ module _ {K V S H : Type 0} (rules : Rules K V S) (hash_of : H → K → ℕ) (p
   place_runs_out_half refusal outcome new q (in_bucket l f s o n) = placed-not_no_memory (sym o ∙ q)
   place_runs_out_half refusal outcome new q (rehashed b l some m) = absurd (omega (arith, l, refusal.above_half))
   place_runs_out_half refusal outcome new q (grown b count bytes t g m) =
-      not_granted count bytes t g refusal.known refusal.refused
+      not_granted count bytes t g refusal.mid refusal.refused
   place_runs_out_half refusal outcome new q (not_grown b mid c (nothing_to_evict e o n)) =
       refused-not_no_memory (sym o ∙ q)
   place_runs_out_half refusal outcome new q (not_grown b mid c (finds_bucket n pos one half left gone fills o p)) =
@@ -139,7 +139,7 @@ module _ {K V S H : Type 0} (rules : Rules K V S) (hash_of : H → K → ℕ) (p
       (record {
         is_full = (some, b.no_bucket.no_room);
         above_half = b.above_half;
-        known = mid;
+        mid = mid;
         refused = c;
       })
 
@@ -161,12 +161,6 @@ module _ {K V S H : Type 0} (rules : Rules K V S) (hash_of : H → K → ℕ) (p
       | inl k ↦ k.pairs
       | inr w ↦ absurd
           (other w.1.same_table)
-    ]
-
-    pub rehashed_keeps : length old.pairs + 1 ≤ full_capacity (buckets old) / 2 → new.pairs ≡ pair ∷ old.pairs
-    rehashed_keeps few = elim (place_keeps placed new refl step) [
-      | inl k ↦ k.pairs
-      | inr w ↦ absurd (omega (arith, few, w.0.above_half))
     ]
 
     pub keeps_or_refused : (new.pairs ≡ pair ∷ old.pairs) ⊎ IsRefusedGrowth rules old

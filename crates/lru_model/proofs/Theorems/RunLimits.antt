@@ -36,7 +36,7 @@ module _ {K V H : Type 0} (names : K → K → Bool) (hash_of : H → K → ℕ)
   pub step_stays_short : (old new : State K V ℕ H) → Step length_rules length_offers names hash_of old new
       → length old.pairs ≤ old.limiter → length new.pairs ≤ old.limiter
   step_stays_short old new step = length_at_most length_rules old new (λ n e. grind (arith, nat_tests))
-      (step_changes keeps_limiter old new step).2.moves (step_total (λ _. 1) step)
+      (step_changes keeps_limiter old new step).3.moves (step_total (λ _. 1) step)
 
   pub run_stays_short : (new old : State K V ℕ H)
       → Run (StepOrWrite length_rules length_offers names hash_of) new old
@@ -48,7 +48,7 @@ module _ {K V H : Type 0} (names : K → K → Bool) (hash_of : H → K → ℕ)
       subst (λ most. length new.pairs ≤ most) same
       (run_stays_short new mid r (omega (arith, same, as_many, few)))
   run_stays_short new old (goes_on mid (inl s) sized r) few =
-      let same = (step_changes keeps_limiter old mid s).2.moves in
+      let same = (step_changes keeps_limiter old mid s).3.moves in
       subst (λ most. length new.pairs ≤ most) same
       (run_stays_short new mid r
       (subst (λ most. length mid.pairs ≤ most) (sym same) (step_stays_short old mid s few)))
@@ -57,7 +57,7 @@ module _ {K V H : Type 0} (names : K → K → Bool) (hash_of : H → K → ℕ)
   pub step_uses_at_most : (old new : State K V ℕ H) → Step memory_rules all_offers names hash_of old new
       → UsesAtMost old.limiter old → UsesAtMost old.limiter new
   step_uses_at_most old new s = uses_at_most memory_rules _ _ _ old new
-      (λ bytes e. grind (arith, nat_tests)) (λ s p. p.1) (step_changes keeps_limiter old new s).2.tables
+      (λ bytes e. grind (arith, nat_tests)) (λ s p. p.1) (step_changes keeps_limiter old new s).3.tables
 
   pub run_uses_at_most : (new old : State K V ℕ H)
       → Run (StepOrWrite memory_rules all_offers names hash_of) new old
@@ -69,7 +69,7 @@ module _ {K V H : Type 0} (names : K → K → Bool) (hash_of : H → K → ℕ)
       (run_uses_at_most new mid r
       (subst (λ most. UsesAtMost most mid) (sym same) (subst (UsesAtMost old.limiter) (sym e) uses)))
   run_uses_at_most new old (goes_on mid (inl s) sized r) uses =
-      let same = (step_changes keeps_limiter old mid s).2.moves in
+      let same = (step_changes keeps_limiter old mid s).3.moves in
       subst (λ most. UsesAtMost most new) same
       (run_uses_at_most new mid r
       (subst (λ most. UsesAtMost most mid) (sym same) (step_uses_at_most old mid s uses)))

@@ -1,18 +1,20 @@
 -- What a shrink makes of a map.
-use Rattle.std.proofs.Common.{◌≡◌, ℕ, ◌≤◌, inl, Bool, true, false, length, Result, Ok, refl, sym, ap, ◌∙◌}
+use Rattle.std.proofs.Common.{◌≡◌, ℕ, ◌≤◌, ◌⊎◌, inl, inr, Bool, true, false, length, Result, Ok, refl, sym, ap, ◌∙◌}
 use Rattle.std.proofs.Common.{subst, arith}
 use Rattle.std.proofs.lemmas.Bool.{false≢true}
 use Rattle.std.proofs.lemmas.Option.{same_Some}
 use Rattle.std.specs.declared.alloc.AllocError.{AllocError}
+use Rattle.group_table.specs.Change.{count_up}
 use Rattle.group_table.specs.Sizes.{full_capacity, buckets_for}
 use Rattle.lru_limits.specs.Rules.{Rules}
 use Rattle.lru_model.specs.Sizes.{usage}
-use Rattle.lru_model.specs.State.{State, buckets, Contents, contents, MovesTo}
+use Rattle.lru_model.specs.State.{State, buckets, potential, Contents, contents, MovesTo}
 use Rattle.lru_model.specs.Shrinks.{Shrink, shrink_counted, kept, shrunk, no_memory_to_shrink}
-use Rattle.lru_model.specs.Theorems.{PaysForMoves, UsesAtMost}
+use Rattle.lru_model.specs.Theorems.{UsesAtMost}
 use Rattle.lru_model.proofs.TableSizes.Budgets.{usage_fewer}
 use Rattle.lru_model.proofs.Theorems.Moves.{KeepsWay}
 use Rattle.lru_model.proofs.Theorems.TableGrowth.{Changes, self_calm, calm_changes}
+use Rattle.lru_model.proofs.Theorems.Potential.{Pays}
 
 module _ {K V S H : Type 0} (old : State K V S H) where
   -- the pairs stay, and the limiter, and what inserts counted
@@ -36,7 +38,7 @@ module _ {K V S H : Type 0} (old : State K V S H) where
 
   -- each pair that moves is counted, and the potential is at most their number then
   pub moved_pays : (count : ℕ) (new : State K V S H) → MovesTo count (shrink_counted old) new
-      → PaysForMoves (length old.pairs) old new
+      → Pays (length old.pairs) old new
   moved_pays count new m = record {
     placed = omega (arith, ap (λ st. st.counts.placed) m.state);
     shrunk = ap (λ st. st.counts.shrunk) m.state;
@@ -49,9 +51,13 @@ module _ {K V S H : Type 0} (old : State K V S H) where
     );
   }
 
-  pub shrink_pays : (new : State K V S H) → Shrink old (Ok true) new → PaysForMoves (length old.pairs) old new
+  pub shrink_pays : (new : State K V S H) → Shrink old (Ok true) new
+      → (new.counts.shrunk ≡ count_up old.counts.shrunk (length old.pairs)) × (potential new ≤ length old.pairs)
   shrink_pays new (kept t r e) = absurd cc
-  shrink_pays new (shrunk count l r m) = moved_pays count new m
+  shrink_pays new (shrunk count l r m) = (
+    ap (λ st. st.counts.shrunk) m.state,
+    omega (arith, m.exact, ap full_capacity m.table),
+  )
   shrink_pays new (no_memory_to_shrink count l some r e) = absurd (false≢true r)
 
   pub shrink_kept : (result : Result Bool AllocError) (new : State K V S H) → (result ≡ Ok true → ⊥)
@@ -104,14 +110,16 @@ module _ {K V S H : Type 0} (old : State K V S H) where
 
 module _ {K V S H : Type 0} (rules : Rules K V S) (R : Contents K V S → Contents K V S → Type 0) (k : KeepsWay rules R)
     (old : State K V S H) where
-  remains : (new : State K V S H) → new ≡ old → (anew : ℕ) × Changes rules R 0 anew old new
-  remains new e = rw e (0, calm_changes rules R 0 old old (self_calm old) (k.self (contents old)))
+  remains : (new : State K V S H) → new ≡ old → (anew : ℕ) × ((anew ≡ 0) ⊎ Shrink old (Ok true) new)
+      × Changes rules R 0 anew old new
+  remains new e = rw e (0, inl refl, calm_changes rules R 0 old old (self_calm old) (k.self (contents old)))
 
   pub shrink_changes : (result : Result Bool AllocError) (new : State K V S H) → Shrink old result new
-      → (anew : ℕ) × Changes rules R 0 anew old new
+      → (anew : ℕ) × ((anew ≡ 0) ⊎ Shrink old (Ok true) new) × Changes rules R 0 anew old new
   shrink_changes result new (kept t r e) = remains new e
   shrink_changes result new (shrunk count l r m) = (
     length old.pairs,
+    inr (shrunk count l refl m),
     record {
       moves = subst (R (contents old)) (sym (ap contents m.state)) (k.self (contents old));
       tables = record {

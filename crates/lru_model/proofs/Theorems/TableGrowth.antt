@@ -8,9 +8,8 @@ use Rattle.lru_model.specs.Sizes.{usage}
 use Rattle.lru_model.specs.State.{State, Counts, buckets, room, Contents, contents, Leaves}
 use Rattle.lru_model.specs.Place.{Outcome, placed, refused, no_memory}
 use Rattle.lru_model.specs.Inserts.{Settles}
-use Rattle.lru_model.specs.Theorems.{PaysForMoves}
 use Rattle.lru_model.proofs.Theorems.Moves.{leaves_keep}
-use Rattle.lru_model.proofs.Theorems.Potential.{IsBounded, pays_trans, pays_calm}
+use Rattle.lru_model.proofs.Theorems.Potential.{Pays, IsBounded, pays_trans, pays_calm}
 
 module _ {K V S H : Type 0} where
   -- nothing is placed, and the table has as many buckets, with as much room or more, and no more pairs
@@ -74,7 +73,7 @@ module _ {K V S H : Type 0} where
   settles_calm rules refused landed result new h = rw h.1 (self_calm landed)
   settles_calm rules no_memory landed result new h = rw h.1 (self_calm landed)
 
-  pub calm_pays : (old new : State K V S H) → old.counts.shrunk < 2 ^ 64 → Calm old new → PaysForMoves 0 old new
+  pub calm_pays : (old new : State K V S H) → old.counts.shrunk < 2 ^ 64 → Calm old new → Pays 0 old new
   calm_pays old new bound f = pays_calm old new bound
       (ap {A = Counts} (λ c. record c { placings = old.counts.placings }) f.counts)
       (omega (arith, f.keeps, ap full_capacity f.table))
@@ -110,7 +109,7 @@ module _ {K V S H : Type 0} (rules : Rules K V S) (P : S → Type 0) where
     pub entry_bytes : new.entry_bytes ≡ old.entry_bytes
     pub count : IsNextCount old (buckets new)
     pub moved : old.counts.moved < 2 ^ 64 → new.counts.moved < 2 ^ 64
-    pub pays : IsBounded old → PaysForMoves anew old new
+    pub pays : IsBounded old → Pays anew old new
     pub little : IsBounded old → buckets old < buckets new → full_capacity (buckets new) < 4 * (length old.pairs + more)
 
   pub calm_tables : (more : ℕ) (old new : State K V S H) → Calm old new → Tables more 0 old new

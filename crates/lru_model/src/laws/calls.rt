@@ -1,18 +1,16 @@
 //! What is proved of each call, whichever it is. A step is what one call makes of a map (`specs/Runs`): `Step` for the
 //! calls that write nothing through a reference, and `AnyStep` also for writes to a value or to the limiter.
 
-ghost use Rattle.std.specs.Prelude.{◌≡◌, ℕ, ◌+◌, ◌≤◌, Bool, length};
+ghost use Rattle.std.specs.Prelude.{◌≡◌, ℕ, ◌+◌, ◌≤◌, ◌⊎◌, Bool, true, length, Ok};
 ghost use Rattle.std.specs.List.{IsDistinct};
-ghost use Rattle.lru_limits.specs.Budget.{Budget};
 ghost use Rattle.lru_model.specs.Lists.{keys_of, IsFront};
 ghost use Rattle.lru_model.specs.State.{State, IsSized, IsMap};
 ghost use Rattle.lru_model.specs.Runs.{Step, AnyStep, StepAmong};
-ghost use Rattle.lru_model.specs.Shrinks.{RehashedByShrink};
-ghost use Rattle.lru_model.specs.Theorems.{PaysForMoves, UsesAtMost, IsSummed, others};
+ghost use Rattle.lru_model.specs.Shrinks.{Shrink};
+ghost use Rattle.lru_model.specs.Theorems.{PaysByStoring, PaysForMoves, UsesAtMost, IsSummed, others};
 
 use lru_limits::{
-    ByCost, ByLength, ByMemoryUsage, ByWeight, Costed, Insertion, KeyHasher, Limiter, LookupKey,
-    Summing,
+    Budgeted, ByLength, ByMemoryUsage, Insertion, KeyHasher, Limiter, LookupKey, Summing,
 };
 use std::hash::Hash;
 
@@ -36,7 +34,9 @@ pub fn calls_keep_sums<K: Eq + Hash, V, I: LookupKey<K>, L: Summing<K, V, I>, S:
 {}
 
 /// Each call pays for what it moves: the count of moved entries and the potential together rise by at most two for each
-/// entry that it stores, and by one for each entry that a shrink rehashes.
+/// entry that it stores, and by one for each entry that a shrink rehashes, while neither the count of stored entries
+/// nor the count of rehashed entries has reached `u64::MAX` (`rise`). A call that does not shrink the table counts no
+/// entry as rehashed, and the entries that it stores pay alone, even if that count has reached `u64::MAX` (`stored`).
 pub fn calls_pay_for_moves<
     K: Eq + Hash,
     V,
@@ -44,9 +44,12 @@ pub fn calls_pay_for_moves<
     L: Insertion<K, V, I>,
     S: KeyHasher<K>,
 >()
-    ensures { (old new : State K V L S) →
+    ensures rise { (old new : State K V L S) →
         AnyStep L.rules L.offers I.names S.hash_of old new →
-        IsSized old → (anew : ℕ) × RehashedByShrink anew old new × PaysForMoves anew old new }
+        IsSized old → PaysForMoves old new }
+    ensures stored { (old new : State K V L S) →
+        AnyStep L.rules L.offers I.names S.hash_of old new →
+        IsSized old → PaysByStoring old new ⊎ Shrink old (Ok true) new }
 {}
 
 /// With `ByLength` each call leaves the limiter as it is, and at most `max_length` entries, if there were no more
@@ -71,34 +74,15 @@ pub fn calls_keep_the_memory_usage<K: Eq + Hash + Drop, V: Drop, S: KeyHasher<K>
         S.hash_of old new → UsesAtMost old.limiter old → UsesAtMost old.limiter new }
 {}
 
-/// With `ByCost` each call leaves the limit as it is, and a cost of at most the limit, if that held before and the cost
-/// was the sum of the costs of the entries.
-pub fn calls_keep_the_cost<K: Eq + Hash + Drop, V: Costed + Drop, S: KeyHasher<K>>()
-    ensures limit { (old new : State K V ByCost S) →
-        Step ⟦<ByCost as Limiter<K, V>>⟧.rules ⟦<ByCost as Insertion<K, V, K>>⟧.offers K.eq S.hash_of old new →
-        new.limiter.limit ≡ old.limiter.limit }
-    ensures cost { (old new : State K V ByCost S) →
-        Step ⟦<ByCost as Limiter<K, V>>⟧.rules ⟦<ByCost as Insertion<K, V, K>>⟧.offers K.eq S.hash_of old new →
-        IsSummed ⟦<ByCost as Summing<K, V, K>>⟧.cost_of ⟦<ByCost as Summing<K, V, K>>⟧.account old →
-        old.limiter.cost ≤ old.limiter.limit → new.limiter.cost ≤ old.limiter.limit }
-{}
-
-/// The same with `ByWeight`.
-pub fn calls_keep_the_weight<
-    K: Costed + Eq + Hash + Drop,
-    V: Costed + Drop,
-    S: KeyHasher<K>,
-    const OVERHEAD: u64,
->()
-    ensures limit { (old new : State K V Budget S) →
-        Step ⟦<ByWeight<OVERHEAD> as Limiter<K, V>>⟧.rules ⟦<ByWeight<OVERHEAD> as Insertion<K, V, K>>⟧.offers K.eq
-        S.hash_of old new → new.limiter.limit ≡ old.limiter.limit }
-    ensures cost { (old new : State K V Budget S) →
-        Step ⟦<ByWeight<OVERHEAD> as Limiter<K, V>>⟧.rules ⟦<ByWeight<OVERHEAD> as Insertion<K, V, K>>⟧.offers K.eq
-        S.hash_of old new →
-        IsSummed ⟦<ByWeight<OVERHEAD> as Summing<K, V, K>>⟧.cost_of
-        ⟦<ByWeight<OVERHEAD> as Summing<K, V, K>>⟧.account old →
-        old.limiter.cost ≤ old.limiter.limit → new.limiter.cost ≤ old.limiter.limit }
+/// With any limiter that has a budget, as `ByCost` and `ByWeight` have, each call leaves the budget as it is, and a
+/// running total of at most the budget, if that held before and the total was the sum of the costs of the entries.
+pub fn calls_keep_the_budget<K: Eq + Hash, V, L: Budgeted<K, V>, S: KeyHasher<K>>()
+    ensures budget { (old new : State K V L S) →
+        Step L.rules L.offers K.eq S.hash_of old new → L.budget_of new.limiter ≡ L.budget_of old.limiter }
+    ensures total { (old new : State K V L S) →
+        Step L.rules L.offers K.eq S.hash_of old new →
+        IsSummed L.cost_of L.account old → L.account old.limiter ≤ L.budget_of old.limiter →
+        L.account new.limiter ≤ L.budget_of new.limiter }
 {}
 
 /// No call adds more than one entry.

@@ -1,15 +1,13 @@
 //! What is proved of runs, which are calls one after another. Each law is the law of one call (`calls`), by induction.
 
 ghost use Rattle.std.specs.Prelude.{◌≡◌, ℕ, ◌≤◌, Bool, length};
-ghost use Rattle.lru_limits.specs.Budget.{Budget};
 ghost use Rattle.lru_model.specs.Lists.{IsFront};
 ghost use Rattle.lru_model.specs.State.{State, IsSized, IsMap, empty_map};
 ghost use Rattle.lru_model.specs.Runs.{Step, StepOrWrite, AnyStep, StepAmong, Run};
 ghost use Rattle.lru_model.specs.Theorems.{PaysForMoves, UsesAtMost, IsSummed, others};
 
 use lru_limits::{
-    ByCost, ByLength, ByMemoryUsage, ByWeight, Costed, Insertion, KeyHasher, Limiter, LookupKey,
-    Summing,
+    Budgeted, ByLength, ByMemoryUsage, Insertion, KeyHasher, Limiter, LookupKey, Summing,
 };
 use std::hash::Hash;
 
@@ -42,7 +40,7 @@ pub fn runs_pay_for_moves<
 >()
     ensures rise { (old new : State K V L S) →
         Run (AnyStep L.rules L.offers I.names S.hash_of) new old →
-        IsSized old → (anew : ℕ) × PaysForMoves anew old new }
+        IsSized old → PaysForMoves old new }
 {}
 
 /// Any calls evict from the old end alone: of the entries whose keys none of them names, those that are left are the
@@ -83,35 +81,15 @@ pub fn runs_keep_the_memory_usage<K: Eq + Hash + Drop, V: Drop, S: KeyHasher<K>>
         S.hash_of) new old → new.limiter ≡ old.limiter }
 {}
 
-/// With `ByCost` the cost is at most the limit after any calls, if that held before and the cost was the sum of the
-/// costs of the entries. The limit stays as it is.
-pub fn runs_keep_the_cost<K: Eq + Hash + Drop, V: Costed + Drop, S: KeyHasher<K>>()
-    ensures cost { (old new : State K V ByCost S) →
-        Run (Step ⟦<ByCost as Limiter<K, V>>⟧.rules ⟦<ByCost as Insertion<K, V, K>>⟧.offers K.eq
-        S.hash_of) new old →
-        IsSummed ⟦<ByCost as Summing<K, V, K>>⟧.cost_of ⟦<ByCost as Summing<K, V, K>>⟧.account old →
-        old.limiter.cost ≤ old.limiter.limit → new.limiter.cost ≤ old.limiter.limit }
-    ensures limit { (old new : State K V ByCost S) →
-        Run (Step ⟦<ByCost as Limiter<K, V>>⟧.rules ⟦<ByCost as Insertion<K, V, K>>⟧.offers K.eq
-        S.hash_of) new old → new.limiter.limit ≡ old.limiter.limit }
-{}
-
-/// The same with `ByWeight`.
-pub fn runs_keep_the_weight<
-    K: Costed + Eq + Hash + Drop,
-    V: Costed + Drop,
-    S: KeyHasher<K>,
-    const OVERHEAD: u64,
->()
-    ensures cost { (old new : State K V Budget S) →
-        Run (Step ⟦<ByWeight<OVERHEAD> as Limiter<K, V>>⟧.rules ⟦<ByWeight<OVERHEAD> as Insertion<K, V, K>>⟧.offers K.eq
-        S.hash_of) new old →
-        IsSummed ⟦<ByWeight<OVERHEAD> as Summing<K, V, K>>⟧.cost_of
-        ⟦<ByWeight<OVERHEAD> as Summing<K, V, K>>⟧.account old →
-        old.limiter.cost ≤ old.limiter.limit → new.limiter.cost ≤ old.limiter.limit }
-    ensures limit { (old new : State K V Budget S) →
-        Run (Step ⟦<ByWeight<OVERHEAD> as Limiter<K, V>>⟧.rules ⟦<ByWeight<OVERHEAD> as Insertion<K, V, K>>⟧.offers K.eq
-        S.hash_of) new old → new.limiter.limit ≡ old.limiter.limit }
+/// With any limiter that has a budget the running total is at most the budget after any calls, if that held before and
+/// the total was the sum of the costs of the entries. The budget stays as it is.
+pub fn runs_keep_the_budget<K: Eq + Hash, V, L: Budgeted<K, V>, S: KeyHasher<K>>()
+    ensures total { (old new : State K V L S) →
+        Run (Step L.rules L.offers K.eq S.hash_of) new old →
+        IsSummed L.cost_of L.account old → L.account old.limiter ≤ L.budget_of old.limiter →
+        L.account new.limiter ≤ L.budget_of new.limiter }
+    ensures budget { (old new : State K V L S) →
+        Run (Step L.rules L.offers K.eq S.hash_of) new old → L.budget_of new.limiter ≡ L.budget_of old.limiter }
 {}
 
 /// A new map, which contains no entries and no buckets, satisfies `IsMap`, the premise of `runs_keep_maps`.

@@ -2,9 +2,10 @@
 
 ghost use Rattle.std.specs.Prelude.{◌≡◌, ℕ, ◌≤◌, Bool, true, false, length, Result, Ok};
 ghost use Rattle.std.specs.declared.alloc.AllocError.{AllocError};
-ghost use Rattle.lru_model.specs.State.{State, buckets, IsSized};
+ghost use Rattle.group_table.specs.Change.{count_up};
+ghost use Rattle.lru_model.specs.State.{State, buckets, potential};
 ghost use Rattle.lru_model.specs.Shrinks.{Shrink};
-ghost use Rattle.lru_model.specs.Theorems.{PaysForMoves, UsesAtMost};
+ghost use Rattle.lru_model.specs.Theorems.{UsesAtMost};
 
 use lru_limits::{KeyHasher, Limiter};
 use std::hash::Hash;
@@ -16,11 +17,12 @@ pub fn shrinks_keep_the_list<K: Eq + Hash, V, L: Limiter<K, V>, S: KeyHasher<K>>
         × (new.counts.moved ≡ old.counts.moved) × (new.counts.placed ≡ old.counts.placed) }
 {}
 
-/// A shrink rehashes each entry, counts it, and lets the potential rise by at most one for each. If it does not shrink
-/// the table, nothing changes.
+/// A shrink rehashes each entry and counts it, and the potential is at most the number of entries then. If it does not
+/// shrink the table, nothing changes.
 pub fn shrinks_pay_for_moves<K: Eq + Hash, V, L: Limiter<K, V>, S: KeyHasher<K>>()
     ensures shrunk { (old new : State K V L S) →
-        IsSized old → Shrink old (Ok true) new → PaysForMoves (length old.pairs) old new }
+        Shrink old (Ok true) new →
+        (new.counts.shrunk ≡ count_up old.counts.shrunk (length old.pairs)) × (potential new ≤ length old.pairs) }
     ensures kept { (old : State K V L S) (result : Result Bool AllocError) (new : State K V L S) →
         (result ≡ Ok true → ⊥) → Shrink old result new → new ≡ old }
 {}

@@ -1,12 +1,9 @@
 use Rattle.std.proofs.Common.{refl}
-use Rattle.lru_model.proofs.Theorems.RefusedGrowth.{grown_keeps, rehashed_keeps, keeps_or_refused, place_runs_out_keeps}
+use Rattle.lru_model.proofs.Theorems.RefusedGrowth.{grown_keeps, keeps_or_refused, place_runs_out_keeps}
 use Rattle.lru_model.proofs.laws.growth_keeps_the_list.Goals as goal
 
 pub returns-clause-grown : goal.returns-clause-grown
 returns-clause-grown g c = λ pair old new other step. grown_keeps _ _ pair old new step other
-
-pub returns-clause-rehashed : goal.returns-clause-rehashed
-returns-clause-rehashed g c = λ pair old new few step. rehashed_keeps _ _ pair old new step few
 
 pub returns-clause-otherwise : goal.returns-clause-otherwise
 returns-clause-otherwise g c = λ pair old new step. keeps_or_refused _ _ pair old new step
