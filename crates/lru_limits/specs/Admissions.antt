@@ -3,15 +3,14 @@
 --     offers_of terms              its offers: a pair is stored as it came if the terms accept it
 --     IsAdmission terms offers     the laws of `Admission`: an offer does what the terms say
 --     never_changes admits         the terms of a limiter that never changes
---     budget_terms weight          the terms of a limiter by a cost
---     offers_if-terms, weighs-terms, offers_of-terms      their laws
---     offers_of-lawful             the laws of `Insertion`, of offers by terms
-use Rattle.std.specs.Prelude.{◌≡◌, ◌-◌, ℕ, Bool, true, Option, refl}
+--     offers_if admits             its offers: a pair is stored if admits says so, a new value always
+--     offers_of-terms, offers_if-terms        the laws of `Admission`
+--     offers_of-lawful, offers_if-lawful      the laws of `Insertion`
+use Rattle.std.specs.Prelude.{◌≡◌, ℕ, Bool, true, Option, refl}
 use Rattle.std.specs.Cmp.{IsEquivalence}
 use Rattle.lru_limits.specs.Rules.{Replaced, Offers}
 use Rattle.lru_limits.specs.Laws.{IsInsertion}
-use Rattle.lru_limits.specs.Stores.{ReturnsPairIf, offers_if, given-names}
-use Rattle.lru_limits.specs.Budget.{Budget, can_add, charged, exchanged, weighs}
+use Rattle.lru_limits.specs.Stores.{ReturnsPairIf, given-names}
 
 -- Each is named after its callback. A map has n pairs.
 pub record Terms (K V S : Type 0) : Type 0 where
@@ -76,18 +75,13 @@ never_changes admits = record {
   on_replaced = λ s n k v w. s;
 }
 
-pub offers_if-terms : {K V S : Type 0} (admits : S → K → V → Bool)
-    → IsAdmission (never_changes admits) (offers_if admits)
-offers_if-terms admits = offers_of-terms (never_changes admits)
+module _ {K V S : Type 0} where
+  abbrev pub offers_if : (S → K → V → Bool) → Offers K V S K
+  offers_if admits = offers_of (never_changes admits)
 
-module _ {K V : Type 0} (weight : K → V → ℕ) where
-  abbrev pub budget_terms : Terms K V Budget
-  budget_terms = record {
-    accepts = λ b n k v. can_add b.limit b.cost (weight k v);
-    on_stored = λ b n k v. charged b (weight k v);
-    accepts_in_place = λ b n k v w. can_add b.limit (b.cost - weight k v) (weight k w);
-    on_replaced = λ b n k v w. (exchanged b k v w (weight k v) (weight k w)).limiter;
-  }
+  pub offers_if-terms : (admits : S → K → V → Bool) → IsAdmission (never_changes admits) (offers_if admits)
+  offers_if-terms admits = offers_of-terms (never_changes admits)
 
-  pub weighs-terms : IsAdmission budget_terms (weighs weight)
-  weighs-terms = offers_of-terms budget_terms
+  pub offers_if-lawful : {admits : S → K → V → Bool} (eq : K → K → Bool) → IsEquivalence eq
+      → IsInsertion eq eq (offers_if admits)
+  offers_if-lawful {admits} = offers_of-lawful (never_changes admits)

@@ -7,6 +7,7 @@ use Rattle.std.specs.Prelude.{if◌then◌else◌, refl}
 use Rattle.std.proofs.Common.{ap, sym, ◌∙◌, subst, arith}
 use Rattle.lru_limits.specs.declared.limiters.both.Both.{Both}
 use Rattle.lru_limits.specs.Rules.{Rules, Offers}
+use Rattle.lru_limits.specs.Keys.{both_true}
 use Rattle.lru_limits.specs.Laws.{IsAccount, kept_value}
 use Rattle.lru_limits.specs.Stores.{ReturnsPairIf, given-adds, refused-keeps}
 use Rattle.lru_limits.specs.Admissions.{Terms, offers_of, IsAdmission}
@@ -47,10 +48,6 @@ module _ {K V A B : Type 0} where
         then record { 0 = a.on_replaced s.0 n k v w; 1 = b.on_replaced s.1 n k v w } else s;
   }
 
-both_true : (a b : Bool) → IsTrue (a && b) → IsTrue a
-both_true true b h = refl
-both_true false b h = absurd cc
-
 -- as `given-adds` and `replaced-exchanges`, of a change that is known only if the limiter accepts
 module _ {K V S : Type 0} (cost : K → V → ℕ) (account : S → ℕ) where
   adds_if : (accepts : Bool) (s s' : S) (i : K) (v : V) (t : S) (k : K) (w : V)
@@ -89,7 +86,7 @@ module _ {K V A : Type 0} {rules : Rules K V A} {offers : Offers K V A K} {cost 
         let b = terms'.accepts s.1 n i v in
         adds_if cost (λ s. account s.0) (a && b) s
         (record { 0 = terms.on_stored s.0 n i v; 1 = terms'.on_stored s.1 n i v }) i v t k w
-        (λ both. stored s.0 n i v (both_true a b both));
+        (λ both. stored s.0 n i v (both_true a b both).0);
     refuses = λ s n i v t. refused-keeps (λ s. account s.0) (terms.accepts s.0 n i v && terms'.accepts s.1 n i v) s
         (record { 0 = terms.on_stored s.0 n i v; 1 = terms'.on_stored s.1 n i v }) i v t;
     exchanges = λ s n k i v w enough.
@@ -97,7 +94,7 @@ module _ {K V A : Type 0} {rules : Rules K V A} {offers : Offers K V A K} {cost 
         let b = terms'.accepts_in_place s.1 n k v w in
         exchanges_if cost (λ s. account s.0) (a && b) s
         (record { 0 = terms.on_replaced s.0 n k v w; 1 = terms'.on_replaced s.1 n k v w }) k v w
-        (λ both. exchanged s.0 n k v w enough (both_true a b both)) enough;
+        (λ both. exchanged s.0 n k v w enough (both_true a b both).0) enough;
     takes_off = λ s k v. sums.takes_off s.0 k v;
     empties = λ s. sums.empties s.0;
     keeps = λ s n. sums.keeps s.0 n;

@@ -3,16 +3,19 @@
 --     can_add limit sum c    the cost c is at most the limit, and the sum with it fits 64 bits
 --     charged b c            the sum with c added, if it can be
 --     refunded b c           the sum with c taken off, or 0 if c is greater
---     exchanged b k v w c d  what is left after the value v of cost c was to be replaced by w of cost d
+--     exchanged b c d        what is left after a value of cost c was to be replaced by one of cost d
 --     by_weight, weighs      the rules and the offers of a limiter, if a pair has this cost
+--     budget_terms           the terms of its offers
 --     by_cost, charges       those, if a value has this cost
 --     pair_cost o k v        the cost of a pair whose key costs k and whose value costs v, with the overhead o
+--     weighs-terms                                                  the laws of `Admission`
 --     weighs-lawful, weighs-sums, charges-lawful, charges-sums      the laws of `Insertion` and of `Summing`
 use Rattle.std.specs.Prelude.{◌+◌, ◌-◌, ◌^◌, ◌&&◌, ℕ, min, Bool, true, nat_lt, nat_le, if◌then◌else◌, refl}
 use Rattle.std.specs.Cmp.{IsEquivalence}
-use Rattle.lru_limits.specs.Rules.{Replaced, Rules, Offers}
+use Rattle.lru_limits.specs.Rules.{Rules, Offers}
 use Rattle.lru_limits.specs.Laws.{IsInsertion, IsAccount}
-use Rattle.lru_limits.specs.Stores.{ReturnsPairIf, answers, given-names, given-adds, refused-keeps, replaced-exchanges}
+use Rattle.lru_limits.specs.Admissions.{Terms, IsAdmission, offers_of, offers_of-terms, offers_of-lawful}
+use Rattle.lru_limits.specs.Stores.{answers, given-adds, refused-keeps, replaced-exchanges}
 
 pub record Budget : Type 0 where
   pub limit : ℕ
@@ -27,14 +30,8 @@ charged b c = if can_add b.limit b.cost c then record b { cost = b.cost + c } el
 abbrev pub refunded : Budget → ℕ → Budget
 refunded b c = record b { cost = b.cost - c }
 
-abbrev pub exchanged : {K V : Type 0} → Budget → K → V → V → ℕ → ℕ → Replaced K V Budget
-exchanged b k v w c d = record {
-  limiter = if can_add b.limit (b.cost - c) d then record b { cost = b.cost - c + d } else b;
-  taken = can_add b.limit (b.cost - c) d;
-  key = k;
-  old_value = v;
-  new_value = w;
-}
+abbrev pub exchanged : Budget → ℕ → ℕ → Budget
+exchanged b c d = if can_add b.limit (b.cost - c) d then record b { cost = b.cost - c + d } else b
 
 module _ {K V : Type 0} (weight : K → V → ℕ) where
   abbrev pub by_weight : Rules K V Budget
@@ -45,13 +42,16 @@ module _ {K V : Type 0} (weight : K → V → ℕ) where
     on_grow = λ b bytes. answers b true;
   }
 
-  abbrev pub weighs : Offers K V Budget K
-  weighs = record {
-    on_insert = λ b n k v t given.
-        ReturnsPairIf (can_add b.limit b.cost (weight k v)) (charged b (weight k v)) k v t given;
-    may_run_out = λ b n k v. ⊥;
-    on_replace = λ b n k i v w. exchanged b k v w (weight k v) (weight k w);
+  abbrev pub budget_terms : Terms K V Budget
+  budget_terms = record {
+    accepts = λ b n k v. can_add b.limit b.cost (weight k v);
+    on_stored = λ b n k v. charged b (weight k v);
+    accepts_in_place = λ b n k v w. can_add b.limit (b.cost - weight k v) (weight k w);
+    on_replaced = λ b n k v w. exchanged b (weight k v) (weight k w);
   }
+
+  abbrev pub weighs : Offers K V Budget K
+  weighs = offers_of budget_terms
 
 module _ {K V : Type 0} (cost : V → ℕ) where
   abbrev pub by_cost : Rules K V Budget
@@ -65,11 +65,11 @@ abbrev pub pair_cost : ℕ → ℕ → ℕ → ℕ
 pair_cost overhead k v = min (k + v + overhead) (2 ^ 64 - 1)
 
 module _ {K V : Type 0} (weight : K → V → ℕ) where
+  pub weighs-terms : IsAdmission (budget_terms weight) (weighs weight)
+  weighs-terms = offers_of-terms (budget_terms weight)
+
   pub weighs-lawful : (eq : K → K → Bool) → IsEquivalence eq → IsInsertion eq eq (weighs weight)
-  weighs-lawful eq e = record {
-    names_given = λ b n i v t k w given. given-names eq e.refl given;
-    keeps_key = λ b n k i v w named. e.refl k;
-  }
+  weighs-lawful = offers_of-lawful (budget_terms weight)
 
   pub weighs-sums : IsAccount (by_weight weight) (weighs weight) weight (λ b. b.cost)
   weighs-sums = record {

@@ -25,7 +25,7 @@ field-lawful of_q of_k laws = record {
   one = λ q x y. laws.one (of_q q) (of_k x) (of_k y);
 }
 
-both_true : (a b : Bool) → IsTrue (a && b) → IsTrue a × IsTrue b
+pub both_true : (a b : Bool) → IsTrue (a && b) → IsTrue a × IsTrue b
 both_true true b h = (refl, h)
 both_true false b h = absurd cc
 

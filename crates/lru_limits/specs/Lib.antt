@@ -4,9 +4,9 @@ pub mod Stores
 pub mod Limiters
 pub mod Texts
 pub mod Keys
-pub mod Budget
-pub mod Budgeted
 pub mod Mixing
 pub mod Hashing
 pub mod Admissions
+pub mod Budget
+pub mod Budgeted
 pub mod Both

@@ -5,7 +5,8 @@
 --     all_offers                       the offers of a limiter that stores each pair
 use Rattle.std.specs.Prelude.{ℕ, true, false, nat_lt, nat_le}
 use Rattle.lru_limits.specs.Rules.{Rules, Offers}
-use Rattle.lru_limits.specs.Stores.{plain, offers_if}
+use Rattle.lru_limits.specs.Admissions.{offers_if}
+use Rattle.lru_limits.specs.Stores.{plain}
 
 -- more pairs than the length are over the limit, and any growth is permitted
 abbrev pub length_rules : {K V : Type 0} → Rules K V ℕ

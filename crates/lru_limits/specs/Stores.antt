@@ -1,20 +1,16 @@
 -- Words for limiters that store a pair as it came.
 --     plain over grants                    the rules of a limiter that never changes
 --     rules_at of to rules                 the rules of a limiter that contains another: of and to read and make it
---     offers_if admits                     its offers: an element is stored if admits says so, a new value always
 --     ReturnsPairIf accepts s k v t given  the limiter stays s, which is t, and the pair is given exactly if accepted
 --     unmoved s k v                        a pair that left, and the limiter is now s
 --     answers s b                          the answer b on growth, and the limiter is now s
 --     replaces s k v w                     the new value is taken, and the limiter is now s
 --     given-is, given-names                what a pair that was offered is
---     offers_if-lawful                    the laws of `offers_if`
 --     given-adds, refused-keeps, replaced-exchanges      what a running total becomes, for a `Summing` of your own
 use Rattle.std.specs.Prelude.{◌≡◌, ◌≤◌, ◌+◌, ◌-◌, ℕ, Bool, true, false, Option, Some, None, IsTrue, if◌then◌else◌}
 use Rattle.std.specs.Prelude.{unwrap_or}
-use Rattle.std.specs.Cmp.{IsEquivalence}
 use Rattle.std.proofs.Common.{ap, sym, ◌∙◌, subst, arith}
-use Rattle.lru_limits.specs.Rules.{Notified, Replaced, Allowed, Rules, Offers}
-use Rattle.lru_limits.specs.Laws.{IsInsertion}
+use Rattle.lru_limits.specs.Rules.{Notified, Replaced, Allowed, Rules}
 
 pub record ReturnsPairIf {S K V : Type 0} (accepts : Bool) (s : S) (k : K) (v : V) (t : S)
     (given : Option (K × V)) : Type 0 where
@@ -47,13 +43,6 @@ rules_at of to rules = record {
   on_grow = λ w bytes. let asked = rules.on_grow (of w) bytes in answers (to asked.limiter) asked.allowed;
 }
 
-abbrev pub offers_if : {K V S : Type 0} → (S → K → V → Bool) → Offers K V S K
-offers_if admits = record {
-  on_insert = λ s n k v t given. ReturnsPairIf (admits s k v) s k v t given;
-  may_run_out = λ s n k v. ⊥;
-  on_replace = λ s n k i v w. replaces s k v w;
-}
-
 -- the returned pair is the offered one
 pub given-is : {S K V : Type 0} (accepts : Bool) (s : S) (k : K) (v : V) (t : S) (p : K × V)
     → ReturnsPairIf accepts s k v t (Some p) → p ≡ (k, v)
@@ -65,13 +54,6 @@ pub given-names : {S K V : Type 0} {accepts : Bool} {s t : S} {i k : K} {v w : V
     → ((x : K) → IsTrue (E x x)) → ReturnsPairIf accepts s i v t (Some (k, w)) → IsTrue (E i k)
 given-names {accepts} {s} {t} {i} {k} {v} {w} E reflexive h =
     subst (λ x. IsTrue (E i x)) (sym (ap (λ p. p.0) (given-is accepts s i v t (k, w) h))) (reflexive i)
-
-pub offers_if-lawful : {K V S : Type 0} {admits : S → K → V → Bool} (eq : K → K → Bool) → IsEquivalence eq
-    → IsInsertion eq eq (offers_if admits)
-offers_if-lawful eq e = record {
-  names_given = λ s n i v t k w given. given-names eq e.refl given;
-  keeps_key = λ s n k i v w named. e.refl k;
-}
 
 -- Below, a limiter accepts or not; if it accepts, s becomes s', and elsewhere it stays s.
 

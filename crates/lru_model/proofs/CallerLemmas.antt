@@ -74,7 +74,8 @@ use Rattle.std.proofs.lemmas.Option.{none-some}
 use Rattle.std.specs.declared.alloc.AllocError.{AllocError}
 use Rattle.lru_limits.specs.Rules.{Rules, Offers}
 use Rattle.lru_limits.specs.Budget.{by_weight, weighs, by_cost, charges, can_add}
-use Rattle.lru_limits.specs.Stores.{plain, offers_if, given-is}
+use Rattle.lru_limits.specs.Admissions.{offers_if}
+use Rattle.lru_limits.specs.Stores.{plain, given-is}
 use Rattle.lru_model.specs.Lists.{first, without_first, lookup, lookup_entry, without, after, front, back}
 use Rattle.lru_model.specs.Lists.{place_of, other_places, front_places, back_places}
 use Rattle.lru_model.specs.State.{State}

@@ -3,10 +3,6 @@ use Rattle.std.specs.Prelude.{◌≡◌, ◌⊎◌, ℕ, ◌+◌, ◌-◌, ◌*�
 use Rattle.std.specs.Prelude.{Option, Some, None}
 use Rattle.group_table.specs.Sizes.{IsPowerFromFour, full_capacity, buckets_for}
 
--- the bytes of an entry that `LruMap::default` assumes
-abbrev pub default_entry_bytes : ℕ
-default_entry_bytes = 32
-
 -- the number of the link `MAX` of 32 bits, and of 64 bits: buckets have smaller numbers
 abbrev pub max_of_32_bits : ℕ
 max_of_32_bits = 2 ^ 32 - 1

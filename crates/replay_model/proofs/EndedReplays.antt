@@ -19,12 +19,12 @@ use Rattle.replay_model.specs.declared.lines.outcome.ReplayError.TheVariants as 
 use Rattle.replay_model.specs.Grammar.{SpellsLimit}
 use Rattle.replay_model.specs.Lines.{lines_of, TakesFed, TakesRest, TakesLine, TakesPart, TakesFirst}
 use Rattle.replay_model.specs.Output.{Begins, Fails, no_limiter_text}
-use Rattle.replay_model.specs.Replay.{IsTextUnder, IsReplay, NamesNoLimit, IsOutput, SoFar}
+use Rattle.replay_model.specs.Replay.{IsTextUnder, IsReplay, NamesNoLimit, IsOutput, SoFar, plain_entry_bytes}
 use Rattle.replay_model.specs.Replay.{WritesCut, WritesCutSoFar, Replays}
 use Rattle.lru_limits.specs.Limiters.{length_rules, length_offers, memory_rules, no_rules, all_offers}
 use Rattle.replay_model.specs.Limits.{cost_rules, cost_offers, no_cost, cost_reported}
 use Rattle.replay_model.specs.Maps.{Map, empty}
-use Rattle.lru_model.specs.Sizes.{default_entry_bytes, max_of_32_bits, max_of_64_bits}
+use Rattle.lru_model.specs.Sizes.{max_of_32_bits, max_of_64_bits}
 use Rattle.replay_model.specs.LineRuns.{IsTextOf, Answers}
 use Rattle.replay_model.proofs.LineLists.{lines_of-fed, lines_of-last, lines_at_end, lines_left, takes_line_before}
 use Rattle.replay_model.proofs.LineRuns.{some_line_run, line_run_sized, line_run-append}
@@ -82,23 +82,23 @@ module _ {S : Type 0} (rules : Rules ℕ ℕ S) (offers : Offers ℕ ℕ S ℕ) 
 under_goes_on : (limit : Limit) (lines more : List (List ℕ)) (text : List ℕ) → IsTextUnder limit lines text
     → (u : List ℕ) × IsTextUnder limit (lines ++ more) (text ++ u)
 under_goes_on (limits.Length most) = text_goes_on length_rules length_offers no_cost length_always
-    (empty most default_entry_bytes max_of_32_bits) (empty_is_sound default_entry_bytes max_of_32_bits)
+    (empty most plain_entry_bytes max_of_32_bits) (empty_is_sound plain_entry_bytes max_of_32_bits)
 under_goes_on (limits.Memory budget entry_bytes) = text_goes_on memory_rules all_offers no_cost all_always
     (empty budget entry_bytes max_of_32_bits) (empty_is_sound entry_bytes max_of_32_bits)
 under_goes_on (limits.Cost most) =
     let budget : Budget = record { limit = most; cost = 0 } in
-    text_goes_on cost_rules cost_offers cost_reported cost_always (empty budget default_entry_bytes max_of_64_bits)
-    (empty_is_sound default_entry_bytes max_of_64_bits)
+    text_goes_on cost_rules cost_offers cost_reported cost_always (empty budget plain_entry_bytes max_of_64_bits)
+    (empty_is_sound plain_entry_bytes max_of_64_bits)
 under_goes_on limits.Compact = text_goes_on no_rules all_offers no_cost all_always
-    (empty (record {}) default_entry_bytes max_of_32_bits)
-    (empty_is_sound default_entry_bytes max_of_32_bits)
+    (empty (record {}) plain_entry_bytes max_of_32_bits)
+    (empty_is_sound plain_entry_bytes max_of_32_bits)
 
 no_lines_under : (limit : Limit) → IsTextUnder limit [] []
-no_lines_under (limits.Length most) = (empty most default_entry_bytes max_of_32_bits, ([], refl, refl))
+no_lines_under (limits.Length most) = (empty most plain_entry_bytes max_of_32_bits, ([], refl, refl))
 no_lines_under (limits.Memory budget entry_bytes) = (empty budget entry_bytes max_of_32_bits, ([], refl, refl))
 no_lines_under (limits.Cost most) =
-    (empty (record { limit = most; cost = 0 }) default_entry_bytes max_of_64_bits, ([], refl, refl))
-no_lines_under limits.Compact = (empty (record {}) default_entry_bytes max_of_32_bits, ([], refl, refl))
+    (empty (record { limit = most; cost = 0 }) plain_entry_bytes max_of_64_bits, ([], refl, refl))
+no_lines_under limits.Compact = (empty (record {}) plain_entry_bytes max_of_32_bits, ([], refl, refl))
 
 -- So each list of lines has something written of it,
 some_output : (lines : List (List ℕ)) → (text : List ℕ) × IsOutput lines text

@@ -9,7 +9,7 @@ use Rattle.replay_model.specs.declared.lines.outcome.ReplayEnd.{ReplayEnd}
 use Rattle.replay_model.specs.declared.lines.outcome.ReplayEnd.TheVariants as ends
 use Rattle.replay_model.specs.declared.lines.outcome.ReplayError.{ReplayError}
 use Rattle.replay_model.specs.declared.lines.outcome.ReplayError.TheVariants as errors
-use Rattle.lru_model.specs.Sizes.{default_entry_bytes, max_of_32_bits, max_of_64_bits}
+use Rattle.lru_model.specs.Sizes.{max_of_32_bits, max_of_64_bits}
 use Rattle.replay_model.specs.Grammar.{SpellsLimit}
 use Rattle.replay_model.specs.Limits.{cost_rules, cost_offers, no_cost, cost_reported}
 use Rattle.replay_model.specs.Lines.{lines_of, TakesFirst}
@@ -17,17 +17,21 @@ use Rattle.replay_model.specs.Maps.{empty}
 use Rattle.replay_model.specs.Output.{no_limiter_text, Begins}
 use Rattle.replay_model.specs.LineRuns.{IsTextOf, OfAll, OfRead, BeginsText}
 
+-- the bytes that the map counts for an entry, unless the first line says otherwise
+abbrev pub plain_entry_bytes : ℕ
+plain_entry_bytes = 32
+
 -- The lines are answered by this text, from the empty map under the limit.
 abbrev pub IsTextUnder : Limit → List (List ℕ) → List ℕ → Type 0
 IsTextUnder (limits.Length most) =
-    IsTextOf length_rules length_offers no_cost (empty most default_entry_bytes max_of_32_bits)
+    IsTextOf length_rules length_offers no_cost (empty most plain_entry_bytes max_of_32_bits)
 IsTextUnder (limits.Memory budget entry_bytes) =
     IsTextOf memory_rules all_offers no_cost (empty budget entry_bytes max_of_32_bits)
 IsTextUnder (limits.Cost most) =
     IsTextOf cost_rules cost_offers cost_reported
-    (empty (record { limit = most; cost = 0 }) default_entry_bytes max_of_64_bits)
+    (empty (record { limit = most; cost = 0 }) plain_entry_bytes max_of_64_bits)
 IsTextUnder limits.Compact =
-    IsTextOf {S = UnlimitedCompact} no_rules all_offers no_cost (empty (record {}) default_entry_bytes max_of_32_bits)
+    IsTextOf {S = UnlimitedCompact} no_rules all_offers no_cost (empty (record {}) plain_entry_bytes max_of_32_bits)
 
 -- The first line names a limit, and the others are answered by this text, from the empty map under that limit.
 abbrev pub IsReplay : List (List ℕ) → List ℕ → Type 0

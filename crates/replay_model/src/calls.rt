@@ -12,7 +12,7 @@ use std::alloc::AllocError;
 pub enum Call<K, V, L> {
     /// `insert`: makes the pair of this key and value the newest.
     Insert(K, V),
-    /// `insert_with`: the same as `Insert`, and returns the pairs that are evicted, rejected or not stored.
+    /// `insert_with`: the same as `Insert`, and returns the pairs that the map loses.
     InsertWith(K, V),
     /// `get_or_insert`: returns the value of the key, which is inserted with this value if it is not there.
     GetOrInsert(K, V),

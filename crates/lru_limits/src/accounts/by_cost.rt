@@ -1,7 +1,6 @@
 //! The limiter by the sum of the costs of the values.
 ghost use Rattle.std.specs.Prelude.{◌≡◌};
-ghost use Rattle.lru_limits.specs.Admissions.{budget_terms, weighs-terms};
-ghost use Rattle.lru_limits.specs.Budget.{can_add, by_cost, charges, charges-lawful, charges-sums};
+ghost use Rattle.lru_limits.specs.Budget.{can_add, by_cost, charges, charges-lawful, charges-sums, budget_terms, weighs-terms};
 ghost use Rattle.lru_limits.specs.Budgeted.{weighs-budgeted};
 
 use crate::accounts::{Budgeted, Costed, Summing, sum_with};

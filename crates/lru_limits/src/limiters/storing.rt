@@ -1,8 +1,8 @@
 //! An adapter for limiters that store each entry as it comes.
 ghost use Rattle.std.specs.Prelude.{true};
-ghost use Rattle.lru_limits.specs.Admissions.{never_changes, offers_if-terms};
+ghost use Rattle.lru_limits.specs.Admissions.{never_changes, offers_if-terms, offers_if-lawful};
 ghost use Rattle.lru_limits.specs.Limiters.{all_offers};
-ghost use Rattle.lru_limits.specs.Stores.{rules_at, offers_if-lawful};
+ghost use Rattle.lru_limits.specs.Stores.{rules_at};
 
 use crate::admission::Admission;
 use crate::keys::LookupKey;

@@ -1,8 +1,7 @@
 //! The limiter that limits nothing.
 ghost use Rattle.std.specs.Prelude.{true};
-ghost use Rattle.lru_limits.specs.Admissions.{never_changes, offers_if-terms};
+ghost use Rattle.lru_limits.specs.Admissions.{never_changes, offers_if-terms, offers_if-lawful};
 ghost use Rattle.lru_limits.specs.Limiters.{no_rules, all_offers};
-ghost use Rattle.lru_limits.specs.Stores.{offers_if-lawful};
 
 use crate::admission::Admission;
 use crate::keys::LookupKey;

@@ -3,7 +3,8 @@ use Rattle.std.proofs.Common.{◌≡◌, ℕ, suc, ◌+◌, ◌≤◌, ◌⊎◌
 use Rattle.std.proofs.Common.{Option, Some, None, Result, refl, sym, ap, ◌∙◌, subst, arith}
 use Rattle.std.specs.declared.alloc.AllocError.{AllocError}
 use Rattle.lru_limits.specs.Rules.{Rules, Offers}
-use Rattle.lru_limits.specs.Stores.{plain, offers_if}
+use Rattle.lru_limits.specs.Admissions.{offers_if}
+use Rattle.lru_limits.specs.Stores.{plain}
 use Rattle.lru_model.specs.Sizes.{usage}
 use Rattle.lru_model.specs.Lists.{last, lookup_entry, without, set_entry}
 use Rattle.lru_model.specs.State.{State, buckets, contents, IsWithin, notified_of}

@@ -7,7 +7,8 @@ use Rattle.std.specs.Prelude.{option_map, unwrap_or}
 use Rattle.std.proofs.lemmas.Bool.{le-ltb}
 use Rattle.lru_limits.specs.Rules.{Rules}
 use Rattle.lru_limits.specs.Budget.{Budget, by_weight, weighs, by_cost, charges, can_add}
-use Rattle.lru_limits.specs.Stores.{plain, offers_if, given-is}
+use Rattle.lru_limits.specs.Admissions.{offers_if}
+use Rattle.lru_limits.specs.Stores.{plain, given-is}
 use Rattle.lru_model.specs.Lists.{lookup_entry}
 use Rattle.lru_model.specs.State.{State, Contents}
 use Rattle.lru_model.specs.Theorems.{Stores, left, given}

@@ -28,7 +28,7 @@ pub fn list<K: Copy + Eq + Hash, V: Copy, L: Insertion<K, V, K>, S: KeyHasher<K>
     Answer::Pairs(pairs)
 }
 
-/// Returns the answer to an insert, with the pairs that are evicted, removed for a rejected value, or not stored.
+/// Returns the answer to an insert, with the pairs that the map loses.
 pub fn insert_with<K: Eq + Hash + Drop, V: Drop, L: Insertion<K, V, K>, S: KeyHasher<K>>(
     map: &mut LruMap<K, V, L, S>,
     key: K,

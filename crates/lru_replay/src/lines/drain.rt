@@ -11,9 +11,9 @@ use std::io::Write;
 /// Takes out at most `most` of the newest pairs, and writes each. Then it drops the others. If a write fails, nothing
 /// more is written, and the map ends as it would have.
 pub fn write_drain<L: Insertion<u64, u64, u64>, W: Write>(
+    writer: &mut W,
     map: &mut LruMap<u64, u64, L>,
     most: u64,
-    writer: &mut W,
 ) -> Result<(), ReplayError>
     ensures { (pairs : List (ℕ × ℕ)) × Drained L.rules most 0 map.old pairs map.new
         × Writes (W.contents writer.old) (W.contents writer.new) result (pairs_text pairs) }

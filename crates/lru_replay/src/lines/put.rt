@@ -10,13 +10,13 @@ use replay_model::lines::output::{write_bytes, write_given};
 use schnellru::{Insertion, LruMap};
 use std::io::Write;
 
-/// Inserts, and writes the answer, and after it the pairs that were evicted, removed for a rejected value, or not
-/// stored. If there is no memory to list these, nothing changes.
+/// Inserts, and writes the answer, and after it the pairs that the map lost: those that were evicted, removed for a
+/// rejected value, or not stored. If there is no memory to list these, nothing changes.
 pub fn write_put<L: Insertion<u64, u64, u64>, W: Write>(
+    writer: &mut W,
     map: &mut LruMap<u64, u64, L>,
     key: u64,
     value: u64,
-    writer: &mut W,
 ) -> Result<(), ReplayError>
     ensures { (cost : Option ℕ) → (reply : Reply ℕ ℕ)
         × AnswersCommand L.rules L.offers map.old (commands.Put key value) reply map.new

@@ -43,7 +43,7 @@ fn answer_command<L: Insertion<u64, u64, u64> + ReportsCost, W: Write>(
 {
     match command_of(line) {
         Some(Command::Insert(key, value)) => write_insert(writer, map.insert(key, value)),
-        Some(Command::Put(key, value)) => write_put(map, key, value, writer),
+        Some(Command::Put(key, value)) => write_put(writer, map, key, value),
         Some(Command::Update(key, value)) => write_updated(writer, map.update(key, value)),
         Some(Command::Get(key)) => write_value(writer, get(map, &key)),
         Some(Command::Peek(key)) => write_value(writer, map.peek(&key).copied()),
@@ -56,7 +56,7 @@ fn answer_command<L: Insertion<u64, u64, u64> + ReportsCost, W: Write>(
         Some(Command::PopNewest) => write_left(writer, map.pop_newest()),
         Some(Command::Reserve(n)) => write_reservation(writer, map.try_reserve(n as usize)),
         Some(Command::Shrink) => write_shrink(writer, map.shrink_to_fit()),
-        Some(Command::Drain(n)) => write_drain(map, n, writer),
+        Some(Command::Drain(n)) => write_drain(writer, map, n),
         Some(Command::Clear) => {
             map.clear();
             write_bytes(writer, b"ok")

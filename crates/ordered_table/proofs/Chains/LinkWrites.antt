@@ -4,7 +4,7 @@ use Rattle.std.proofs.Common.{refl, ap, sym, ◌∙◌, subst, arith}
 use Rattle.std.specs.Prelude.{option_map, Contains}
 use Rattle.std.proofs.lemmas.Bool.{cases_eq}
 use Rattle.std.proofs.lemmas.Option.{same_Some}
-use Rattle.group_table.specs.Link.{IsLinkType}
+use Rattle.group_table.specs.Link.{IsLinkType, link_below}
 use Rattle.group_table.specs.Bucket.{Slot, bucket_at, is_full, IsFull, entry_at, entry_of, refilled}
 use Rattle.group_table.specs.Change.{Removes}
 use Rattle.group_table.proofs.BucketLemmas.{full_lt}
@@ -88,7 +88,7 @@ module _ {N : Type 0} {number : N → ℕ} {link : ℕ → N} {none : N}
   number-link_to o x e p = rw e (laws.number_of_link x p)
 
   pub inner_link : (o : Option ℕ) (x : ℕ) → o ≡ Some x → x < number none → link_to link none o ≢ none
-  inner_link o x e p = rw e (laws.link_below x p)
+  inner_link o x e p = rw e (link_below laws x p)
 
   pub bucket_by_link : (o : Option ℕ) (x : ℕ) → ((y : ℕ) → o ≡ Some y → y < number none) → x < number none → x
       ≡ number (link_to link none o) → o ≡ Some x
@@ -97,7 +97,7 @@ module _ {N : Type 0} {number : N → ℕ} {link : ℕ → N} {none : N}
 
   pub end_by_link : (o : Option ℕ) → ((y : ℕ) → o ≡ Some y → y < number none) → link_to link none o ≡ none → o ≡ None
   end_by_link None bounds e = refl
-  end_by_link (Some y) bounds e = absurd (laws.link_below y (bounds y refl) e)
+  end_by_link (Some y) bounds e = absurd (link_below laws y (bounds y refl) e)
 
   module _ {K V : Type 0} where
     -- a link of a chain leads to no bucket or to a full one

@@ -11,7 +11,7 @@ use crate::lines::bytes::index_of;
 pub enum Command {
     /// `insert K V`: makes the pair of this key and value the newest.
     Insert(u64, u64),
-    /// `put K V`: the same as `insert`, and returns the pairs that are evicted, rejected or not stored.
+    /// `put K V`: the same as `insert`, and returns the pairs that the map loses.
     Put(u64, u64),
     /// `update K V`: replaces the value of a key that is there, in its place, and returns what it did.
     Update(u64, u64),

@@ -146,6 +146,10 @@ pub enum Ending {
 
 /// Reads the next line, and holds its first bytes: a line of any length is read to its end, in constant memory. An
 /// interrupted look at the reader's buffer is repeated.
+///
+/// # Errors
+///
+/// `ReplayError::Read` if the reader fails.
 pub fn read_line<R: BufRead>(reader: &mut R, line: &mut Line) -> Result<Ending, ReplayError>
     ensures ok { IfOk result (λ ending. (bytes : List ℕ)
         × TakesLine (R.remaining reader.old) (R.remaining reader.new) ending bytes

@@ -1,4 +1,4 @@
-//! The texts of replies, written piece by piece.
+//! The texts of replies, written piece by piece. Each function fails with `ReplayError::Write` if the writer fails.
 ghost use Rattle.std.specs.Prelude.{Option, [], ◌++◌, decimal};
 ghost use Rattle.replay_model.specs.Output.{Writes, flag_text, value_text, left_text, pair_text, rest_text};
 ghost use Rattle.replay_model.specs.Output.{reservation_text, shrink_text, figures_text, placed_text, cost_text};
@@ -43,7 +43,7 @@ pub fn write_flag<W: Write>(writer: &mut W, flag: bool) -> Result<(), ReplayErro
     }
 }
 
-/// Writes what an insert returned, and after it the pairs that were evicted, rejected or not stored.
+/// Writes what an insert returned, and after it the pairs that the map lost.
 pub fn write_given<W: Write>(
     writer: &mut W,
     done: Result<bool, AllocError>,

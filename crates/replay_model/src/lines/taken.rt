@@ -1,4 +1,5 @@
-//! The pairs that the line `drain` takes out, written as they go.
+//! The pairs that the line `drain` takes out, written as they go. Each function fails with `ReplayError::Write` if the
+//! writer fails.
 ghost use Rattle.std.specs.Prelude.{ℕ, List, [], ◌++◌, Option, if◌then◌else◌, codes};
 ghost use Rattle.replay_model.specs.Output.{Writes, taken_text};
 
