@@ -9,8 +9,8 @@ use test_helpers::{all, check};
 
 type Numbers = TenantCache<u64, u64, u64>;
 
-/// Makes the cache of the examples: one tenant, whose name is 1, with a budget of 3 and the entry (7, 2). Out of memory,
-/// it has no tenant or no entry, and the tests fail.
+/// Makes the cache of the examples: one tenant, whose name is 1, with a budget of 3 and the entry (7, 2). Out of
+/// memory, it has no tenant or no entry, and the tests fail.
 fn with_a_tenant(alloc: Global) -> Numbers {
     let mut cache = TenantCache::new(alloc, [1, 2, 3, 4], 32);
     let _ = cache.open(1, 3);
