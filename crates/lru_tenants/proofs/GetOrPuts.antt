@@ -11,7 +11,8 @@ use Rattle.lru_model.specs.State.{State}
 use Rattle.lru_model.proofs.CallerLemmas.{lookup-entry}
 use Rattle.lru_tenants.proofs.Changes.{cache_of, on-written}
 use Rattle.lru_tenants.specs.Cache.{Cache, tenant, On}
-use Rattle.lru_tenants.specs.GetOrPuts.{GetsOrPuts, MakesInto, newest_answer}
+use Rattle.lru_tenants.specs.GetOrPuts.{GetsOrPuts, newest_answer}
+use Rattle.lru_tenants.specs.TenantRuns.{OfOpen}
 use Rattle.lru_tenants.specs.declared.error.TenantError.{TenantError}
 use Rattle.lru_tenants.specs.declared.error.TenantError.TheVariants.{NotOpen}
 
@@ -32,34 +33,34 @@ module _ {K V L S : Type 0} (rules : Rules K V L) (offers : Offers K V L K) (bud
   abbrev pub GetsValue : State K V L S → Type 0
   GetsValue map = IfSome (lookup (eq key) map.pairs) (λ w. answer ≡ Ok (Some w))
 
-  gets_value : (map left : State K V L S) → MakesInto rules offers budget_of eq hash_of makes key map answer left
-      → GetsValue map
-  gets_value map left into = go (lookup (eq key) map.pairs) refl into.result into.step into.said
+  gets_value : (map : State K V L S) (new : Option (State K V L S))
+      → GetsOrPuts rules offers budget_of eq hash_of makes key map answer new → GetsValue map
+  gets_value map new does = go does.left (lookup (eq key) map.pairs) refl does.result does.step does.said
     where
-      go : (o : Option V) → lookup (eq key) map.pairs ≡ o → (result : Result Bool AllocError)
+      go : (left : State K V L S) (o : Option V) → lookup (eq key) map.pairs ≡ o → (result : Result Bool AllocError)
           → MakesNewest rules offers eq hash_of makes key map result left → answer ≡ newest_answer result left
           → IfSome o (λ w. answer ≡ Ok (Some w))
-      go None e result step said = tt
-      go (Some w) e result (got v found ok is) said = said ∙ ap (λ r. newest_answer r left) ok
+      go left None e result step said = tt
+      go left (Some w) e result (got v found ok is) said = said ∙ ap (λ r. newest_answer r left) ok
           ∙ ap (λ st. Ok (option_map (λ pair. pair.1) (first st.pairs))) is
           ∙ ap Ok (front-value (eq key) map.pairs w e)
-      go (Some w) e result (inserted none v may step) said = absurd (none-some w (sym none ∙ e))
+      go left (Some w) e result (inserted none v may step) said = absurd (none-some w (sym none ∙ e))
 
   module _ {N : Type 0} (same : N → N → Bool) (name : N) where
     -- what is left of the cache, and the answer
     pub record Ends (old new : Cache N K V L S) : Type 0 where
-      pub on : On same name (GetsOrPuts rules offers budget_of eq hash_of makes key) old answer new
+      pub on : On same name (OfOpen (GetsOrPuts rules offers budget_of eq hash_of makes key)) old answer new
       pub not_open : tenant (same name) old ≡ None → answer ≡ Err NotOpen
       pub there : IfSome (tenant (same name) old) GetsValue
 
     module _ {hasher : S} {entry_bytes : ℕ} {limit : Option ℕ} (old new : HashMap N (State K V L S) S) where
       pub ends : (was left : State K V L S) → get_by (same name) old ≡ Some was
           → WritesThrough same (same name) old left new
-          → MakesInto rules offers budget_of eq hash_of makes key was answer left
+          → GetsOrPuts rules offers budget_of eq hash_of makes key was answer (Some left)
           → Ends (cache_of old hasher entry_bytes limit) (cache_of new hasher entry_bytes limit)
-      ends was left is writes into = record {
+      ends was left is writes does = record {
         on = on-written same name old new was left is writes
-            (GetsOrPuts rules offers budget_of eq hash_of makes key) answer (left, into, refl);
+            (OfOpen (GetsOrPuts rules offers budget_of eq hash_of makes key)) answer does;
         not_open = λ none. absurd (none-some was (sym none ∙ is));
-        there = subst (λ t. IfSome t GetsValue) (sym is) (gets_value was left into);
+        there = subst (λ t. IfSome t GetsValue) (sym is) (gets_value was (Some left) does);
       }

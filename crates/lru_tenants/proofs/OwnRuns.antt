@@ -2,6 +2,8 @@
 use Rattle.std.proofs.Common.{◌≡◌, ℕ, Bool, true, false, cond, List, [], ◌∷◌, ◌++◌, Option, refl}
 use Rattle.std.proofs.Common.{subst, ap, ◌∙◌, inl, inr}
 use Rattle.std.specs.Prelude.{⊤}
+use Rattle.std.specs.List.{All}
+use Rattle.std.proofs.lemmas.List.Elements.{All-head, All-tail}
 use Rattle.lru_model.specs.State.{State, empty_map}
 use Rattle.std.specs.Cmp.{IsEquivalence}
 use Rattle.lru_tenants.proofs.Changes.{same-tenant}
@@ -25,6 +27,16 @@ chain {N} {K} {V} {L} {S} {eq} laws name (did ∷ more) old new (mid, found, lea
       subst (λ t. Chain (λ n. eq n name) t more (tenant (eq name) new)) now rest,
     )
     go rest false e now = inr (e, subst (λ t. Chain (λ n. eq n name) t more (tenant (eq name) new)) now rest)
+
+-- a tenant that no call names stays
+pub stays-by-others : {N K V L S : Type 0} (eq : N → N → Bool) (name : N) (dids : List (Did N K V L S))
+    (old new : Cache N K V L S) → CacheRun eq old dids new → All (λ did. eq did.name name ≡ false) dids
+    → tenant (eq name) new ≡ tenant (eq name) old
+stays-by-others eq name [] old new same all = ap (tenant (eq name)) same
+stays-by-others eq name (did ∷ more) old new (mid, found, leaves, run) all =
+    stays-by-others eq name more mid new run (All-tail (λ did. eq did.name name ≡ false) did more all)
+    ∙ leaves.tenants name
+    ∙ ap (λ b. cond b did.left (tenant (eq name) old)) (All-head (λ did. eq did.name name ≡ false) did more all)
 
 -- a run on the cache goes on by one call
 pub run-push : {N K V L S : Type 0} (eq : N → N → Bool) (dids : List (Did N K V L S)) (old mid new : Cache N K V L S)

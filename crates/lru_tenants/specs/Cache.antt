@@ -60,7 +60,7 @@ module _ {N K V L S : Type 0} where
   On eq name Does old answer new =
       (left : Option (State K V L S)) × Does (tenant (eq name) old) answer left × Leaves eq name left old new
 
-  -- it holds of each
+  -- `IsTenant` holds of the map of each tenant
   abbrev pub AreTenants : (K → K → Bool) → (K → V → ℕ) → (L → ℕ) → (L → ℕ) → Cache N K V L S → Type 0
   AreTenants eq cost account budget cache = All (IsTenant eq cost account budget) (values_of cache.tenants)
 

@@ -7,7 +7,7 @@ use Rattle.lru_model.specs.GetOrInserts.{MakesNewest}
 use Rattle.lru_model.specs.Lists.{first}
 use Rattle.lru_model.specs.State.{State}
 use Rattle.lru_tenants.specs.declared.error.TenantError.{TenantError}
-use Rattle.lru_tenants.specs.declared.error.TenantError.TheVariants.{NotOpen, Memory}
+use Rattle.lru_tenants.specs.declared.error.TenantError.TheVariants.{Memory}
 
 -- the value of the newest pair, if the result says that the key is there
 abbrev pub newest_answer : {K V L S : Type 0} → Result Bool AllocError → State K V L S → Result (Option V) TenantError
@@ -18,13 +18,11 @@ newest_answer (Err e) map = Err Memory
 module _ {K V L S : Type 0} (rules : Rules K V L) (offers : Offers K V L K) (budget_of : L → ℕ) (eq : K → K → Bool)
     (hash_of : S → K → ℕ) (makes : V → Type 0) (key : K) where
   -- the pair of the key becomes the newest, or is inserted with a value that the closure returns
-  pub record MakesInto (old : State K V L S) (answer : Result (Option V) TenantError) (left : State K V L S)
-      : Type 0 where
+  pub record GetsOrPuts (old : State K V L S) (answer : Result (Option V) TenantError)
+      (new : Option (State K V L S)) : Type 0 where
+    pub left : State K V L S
     pub result : Result Bool AllocError
     pub step : MakesNewest rules offers eq hash_of makes key old result left
     pub budget : budget_of left.limiter ≡ budget_of old.limiter
     pub said : answer ≡ newest_answer result left
-
-  abbrev pub GetsOrPuts : Option (State K V L S) → Result (Option V) TenantError → Option (State K V L S) → Type 0
-  GetsOrPuts None answer new = (answer ≡ Err NotOpen) × (new ≡ None)
-  GetsOrPuts (Some map) answer new = (left : State K V L S) × MakesInto map answer left × (new ≡ Some left)
+    pub is : new ≡ Some left

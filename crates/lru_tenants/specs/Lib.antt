@@ -4,6 +4,5 @@ pub mod Inside
 pub mod Isolation
 pub mod TenantRuns
 pub mod Lending
-pub mod Others
 pub mod GetOrPuts
 pub mod PutFulls

@@ -44,31 +44,29 @@ module _ {K V L S : Type 0} where
   Opens true fresh None answer new = (answer ≡ Err OverTotal) × (new ≡ None)
   Opens false fresh None answer new = ((answer ≡ Ok tt) × (new ≡ Some fresh)) ⊎ ((answer ≡ Err Memory) × (new ≡ None))
 
-  -- one that is open gets a budget, if the total limit lets it, and what is over it is evicted
-  abbrev pub SetsBudget : Rules K V L → (L → L) → Bool → Option (State K V L S) → Result (Unit {0}) TenantError
-      → Option (State K V L S) → Type 0
-  SetsBudget rules rebudgeted over None answer new = (answer ≡ Err NotOpen) × (new ≡ None)
-  SetsBudget rules rebudgeted true (Some map) answer new = (answer ≡ Err OverTotal) × (new ≡ Some map)
-  SetsBudget rules rebudgeted false (Some map) answer new = (left : State K V L S)
-      × Trims rules (with_limiter (rebudgeted map.limiter) map) left × (answer ≡ Ok tt) × (new ≡ Some left)
-
-  -- what a get by what names a key returns
-  abbrev pub got : (K → Bool) → Option (State K V L S) → Result (Option V) TenantError
-  got names None = Err NotOpen
-  got names (Some map) = Ok (lookup names map.pairs)
-
   -- what is read of a tenant that is open
   abbrev pub read_of : {R : Type 0} → (State K V L S → R) → Option (State K V L S) → Result R TenantError
   read_of reads None = Err NotOpen
   read_of reads (Some map) = Ok (reads map)
 
-  -- what is done to a tenant that is open
-  abbrev pub IfOpen : {R : Type 0} → (State K V L S → R → State K V L S → Type 0) → Option (State K V L S) → Result R
-      TenantError
+  -- what a call does to a tenant that is open; of any other it returns `NotOpen`, and the tenant stays closed
+  abbrev pub OfOpen : {R : Type 0} → (State K V L S → Result R TenantError → Option (State K V L S) → Type 0)
+      → Option (State K V L S) → Result R TenantError → Option (State K V L S) → Type 0
+  OfOpen does None answer new = (answer ≡ Err NotOpen) × (new ≡ None)
+  OfOpen does (Some map) answer new = does map answer new
+
+  -- the same, of a call that never fails then, and leaves the tenant open
+  abbrev pub IfOpen : {R : Type 0} → (State K V L S → R → State K V L S → Type 0) → Option (State K V L S)
+      → Result R TenantError → Option (State K V L S) → Type 0
+  IfOpen {R} does = OfOpen (λ map answer new.
+      (result : R) × (left : State K V L S) × does map result left × (answer ≡ Ok result) × (new ≡ Some left))
+
+  -- it gets a budget, if the total limit lets it, and what is over it is evicted
+  abbrev pub SetsBudget : Rules K V L → (L → L) → Bool → State K V L S → Result (Unit {0}) TenantError
       → Option (State K V L S) → Type 0
-  IfOpen does None answer new = (answer ≡ Err NotOpen) × (new ≡ None)
-  IfOpen {R} does (Some map) answer new =
-      (result : R) × (left : State K V L S) × does map result left × (answer ≡ Ok result) × (new ≡ Some left)
+  SetsBudget rules rebudgeted true map answer new = (answer ≡ Err OverTotal) × (new ≡ Some map)
+  SetsBudget rules rebudgeted false map answer new = (left : State K V L S)
+      × Trims rules (with_limiter (rebudgeted map.limiter) map) left × (answer ≡ Ok tt) × (new ≡ Some left)
 
   -- what is passed to the callback of a tenant that is open; of any other nothing is
   abbrev pub PassesOn : (State K V L S → List (K × V) → Option (State K V L S) → Type 0) → Option (State K V L S)
@@ -79,12 +77,8 @@ module _ {K V L S : Type 0} where
   -- its pair becomes the newest
   abbrev pub Gets : (K → Bool) → Option (State K V L S) → Result (Option V) TenantError → Option (State K V L S) →
       Type 0
-  Gets names old answer new = (answer ≡ got names old) × (new ≡ option_map (promoted names) old)
-
-  -- the cost is the cost of its limiter
-  abbrev pub Costs : (L → ℕ) → Option (State K V L S) → Result ℕ TenantError → Option (State K V L S) → Type 0
-  Costs account None answer new = (answer ≡ Err NotOpen) × (new ≡ None)
-  Costs account (Some map) answer new = (answer ≡ Ok (account map.limiter)) × (new ≡ Some map)
+  Gets names old answer new =
+      (answer ≡ read_of (λ map. lookup names map.pairs) old) × (new ≡ option_map (promoted names) old)
 
   -- its limiter gets a budget, if the total limit lets it, and what is over it is passed on
   abbrev pub BudgetPasses : Rules K V L → (L → L) → Bool → State K V L S → List (K × V)
@@ -97,30 +91,28 @@ module _ {K V L S : Type 0} where
   abbrev pub ClosePasses : State K V L S → List (K × V) → Option (State K V L S) → Type 0
   ClosePasses old passed new = (passed ≡ reverse old.pairs) × (new ≡ None)
 
-  -- one that is open closes, and n pairs are dropped
-  abbrev pub Closes : Option (State K V L S) → Result ℕ TenantError → Option (State K V L S) → Type 0
-  Closes None answer new = (answer ≡ Err NotOpen) × (new ≡ None)
-  Closes (Some map) answer new = (answer ≡ Ok (length map.pairs)) × (new ≡ None)
+  -- it closes, and n pairs are dropped
+  abbrev pub Closes : State K V L S → Result ℕ TenantError → Option (State K V L S) → Type 0
+  Closes map answer new = (answer ≡ Ok (length map.pairs)) × (new ≡ None)
 
   -- a put inserts into its map, whose budget stays
   module _ (rules : Rules K V L) (offers : Offers K V L K) (budget_of : L → ℕ) (eq : K → K → Bool)
       (hash_of : S → K → ℕ) (key : K) (value : V) where
-    pub record PutsInto (old : State K V L S) (answer : Result Bool TenantError) (left : State K V L S) : Type 0 where
+    pub record Puts (old : State K V L S) (answer : Result Bool TenantError) (new : Option (State K V L S))
+        : Type 0 where
+      pub left : State K V L S
       pub result : Result Bool AllocError
       pub inserts : Insert rules offers eq hash_of key value old result left
       pub budget : budget_of left.limiter ≡ budget_of old.limiter
       pub said : answer ≡ put_answer result
+      pub is : new ≡ Some left
 
-    -- and passes on what leaves
+    -- and passes on each pair that is evicted or removed, and the new one if it could not be stored
     pub record PutPasses (old : State K V L S) (passed : List (K × V)) (new : Option (State K V L S)) : Type 0 where
       pub left : State K V L S
       pub result : Result Bool AllocError
       pub inserts : InsertPasses rules offers eq hash_of key value old result passed left
       pub is : new ≡ Some left
-
-    abbrev pub Puts : Option (State K V L S) → Result Bool TenantError → Option (State K V L S) → Type 0
-    Puts None answer new = (answer ≡ Err NotOpen) × (new ≡ None)
-    Puts (Some map) answer new = (left : State K V L S) × PutsInto map answer left × (new ≡ Some left)
 
 module _ {N K V L S : Type 0} (rules : Rules K V L) (offers : Offers K V L K) (cost : K → V → ℕ)
     (account budget_of : L → ℕ) (eq : K → K → Bool) (hash_of : S → K → ℕ) (fresh : ℕ → State K V L S)
@@ -133,13 +125,13 @@ module _ {N K V L S : Type 0} (rules : Rules K V L) (offers : Offers K V L K) (c
       × (budget ≤ sum) × Opens (is_above total_limit sum) (fresh budget) old result new
       × (answer ≡ answers.Opened result)
   TenantStep (calls.Put name key value) old answer new = (result : Result Bool TenantError)
-      × Puts rules offers budget_of eq hash_of key value old result new × (answer ≡ answers.Put result)
+      × OfOpen (Puts rules offers budget_of eq hash_of key value) old result new × (answer ≡ answers.Put result)
   TenantStep (calls.Get name key) old answer new = (result : Result (Option V) TenantError)
       × Gets (eq key) old result new × (answer ≡ answers.Got result)
-  TenantStep (calls.Cost name) old answer new = (result : Result ℕ TenantError)
-      × Costs account old result new × (answer ≡ answers.Cost result)
+  TenantStep (calls.Cost name) old answer new =
+      (answer ≡ answers.Cost (read_of (λ map. account map.limiter) old)) × (new ≡ old)
   TenantStep (calls.Close name) old answer new = (result : Result ℕ TenantError)
-      × Closes old result new × (answer ≡ answers.Closed result)
+      × OfOpen Closes old result new × (answer ≡ answers.Closed result)
 
   -- the same, and its cost is within its budget then
   abbrev pub KeptStep : TenantCall N K V → Option (State K V L S) → TenantAnswer V → Option (State K V L S) → Type 0

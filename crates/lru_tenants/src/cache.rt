@@ -7,7 +7,7 @@ ghost use Rattle.lru_limits.specs.Mixing.{seeded};
 ghost use Rattle.lru_model.specs.Calls.{Remove, cleared};
 ghost use Rattle.lru_model.specs.Lists.{is_empty};
 ghost use Rattle.lru_tenants.specs.Cache.{budgets, budgets_with, is_over, fresh, IsTenant, AreTenants, On};
-ghost use Rattle.lru_tenants.specs.TenantRuns.{IfOpen, Opens, SetsBudget, Puts, Closes};
+ghost use Rattle.lru_tenants.specs.TenantRuns.{OfOpen, IfOpen, Opens, SetsBudget, Puts, Closes};
 
 use crate::error::TenantError;
 use crate::tenant::{clear, remove};
@@ -30,6 +30,9 @@ use totals::is_above;
 /// The limiter `L` says what an entry costs: with `ByCost` its value alone, with `ByWeight<OVERHEAD>` its key and its
 /// value, and `OVERHEAD` for the entry itself. `S` hashes names and keys. The budgets of all tenants add up to at most
 /// the total limit, if `set_total_limit` set one.
+///
+/// In the examples of the calls, `cache` has one open tenant, 1, with a budget of 3 and the entry (7, 2), unless the
+/// example makes another cache.
 ///
 /// ```
 /// let mut cache: TenantCache<u64, u64, u64> = TenantCache::new(alloc, [1, 2, 3, 4], 32);
@@ -102,11 +105,11 @@ impl<N: Eq + Hash, K: Eq + Hash + Drop, V: Costed + Drop> TenantCache<N, K, V> {
     /// let mut cache: TenantCache<u64, u64, u64> = TenantCache::new(alloc, [1, 2, 3, 4], 32);
     /// assert!(rt; cache.is_empty());
     /// ```
-    pub fn new(alloc: Global, seed: [u64; 4], entry_bytes: usize) -> Self
+    pub fn new(alloc: Global, seeds: [u64; 4], entry_bytes: usize) -> Self
         ensures { result
-            ≡ record { tenants = []; hasher = seeded seed; entry_bytes = entry_bytes; total_limit = None } }
+            ≡ record { tenants = []; hasher = seeded seeds; entry_bytes = entry_bytes; total_limit = None } }
     {
-        TenantCache::with_hasher(alloc, RandomState::with_seeds(seed), entry_bytes)
+        TenantCache::with_hasher(alloc, RandomState::with_seeds(seeds), entry_bytes)
     }
 }
 
@@ -145,7 +148,7 @@ impl<N: Eq + Hash, K: Eq + Hash, V, L: Budgeted<K, V>, S: KeyHasher<K> + Copy> T
     /// Returns how many tenants are open.
     ///
     /// ```
-    /// assert_eq!(rt; (cache.len(), cache.close(&1), cache.len()), (1, Ok(0), 0));
+    /// assert_eq!(rt; (cache.len(), cache.close(&1), cache.len()), (1, Ok(1), 0));
     /// ```
     ///
     /// Cost: `O(1)`.
@@ -160,7 +163,7 @@ impl<N: Eq + Hash, K: Eq + Hash, V, L: Budgeted<K, V>, S: KeyHasher<K> + Copy> T
     /// Returns whether no tenant is open.
     ///
     /// ```
-    /// assert!(rt; cache.is_empty());
+    /// assert!(rt; !cache.is_empty());
     /// ```
     ///
     /// Cost: `O(1)`.
@@ -181,7 +184,7 @@ impl<
     /// Opens a tenant with an empty map and a budget: the greatest sum of the costs of its entries.
     ///
     /// ```
-    /// assert_eq!(rt; cache.open(1, 3), Ok(()));
+    /// assert_eq!(rt; cache.open(2, 3), Ok(()));
     /// assert_eq!(rt; cache.open(1, 5), Err(TenantError::AlreadyOpen));
     /// ```
     ///
@@ -234,7 +237,8 @@ impl<
     /// is within the budget. If the key is there and the new value is rejected, its entry is removed.
     ///
     /// ```
-    /// assert_eq!(rt; cache.put(&1, 7, 2), Ok(true));
+    /// assert_eq!(rt; cache.put(&1, 8, 1), Ok(true));
+    /// assert_eq!(rt; cache.put(&1, 9, 4), Ok(false));
     /// ```
     ///
     /// Cost: as `LruMap::insert`.
@@ -244,7 +248,7 @@ impl<
     /// `NotOpen`: nothing has changed. `Memory`: out of memory for the entry. The newest of the tenant's entries are
     /// left, as after an `Err` of `LruMap::insert`.
     pub fn put(&mut self, name: &N, key: K, value: V) -> Result<bool, TenantError>
-        ensures puts { On N.eq name.now (Puts L.rules L.offers L.budget_of K.eq S.hash_of key value)
+        ensures puts { On N.eq name.now (OfOpen (Puts L.rules L.offers L.budget_of K.eq S.hash_of key value))
             self.old result self.new }
         ensures total { budgets L.budget_of self.new ≡ budgets L.budget_of self.old }
         ensures tenants { AreTenants K.eq L.cost_of L.account L.budget_of self.new }
@@ -311,7 +315,7 @@ impl<
     /// `NotOpen`, or `OverTotal`: the sum of all budgets would be above the total limit. Both change nothing.
     pub fn set_budget(&mut self, name: &N, budget: u64) -> Result<(), TenantError>
         ensures sets { On N.eq name.now
-            (SetsBudget L.rules (L.rebudgeted budget) (is_over L.budget_of (N.eq name.now) budget self.old))
+            (OfOpen (SetsBudget L.rules (L.rebudgeted budget) (is_over L.budget_of (N.eq name.now) budget self.old)))
             self.old result self.new }
         ensures total { result ≡ Ok tt →
             budgets L.budget_of self.new ≡ budgets_with L.budget_of (N.eq name.now) budget self.old }
@@ -324,7 +328,7 @@ impl<
     /// Closes a tenant and drops its entries. Returns how many these were.
     ///
     /// ```
-    /// assert_eq!(rt; (cache.len(), cache.close(&1), cache.len()), (1, Ok(0), 0));
+    /// assert_eq!(rt; (cache.len(), cache.close(&1), cache.len()), (1, Ok(1), 0));
     /// ```
     ///
     /// Cost: `O(buckets)` of its table.
@@ -333,7 +337,7 @@ impl<
     ///
     /// `NotOpen`: nothing has changed.
     pub fn close(&mut self, name: &N) -> Result<usize, TenantError>
-        ensures closes { On N.eq name.now Closes self.old result self.new }
+        ensures closes { On N.eq name.now (OfOpen Closes) self.old result self.new }
         ensures total { budgets L.budget_of self.new ≡ budgets_with L.budget_of (N.eq name.now) 0 self.old }
         ensures tenants { AreTenants K.eq L.cost_of L.account L.budget_of self.new }
     {

@@ -23,6 +23,7 @@ pub enum TenantCall<N, K, V> {
 /// The answer to a call.
 ///
 /// ```
+/// let answers = run_tenants(alloc, &mut cache, calls)?;
 /// assert!(rt; answers.get(1) == Some(&TenantAnswer::Put(Ok(true))));
 /// ```
 #[derive(Debug, Drop, PartialEq)]

@@ -1,36 +1,21 @@
 //! Laws about calls. A caller that needs one calls the function, which does nothing.
-ghost use Rattle.std.specs.Prelude.{◌≡◌, ◌≤◌, List, IfSome, sum_by};
+ghost use Rattle.std.specs.Prelude.{◌≡◌, ◌≤◌, false, List, IfSome, sum_by};
+ghost use Rattle.std.specs.List.{All};
 ghost use Rattle.std.specs.Map.{values_of};
 ghost use Rattle.lru_model.specs.Runs.{Step};
 ghost use Rattle.lru_model.specs.State.{State};
 ghost use Rattle.lru_model.specs.Theorems.{IsSummed};
 ghost use Rattle.lru_tenants.specs.Cache.{Cache, tenant};
 ghost use Rattle.lru_tenants.specs.Isolation.{Did, CacheRun, Chain};
-ghost use Rattle.lru_tenants.specs.Others.{CallsOfOthers};
 
 use crate::cache::TenantCache;
 use lru_limits::Budgeted;
 use schnellru::KeyHasher;
 use std::hash::Hash;
 
-/// Any number of calls that name other tenants leave a tenant's map as it is, for names, keys and values of any types.
-///
-/// ```
-/// calls_of_others_leave_a_tenant::<u64, String, String, ByCost, RandomState>();
-/// ```
-pub fn calls_of_others_leave_a_tenant<
-    N: Eq + Hash,
-    K: Eq + Hash,
-    V,
-    L: Budgeted<K, V>,
-    S: KeyHasher<K>,
->()
-    ensures { (name : N) (old new : Cache N K V L S) → CallsOfOthers N.eq name new old →
-        tenant (N.eq name) new ≡ tenant (N.eq name) old }
-{}
-
 /// In any list of calls of any kind, for names, keys and values of any types, each call finds of its tenant what the
-/// last call of that tenant left, whatever calls of others come between. `run_tenants` is one instance.
+/// last call of that tenant left, whatever calls of others come between (`own`). If each call names another tenant, a
+/// tenant's map stays as it is (`others`). `run_tenants` is one instance.
 ///
 /// The premise: each call leaves every tenant but the one that it names, as each clause with `On` says.
 ///
@@ -44,8 +29,11 @@ pub fn each_tenant_has_its_own_run<
     L: Budgeted<K, V>,
     S: KeyHasher<K>,
 >()
-    ensures { (name : N) (dids : List (Did N K V L S)) (old new : Cache N K V L S) → CacheRun N.eq old dids new →
+    ensures own { (name : N) (dids : List (Did N K V L S)) (old new : Cache N K V L S) → CacheRun N.eq old dids new →
         Chain (λ n. N.eq n name) (tenant (N.eq name) old) dids (tenant (N.eq name) new) }
+    ensures others { (name : N) (dids : List (Did N K V L S)) (old new : Cache N K V L S) →
+        CacheRun N.eq old dids new → All (λ did. N.eq did.name name ≡ false) dids →
+        tenant (N.eq name) new ≡ tenant (N.eq name) old }
 {}
 
 /// With any limiter that has a budget, each call on a map leaves the budget as it is, and a running total of at most

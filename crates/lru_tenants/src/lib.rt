@@ -15,8 +15,7 @@ pub use cache::TenantCache;
 pub use call::{TenantAnswer, TenantCall};
 pub use error::TenantError;
 pub use laws::{
-    calls_keep_the_budget, calls_of_others_leave_a_tenant, costs_are_within_the_total_limit,
-    each_tenant_has_its_own_run,
+    calls_keep_the_budget, costs_are_within_the_total_limit, each_tenant_has_its_own_run,
 };
 pub use lru_limits::{Budgeted, ByCost, ByWeight, Costed};
 pub use runs::run_tenants;

@@ -17,7 +17,8 @@ use schnellru::{Inserted, KeyHasher, LookupKey, LruMap, laws};
 use std::alloc::AllocError;
 use std::hash::Hash;
 
-// An insert into the map of a tenant, whose budget stays. What leaves is passed to the callback.
+// An insert into the map of a tenant, whose budget stays. The callback gets the entries that are evicted or removed,
+// and the new one if it could not be stored.
 #[tactic(auto, using(lru_model::proofs::CallbackLemmas::may_take_always))]
 pub(crate) fn insert<
     K: Eq + Hash + Drop,

@@ -9,10 +9,12 @@ use test_helpers::{all, check};
 
 type Numbers = TenantCache<u64, u64, u64>;
 
-/// Makes a cache with one tenant, whose name is 1 and whose budget is 3. Out of memory, it has none, and puts fail.
+/// Makes the cache of the examples: one tenant, whose name is 1, with a budget of 3 and the entry (7, 2). Out of
+/// memory, it has no tenant or no entry, and the tests fail.
 fn with_a_tenant(alloc: Global) -> Numbers {
     let mut cache = TenantCache::new(alloc, [1, 2, 3, 4], 32);
     let _ = cache.open(1, 3);
+    let _ = cache.put(&1, 7, 2);
     cache
 }
 
@@ -20,37 +22,46 @@ fn of_the_cache(cache: &mut Numbers) -> bool {
     all!(
         cache.is_empty(),
         cache.open(1, 3) == Ok(()),
+        cache.open(1, 5) == Err(TenantError::AlreadyOpen),
         cache.put(&1, 7, 2) == Ok(true),
         cache.cost(&1) == Ok(2),
+        !cache.is_empty(),
         (cache.total_cost(), cache.total_budget()) == (2, 3),
         cache.names().next() == Some(&1),
+        cache.get(&1, &7) == Ok(Some(&2)),
         cache.peek(&1, &7) == Ok(Some(&2)),
         cache.contains(&1, &7) == Ok(true),
         cache.entries(&1) == Ok(1),
         cache.budget(&1) == Ok(3),
+        (cache.len(), cache.close(&1), cache.len()) == (1, Ok(1), 0)
+    )
+}
+
+fn of_calls_that_write(cache: &mut Numbers) -> bool {
+    all!(
+        cache.put(&1, 8, 1) == Ok(true),
+        cache.put(&1, 9, 4) == Ok(false),
         (cache.remove(&1, &7), cache.remove(&1, &7)) == (Ok(Some(2)), Ok(None)),
-        cache.put(&1, 7, 2) == Ok(true),
-        (cache.set_budget(&1, 1), cache.cost(&1)) == (Ok(()), Ok(0)),
         (cache.clear(&1), cache.entries(&1), cache.cost(&1)) == (Ok(()), Ok(0), Ok(0)),
-        cache.open(1, 5) == Err(TenantError::AlreadyOpen),
-        (cache.len(), cache.close(&1), cache.len()) == (1, Ok(0), 0)
+        cache.open(2, 3) == Ok(()),
+        cache.put(&1, 7, 2) == Ok(true),
+        (cache.set_budget(&1, 1), cache.cost(&1)) == (Ok(()), Ok(0))
     )
 }
 
 fn of_calls_that_pass_entries(cache: &mut Numbers) -> bool {
-    let _ = cache.put(&1, 7, 2);
     let mut left = 0u64;
     let put = all!(cache.put_with(&1, 8, 3, &mut |key, _| left = key) == Ok(true));
+    let _ = cache.put(&1, 7, 2);
     let mut evicted = 0u64;
-    let set = all!(cache.set_budget_with(&1, 2, &mut |key, _| evicted = key) == Ok(()));
-    let _ = cache.put(&1, 9, 1u64);
+    let set = all!(cache.set_budget_with(&1, 1, &mut |key, _| evicted = key) == Ok(()));
+    let _ = cache.put(&1, 7, 1u64);
     let mut last = 0u64;
     let closed = all!(cache.close_with(&1, &mut |key, _| last = key) == Ok(1));
-    all!(put, left == 7, set, evicted == 8, closed, last == 9)
+    all!(put, left == 7, set, evicted == 7, closed, last == 7)
 }
 
 fn of_values_that_come_back(cache: &mut Numbers) -> Result<bool, TenantError> {
-    let _ = cache.put(&1, 7, 2);
     let replaced = cache.put_full(&1, 7, 3, &mut |_, _| {})?;
     let rejected = cache.put_full(&1, 8, 9, &mut |_, _| {})?;
     Ok(all!(
@@ -61,8 +72,8 @@ fn of_values_that_come_back(cache: &mut Numbers) -> Result<bool, TenantError> {
 
 fn of_values_made_and_totals(cache: &mut Numbers) -> bool {
     let held = all!(
-        cache.get_or_put(&1, 7, || 2) == Ok(Some(&2)),
         cache.get_or_put(&1, 7, || 3) == Ok(Some(&2)),
+        cache.get_or_put(&1, 8, || 1) == Ok(Some(&1)),
         cache.set_total_limit(Some(5)) == Ok(()),
         cache.open(2, 3) == Err(TenantError::OverTotal),
         cache.total_limit() == Some(5)
@@ -76,6 +87,7 @@ fn of_caches_of_numbers(rt: HostRuntime) {
     let alloc = rt.alloc();
     let mut cache = TenantCache::new(alloc, [1, 2, 3, 4], 32);
     check!(rt; of_the_cache(&mut cache));
+    check!(rt; of_calls_that_write(&mut with_a_tenant(alloc)));
     check!(rt; of_calls_that_pass_entries(&mut with_a_tenant(alloc)));
     check!(rt; of_values_that_come_back(&mut with_a_tenant(alloc)) == Ok(true));
     check!(rt; of_values_made_and_totals(&mut with_a_tenant(alloc)));

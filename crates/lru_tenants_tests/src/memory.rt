@@ -128,8 +128,8 @@ fn opens_and_closes(cache: &mut Shares, keys: &[Rc<u64>], passes: bool) -> bool 
     closed == Ok(1)
 }
 
-// A thousand tenants that evict are opened and closed, one after another, with memory for a few. Then no tenant is open,
-// and each call drops what it is given.
+// A thousand tenants that evict are opened and closed, one after another, with memory for a few. Then no tenant is
+// open, and each call drops what it is given.
 #[test]
 fn a_closed_tenant_gives_its_memory_back(rt: HostRuntime) -> Result<(), Fail> {
     let alloc = rt.alloc();

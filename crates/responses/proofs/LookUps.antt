@@ -14,7 +14,7 @@ use Rattle.lru_model.specs.Calls.{promoted, Remove}
 use Rattle.lru_model.specs.Lists.{lookup, lookup_entry, after, front, without}
 use Rattle.lru_model.specs.State.{State, notified_of}
 use Rattle.lru_tenants.specs.Cache.{Cache, tenant, IsTenant, Leaves, On}
-use Rattle.lru_tenants.specs.TenantRuns.{Gets, IfOpen}
+use Rattle.lru_tenants.specs.TenantRuns.{Gets, OfOpen, IfOpen}
 use Rattle.lru_tenants.specs.declared.error.TenantError.{TenantError}
 use Rattle.responses.specs.LookUps.{fresh_at, looked_up, LooksUp}
 use Rattle.responses.specs.declared.cache.Response.{Response}
@@ -123,7 +123,8 @@ module _ {K S : Type 0} (names : K → Bool) (now : ℕ) where
   -- a get that finds nothing, or a fresh response
   pub get-finds : (was : Option (State K Response Budget S)) (found : Option Response)
       (left : Option (State K Response Budget S))
-      → Gets names was (Ok found) left → fresh_at now found ≡ found → LooksUp names now was (Ok found) left
+      → Gets names was (Ok found) left → fresh_at now found ≡ found
+      → OfOpen (LooksUp names now) was (Ok found) left
   get-finds None found left (says, is) same = absurd (ok≢err says)
   get-finds (Some map) found left (says, is) same =
       let value = ok-same says in (
@@ -139,7 +140,7 @@ module _ {K S : Type 0} (names : K → Bool) (now : ℕ) where
 pub on-finds : {N K S : Type 0} {eq : N → N → Bool} (names : K → Bool) (now : ℕ) (host : N)
     (old mid : Cache N K Response Budget S)
     (answer : Result (Option Response) TenantError) (found : Option Response) → On eq host (Gets names) old answer mid
-    → answer ≡ Ok found → fresh_at now found ≡ found → On eq host (LooksUp names now) old (Ok found) mid
+    → answer ≡ Ok found → fresh_at now found ≡ found → On eq host (OfOpen (LooksUp names now)) old (Ok found) mid
 on-finds {eq = eq} names now host old mid answer found (left, gets, leaves) is same = (
   left,
   get-finds names now (tenant (eq host) old) found left
@@ -188,7 +189,7 @@ module _ {N K S : Type 0} {eq : N → N → Bool} (equal : IsEquivalence eq) {ke
       → fresh_at now (Some response) ≡ None
       → IfSome (tenant (eq host) mid) (λ map. IsDistinct keys (keys_of map.pairs))
       → On eq host (IfOpen (Remove rules names)) mid (Ok removed) new
-      → On eq host (LooksUp names now) old (Ok None) new
+      → On eq host (OfOpen (LooksUp names now)) old (Ok None) new
   stale-removed keeps removed answer (first, does, kept) said stale distinct (left, removes, leaves) =
       let gets : On eq host (Gets names) old (Ok (Some response)) mid =
       (first, subst (λ a. Gets names (tenant (eq host) old) a first) said does, kept) in
@@ -206,7 +207,7 @@ module _ {N K S : Type 0} {eq : N → N → Bool} (equal : IsEquivalence eq) {ke
       ∙ ap (λ notified. record map.limiter { cost = notified.cost })
       (sym (ap (λ st. st.limiter) remove.state.is)) in (
         left,
-        subst (λ t. LooksUp names now t (Ok None) left) (sym was) (
+        subst (λ t. OfOpen (LooksUp names now) t (Ok None) left) (sym was) (
           own,
           ap Ok (sym same),
           now-is,

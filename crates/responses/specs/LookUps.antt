@@ -1,12 +1,11 @@
 -- What a look-up of a response does to its host.
 --     names path      whether a path is the one that is looked up
 --     now             the time of the look-up
-use Rattle.std.specs.Prelude.{◌≡◌, ℕ, nat_lt, Bool, if◌then◌else◌, List, Option, Some, None, is_some, Result, Ok, Err}
+use Rattle.std.specs.Prelude.{◌≡◌, ℕ, nat_lt, Bool, if◌then◌else◌, List, Option, Some, None, is_some, Result, Ok}
 use Rattle.lru_limits.specs.Budget.{Budget}
 use Rattle.lru_model.specs.Lists.{lookup, front, without}
 use Rattle.lru_model.specs.State.{State}
 use Rattle.lru_tenants.specs.declared.error.TenantError.{TenantError}
-use Rattle.lru_tenants.specs.declared.error.TenantError.TheVariants.{NotOpen}
 use Rattle.responses.specs.declared.cache.Response.{Response}
 
 -- the response that is there, if it is not stale
@@ -26,10 +25,9 @@ with_list list left old =
     record old { pairs = list; limiter = record old.limiter { cost = left.limiter.cost }; table = left.table }
 
 -- It returns the response that is there, if it is fresh. A stale one is not there any more.
-abbrev pub LooksUp : {K S : Type 0} → (K → Bool) → ℕ → Option (State K Response Budget S)
+abbrev pub LooksUp : {K S : Type 0} → (K → Bool) → ℕ → State K Response Budget S
     → Result (Option Response) TenantError → Option (State K Response Budget S) → Type 0
-LooksUp names now None answer new = (answer ≡ Err NotOpen) × (new ≡ None)
-LooksUp {K} {S} names now (Some old) answer new = (left : State K Response Budget S)
+LooksUp {K} {S} names now old answer new = (left : State K Response Budget S)
     × (answer ≡ Ok (fresh_at now (lookup names old.pairs))) × (new ≡ Some left)
     × (left ≡ with_list (looked_up names now old.pairs) left old)
     × (lookup names left.pairs ≡ fresh_at now (lookup names old.pairs))

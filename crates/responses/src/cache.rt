@@ -4,6 +4,7 @@ ghost use Rattle.std.specs.declared.string.String.{String};
 ghost use Rattle.std.specs.declared.alloc.Global.{Global};
 ghost use Rattle.lru_limits.specs.Texts.{names_text};
 ghost use Rattle.lru_tenants.specs.Cache.{On};
+ghost use Rattle.lru_tenants.specs.TenantRuns.{OfOpen};
 ghost use Rattle.lru_tenants.specs.declared.error.TenantError.TheVariants.{Memory};
 ghost use Rattle.responses.specs.LookUps.{LooksUp};
 
@@ -49,7 +50,7 @@ fn fresh_response(
     now: u64,
 ) -> Result<Option<Response>, TenantError>
     ensures fresh { IfOk result (λ found. IfSome found (λ response. now < response.expires)) }
-    ensures finds { On string_eq host.now (LooksUp (names_text path.now) now) entries.old result entries.new }
+    ensures finds { On string_eq host.now (OfOpen (LooksUp (names_text path.now) now)) entries.old result entries.new }
 {
     let Some(response) = entries.get(host, &path)?.copied() else {
         return Ok(None);
@@ -166,7 +167,7 @@ impl ResponseCache {
         ensures fresh { IfOk result (λ found. IfSome found (λ response. now < response.expires)) }
         ensures finds { ((result ≡ Err Memory) × (self.new.entries ≡ self.old.entries))
             ⊎ ((name : String Global) × (string_bytes name ≡ host.now)
-            × On string_eq name (LooksUp (names_text path.now) now) self.old.entries result self.new.entries) }
+            × On string_eq name (OfOpen (LooksUp (names_text path.now) now)) self.old.entries result self.new.entries) }
     {
         let name = owned(self.alloc, host)?;
         let found = fresh_response(&mut self.entries, &name, path, now)?;

@@ -5,6 +5,7 @@ ghost use Rattle.lru_model.specs.Lists.{lookup};
 ghost use Rattle.lru_tenants.specs.Cache.{tenant, On};
 ghost use Rattle.lru_tenants.specs.GetOrPuts.{GetsOrPuts};
 ghost use Rattle.lru_tenants.specs.Lending.{read};
+ghost use Rattle.lru_tenants.specs.TenantRuns.{OfOpen};
 ghost use Rattle.lru_tenants.specs.declared.error.TenantError.TheVariants.{NotOpen};
 
 use crate::cache::TenantCache;
@@ -29,8 +30,8 @@ impl<
     /// key are looked up once. `None` says that the new entry is not there, as `false` says it of `put`.
     ///
     /// ```
-    /// assert_eq!(rt; cache.get_or_put(&1, 7, || 2), Ok(Some(&2)));
     /// assert_eq!(rt; cache.get_or_put(&1, 7, || 3), Ok(Some(&2)));
+    /// assert_eq!(rt; cache.get_or_put(&1, 8, || 1), Ok(Some(&1)));
     /// ```
     ///
     /// Cost: as `get` if the key is there, else as `put`.
@@ -44,10 +45,11 @@ impl<
         key: K,
         make: F,
     ) -> Result<Option<&V>, TenantError>
-        requires { IfSome (tenant (N.eq name.now) self.old) (λ map. lookup (K.eq key) map.pairs ≡ None → F.pre make) }
+        requires callable { IfSome (tenant (N.eq name.now) self.old) (λ map.
+            lookup (K.eq key) map.pairs ≡ None → F.pre make) }
         ensures* leaves { sem 𝓛 (ends_so N.row K.row V.row L.row S.row L.LinkType.row S.Hasher.row N.Hash K.Hash
             L.Budgeted L.LinkType.LinkType S.KeyHasher S.Hasher.Hasher self.entry
-            (On N.eq name.now (GetsOrPuts L.rules L.offers L.budget_of K.eq S.hash_of (F.post make) key)
+            (On N.eq name.now (OfOpen (GetsOrPuts L.rules L.offers L.budget_of K.eq S.hash_of (F.post make) key))
             self.old (read result))) }
         ensures not_open { tenant (N.eq name.now) self.old ≡ None → read result ≡ Err NotOpen }
         ensures there { IfSome (tenant (N.eq name.now) self.old) (λ map.

@@ -1,12 +1,12 @@
-//! Calls that pass what leaves a tenant to a callback.
+//! Calls that pass the entries that are evicted or removed to a callback.
 ghost use Rattle.std.specs.Prelude.{◌≡◌, List, Some, true, false, Ok, IfOk, IfSome};
 ghost use Rattle.std.specs.Result.{OnErr};
 ghost use Rattle.lru_model.specs.Callbacks.{CalledWith};
 ghost use Rattle.lru_model.specs.Inserts.{kept_of};
 ghost use Rattle.lru_tenants.specs.Cache.{tenant, budgets, budgets_with, is_over, AreTenants, On};
 ghost use Rattle.lru_tenants.specs.PutFulls.{comes_back, rejects};
-ghost use Rattle.lru_tenants.specs.TenantRuns.{put_answer, PassesOn, Puts, PutPasses, SetsBudget, BudgetPasses, Closes};
-ghost use Rattle.lru_tenants.specs.TenantRuns.{ClosePasses};
+ghost use Rattle.lru_tenants.specs.TenantRuns.{put_answer, OfOpen, PassesOn, Puts, PutPasses, SetsBudget};
+ghost use Rattle.lru_tenants.specs.TenantRuns.{BudgetPasses, Closes, ClosePasses};
 
 use crate::cache::TenantCache;
 use crate::cache::totals::is_above;
@@ -24,8 +24,9 @@ impl<
     L: Budgeted<K, V> + Drop,
     S: KeyHasher<K> + Copy,
 > TenantCache<N, K, V, L, S> {
-    /// The same as `put`, and passes each entry that is evicted, rejected or not stored to the callback: the evicted
-    /// entries, oldest first, the entry whose new value is rejected, and the new entry if there is no memory for it.
+    /// The same as `put`, and passes to the callback the entries that are evicted, oldest first, the entry that is
+    /// removed because its new value is rejected, and the new entry if it could not be stored. A value that is
+    /// replaced is not passed on, nor is the entry of a new key that the limiter rejects.
     ///
     /// ```
     /// let mut left = 0u64;
@@ -46,7 +47,7 @@ impl<
         sink: &mut F,
     ) -> Result<bool, TenantError>
         requires callable { F.IsAlwaysCallable sink.old }
-        ensures puts { On N.eq name.now (Puts L.rules L.offers L.budget_of K.eq S.hash_of key value)
+        ensures puts { On N.eq name.now (OfOpen (Puts L.rules L.offers L.budget_of K.eq S.hash_of key value))
             self.old result self.new }
         ensures passed { (passed : List (K × V)) × CalledWith F.FnMut sink.old passed sink.new × On N.eq name.now
             (PassesOn (PutPasses L.rules L.offers L.budget_of K.eq S.hash_of key value)) self.old passed self.new }
@@ -93,7 +94,7 @@ impl<
         sink: &mut F,
     ) -> Result<Inserted<V>, TenantError>
         requires callable { F.IsAlwaysCallable sink.old }
-        ensures puts { On N.eq name.now (Puts L.rules L.offers L.budget_of K.eq S.hash_of key value)
+        ensures puts { On N.eq name.now (OfOpen (Puts L.rules L.offers L.budget_of K.eq S.hash_of key value))
             self.old (kept_of result) self.new }
         ensures unkept { IfOk result (λ inserted. IfSome (tenant (N.eq name.now) self.old) (λ map. inserted.unkept
             ≡ comes_back L.accepts_new K.eq key value L.rules L.offers map)) }
@@ -117,8 +118,8 @@ impl<
     ///
     /// ```
     /// let mut evicted = 0u64;
-    /// assert_eq!(rt; cache.set_budget_with(&1, 2, &mut |key, _| evicted = key), Ok(()));
-    /// assert_eq!(rt; evicted, 8);
+    /// assert_eq!(rt; cache.set_budget_with(&1, 1, &mut |key, _| evicted = key), Ok(()));
+    /// assert_eq!(rt; evicted, 7);
     /// ```
     ///
     /// Cost: as `set_budget`, with one call of the callback for each evicted entry.
@@ -134,7 +135,7 @@ impl<
     ) -> Result<(), TenantError>
         requires callable { F.IsAlwaysCallable sink.old }
         ensures sets { On N.eq name.now
-            (SetsBudget L.rules (L.rebudgeted budget) (is_over L.budget_of (N.eq name.now) budget self.old))
+            (OfOpen (SetsBudget L.rules (L.rebudgeted budget) (is_over L.budget_of (N.eq name.now) budget self.old)))
             self.old result self.new }
         ensures total { result ≡ Ok tt →
             budgets L.budget_of self.new ≡ budgets_with L.budget_of (N.eq name.now) budget self.old }
@@ -164,7 +165,7 @@ impl<
     /// ```
     /// let mut last = 0u64;
     /// assert_eq!(rt; cache.close_with(&1, &mut |key, _| last = key), Ok(1));
-    /// assert_eq!(rt; last, 9);
+    /// assert_eq!(rt; last, 7);
     /// ```
     ///
     /// Cost: `O(1)` for each entry, with one call of the callback.
@@ -178,7 +179,7 @@ impl<
         sink: &mut F,
     ) -> Result<usize, TenantError>
         requires callable { F.IsAlwaysCallable sink.old }
-        ensures closes { On N.eq name.now Closes self.old result self.new }
+        ensures closes { On N.eq name.now (OfOpen Closes) self.old result self.new }
         ensures total { budgets L.budget_of self.new ≡ budgets_with L.budget_of (N.eq name.now) 0 self.old }
         ensures passed { (passed : List (K × V)) × CalledWith F.FnMut sink.old passed sink.new × On N.eq name.now
             (PassesOn ClosePasses) self.old passed self.new }

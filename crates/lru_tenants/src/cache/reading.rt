@@ -1,11 +1,11 @@
-//! Calls that read of a tenant.
+//! Calls that read a tenant's map.
 ghost use Rattle.std.specs.Prelude.{◌≡◌, length, is_some};
 ghost use Rattle.std.specs.Borrow.{sem};
 ghost use Rattle.std.specs.Map.{keys_of};
 ghost use Rattle.std.specs.Map.Iter.{ShowsInOrder, deref};
 ghost use Rattle.lru_model.specs.Lists.{lookup};
 ghost use Rattle.lru_tenants.specs.Cache.{tenant, AreTenants, On};
-ghost use Rattle.lru_tenants.specs.TenantRuns.{read_of, got, Gets, Costs};
+ghost use Rattle.lru_tenants.specs.TenantRuns.{read_of, Gets};
 ghost use Rattle.lru_tenants.specs.Lending.{read};
 
 use crate::cache::TenantCache;
@@ -30,8 +30,7 @@ impl<N: Eq + Hash, K: Eq + Hash, V, L: Budgeted<K, V>, S: KeyHasher<K> + Copy> T
     /// cost stays.
     ///
     /// ```
-    /// let page = pages.get(&1, &"a")?.ok_or("no page")?;
-    /// assert_eq!(rt; page.as_str(), "hello");
+    /// assert_eq!(rt; cache.get(&1, &7), Ok(Some(&2)));
     /// ```
     ///
     /// Cost: `O(1)` expected.
@@ -43,7 +42,8 @@ impl<N: Eq + Hash, K: Eq + Hash, V, L: Budgeted<K, V>, S: KeyHasher<K> + Copy> T
         ensures* leaves { sem 𝓛 (ends_so N.row K.row V.row L.row S.row L.LinkType.row S.Hasher.row N.Hash K.Hash
             L.Budgeted L.LinkType.LinkType S.KeyHasher S.Hasher.Hasher self.entry
             (On N.eq name.now (Gets (Q.names key.now)) self.old (read result))) }
-        ensures value { read result ≡ got (Q.names key.now) (tenant (N.eq name.now) self.old) }
+        ensures value { read result
+            ≡ read_of (λ map. lookup (Q.names key.now) map.pairs) (tenant (N.eq name.now) self.old) }
     {
         let Some(map) = self.tenants.get_mut(name) else {
             return Err(TenantError::NotOpen);
@@ -66,7 +66,8 @@ impl<N: Eq + Hash, K: Eq + Hash, V, L: Budgeted<K, V>, S: KeyHasher<K> + Copy> T
     ///
     /// `NotOpen`.
     pub fn peek<Q: LookupKey<K>>(&self, name: &N, key: &Q) -> Result<Option<&V>, TenantError>
-        ensures { read result ≡ got (Q.names key.now) (tenant (N.eq name.now) self.now) }
+        ensures { read result
+            ≡ read_of (λ map. lookup (Q.names key.now) map.pairs) (tenant (N.eq name.now) self.now) }
     {
         let Some(map) = self.tenants.get(name) else {
             return Err(TenantError::NotOpen);
@@ -147,7 +148,7 @@ impl<N: Eq + Hash, K: Eq + Hash, V, L: Budgeted<K, V>, S: KeyHasher<K> + Copy> T
     ///
     /// `NotOpen`.
     pub fn cost(&self, name: &N) -> Result<u64, TenantError>
-        ensures costs { On N.eq name.now (Costs L.account) self.now result self.now }
+        ensures cost { result ≡ read_of (λ map. L.account map.limiter) (tenant (N.eq name.now) self.now) }
         ensures tenants { AreTenants K.eq L.cost_of L.account L.budget_of self.now }
     {
         let Some(map) = self.tenants.get(name) else {

@@ -47,6 +47,7 @@ impl<N: Eq + Hash, K: Eq + Hash, V, L: Budgeted<K, V>, S: KeyHasher<K> + Copy> T
     /// Returns what the budgets of all tenants add up to at most, if there is a limit.
     ///
     /// ```
+    /// assert_eq!(rt; cache.set_total_limit(Some(5)), Ok(()));
     /// assert_eq!(rt; cache.total_limit(), Some(5));
     /// ```
     ///

@@ -1,5 +1,8 @@
-use Rattle.lru_tenants.proofs.OwnRuns.{chain}
+use Rattle.lru_tenants.proofs.OwnRuns.{chain, stays-by-others}
 use Rattle.lru_tenants.proofs.laws.each_tenant_has_its_own_run.Goals as goal
 
-pub returns : goal.returns
-returns g c = chain g.met.N.Eq.laws
+pub returns-clause-own : goal.returns-clause-own
+returns-clause-own g c = chain g.met.N.Eq.laws
+
+pub returns-clause-others : goal.returns-clause-others
+returns-clause-others g c = stays-by-others g.N.PartialEq.eq

@@ -89,4 +89,4 @@ returns-clause-own g c =
     c.args.cache.now.total_limit in
     let own = subst (λ calls. AreSteps named Does calls c.loop-call.answers.items dids) all steps in
     λ name. own-run named Does (λ n. g.N.PartialEq.eq n name) _ _ dids _ _ own
-    (c.each_tenant_has_its_own_run.ensures name dids c.args.cache.now c.loop-call.cache runs)
+    (c.each_tenant_has_its_own_run.ensures.own name dids c.args.cache.now c.loop-call.cache runs)

@@ -1,6 +1,6 @@
 use Rattle.std.proofs.Common.{arith, Some, None, Ok, Err, sym, refl, ◌∙◌, ap}
 use Rattle.std.specs.Option.{option_map, unwrap_or}
-use Rattle.lru_tenants.specs.TenantRuns.{Closes}
+use Rattle.lru_tenants.specs.TenantRuns.{OfOpen, Closes}
 use Rattle.lru_tenants.specs.declared.error.TenantError.TheVariants.{NotOpen}
 use Rattle.lru_tenants.proofs.Changes.{on-removed}
 use Rattle.lru_tenants.proofs.Kept.{kept-removed-by, own-within, sum-removed}
@@ -62,12 +62,12 @@ pub returns-in_default-clause-closes : goal.returns-in_default-clause-closes
 returns-in_default-clause-closes g c =
     rw (← c.self.view_is) (on-removed g.N.PartialEq.eq c.args.name.now
     c.self.inside.tenants c.remove.new.self
-    Closes (Err NotOpen) None
+    (OfOpen Closes) (Err NotOpen) None
     (sym c.remove.ensures.value ∙ c.in_default.is) c.remove.ensures.updates (refl, refl))
 
 pub returns-clause-closes : goal.returns-clause-closes
 returns-clause-closes g c =
     rw (← c.self.view_is) (on-removed g.N.PartialEq.eq c.args.name.now
     c.self.inside.tenants c.remove.new.self
-    Closes _ (Some c.in-Some.map)
+    (OfOpen Closes) _ (Some c.in-Some.map)
     (sym c.in-Some.ensures.value) c.remove.ensures.updates (ap Ok c.len.ensures.len, refl))

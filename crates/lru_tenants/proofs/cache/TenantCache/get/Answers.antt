@@ -3,7 +3,7 @@ use Rattle.lru_model.specs.Calls.{promoted, written}
 use Rattle.lru_model.specs.Lists.{lookup}
 use Rattle.lru_model.proofs.CallerLemmas.{read_back, promoted-absent}
 use Rattle.lru_tenants.specs.Cache.{IsTenant}
-use Rattle.lru_tenants.specs.TenantRuns.{got, Gets}
+use Rattle.lru_tenants.specs.TenantRuns.{read_of, Gets}
 use Rattle.lru_tenants.specs.declared.error.TenantError.TheVariants.{NotOpen}
 use Rattle.lru_tenants.proofs.Changes.{found-all, leaves-updated, on-same}
 use Rattle.lru_tenants.proofs.Gets.{promoted_is_tenant, gets-open}
@@ -95,5 +95,5 @@ returns-in_default g c =
         on-same c.args.name.now (Gets names) (Err NotOpen) g.met.N.Eq.laws
             _ None none (refl, refl),
       ),
-      record { leaves = tt; value = sym (ap (got names) none) },
+      record { leaves = tt; value = sym (ap (read_of (λ map. lookup names map.pairs)) none) },
     )

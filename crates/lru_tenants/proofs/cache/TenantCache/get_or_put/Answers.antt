@@ -1,6 +1,7 @@
 use Rattle.std.proofs.Common.{◌≡◌, true, false, None, Ok, Err, sym, refl, ◌∙◌, ap, arith}
 use Rattle.lru_tenants.specs.GetOrPuts.{GetsOrPuts, newest_answer}
 use Rattle.lru_tenants.specs.Lending.{read}
+use Rattle.lru_tenants.specs.TenantRuns.{OfOpen}
 use Rattle.lru_tenants.specs.declared.error.TenantError.TheVariants.{NotOpen, Memory}
 use Rattle.lru_tenants.proofs.Changes.{on-same}
 use Rattle.lru_tenants.proofs.GetOrPuts.{ends}
@@ -13,8 +14,8 @@ returns-in_default g c =
       (
         refl,
         λ _. tt,
-        on-same c.args.name.now (GetsOrPuts g.L.Limiter.rules g.L.Insertion.offers g.L.Budgeted.budget_of
-            g.K.PartialEq.eq g.S.KeyHasher.hash_of (g.F.FnOnce.post c.args.make tt) c.args.key) (Err NotOpen)
+        on-same c.args.name.now (OfOpen (GetsOrPuts g.L.Limiter.rules g.L.Insertion.offers g.L.Budgeted.budget_of
+            g.K.PartialEq.eq g.S.KeyHasher.hash_of (g.F.FnOnce.post c.args.make tt) c.args.key)) (Err NotOpen)
             g.met.N.Eq.laws
             _ None
             (sym c.in_default.ensures.value) (refl, refl),
@@ -36,10 +37,12 @@ returns-in_default-get_or_insert g c = let u = c.get_or_insert.new.map in
     g.S.KeyHasher.hash_of (g.F.FnOnce.post c.args.make tt) c.args.key (Err Memory) g.N.PartialEq.eq
     c.args.name.now c.self.inside.tenants (c.get_mut.follows.lender u) c.in-Some.own.now u
     (sym c.in-Some.ensures.value) (c.get_mut.follows.holds u) (record {
+      left = u;
       result = Err c.in_default-get_or_insert.field-0;
       step = c.in_default-get_or_insert.ensures.step;
       budget = c.in_default-get_or_insert.ensures.budget;
       said = refl;
+      is = refl;
     }) in
     ((refl, λ _. tt, ended.on), record { leaves = tt; not_open = ended.not_open; there = ended.there })
     )
@@ -59,10 +62,12 @@ returns-then-not-there g c = let u = c.get_or_insert.new.map in
     g.S.KeyHasher.hash_of (g.F.FnOnce.post c.args.make tt) c.args.key (Ok None) g.N.PartialEq.eq
     c.args.name.now c.self.inside.tenants (c.get_mut.follows.lender u) c.in-Some.own.now u
     (sym c.in-Some.ensures.value) (c.get_mut.follows.holds u) (record {
+      left = u;
       result = Ok c.in-Ok.there;
       step = c.in-Ok.ensures.step;
       budget = c.in-Ok.ensures.budget;
       said = sym (ap (λ b. newest_answer (Ok b) u) e);
+      is = refl;
     }) in
     ((refl, λ _. tt, ended.on), record { leaves = tt; not_open = ended.not_open; there = ended.there })
     )
@@ -82,10 +87,12 @@ returns g c = let u = c.get_or_insert.new.map in
     g.S.KeyHasher.hash_of (g.F.FnOnce.post c.args.make tt) c.args.key (read (Ok c.newest.result))
     g.N.PartialEq.eq c.args.name.now c.self.inside.tenants (c.get_mut.follows.lender u) c.in-Some.own.now u
     (sym c.in-Some.ensures.value) (c.get_mut.follows.holds u) (record {
+      left = u;
       result = Ok c.in-Ok.there;
       step = c.in-Ok.ensures.step;
       budget = c.in-Ok.ensures.budget;
       said = ap Ok c.newest.ensures ∙ sym (ap (λ b. newest_answer (Ok b) u) e);
+      is = refl;
     }) in
     ((refl, λ _. tt, ended.on), record { leaves = tt; not_open = ended.not_open; there = ended.there })
     )

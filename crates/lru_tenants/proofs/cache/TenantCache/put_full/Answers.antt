@@ -3,7 +3,7 @@ use Rattle.std.specs.Prelude.{IfSome}
 use Rattle.lru_model.specs.Inserts.{kept_of}
 use Rattle.lru_tenants.specs.Cache.{tenant}
 use Rattle.lru_tenants.specs.PutFulls.{rejects}
-use Rattle.lru_tenants.specs.TenantRuns.{put_answer, Puts, PutPasses, PassesOn}
+use Rattle.lru_tenants.specs.TenantRuns.{put_answer, OfOpen, Puts, PutPasses, PassesOn}
 use Rattle.lru_tenants.proofs.Changes.{cache_of, on-same, on-written, tenant-written}
 use Rattle.lru_tenants.proofs.PutFulls.{kept-answer}
 use Rattle.lru_tenants.proofs.Kept.{kept-written, same-sum}
@@ -30,17 +30,15 @@ returns-clause-puts g c = let u = c.insert_full.new.map in
     c.self.inside.tenants
     (c.get_mut.follows.lender u) c.in-Some.own.now u
     (sym c.in-Some.ensures.value) (c.get_mut.follows.holds u)
-    (Puts g.L.Limiter.rules g.L.Insertion.offers g.L.Budgeted.budget_of g.K.PartialEq.eq g.S.KeyHasher.hash_of
-    c.args.key c.args.value) (kept_of c.put_answer.result) (
-      u,
-      record {
-        result = kept_of c.insert_full.result;
-        inserts = c.insert_full.ensures.inserts;
-        budget = c.insert_full.ensures.budget;
-        said = ap kept_of c.put_answer.ensures ∙ kept-answer c.insert_full.result;
-      },
-      refl,
-    ))
+    (OfOpen (Puts g.L.Limiter.rules g.L.Insertion.offers g.L.Budgeted.budget_of g.K.PartialEq.eq g.S.KeyHasher.hash_of
+    c.args.key c.args.value)) (kept_of c.put_answer.result) (record {
+      left = u;
+      result = kept_of c.insert_full.result;
+      inserts = c.insert_full.ensures.inserts;
+      budget = c.insert_full.ensures.budget;
+      said = ap kept_of c.put_answer.ensures ∙ kept-answer c.insert_full.result;
+      is = refl;
+    }))
 
 pub returns-clause-passed : goal.returns-clause-passed
 returns-clause-passed g c = let u = c.insert_full.new.map in
@@ -86,6 +84,6 @@ returns-clause-rejects g c = let u = c.insert_full.new.map in
 pub returns-in_default-clause-puts : goal.returns-in_default-clause-puts
 returns-in_default-clause-puts g c =
     rw (c.get_mut.follows.holds-at-none, ← c.self.view_is) (on-same c.args.name.now
-    (Puts g.L.Limiter.rules g.L.Insertion.offers g.L.Budgeted.budget_of g.K.PartialEq.eq g.S.KeyHasher.hash_of
-    c.args.key c.args.value) _ g.met.N.Eq.laws _ None
+    (OfOpen (Puts g.L.Limiter.rules g.L.Insertion.offers g.L.Budgeted.budget_of g.K.PartialEq.eq g.S.KeyHasher.hash_of
+    c.args.key c.args.value)) _ g.met.N.Eq.laws _ None
     (sym c.in_default.ensures.value) (refl, refl))

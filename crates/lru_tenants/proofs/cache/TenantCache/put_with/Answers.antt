@@ -1,5 +1,5 @@
 use Rattle.std.proofs.Common.{[], None, sym, refl}
-use Rattle.lru_tenants.specs.TenantRuns.{Puts, PutPasses, PassesOn}
+use Rattle.lru_tenants.specs.TenantRuns.{OfOpen, Puts, PutPasses, PassesOn}
 use Rattle.lru_tenants.proofs.Changes.{on-same, on-written}
 use Rattle.lru_tenants.proofs.Kept.{kept-written, same-sum}
 use Rattle.lru_tenants.proofs.cache.TenantCache.put_with.Goals as goal
@@ -25,17 +25,15 @@ returns-clause-puts g c = let u = c.insert.new.map in
     c.self.inside.tenants
     (c.get_mut.follows.lender u) c.in-Some.own.now u
     (sym c.in-Some.ensures.value) (c.get_mut.follows.holds u)
-    (Puts g.L.Limiter.rules g.L.Insertion.offers g.L.Budgeted.budget_of g.K.PartialEq.eq g.S.KeyHasher.hash_of
-    c.args.key c.args.value) c.put_answer.result (
-      u,
-      record {
-        result = c.insert.result;
-        inserts = c.insert.ensures.inserts;
-        budget = c.insert.ensures.budget;
-        said = c.put_answer.ensures;
-      },
-      refl,
-    ))
+    (OfOpen (Puts g.L.Limiter.rules g.L.Insertion.offers g.L.Budgeted.budget_of g.K.PartialEq.eq g.S.KeyHasher.hash_of
+    c.args.key c.args.value)) c.put_answer.result (record {
+      left = u;
+      result = c.insert.result;
+      inserts = c.insert.ensures.inserts;
+      budget = c.insert.ensures.budget;
+      said = c.put_answer.ensures;
+      is = refl;
+    }))
 
 pub returns-clause-passed : goal.returns-clause-passed
 returns-clause-passed g c = let u = c.insert.new.map in
@@ -67,6 +65,6 @@ returns-in_default-clause-passed g c =
 pub returns-in_default-clause-puts : goal.returns-in_default-clause-puts
 returns-in_default-clause-puts g c =
     rw (c.get_mut.follows.holds-at-none, ← c.self.view_is) (on-same c.args.name.now
-    (Puts g.L.Limiter.rules g.L.Insertion.offers g.L.Budgeted.budget_of g.K.PartialEq.eq g.S.KeyHasher.hash_of
-    c.args.key c.args.value) _ g.met.N.Eq.laws _ None
+    (OfOpen (Puts g.L.Limiter.rules g.L.Insertion.offers g.L.Budgeted.budget_of g.K.PartialEq.eq g.S.KeyHasher.hash_of
+    c.args.key c.args.value)) _ g.met.N.Eq.laws _ None
     (sym c.in_default.ensures.value) (refl, refl))

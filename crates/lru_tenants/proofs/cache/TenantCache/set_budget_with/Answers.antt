@@ -1,7 +1,7 @@
 use Rattle.std.proofs.Common.{rules, ◌+◌, ◌-◌, [], None, Some, Err, Ok, arith, sym, refl, ◌∙◌, ap, subst}
 use Rattle.std.proofs.lemmas.Map.Steps.{set_value_same}
 use Rattle.lru_tenants.specs.Cache.{IsTenant, is_above}
-use Rattle.lru_tenants.specs.TenantRuns.{SetsBudget, BudgetPasses, PassesOn}
+use Rattle.lru_tenants.specs.TenantRuns.{OfOpen, SetsBudget, BudgetPasses, PassesOn}
 use Rattle.lru_tenants.specs.declared.error.TenantError.TheVariants.{OverTotal}
 use Rattle.lru_tenants.proofs.Changes.{found-all, on-same, on-written}
 use Rattle.lru_tenants.proofs.Kept.{kept-rebudgeted, kept-written, own-within, sum-fits, sum-with, sum-written}
@@ -42,8 +42,8 @@ returns-then-is_above g c = let own = c.in-Some.own.now in
     c.if-is_above.true in
     rw (← c.self.view_is) (record {
       sets = on-written g.N.PartialEq.eq c.args.name.now c.self.inside.tenants (c.get_mut.follows.lender own) own own
-          there writes (SetsBudget g.L.Limiter.rules (g.L.Budgeted.rebudgeted c.args.budget) _) (Err OverTotal)
-          (subst (λ b. SetsBudget g.L.Limiter.rules (g.L.Budgeted.rebudgeted c.args.budget) b (Some own)
+          there writes (OfOpen (SetsBudget g.L.Limiter.rules (g.L.Budgeted.rebudgeted c.args.budget) _)) (Err OverTotal)
+          (subst (λ b. SetsBudget g.L.Limiter.rules (g.L.Budgeted.rebudgeted c.args.budget) b own
           (Err OverTotal) (Some own)) (sym over) (refl, refl));
       total = search rules;
       unchanged = ap (λ entries. record {
@@ -90,8 +90,8 @@ returns g c = let u = c.set_budget.new.map in
     let over = ap (is_above c.self.inside.total_limit) (sym with) ∙ sym c.is_above.ensures ∙ c.if-is_above.false in
     rw (← c.self.view_is) (record {
       sets = on-written g.N.PartialEq.eq c.args.name.now c.self.inside.tenants (c.get_mut.follows.lender u) own u
-          there writes (SetsBudget g.L.Limiter.rules (g.L.Budgeted.rebudgeted c.args.budget) _) (Ok tt)
-          (subst (λ b. SetsBudget g.L.Limiter.rules (g.L.Budgeted.rebudgeted c.args.budget) b (Some own) (Ok tt)
+          there writes (OfOpen (SetsBudget g.L.Limiter.rules (g.L.Budgeted.rebudgeted c.args.budget) _)) (Ok tt)
+          (subst (λ b. SetsBudget g.L.Limiter.rules (g.L.Budgeted.rebudgeted c.args.budget) b own (Ok tt)
           (Some u)) (sym over) (u, c.set_budget.ensures.trims, refl, refl));
       total = λ ok. omega (
         arith,
@@ -129,5 +129,5 @@ returns-in_default-clause-passed g c =
 pub returns-in_default-clause-sets : goal.returns-in_default-clause-sets
 returns-in_default-clause-sets g c =
     rw (c.get_mut.follows.holds-at-none, ← c.self.view_is) (on-same c.args.name.now
-    (SetsBudget g.L.Limiter.rules (g.L.Budgeted.rebudgeted c.args.budget) _) _ g.met.N.Eq.laws _ None
+    (OfOpen (SetsBudget g.L.Limiter.rules (g.L.Budgeted.rebudgeted c.args.budget) _)) _ g.met.N.Eq.laws _ None
     (sym c.in_default.ensures.value) (refl, refl))
