@@ -2,9 +2,6 @@
 ghost use Rattle.std.specs.Prelude.{◌≡◌, ◌≤◌, false, List, IfSome, sum_by};
 ghost use Rattle.std.specs.List.{All};
 ghost use Rattle.std.specs.Map.{values_of};
-ghost use Rattle.lru_model.specs.Runs.{Step};
-ghost use Rattle.lru_model.specs.State.{State};
-ghost use Rattle.lru_model.specs.Theorems.{IsSummed};
 ghost use Rattle.lru_tenants.specs.Cache.{Cache, tenant};
 ghost use Rattle.lru_tenants.specs.Isolation.{Did, CacheRun, Chain};
 
@@ -34,20 +31,6 @@ pub fn each_tenant_has_its_own_run<
     ensures others { (name : N) (dids : List (Did N K V L S)) (old new : Cache N K V L S) →
         CacheRun N.eq old dids new → All (λ did. N.eq did.name name ≡ false) dids →
         tenant (N.eq name) new ≡ tenant (N.eq name) old }
-{}
-
-/// With any limiter that has a budget, each call on a map leaves the budget as it is, and a running total of at most
-/// the budget, if that held before and the total was the sum of the costs.
-///
-/// ```
-/// calls_keep_the_budget::<u64, u64, ByCost, RandomState>();
-/// ```
-pub fn calls_keep_the_budget<K: Eq + Hash, V, L: Budgeted<K, V>, S: KeyHasher<K>>()
-    ensures budget { (old new : State K V L S) →
-        Step L.rules L.offers K.eq S.hash_of old new → L.budget_of new.limiter ≡ L.budget_of old.limiter }
-    ensures total { (old new : State K V L S) →
-        Step L.rules L.offers K.eq S.hash_of old new → IsSummed L.cost_of L.account old →
-        L.account old.limiter ≤ L.budget_of old.limiter → L.account new.limiter ≤ L.budget_of new.limiter }
 {}
 
 /// The costs of the entries of all tenants add up to at most the total limit, if there is one. It holds of every cache,

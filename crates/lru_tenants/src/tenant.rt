@@ -11,7 +11,6 @@ ghost use Rattle.lru_model.specs.State.{Trims};
 ghost use Rattle.lru_tenants.specs.Cache.{IsTenant, with_limiter};
 ghost use Rattle.lru_tenants.specs.PutFulls.{comes_back, rejects};
 
-use crate::laws::calls_keep_the_budget;
 use lru_limits::Budgeted;
 use schnellru::{Inserted, KeyHasher, LookupKey, LruMap, laws};
 use std::alloc::AllocError;
@@ -39,7 +38,7 @@ pub(crate) fn insert<
     ensures tenant { IsTenant K.eq L.cost_of L.account L.budget_of map.new }
 {
     laws::calls_keep_sums::<K, V, K, L, S>();
-    calls_keep_the_budget::<K, V, L, S>();
+    laws::calls_keep_the_budget::<K, V, L, S>();
     map.insert_with(key, value, sink)
 }
 
@@ -72,7 +71,7 @@ pub(crate) fn insert_full<
         });
     }
     laws::calls_keep_sums::<K, V, K, L, S>();
-    calls_keep_the_budget::<K, V, L, S>();
+    laws::calls_keep_the_budget::<K, V, L, S>();
     map.insert_full(key, value, sink)
 }
 
@@ -102,7 +101,7 @@ pub(crate) fn get_or_insert<
     ensures tenant { IsTenant K.eq L.cost_of L.account L.budget_of map.new }
 {
     laws::calls_keep_sums::<K, V, K, L, S>();
-    calls_keep_the_budget::<K, V, L, S>();
+    laws::calls_keep_the_budget::<K, V, L, S>();
     map.ensure_newest(key, make)
 }
 
@@ -133,7 +132,7 @@ pub(crate) fn remove<
 {
     laws::calls_keep_maps::<K, V, K, L, S>();
     laws::calls_keep_sums::<K, V, K, L, S>();
-    calls_keep_the_budget::<K, V, L, S>();
+    laws::calls_keep_the_budget::<K, V, L, S>();
     let value = map.remove(key);
     // Nothing at run time: it shows the proof what holds of the map.
     let _len = map.len();
@@ -150,7 +149,7 @@ pub(crate) fn clear<K: Eq + Hash + Drop, V: Drop, L: Budgeted<K, V>, S: KeyHashe
     ensures tenant { IsTenant K.eq L.cost_of L.account L.budget_of map.new }
 {
     laws::calls_keep_sums::<K, V, K, L, S>();
-    calls_keep_the_budget::<K, V, L, S>();
+    laws::calls_keep_the_budget::<K, V, L, S>();
     map.clear();
     // Nothing at run time: it shows the proof what holds of the map.
     let _len = map.len();
@@ -175,7 +174,7 @@ pub(crate) fn set_budget<
     ensures tenant { IsTenant K.eq L.cost_of L.account L.budget_of map.new }
 {
     laws::calls_keep_sums::<K, V, K, L, S>();
-    calls_keep_the_budget::<K, V, L, S>();
+    laws::calls_keep_the_budget::<K, V, L, S>();
     map.limiter_mut().set_budget(budget);
     map.trim_with(sink);
 }
