@@ -23,22 +23,7 @@ impl<K: Eq + Hash, V: PartialEq, S: KeyHasher<K>> PartialEq for OrderedMap<K, V,
     ghost laws = { lists_per (and_per (on_per (λ p. p.0) K.PartialEq.laws) (on_per (λ p. p.1) V.laws)) };
 
     fn eq(&self, other: &Self) -> bool {
-        if self.len() != other.len() {
-            return false;
-        }
-        let mut theirs = other.iter();
-        let mut ours = self.iter();
-        'entries: while let Some((key, value)) = ours.next() {
-            match theirs.next() {
-                Some((other_key, other_value)) => {
-                    if *key != *other_key || *value != *other_value {
-                        return false;
-                    }
-                }
-                None => return false,
-            }
-        }
-        true
+        self.map == other.map
     }
 }
 
