@@ -34,10 +34,10 @@ impl<K: Eq + Hash, V: Eq, S: KeyHasher<K>> Eq for OrderedMap<K, V, S> {
     ghost laws = { lists_equiv (and_equiv (on_equiv (λ p. p.0) K.Eq.laws) (on_equiv (λ p. p.1) V.Eq.laws)) };
 }
 
-/// Shows the entries, oldest first, as `{1: 10, 2: 20}`.
+/// Shows the entries, oldest first, as `{1: 11, 2: 20}`.
 ///
 /// ```
-/// assert_eq!(rt; format!(in alloc; "{map:?}")?.as_str(), "{1: 10, 2: 20}");
+/// assert_eq!(rt; format!(in alloc; "{map:?}")?.as_str(), "{1: 11, 2: 20}");
 /// ```
 ///
 /// After std's `HashMap`.
