@@ -1,4 +1,5 @@
--- Lists of entries that are turned round: their keys, what a key finds, removes or writes there, and their ends.
+-- Lists of entries that are turned round: their keys, what a key finds, removes or writes there, their ends, and whether
+-- two of them are equal.
 use Rattle.std.proofs.Common.{◌≡◌, Bool, true, false, cond, List, [], ◌∷◌, ◌++◌, reverse, Option, Some, None, refl}
 use Rattle.std.proofs.Common.{sym, ap, ◌∙◌, subst, ◌&&◌}
 use Rattle.std.proofs.lemmas.List.{reverse-append, reverse-reverse, append-nil, map-append}
@@ -226,8 +227,9 @@ module _ {K X : Type 0} {eq : K → K → Bool} (test : K → Bool)
     pub put-new : lookup test xs ≡ None → reverse ((k, w) ∷ xs) ≡ put test (k, w) (reverse xs)
     put-new e = reverse-cons (k, w) xs ∙ put-as None e
 
--- two lists that are turned round are as equal as before
+-- two lists that are compared item by item
 module _ {X Y : Type 0} (eq : X → Y → Bool) where
+  -- an empty list differs from one with an item
   longer : (y : Y) (ys : List Y) → pointwise eq [] (ys ++ y ∷ []) ≡ false
   longer y [] = refl
   longer y (z ∷ zs) = refl
@@ -236,6 +238,7 @@ module _ {X Y : Type 0} (eq : X → Y → Bool) where
   shorter x [] = refl
   shorter x (z ∷ zs) = refl
 
+  -- if each gets one more item, they are equal if they were and the items are
   pointwise-push : (x : X) (y : Y) (xs : List X) (ys : List Y)
       → pointwise eq (xs ++ x ∷ []) (ys ++ y ∷ []) ≡ (pointwise eq xs ys && eq x y)
   pointwise-push x y [] [] = and-true (eq x y)
@@ -244,6 +247,7 @@ module _ {X Y : Type 0} (eq : X → Y → Bool) where
   pointwise-push x y (w ∷ ws) (z ∷ zs) = ap (λ b. eq w z && b) (pointwise-push x y ws zs)
       ∙ sym (and_assoc (eq w z) (pointwise eq ws zs) (eq x y))
 
+  -- if both are turned round, they compare as before
   pub pointwise-reverse : (xs : List X) (ys : List Y) → pointwise eq (reverse xs) (reverse ys) ≡ pointwise eq xs ys
   pointwise-reverse [] [] = refl
   pointwise-reverse [] (y ∷ ys) = ap (pointwise eq []) (reverse-cons y ys) ∙ longer y (reverse ys)
