@@ -113,6 +113,7 @@ impl<K: Copy + Eq + Hash, V, F: Fn(K) -> V, L: Insertion<K, V, K>, S: KeyHasher<
     /// Cost: `O(1)`.
     ///
     /// ```
+    /// let seeded = RandomState::with_seeds([5, 6, 7, 8]);
     /// let cubes = Memo::with_hasher(alloc, ByLength::new(9), seeded, 24, |n: u64| n.wrapping_pow(3));
     /// assert!(rt; cubes.is_empty());
     /// ```

@@ -156,6 +156,7 @@ impl<
     /// Cost: `O(1)`.
     ///
     /// ```
+    /// let seeded = RandomState::with_seeds([5, 6, 7, 8]);
     /// let empty = Loader::with_hasher(alloc, ByLength::new(9), seeded, 24, |n: u64| n.checked_add(1).ok_or(n));
     /// assert!(rt; empty.is_empty());
     /// ```

@@ -135,6 +135,7 @@ impl<K: Copy + Eq + Hash, V, Q: Question<K, V>, L: Insertion<K, V, K>, S: KeyHas
     /// Cost: `O(1)`.
     ///
     /// ```
+    /// let seeded = RandomState::with_seeds([5, 6, 7, 8]);
     /// let empty = MemoTable::with_hasher(alloc, ByLength::new(9), seeded, 24, Squares);
     /// assert!(rt; empty.is_empty());
     /// ```
