@@ -1,11 +1,14 @@
--- Lists of entries that are turned round: their keys, what a key finds, removes or writes there, and their ends.
+-- Lists of entries that are turned round: their keys, what a key finds, removes or writes there, their ends, and whether
+-- two of them are equal.
 use Rattle.std.proofs.Common.{◌≡◌, Bool, true, false, cond, List, [], ◌∷◌, ◌++◌, reverse, Option, Some, None, refl}
-use Rattle.std.proofs.Common.{sym, ap, ◌∙◌, subst}
+use Rattle.std.proofs.Common.{sym, ap, ◌∙◌, subst, ◌&&◌}
 use Rattle.std.proofs.lemmas.List.{reverse-append, reverse-reverse, append-nil, map-append}
 use Rattle.std.proofs.lemmas.List.Sorted.{IsPermutation-reverse}
 use Rattle.std.proofs.lemmas.Map.Keys.{IsDistinct-head, IsDistinct-tail, IsDistinct-IsPermutation}
 use Rattle.std.proofs.lemmas.Option.{none-some}
+use Rattle.std.proofs.Math.Bool.{and-true, and-false, and_assoc, and_comm}
 use Rattle.std.specs.Cmp.{IsEquivalence}
+use Rattle.std.specs.Cmp.Lexicographic.{pointwise}
 use Rattle.std.specs.List.{AllByRecursion, IsDistinct}
 use Rattle.std.specs.Prelude.{is_some, if◌then◌else◌, option_to_list}
 use Rattle.std.specs.Map.{lookup, lookup_entry, set_value, keys_of}
@@ -223,3 +226,34 @@ module _ {K X : Type 0} {eq : K → K → Bool} (test : K → Bool)
 
     pub put-new : lookup test xs ≡ None → reverse ((k, w) ∷ xs) ≡ put test (k, w) (reverse xs)
     put-new e = reverse-cons (k, w) xs ∙ put-as None e
+
+-- two lists that are compared item by item
+module _ {X Y : Type 0} (eq : X → Y → Bool) where
+  -- an empty list differs from one with an item
+  longer : (y : Y) (ys : List Y) → pointwise eq [] (ys ++ y ∷ []) ≡ false
+  longer y [] = refl
+  longer y (z ∷ zs) = refl
+
+  shorter : (x : X) (xs : List X) → pointwise eq (xs ++ x ∷ []) [] ≡ false
+  shorter x [] = refl
+  shorter x (z ∷ zs) = refl
+
+  -- if each gets one more item, they are equal if they were and the items are
+  pointwise-push : (x : X) (y : Y) (xs : List X) (ys : List Y)
+      → pointwise eq (xs ++ x ∷ []) (ys ++ y ∷ []) ≡ (pointwise eq xs ys && eq x y)
+  pointwise-push x y [] [] = and-true (eq x y)
+  pointwise-push x y [] (z ∷ zs) = ap (λ b. eq x z && b) (longer y zs) ∙ and-false (eq x z)
+  pointwise-push x y (z ∷ zs) [] = ap (λ b. eq z y && b) (shorter x zs) ∙ and-false (eq z y)
+  pointwise-push x y (w ∷ ws) (z ∷ zs) = ap (λ b. eq w z && b) (pointwise-push x y ws zs)
+      ∙ sym (and_assoc (eq w z) (pointwise eq ws zs) (eq x y))
+
+  -- if both are turned round, they compare as before
+  pub pointwise-reverse : (xs : List X) (ys : List Y) → pointwise eq (reverse xs) (reverse ys) ≡ pointwise eq xs ys
+  pointwise-reverse [] [] = refl
+  pointwise-reverse [] (y ∷ ys) = ap (pointwise eq []) (reverse-cons y ys) ∙ longer y (reverse ys)
+  pointwise-reverse (x ∷ xs) [] = ap (λ l. pointwise eq l []) (reverse-cons x xs) ∙ shorter x (reverse xs)
+  pointwise-reverse (x ∷ xs) (y ∷ ys) =
+      ap (λ l. pointwise eq l (reverse (y ∷ ys))) (reverse-cons x xs)
+      ∙ ap (pointwise eq (reverse xs ++ x ∷ [])) (reverse-cons y ys)
+      ∙ pointwise-push x y (reverse xs) (reverse ys)
+      ∙ ap (λ b. b && eq x y) (pointwise-reverse xs ys) ∙ and_comm (pointwise eq xs ys) (eq x y)

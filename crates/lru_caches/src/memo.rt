@@ -2,6 +2,7 @@
 ghost use Rattle.std.specs.Prelude.{◌≡◌, [], length, IfSome};
 ghost use Rattle.std.specs.Borrow.{Bor};
 ghost use Rattle.std.specs.Map.{lookup};
+ghost use Rattle.lru_model.specs.Lists.{is_empty};
 ghost use Rattle.lru_model.specs.Theorems.{KeepsValues};
 ghost use Rattle.lru_caches.specs.Answers.{IsAnswer, AreAnswers};
 
@@ -72,7 +73,7 @@ impl<K: Copy + Eq + Hash, V, F: Fn(K) -> V, L: Insertion<K, V, K>, S: KeyHasher<
     /// ```
     /// let seeded = RandomState::with_seeds([5, 6, 7, 8]);
     /// let cubes = Memo::with_hasher(alloc, ByLength::new(9), seeded, 24, |n: u64| n.wrapping_pow(3));
-    /// assert_eq!(rt; cubes.len(), 0);
+    /// assert!(rt; cubes.is_empty());
     /// ```
     ///
     /// Cost: `O(1)`, and no memory.
@@ -105,6 +106,21 @@ impl<K: Copy + Eq + Hash, V, F: Fn(K) -> V, L: Insertion<K, V, K>, S: KeyHasher<
         ensures { result ≡ length self.now.known }
     {
         self.map.len()
+    }
+
+    /// Returns whether no result is stored.
+    ///
+    /// Cost: `O(1)`.
+    ///
+    /// ```
+    /// let seeded = RandomState::with_seeds([5, 6, 7, 8]);
+    /// let cubes = Memo::with_hasher(alloc, ByLength::new(9), seeded, 24, |n: u64| n.wrapping_pow(3));
+    /// assert!(rt; cubes.is_empty());
+    /// ```
+    pub fn is_empty(&self) -> bool
+        ensures { result ≡ is_empty self.now.known }
+    {
+        self.map.is_empty()
     }
 }
 

@@ -30,6 +30,9 @@ mod more;
 /// An insert of a key that is there keeps the key's place. A removal keeps the order of the other entries, and takes
 /// `O(1)`. The map evicts nothing: if its table cannot grow, an insert fails and changes nothing.
 ///
+/// In the examples of the calls, `map` contains (1, 11) and (2, 20), of which the last is the newest, unless the
+/// example makes another map.
+///
 /// ```
 /// let mut map: OrderedMap<u64, u64> = OrderedMap::new(alloc);
 /// assert_eq!(rt; (map.insert(1, 10)?, map.insert(2, 20)?), (None, None));
@@ -104,7 +107,7 @@ impl<K: Eq + Hash, V, S: KeyHasher<K>> OrderedMap<K, V, S> {
     /// Returns whether there are no entries.
     ///
     /// ```
-    /// assert!(rt; map.is_empty());
+    /// assert!(rt; !map.is_empty());
     /// ```
     ///
     /// Cost: `O(1)`.
@@ -216,7 +219,7 @@ impl<K: Eq + Hash, V, S: KeyHasher<K>> OrderedMap<K, V, S> {
     /// Removes and returns the newest entry, if there is one.
     ///
     /// ```
-    /// assert_eq!(rt; map.pop_last(), Some((3, 30)));
+    /// assert_eq!(rt; map.pop_last(), Some((2, 20)));
     /// ```
     ///
     /// Cost: `O(1)`.
@@ -232,7 +235,7 @@ impl<K: Eq + Hash, V, S: KeyHasher<K>> OrderedMap<K, V, S> {
     /// Removes a key, and returns the stored key and its value. The other entries keep their order.
     ///
     /// ```
-    /// assert_eq!(rt; (map.remove_entry(&3), map.remove_entry(&3)), (Some((3, 30)), None));
+    /// assert_eq!(rt; (map.remove_entry(&2), map.remove_entry(&2)), (Some((2, 20)), None));
     /// ```
     ///
     /// Cost: `O(1)` expected.
@@ -282,9 +285,11 @@ impl<K: Eq + Hash, V, S: KeyHasher<K>> OrderedMap<K, V, S> {
     /// Returns an iterator over the entries, oldest first.
     ///
     /// ```
+    /// let mut total = 0u64;
     /// for (key, value) in map.iter() {
     ///     total = total.wrapping_add(key.wrapping_mul(*value));
     /// }
+    /// assert_eq!(rt; total, 51);
     /// ```
     ///
     /// Cost: `O(1)`, and so is each step from either end.
@@ -305,7 +310,7 @@ impl<K: Eq + Hash + Drop, V, S: KeyHasher<K>> OrderedMap<K, V, S> {
     /// Removes a key, and returns its value. The other entries keep their order.
     ///
     /// ```
-    /// assert_eq!(rt; (map.remove(&2), map.remove(&2)), (Some(22), None));
+    /// assert_eq!(rt; (map.remove(&2), map.remove(&2)), (Some(20), None));
     /// ```
     ///
     /// Cost: `O(1)` expected.
@@ -325,6 +330,7 @@ impl<K: Eq + Hash + Drop, V: Drop, S: KeyHasher<K>> OrderedMap<K, V, S> {
     /// the old value is returned.
     ///
     /// ```
+    /// let mut map: OrderedMap<u64, u64> = OrderedMap::new(alloc);
     /// assert_eq!(rt; (map.insert(1, 10)?, map.insert(2, 20)?), (None, None));
     /// assert_eq!(rt; map.insert(1, 11)?, Some(10));
     /// ```

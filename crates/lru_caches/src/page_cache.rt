@@ -1,5 +1,6 @@
 //! `PageCache`. A contract sees a cache as its pages, newest first, and its device.
 ghost use Rattle.std.specs.Prelude.{◌≡◌, ◌≢◌, ◌≤◌, ℕ, [], length, max, IsTrue, ◌↔◌, IfOk, IfErr, OnOk, OnErr, IsOk};
+ghost use Rattle.lru_model.specs.Lists.{is_empty};
 ghost use Rattle.lru_caches.specs.Pages.{shown, ShowsTheSame, IsCached, numbers, numbers_after};
 
 use crate::empty::empty_map;
@@ -9,6 +10,7 @@ use crate::page_cache::pages::{
 use block_device::BlockDevice;
 use schnellru::{KeyHasher, RandomState, UnlimitedCompact};
 use std::alloc::Global;
+use std::fmt::Display;
 use std::marker::Model;
 use thiserror::Error;
 
@@ -16,16 +18,19 @@ mod pages;
 
 /// Why a call on a page cache failed. A call that fails changes no block that the cache shows.
 ///
+/// The text contains the text of the device's error, so a `PageError<E>` is `Display` if `E` is.
+///
 /// ```
 /// assert_eq!(rt; cache.read(4), Err(PageError::Device(DiskError)));
 /// ```
 #[derive(Debug, Drop, PartialEq, Error)]
+#[error_bound(E: Display)]
 pub enum PageError<E> {
     /// The device failed, with this error.
-    #[error("the device failed")]
+    #[error("the device failed: {0}")]
     Device(E),
     /// Out of memory for one page more, or there are 1,879,048,192 pages, the most that the table links.
-    #[error("no memory")]
+    #[error("out of memory")]
     Memory,
 }
 
@@ -123,6 +128,20 @@ impl<B: Copy, D: BlockDevice<B>, S: KeyHasher<u64>> PageCache<B, D, S> {
         ensures at_most { result ≤ self.now.capacity }
     {
         self.map.len()
+    }
+
+    /// Returns whether no page is cached.
+    ///
+    /// Cost: `O(1)`.
+    ///
+    /// ```
+    /// let mut cache = PageCache::new(alloc, disk, 2);
+    /// assert!(rt; cache.is_empty());
+    /// ```
+    pub fn is_empty(&self) -> bool
+        ensures { result ≡ is_empty self.now.pages }
+    {
+        self.map.is_empty()
     }
 
     /// Returns whether a page is cached. The order of use stays.

@@ -3,7 +3,8 @@ ghost use Rattle.std.specs.Prelude.{◌≡◌, ◌*◌};
 
 use crate::disk::{Disk, DiskError};
 use lru_caches::{
-    BlockDevice, Loader, Memo, MemoTable, OrderedMap, PageCache, PageError, Question, Unclosed,
+    BlockDevice, FileError, Loader, Memo, MemoTable, OrderedMap, PageCache, PageError, Question,
+    Unclosed,
 };
 use map_helpers::{is_pair, is_value};
 use schnellru::{ByLength, RandomState};
@@ -28,6 +29,7 @@ fn of_the_page_cache(rt: HostRuntime) {
     disk.blocks[1] = 11;
     let mut cache = PageCache::new(rt.alloc(), disk, 2);
     check!(rt; all!(
+        cache.is_empty(),
         cache.write(1, 20) == Ok(()),
         (cache.read(1), cache.len()) == (Ok(20), 1),
         cache.contains(1) && !cache.contains(2),
@@ -50,12 +52,12 @@ fn of_the_page_cache(rt: HostRuntime) {
 #[test]
 fn of_the_errors(rt: HostRuntime) -> Result<(), Fail> {
     let alloc = rt.alloc();
-    let (failed, memory): (PageError<u64>, PageError<u64>) = (
-        PageError::Device(1),
+    let (failed, memory): (PageError<FileError>, PageError<FileError>) = (
+        PageError::Device(FileError::NoBlock),
         PageError::Memory,
     );
     let text = format!(in alloc; "{failed}, {memory}")?;
-    check!(rt; text.as_str() == "the device failed, no memory");
+    check!(rt; text.as_str() == "the device failed: no such block, out of memory");
     Ok(())
 }
 
@@ -68,6 +70,7 @@ fn of_an_ordered_map(map: &mut Map) -> Result<bool, AllocError> {
         map.contains_key(&1) && !map.contains_key(&9),
         (map.get(&1), map.get(&9)) == (Some(&11), None),
         map.len() == 2,
+        !map.is_empty(),
         is_pair(map.first(), 1, 11) && is_pair(map.last(), 2, 20)
     );
     let mut entries = map.iter();
@@ -79,43 +82,39 @@ fn of_an_ordered_map(map: &mut Map) -> Result<bool, AllocError> {
     )
 }
 
-// The map contains what the examples before inserted.
+// Leaves the entries that the examples of the calls begin with.
+fn refill(map: &mut Map) {
+    map.clear();
+    let _ = map.insert(1, 11);
+    let _ = map.insert(2, 20);
+}
+
 fn of_writes_and_removals(map: &mut Map) -> bool {
-    if let Some(value) = map.get_mut(&2) {
-        *value = 22;
-    }
-    let held = all!(is_value(map.get(&2), 22));
     let mut total = 0u64;
     for (key, value) in map.iter() {
         total = total.wrapping_add(key.wrapping_mul(*value));
     }
+    if let Some(value) = map.get_mut(&2) {
+        *value = 22;
+    }
+    let held = all!(total == 51, is_value(map.get(&2), 22));
+    refill(map);
     held & all!(
-        total == 55,
-        (map.remove(&2), map.remove(&2)) == (Some(22), None),
+        (map.remove(&2), map.remove(&2)) == (Some(20), None),
         map.pop_first() == Some((1, 11))
     )
 }
 
-// Inserts the pairs of the numbers up to this one and ten times the number into an empty map.
-fn refill(map: &mut Map, last: u64) {
-    map.clear();
-    for n in 1..=last {
-        let _ = map.insert(n, n.wrapping_mul(10));
-    }
-}
-
 fn of_an_ordered_map_as_a_list(map: &mut Map, none: &Map) -> bool {
-    refill(map, 3);
+    refill(map);
     let held = all!(
-        map.pop_last() == Some((3, 30)),
-        is_value(map.keys().next(), 1) && is_value(map.values().next_back(), 20)
+        is_value(map.keys().next(), 1) && is_value(map.values().next_back(), 20),
+        *map == *map && *map != *none,
+        map.pop_last() == Some((2, 20))
     );
-    refill(map, 3);
-    let held = held
-        & all!(
-            (map.remove_entry(&3), map.remove_entry(&3)) == (Some((3, 30)), None),
-            *map == *map && *map != *none
-        );
+    refill(map);
+    let held = held & all!((map.remove_entry(&2), map.remove_entry(&2)) == (Some((2, 20)), None));
+    refill(map);
     map.retain(|key, value| *key == 1 || *value > 30);
     let held = held & all!((map.len(), map.contains_key(&1)) == (1, true));
     map.clear();
@@ -124,8 +123,7 @@ fn of_an_ordered_map_as_a_list(map: &mut Map, none: &Map) -> bool {
 
 fn of_an_ordered_map_and_its_table(map: &mut Map) -> bool {
     let is_reserved = all!(map.try_reserve(100) == Ok(()));
-    refill(map, 2);
-    let _ = map.insert(1, 11);
+    refill(map);
     is_reserved
         & all!(
             is_pair(map.get_key_value(&1), 1, 11) && map.get_key_value(&9).is_none(),
@@ -149,11 +147,11 @@ fn of_ordered_maps(rt: HostRuntime) -> Result<(), Fail> {
         of_an_ordered_map_as_a_list(&mut map, &none),
         of_an_ordered_map_and_its_table(&mut map)
     ));
-    refill(&mut map, 2);
-    check!(rt; format!(in alloc; "{map:?}")?.as_str() == "{1: 10, 2: 20}");
+    refill(&mut map);
+    check!(rt; format!(in alloc; "{map:?}")?.as_str() == "{1: 11, 2: 20}");
     let mut entries = map.into_iter();
     check!(rt; (entries.len(), entries.next(), entries.next_back())
-            == (2, Some((1, 10)), Some((2, 20))));
+            == (2, Some((1, 11)), Some((2, 20))));
     Ok(())
 }
 
@@ -169,7 +167,7 @@ fn of_the_memo(rt: HostRuntime) {
         24,
         |n: u64| n.wrapping_pow(3),
     );
-    check!(rt; cubes.len() == 0);
+    check!(rt; cubes.is_empty());
     let alloc = rt.alloc();
     let mut blocks = Memo::new(
         alloc,
@@ -194,7 +192,7 @@ fn of_the_memo_table(rt: HostRuntime) {
     check!(rt; (squares.get(3), squares.get(4), squares.len()) == (Some(9), None, 1));
     let seeded = RandomState::with_seeds([5, 6, 7, 8]);
     let empty = MemoTable::with_hasher(rt.alloc(), ByLength::new(9), seeded, 24, Squares);
-    check!(rt; empty.len() == 0);
+    check!(rt; empty.is_empty());
 }
 
 #[test]
@@ -216,5 +214,5 @@ fn of_the_loader(rt: HostRuntime) {
         24,
         |n: u64| n.checked_add(1).ok_or(n),
     );
-    check!(rt; empty.len() == 0);
+    check!(rt; empty.is_empty());
 }

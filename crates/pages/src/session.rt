@@ -23,7 +23,7 @@ pub fn text_of(block: &[u8]) -> &str {
 fn say(rt: &HostRuntime, done: Result<(), PageError<FileError>>, word: &str) -> io::Result<()> {
     let text = match done {
         Ok(()) => word,
-        Err(PageError::Memory) => "error: no memory",
+        Err(PageError::Memory) => "error: out of memory",
         Err(PageError::Device(error)) => return println!(rt; "error: {error}"),
     };
     println!(rt; "{text}")

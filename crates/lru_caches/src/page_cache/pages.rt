@@ -99,7 +99,7 @@ fn evict_oldest<B: Copy, D: BlockDevice<B>, S: KeyHasher<u64>>(
     let Some((n, page)) = map.peek_oldest() else {
         return Ok(());
     };
-    write_back(device, round, *n, *page)?;
+    write_back(device, round, *n, page)?;
     map.pop_oldest();
     Ok(())
 }
@@ -109,20 +109,17 @@ fn write_back<B: Copy, D: BlockDevice<B>>(
     device: &mut D,
     round: u64,
     n: u64,
-    page: Page<B>,
+    page: &Page<B>,
 ) -> Result<(), PageError<D::Error>>
-    requires { page.round ≢ round → D.seen page.block ≡ D.blocks device.old n }
-    ensures written { OnOk result (D.blocks device.new n ≡ D.seen page.block) }
-    ensures clean { page.round ≢ round → D.blocks device.new n ≡ D.blocks device.old n }
+    requires { page.now.round ≢ round → D.seen page.now.block ≡ D.blocks device.old n }
+    ensures written { OnOk result (D.blocks device.new n ≡ D.seen page.now.block) }
+    ensures clean { page.now.round ≢ round → D.blocks device.new n ≡ D.blocks device.old n }
     ensures others { (m : ℕ) → m ≢ n → D.blocks device.new m ≡ D.blocks device.old m }
 {
     if page.round != round {
         return Ok(());
     }
-    match device.write(n, &page.block) {
-        Ok(()) => Ok(()),
-        Err(error) => Err(PageError::Device(error)),
-    }
+    device.write(n, &page.block).map_err(PageError::Device)
 }
 
 // Writes each dirty page to the device, and makes its blocks durable.
@@ -139,10 +136,7 @@ pub(super) fn write_all_back<B: Copy, D: BlockDevice<B>, S: KeyHasher<u64>>(
         D.blocks device.new n ≡ block_at D.seen D.blocks map.now.pairs device.old n) }
 {
     write_each_back(map, device, round)?;
-    match device.sync() {
-        Ok(()) => Ok(()),
-        Err(error) => Err(PageError::Device(error)),
-    }
+    device.sync().map_err(PageError::Device)
 }
 
 // Writes each dirty page to the device.
@@ -159,7 +153,7 @@ fn write_each_back<B: Copy, D: BlockDevice<B>, S: KeyHasher<u64>>(
         D.blocks device.new n ≡ block_at D.seen D.blocks map.now.pairs device.old n) }
 {
     for (n, page) in map.iter() {
-        write_back(device, round, *n, *page)?;
+        write_back(device, round, *n, page)?;
     }
     Ok(())
 }
@@ -174,8 +168,5 @@ pub(super) fn add_page<B: Copy, E, S: KeyHasher<u64>>(
     ensures added { OnOk result (map.new.pairs ≡ (n, page) ∷ map.old.pairs) }
     ensures stay { OnErr result (map.new.pairs ≡ map.old.pairs) }
 {
-    match map.try_insert(n, page) {
-        Ok(()) => Ok(()),
-        Err(_) => Err(PageError::Memory),
-    }
+    map.try_insert(n, page).map_err(|_| PageError::Memory)
 }
