@@ -7,7 +7,6 @@
 //! insertion.
 #![tactic(auto)]
 
-mod empty;
 mod memo;
 mod ordered_map;
 mod page_cache;

@@ -10,7 +10,6 @@ ghost use Rattle.lru_model.specs.ByHash.{Asks};
 ghost use Rattle.lru_model.specs.Lists.{is_empty, first, last, without_first, without_last, without, lookup_entry};
 ghost use Rattle.lru_caches.specs.Ordered.{put};
 
-use crate::empty::empty_map;
 use crate::ordered_map::entries::Entries;
 use crate::ordered_map::keys::{Keys, Values};
 use schnellru::{KeyHasher, LookupKey, LruMap, RandomState, Unlimited};
@@ -86,7 +85,7 @@ impl<K: Eq + Hash, V, S: KeyHasher<K>> OrderedMap<K, V, S> {
         ensures { result ≡ [] }
     {
         OrderedMap {
-            map: empty_map(alloc, Unlimited, hasher),
+            map: LruMap::with_limiter_and_hasher(alloc, Unlimited, hasher),
         }
     }
 

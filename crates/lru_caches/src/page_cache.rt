@@ -3,12 +3,11 @@ ghost use Rattle.std.specs.Prelude.{◌≡◌, ◌≢◌, ◌≤◌, ℕ, [], le
 ghost use Rattle.lru_model.specs.Lists.{is_empty};
 ghost use Rattle.lru_caches.specs.Pages.{shown, ShowsTheSame, IsCached, numbers, numbers_after};
 
-use crate::empty::empty_map;
 use crate::page_cache::pages::{
     Page, Pages, add_page, cached_block, make_room, overwrite, write_all_back,
 };
 use block_device::BlockDevice;
-use schnellru::{KeyHasher, RandomState, UnlimitedCompact};
+use schnellru::{KeyHasher, LruMap, RandomState, UnlimitedCompact};
 use std::alloc::Global;
 use std::fmt::Display;
 use std::marker::Model;
@@ -109,7 +108,7 @@ impl<B: Copy, D: BlockDevice<B>, S: KeyHasher<u64>> PageCache<B, D, S> {
         ensures capacity { result.capacity ≡ max 1 capacity }
     {
         PageCache {
-            map: empty_map(alloc, UnlimitedCompact, hasher),
+            map: LruMap::with_limiter_and_hasher(alloc, UnlimitedCompact, hasher),
             capacity: capacity.max(1),
             round: 1,
             device,
