@@ -1,5 +1,5 @@
 -- A callback that may be called with each of some pairs, as pairs are evicted or removed.
-use Rattle.std.proofs.Common.{◌≡◌, suc, ◌+◌, ◌≤◌, inl, inr, Bool, true, false, cond, List, [], ◌∷◌, length}
+use Rattle.std.proofs.Common.{◌≡◌, ◌+◌, ◌≤◌, inl, inr, Bool, true, false, cond, List, [], ◌∷◌, length}
 use Rattle.std.proofs.Common.{Option, Some, None, refl, ap, sym, subst, arith}
 use Rattle.std.proofs.lemmas.List.Elements.{All-nil, All-cons, All-weaker, Contains-push, Contains-push_cases}
 use Rattle.std.proofs.lemmas.List.Elements.{Contains-append_left, Contains-append_right, Contains-append_cases}
@@ -8,7 +8,7 @@ use Rattle.std.specs.Prelude.{Contains}
 use Rattle.std.specs.Fn.{Mut, Called, Takes as MayBeCalled}
 use Rattle.lru_limits.specs.Rules.{Rules}
 use Rattle.lru_model.specs.Calls.{left_of, PopOldest}
-use Rattle.lru_model.specs.Lists.{last, without_last, without, set_entry, after}
+use Rattle.lru_model.specs.Lists.{last, without_last, without, set_entry}
 use Rattle.lru_model.specs.MayTake.{MayTakeEach, IsLeftOf}
 use Rattle.lru_model.specs.State.{State}
 use Rattle.lru_model.proofs.States.LeavingPairs.{length-without_last}
@@ -54,24 +54,6 @@ module _ {X : Type 0} where
       or_else None d = d
       or_else (Some v) d = v
   contains_last (x ∷ z ∷ zs) y e = covers_rest x (z ∷ zs) y (contains_last (z ∷ zs) y e)
-
-  -- the last may come first
-  pub covers_promoted : (xs : List X) → Covers xs (after (last xs) (without_last xs))
-  covers_promoted xs = go (last xs) refl
-    where
-      go : (o : Option X) → last xs ≡ o → Covers xs (after o (without_last xs))
-      go None e = covers_without_last xs
-      go (Some x) e = in_two x (without_last xs) (Contains xs) (contains_last xs x e) (covers_without_last xs)
-
-  pub length-promoted : (xs : List X) → length (after (last xs) (without_last xs)) ≤ length xs
-  length-promoted [] = omega arith
-  length-promoted (x ∷ []) = omega arith
-  length-promoted (x ∷ z ∷ zs) = go (last (z ∷ zs)) (omega (arith, length-without_last (x ∷ z ∷ zs)))
-    where
-      go : (o : Option X) → length (without_last (x ∷ z ∷ zs)) ≡ suc (length zs)
-          → length (after o (without_last (x ∷ z ∷ zs))) ≤ suc (suc (length zs))
-      go None e = omega (arith, e)
-      go (Some y) e = omega (arith, e)
 
 -- a new pair in the place of one may as well be first
 pub covers_set : {K V : Type 0} (names : K → Bool) (q : K × V) (xs : List (K × V))

@@ -5,18 +5,18 @@ use Rattle.std.specs.Cmp.{IsEquivalence}
 use Rattle.group_table.specs.Bucket.{bucket_at, entry_at, marks_of}
 use Rattle.group_table.proofs.RefillLemmas.{marks_of-refilled}
 use Rattle.group_table.proofs.SearchLemmas.{full_by_entry}
-use Rattle.lru_model.specs.Lists.{is_empty, first as first_pair, without, front, after, last, without_last}
+use Rattle.lru_model.specs.Lists.{is_empty, first as first_pair, without, front, after}
 use Rattle.lru_model.specs.Lists.{newest_value, set_newest}
 use Rattle.ordered_table.specs.OrderedTable.{OrderedTable, IsLinked, KeysFit, pairs_of, entries_in, without_bucket}
 use Rattle.ordered_table.specs.OrderedTable.{with_pair}
-use Rattle.lru_model.specs.Lists.{first as first_bucket, last as last_bucket}
+use Rattle.lru_model.specs.Lists.{first as first_bucket}
 use Rattle.schnellru.specs.Inside.Fields.{Fields}
 use Rattle.schnellru.specs.Inside.Holds.{counts_of, state_of, Holds}
 use Rattle.lru_model.specs.Calls.{promoted}
 use Rattle.ordered_table.proofs.Chains.Orders.{first_in, before_is, before_first}
 use Rattle.ordered_table.proofs.Chains.Neighbours.{newest_again}
 use Rattle.lru_model.proofs.PairLists.DistinctKeys.{AreDistinct, distinct_first}
-use Rattle.ordered_table.proofs.Tables.BucketPairs.{pair_found, others_are, places_are, oldest_is, others_oldest}
+use Rattle.ordered_table.proofs.Tables.BucketPairs.{pair_found, others_are, places_are}
 use Rattle.schnellru.proofs.Maps.HeldMaps.{alike_holds}
 use Rattle.schnellru.proofs.Maps.Writes.{written_first, kept_holds}
 
@@ -61,28 +61,6 @@ module _ {K V : Type 0} (t v : OrderedTable K V) (linked : IsLinked t) (b : ℕ)
         (subst (KeysFit (hash_of fields.hasher)) (sym slots) holds.fits)
         (ap marks_of slots) (subst (AreDistinct eq) (sym promoted_pairs)
         (distinct_first eq names one (pairs_of t) distinct))
-
--- the oldest pair of t, in the bucket b, comes first, in v
-module _ {K V : Type 0} (t v : OrderedTable K V) (linked : IsLinked t) (b : ℕ) (oldest : last_bucket t.order ≡ Some b)
-    (p : K × V) (there : entry_at t.slots b ≡ Some p)
-    (slots : v.slots ≡ t.slots) (order : v.order ≡ b ∷ without_bucket b t.order) (counted : v.insertions ≡ t.insertions)
-  where
-    oldest_pairs : pairs_of v ≡ after (last (pairs_of t)) (without_last (pairs_of t))
-    oldest_pairs = ap (entries_in v.slots) order
-        ∙ ap (λ s. entries_in s (b ∷ without_bucket b t.order)) slots
-        ∙ ap (λ o. option_to_list o ++ entries_in t.slots (without_bucket b t.order)) there
-        ∙ ap (λ l. p ∷ l) (sym (others_oldest t linked b oldest p there))
-        ∙ ap (λ o. after o (without_last (pairs_of t))) (sym (oldest_is t linked b oldest p there))
-
-    pub oldest_promoted : {S H : Type 0} (fields : Fields S H) → state_of v fields ≡ record (state_of t fields) {
-      pairs = after (last (pairs_of t)) (without_last (pairs_of t));
-      table = record (state_of t fields).table { places = v.order };
-    }
-    oldest_promoted fields = λ i. record (state_of v fields) {
-      pairs = oldest_pairs i;
-      table = record { marks = marks_of (slots i); places = v.order };
-      counts = counts_of (counted i) fields;
-    }
 
 -- the newest pair of t is that in the bucket b
 module _ {K V : Type 0} (t : OrderedTable K V) (linked : IsLinked t) (b : ℕ) (p : K × V) (there : entry_at t.slots b

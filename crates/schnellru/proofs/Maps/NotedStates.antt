@@ -7,9 +7,9 @@ use Rattle.std.proofs.lemmas.Option.{same_Some}
 use Rattle.std.proofs.lemmas.Fn.{FoldsTo-push}
 use Rattle.std.specs.Fn.{Mut, Called}
 use Rattle.lru_limits.specs.Rules.{Rules, Offers, Replaced, Notified}
-use Rattle.lru_model.specs.Lists.{last, without, set_entry, is_empty}
-use Rattle.lru_model.specs.State.{State, Contents, Leaves, contents, notified_of, pop}
-use Rattle.lru_model.specs.Calls.{PopOldest, left_of}
+use Rattle.lru_model.specs.Lists.{last, without, without_last, set_entry, is_empty}
+use Rattle.lru_model.specs.State.{State, Contents, Leaves, contents, notified_of, after_removal, pop}
+use Rattle.lru_model.specs.Calls.{PopOldest, TakesOut, left_of}
 use Rattle.lru_model.specs.Place.{IsPlaced, unstored}
 use Rattle.lru_model.specs.Inserts.{make_room, replacement}
 use Rattle.lru_model.specs.Callbacks.{noting, noting_offers, noted, CalledWith}
@@ -52,18 +52,24 @@ module _ {K V S : Type 0} (rules : Rules K V S) (before : List (K × V)) (s : S)
       (same_Some pair (notified.key, notified.value) e)
 
 module _ {K V S H : Type 0} (rules : Rules K V S) (before : List (K × V)) (old new : State K V S H) (pair : K × V) where
-  -- the oldest pair leaves, and goes to the list
-  pub noted_pop : PopOldest rules old (Some pair) new →
-      Leaves (noted before old) (pop (noting rules) (contents (noted before old))) (noted (before ++ pair ∷ []) new)
-  noted_pop step = record {
+  -- a pair is removed, and goes to the list
+  pub noted_taken : (gone : Option (K × V)) (left : List (K × V)) → TakesOut rules gone left old (Some pair) new →
+      Leaves (noted before old) (after_removal (noting rules) gone left (old.limiter, before))
+      (noted (before ++ pair ∷ []) new)
+  noted_taken gone left step = record {
     is = ap (noted (before ++ pair ∷ [])) step.state.is
         ∙ ap {A = S × List (K × V)} {B = State K V (S × List (K × V)) H} (λ s. record (noted before old) {
-          pairs = (pop rules (contents old)).pairs;
+          pairs = left;
           limiter = s;
           table = new.table;
-        }) (noted_notified rules before old.limiter pair (last old.pairs) step.pair);
+        }) (noted_notified rules before old.limiter pair gone step.pair);
     room = step.state.room;
   }
+
+  -- so is the oldest
+  pub noted_pop : PopOldest rules old (Some pair) new →
+      Leaves (noted before old) (pop (noting rules) (contents (noted before old))) (noted (before ++ pair ∷ []) new)
+  noted_pop = noted_taken (last old.pairs) (without_last old.pairs)
 
 -- if the limiter would be over, room is made
 pub make_room-over : {K V S : Type 0} (rules : Rules K V S) (c : Contents K V S) →

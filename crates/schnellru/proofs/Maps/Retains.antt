@@ -1,22 +1,23 @@
 -- A retain in progress, and one more call of its closure.
 use Rattle.std.proofs.Common.{◌≡◌, ℕ, ◌-◌, ◌<◌, ◌≤◌, Bool, true, false, Some, List, [], ◌∷◌, ◌++◌, length, refl, ap, sym}
-use Rattle.std.proofs.Common.{◌∙◌, subst, arith, append-nil}
+use Rattle.std.proofs.Common.{◌∙◌, subst, arith, append-nil, slice_get}
 use Rattle.std.proofs.lemmas.List.{append_assoc, length-append}
 use Rattle.std.proofs.lemmas.Option.{same_Some}
-use Rattle.std.specs.Prelude.{map}
+use Rattle.std.specs.Prelude.{map, Contains}
 use Rattle.std.specs.Borrow.{Bor}
-use Rattle.std.specs.Fn.{Mut, Called}
+use Rattle.std.specs.Fn.{Mut, Called, Takes as MayBeCalled}
 use Rattle.lru_limits.specs.Rules.{Rules}
 use Rattle.lru_model.specs.ByHash.{Asks}
-use Rattle.lru_model.specs.Lists.{last, without_last, after}
 use Rattle.lru_model.specs.State.{State, Contents, contents, Leaves, notified_of}
-use Rattle.lru_model.specs.Calls.{PopOldest}
+use Rattle.lru_model.specs.Calls.{TakesOut}
 use Rattle.lru_model.specs.Callbacks.{noting, noted, CalledWith}
+use Rattle.lru_model.specs.MayTake.{MayTakeEach}
 use Rattle.lru_model.specs.Retains.{retained, Answers, RetainPasses}
-use Rattle.lru_model.proofs.States.LeavingPairs.{leaves_trans, leaves_self, length-without_last}
-use Rattle.schnellru.proofs.Maps.NotedStates.{takes_more, noted_pop}
-use Rattle.lru_model.proofs.PairLists.Emptiness.{last-length}
-use Rattle.lru_model.proofs.PairLists.NamedPairs.{last_end, without_last_end}
+use Rattle.lru_model.proofs.States.CallablePairs.{Covers, covers_rest, covers_cons, one_callable}
+use Rattle.lru_model.proofs.States.CallablePairs.{others_callable as without_one}
+use Rattle.lru_model.proofs.States.LeavingPairs.{leaves_trans, leaves_self}
+use Rattle.ordered_table.proofs.Tables.Places.{got_in}
+use Rattle.schnellru.proofs.Maps.NotedStates.{takes_more, noted_taken}
 
 module _ {X : Type 0} where
   -- the last of a list, and what comes before it
@@ -35,21 +36,15 @@ module _ {X : Type 0} where
   no_items [] e = refl
   no_items (x ∷ xs) e = absurd (omega (arith, e))
 
--- another order of the same pairs
-reordered : {K V S H : Type 0} (st : State K V S H) (pairs : List (K × V)) (places : List ℕ)
-    → length pairs ≡ length st.pairs
-    → Leaves st (record { pairs = pairs; limiter = st.limiter })
-    (record st { pairs = pairs; table = record st.table { places = places } })
-reordered st pairs places same = record {
-  is = refl;
-  room = record {
-    table = refl;
-    keeps = omega arith;
-    at_most = omega (arith, same);
-    exact = λ small. omega (arith, same);
-    untouched = λ few. refl;
-  };
-}
+  -- the element between two lists
+  pub at_cut : (xs ys : List X) (x : X) → slice_get (xs ++ x ∷ ys) (length xs) ≡ Some x
+  at_cut [] ys x = refl
+  at_cut (z ∷ xs) ys x = at_cut xs ys x
+
+  -- without it there is one fewer, each of which was there
+  fewer_cut : (xs ys : List X) (x : X) → Covers (xs ++ x ∷ ys) (xs ++ ys)
+  fewer_cut [] ys x = covers_rest x ys
+  fewer_cut (z ∷ xs) ys x = covers_cons z (xs ++ x ∷ ys) (xs ++ ys) (fewer_cut xs ys x)
 
 module _ {K V S H F G : Type 0} (rules : Rules K V S) (closure : Mut F (Bor K × (Bor V × Unit {0})) Bool)
     (sinks : Mut G (K × (V × Unit {0})) (Unit {0})) (old : State K V S H) (keep : F) (sink : G) where
@@ -57,7 +52,7 @@ module _ {K V S H F G : Type 0} (rules : Rules K V S) (closure : Mut F (Bor K ×
   abbrev after_asked : List ((K × V) × Bool) → Contents K V (S × List (K × V))
   after_asked asked = retained (noting rules) asked (old.limiter, [])
 
-  -- The newest pairs, `left` in number, are still to be asked. What is left of the others comes before them.
+  -- The newest pairs, `left` in number, are still to be asked. What is left of the others comes after them.
   pub record IsRetainedTo (left : ℕ) (st : State K V S H) (f : F) (g : G) : Type 0 where
     pub asked : List ((K × V) × Bool)
     pub rest : List (K × V)
@@ -66,14 +61,14 @@ module _ {K V S H F G : Type 0} (rules : Rules K V S) (closure : Mut F (Bor K ×
     pub answers : Answers closure keep asked f
     pub passed : List (K × V)
     pub takes : CalledWith sinks sink passed g
-    pub pairs : st.pairs ≡ (after_asked asked).pairs ++ rest
+    pub pairs : st.pairs ≡ rest ++ (after_asked asked).pairs
     pub notified : ◌≡◌ {A = S × List (K × V)} (st.limiter, passed) (after_asked asked).limiter
     pub leaves : Leaves (noted [] old) (contents (noted passed st)) (noted passed st)
 
   -- the map has the pairs that are to be asked
   pub many_retained : (left : ℕ) (st : State K V S H) (f : F) (g : G) → IsRetainedTo left st f g → left ≤ length st.pairs
   many_retained left st f g so =
-      omega (arith, ap length so.pairs, length-append (after_asked so.asked).pairs so.rest, so.many)
+      omega (arith, ap length so.pairs, length-append so.rest (after_asked so.asked).pairs, so.many)
 
   pub retains_none : IsRetainedTo (length old.pairs) old keep sink
   retains_none = record {
@@ -84,57 +79,44 @@ module _ {K V S H F G : Type 0} (rules : Rules K V S) (closure : Mut F (Bor K ×
     answers = refl;
     passed = [];
     takes = refl;
-    pairs = refl;
+    pairs = sym (append-nil old.pairs);
     notified = refl;
     leaves = leaves_self (noted [] old);
   }
 
-  -- one pair more is asked
+  -- one pair more is asked: the oldest of those that are to be asked
   module _ (left : ℕ) (some : 0 < left) (st : State K V S H) (f : F) (g : G) (i : IsRetainedTo left st f g)
-      (pair : K × V) (asks : last st.pairs ≡ Some pair) where
-    its_end : HasEnd i.rest
+      (pair : K × V) (asks : slice_get st.pairs (left - 1) ≡ Some pair) where
+    abbrev its_end : HasEnd i.rest
     its_end = has_end i.rest (omega (arith, i.many, some))
 
-    front : List (K × V)
+    abbrev front : List (K × V)
     front = its_end.front
 
-    before : List (K × V)
-    before = (after_asked i.asked).pairs
+    abbrev kept : List (K × V)
+    kept = (after_asked i.asked).pairs
 
-    shape : st.pairs ≡ (before ++ front) ++ its_end.end ∷ []
-    unfolding its_end front before
-    shape = i.pairs ∙ ap (λ l. before ++ l) its_end.whole ∙ sym (append_assoc before front (its_end.end ∷ []))
+    many : length front ≡ left - 1
+    many = omega (arith, ap length its_end.whole, length-append its_end.front (its_end.end ∷ []), i.many)
+
+    shape : st.pairs ≡ front ++ its_end.end ∷ kept
+    shape = i.pairs ∙ ap (λ l. l ++ kept) its_end.whole ∙ append_assoc front (its_end.end ∷ []) kept
 
     is_pair : its_end.end ≡ pair
-    is_pair = same_Some its_end.end pair (sym (last_end (before ++ front) its_end.end) ∙ ap last (sym shape) ∙ asks)
+    is_pair = same_Some its_end.end pair (sym (at_cut front kept its_end.end)
+        ∙ (λ j. slice_get (sym shape j) (many j)) ∙ asks)
 
-    others : without_last st.pairs ≡ before ++ front
-    others = ap without_last shape ∙ without_last_end (before ++ front) its_end.end
+    parted : st.pairs ≡ front ++ pair ∷ kept
+    parted = shape ∙ ap (λ p. front ++ p ∷ kept) is_pair
 
     whole : front ++ pair ∷ map (λ one. one.0) i.asked ≡ old.pairs
-    unfolding its_end front
     whole = sym (append_assoc front (pair ∷ []) (map (λ one. one.0) i.asked))
         ∙ ap (λ p. (front ++ p ∷ []) ++ map (λ one. one.0) i.asked) (sym is_pair)
         ∙ ap (λ l. l ++ map (λ one. one.0) i.asked) (sym its_end.whole) ∙ i.whole
 
-    many : length front ≡ left - 1
-    unfolding its_end front
-    many = omega (
-      arith,
-      ap length its_end.whole,
-      length-without_last i.rest,
-      i.many,
-      ap length (ap without_last its_end.whole ∙ without_last_end front its_end.end),
-    )
-
-    -- it stays, as the newest
-    pub retains_more : (places : List ℕ) (h : F) → Asks closure f pair true h → IsRetainedTo (left - 1)
-        (record st {
-          pairs = after (last st.pairs) (without_last st.pairs);
-          table = record st.table { places = places };
-        }) h g
-    unfolding before
-    retains_more places h answer = record {
+    -- it stays
+    pub retains_more : (h : F) → Asks closure f pair true h → IsRetainedTo (left - 1) st h g
+    retains_more h answer = record {
       asked = (pair, true) ∷ i.asked;
       rest = front;
       whole = whole;
@@ -142,37 +124,55 @@ module _ {K V S H F G : Type 0} (rules : Rules K V S) (closure : Mut F (Bor K ×
       answers = (f, i.answers, answer);
       passed = i.passed;
       takes = i.takes;
-      pairs = λ j. after (asks j) (others j);
+      pairs = parted;
       notified = i.notified;
-      leaves = leaves_trans (noted [] old) (noted i.passed st) _ (contents (noted i.passed st)) _ i.leaves
-          (reordered (noted i.passed st) _ places as_many);
+      leaves = i.leaves;
     }
-      where
-        as_many : length (after (last st.pairs) (without_last st.pairs)) ≡ length st.pairs
-        as_many = ap (λ o. length (after o (without_last st.pairs))) asks
-            ∙ omega (arith, length-without_last st.pairs, last-length st.pairs pair asks)
 
-    -- it leaves
-    pub removes_more : (h : F) → Asks closure f pair false h → (u : State K V S H) (removed : K × V)
-        → PopOldest rules st (Some removed) u → (k : G) → Called sinks g (removed.0, (removed.1, tt)) tt k
-        → IsRetainedTo (left - 1) u h k
-    unfolding before
-    removes_more h answer u removed popped k called =
-        let pops = noted_pop rules i.passed st u removed popped in record {
-          asked = (pair, false) ∷ i.asked;
-          rest = front;
-          whole = whole;
-          many = many;
-          answers = (f, i.answers, answer);
-          passed = i.passed ++ removed ∷ [];
-          takes = takes_more sinks sink i.passed g removed k i.takes called;
-          pairs = ap (λ s. s.pairs) popped.state.is ∙ others;
-          notified = ap (λ s. s.limiter) pops.is ∙ (λ j. notified_of (noting rules) (asks j) (i.notified j));
-          leaves = leaves_trans (noted [] old) (noted i.passed st) (noted (i.passed ++ removed ∷ []) u)
-              (contents (noted i.passed st)) (contents (noted (i.passed ++ removed ∷ []) u)) i.leaves
-              (subst (λ left. Leaves (noted i.passed st) left (noted (i.passed ++ removed ∷ []) u))
-              (sym (ap contents pops.is)) pops);
-        }
+    -- it is removed, and passed on
+    module _ (u : State K V S H) (removed : K × V)
+        (takes : (newer older : List (K × V)) (p : K × V) → st.pairs ≡ newer ++ p ∷ older → length newer ≡ left - 1
+        → TakesOut rules (Some p) (newer ++ older) st (Some removed) u) where
+      taken : TakesOut rules (Some pair) (front ++ kept) st (Some removed) u
+      taken = takes front kept pair parted many
+
+      pub removes_more : (h : F) → Asks closure f pair false h → (k : G)
+          → Called sinks g (removed.0, (removed.1, tt)) tt k → IsRetainedTo (left - 1) u h k
+      removes_more h answer k called =
+          let noted_it = noted_taken rules i.passed st u removed (Some pair) (front ++ kept) taken in record {
+            asked = (pair, false) ∷ i.asked;
+            rest = front;
+            whole = whole;
+            many = many;
+            answers = (f, i.answers, answer);
+            passed = i.passed ++ removed ∷ [];
+            takes = takes_more sinks sink i.passed g removed k i.takes called;
+            pairs = ap (λ s. s.pairs) taken.state.is;
+            notified = ap (λ s. s.limiter) noted_it.is ∙ ap (notified_of (noting rules) (Some pair)) i.notified;
+            leaves = leaves_trans (noted [] old) (noted i.passed st) (noted (i.passed ++ removed ∷ []) u)
+                (contents (noted i.passed st)) (contents (noted (i.passed ++ removed ∷ []) u)) i.leaves
+                (subst (λ left. Leaves (noted i.passed st) left (noted (i.passed ++ removed ∷ []) u))
+                (sym (ap contents noted_it.is)) noted_it);
+          }
+
+      there : Contains st.pairs pair
+      there = got_in st.pairs (left - 1) pair asks
+
+      pub removed_callable : MayTakeEach rules sinks st.pairs g → MayBeCalled sinks g (removed.0, (removed.1, tt))
+      removed_callable = one_callable rules sinks st.pairs st.limiter pair removed there taken.pair g
+
+      pub others_callable : (k : G) → Called sinks g (removed.0, (removed.1, tt)) tt k
+          → MayTakeEach rules sinks st.pairs g → MayTakeEach rules sinks u.pairs k
+      others_callable k = without_one rules sinks st.pairs u.pairs st.limiter pair removed there taken.pair
+          (λ x w. subst (λ l. Contains l x) (sym parted)
+          (fewer_cut front kept pair x (subst (λ l. Contains l x) (ap (λ s. s.pairs) taken.state.is) w)))
+          (omega (
+            arith,
+            ap length (ap (λ s. s.pairs) taken.state.is),
+            ap length parted,
+            length-append front kept,
+            length-append front (pair ∷ kept),
+          )) g k
 
   -- all were asked
   pub retains_all : (st : State K V S H) (f : F) (g : G) → (i : IsRetainedTo 0 st f g)
@@ -183,8 +183,7 @@ module _ {K V S H F G : Type 0} (rules : Rules K V S) (closure : Mut F (Bor K ×
     last = f;
     answers = i.answers;
     state = subst (λ left. Leaves (noted [] old) left (noted i.passed st)) (λ j. record {
-      pairs = (i.pairs ∙ ap (λ l. (after_asked i.asked).pairs ++ l) (no_items i.rest i.many)
-          ∙ append-nil (after_asked i.asked).pairs) j;
+      pairs = (i.pairs ∙ ap (λ l. l ++ (after_asked i.asked).pairs) (no_items i.rest i.many)) j;
       limiter = i.notified j;
     }) i.leaves;
   }

@@ -1,6 +1,6 @@
 //! The search for a key, with which every look-up begins, and what follows it: a promotion, a demotion or a removal.
-ghost use Rattle.std.specs.Prelude.{◌≡◌, ℕ, ◌<◌, Bool, List, Some, None, IfSome, IfNone, IsTrue, Contains, length};
-ghost use Rattle.lru_model.specs.Lists.{lookup_entry, last, without_last, after};
+ghost use Rattle.std.specs.Prelude.{◌≡◌, Bool, Some, None, IfSome, IfNone, IsTrue, Contains};
+ghost use Rattle.lru_model.specs.Lists.{lookup_entry};
 ghost use Rattle.lru_model.specs.State.{place_in, Frees, IsMap};
 ghost use Rattle.lru_model.specs.Calls.{promoted, demoted, written, RemoveEntry};
 ghost use Rattle.std.specs.Borrow.{sem};
@@ -85,19 +85,6 @@ impl<K: Eq + Hash, V, L: Limiter<K, V>, S: KeyHasher<K>> LruMap<K, V, L, S> {
         ensures map { IsMap K.eq self.new }
     {
         self.entries.demote(b);
-    }
-
-    // Makes the oldest pair the newest.
-    #[inline]
-    pub(super) fn promote_oldest(&mut self)
-        requires { 0 < length self.old.pairs }
-        ensures { (places : List ℕ) × (self.new ≡ record self.old {
-          pairs = after (last self.old.pairs) (without_last self.old.pairs);
-          table = record self.old.table { places = places };
-        }) }
-    {
-        let b = self.entries.oldest();
-        self.entries.promote(b);
     }
 
     // Takes out the pair in a bucket, and notifies the limiter. Returns what the limiter leaves of the pair.

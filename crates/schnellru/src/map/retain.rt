@@ -1,14 +1,15 @@
 //! Removing the entries that a closure rejects.
-ghost use Rattle.std.specs.Prelude.{◌≡◌, ◌<◌, length, Some, List};
+ghost use Rattle.std.specs.Prelude.{◌≡◌, ◌++◌, ◌∷◌, length, slice_get, Some, List};
 ghost use Rattle.lru_model.specs.ByHash.{Asks};
 ghost use Rattle.lru_model.specs.Callbacks.{CalledWith};
-ghost use Rattle.lru_model.specs.Lists.{last};
+ghost use Rattle.lru_model.specs.Calls.{TakesOut};
+ghost use Rattle.lru_model.specs.Lists.{last_of};
 ghost use Rattle.lru_model.specs.MayTake.{MayTakeEach};
 ghost use Rattle.lru_model.specs.Retains.{Retains, RetainPasses};
 ghost use Rattle.lru_model.specs.State.{IsMap};
 
 use crate::map::LruMap;
-use crate::map::leave::discard;
+use crate::map::leave::{discard, take_out};
 use lru_limits::{KeyHasher, Limiter};
 use std::hash::Hash;
 
@@ -23,7 +24,7 @@ impl<K: Eq + Hash + Drop, V: Drop, L: Limiter<K, V>, S: KeyHasher<K>> LruMap<K, 
     /// assert!(rt; map.len() == 2 && !map.contains(&1));
     /// ```
     ///
-    /// Cost: `O(n)` for n entries. Each that stays becomes the newest for a moment.
+    /// Cost: `O(n)` for n entries. Links are written only next to an entry that is removed.
     ///
     /// After std's `HashMap::retain`, whose closure may write the value; schnellru has no such call.
     pub fn retain<F: FnMut(&K, &V) -> bool>(&mut self, keep: F)
@@ -62,12 +63,12 @@ impl<K: Eq + Hash, V, L: Limiter<K, V>, S: KeyHasher<K>> LruMap<K, V, L, S> {
         ensures map { IsMap K.eq self.new }
     {
         let mut left = self.len();
-        'pairs: while left > 0 {
+        let (_, mut next) = self.ends();
+        'pairs: while let Some(b) = next {
             left -= 1;
-            if self.oldest_passes(&mut keep) {
-                self.promote_oldest();
-            } else {
-                let (key, value) = self.take_oldest();
+            next = self.newer(left, b);
+            if !self.passes(left, b, &mut keep) {
+                let (key, value) = self.take_from(left, b);
                 sink(key, value);
             }
         }
@@ -75,16 +76,29 @@ impl<K: Eq + Hash, V, L: Limiter<K, V>, S: KeyHasher<K>> LruMap<K, V, L, S> {
         let _ = &self.entries;
     }
 
-    // Returns what the closure returns for the oldest pair.
+    // Returns what the closure returns for the pair in bucket `b`, which is at position `at` counted from the newest.
     #[inline]
-    fn oldest_passes<F: FnMut(&K, &V) -> bool>(&self, keep: &mut F) -> bool
-        requires some { 0 < length self.now.pairs }
+    fn passes<F: FnMut(&K, &V) -> bool>(&self, at: usize, b: usize, keep: &mut F) -> bool
+        requires at { slice_get self.now.table.places at ≡ Some b }
         requires callable { F.IsAlwaysCallable keep.old }
-        ensures asked { (pair : K × V) × (last self.now.pairs ≡ Some pair)
+        ensures asked { (pair : K × V) × (slice_get self.now.pairs at ≡ Some pair)
             × Asks F.FnMut keep.old pair result keep.new }
         ensures callable { F.IsAlwaysCallable keep.new }
     {
-        let pair = self.entries.pair(self.entries.oldest());
+        let pair = self.entries.pair(b);
         keep(&pair.key, &pair.value)
+    }
+
+    // Takes out the pair in bucket `b`, which is at position `at` counted from the newest, and notifies the limiter.
+    // Returns what the limiter leaves of the pair. The positions of newer pairs stay.
+    #[inline]
+    fn take_from(&mut self, at: usize, b: usize) -> (K, V)
+        requires { slice_get self.old.table.places at ≡ Some b }
+        ensures step { (newer older : List (K × V)) (pair : K × V) → self.old.pairs ≡ newer ++ pair ∷ older →
+            length newer ≡ at → TakesOut L.rules (Some pair) (newer ++ older) self.old (Some result) self.new }
+        ensures next { last_of at self.new.table.places ≡ last_of at self.old.table.places }
+        ensures places { length self.new.table.places ≡ length self.new.pairs }
+    {
+        take_out(&mut self.entries, &mut self.limiter, b)
     }
 }
