@@ -1,6 +1,6 @@
 -- Functions on lists, mostly of pairs, newest first.
 use Rattle.std.specs.Prelude.{◌≡◌, ℕ, zero, suc, Bool, true, false, if◌then◌else◌, List, [], ◌∷◌, ◌++◌, Option, Some}
-use Rattle.std.specs.Prelude.{None, slice_get, option_to_list}
+use Rattle.std.specs.Prelude.{None, slice_get, option_map, option_to_list}
 pub use Rattle.std.specs.Map.{lookup, lookup_entry, remove_entry as without, keys_of}
 
 module _ {X : Type 0} where
@@ -81,8 +81,7 @@ module _ {K V : Type 0} where
 
   -- the value of the first pair
   abbrev pub newest_value : List (K × V) → Option V
-  newest_value [] = None
-  newest_value (pair ∷ pairs) = Some pair.1
+  newest_value pairs = option_map (λ p. p.1) (first pairs)
 
   -- the list with the value w in the pair at position i, counted from 0
   abbrev pub set_value_at : List (K × V) → ℕ → V → List (K × V)
@@ -92,5 +91,4 @@ module _ {K V : Type 0} where
 
   -- the list with the value w in the first pair
   abbrev pub set_newest : List (K × V) → V → List (K × V)
-  set_newest [] w = []
-  set_newest (pair ∷ pairs) w = (pair.0, w) ∷ pairs
+  set_newest pairs w = set_value_at pairs 0 w
