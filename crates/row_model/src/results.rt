@@ -13,10 +13,12 @@ pub(crate) fn write_updated(out: &mut Text, updated: Updated<u64>) {
 
 /// Adds what a reservation did.
 pub(crate) fn write_reserved(out: &mut Text, reserved: Result<(), ReserveError>) {
-    match reserved {
-        Ok(()) => out.word("ok"),
-        Err(error) => out.error(error),
-    }
+    out.word(match reserved {
+        Ok(()) => "ok",
+        Err(ReserveError::TooLarge) => "too large",
+        Err(ReserveError::Refused) => "refused",
+        Err(ReserveError::Memory) => "no memory",
+    });
 }
 
 /// Adds the length, the capacity and the bytes of a map, and what its table moved.

@@ -1,5 +1,4 @@
 //! A text to which parts are added.
-use lru_model::ReserveError;
 use std::alloc::Global;
 use std::fmt::{Debug, Write};
 
@@ -37,11 +36,6 @@ impl Text {
     pub(crate) fn figure(&mut self, word: &str, number: u64) {
         self.word(word);
         self.number(number);
-    }
-
-    /// Adds why a reservation fails.
-    pub(crate) fn error(&mut self, error: ReserveError) {
-        let _ = write!(self.0, "{error}");
     }
 
     /// Adds a line with what `Debug` shows of a limiter.

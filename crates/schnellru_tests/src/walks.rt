@@ -23,9 +23,12 @@ fn is_printed(alloc: Global, map: &Map) -> bool {
     let memory: GetOrInsertError<u8> = GetOrInsertError::Memory;
     let mut walk = map.iter();
     walk.next();
-    match format!(in alloc; "{map:?} {walk:?} {failed}, {memory}") {
+    let large = ReserveError::TooLarge;
+    let refused = ReserveError::Refused;
+    match format!(in alloc; "{map:?} {walk:?} {failed}, {memory}; {large}, {refused}") {
         Ok(text) => text.as_str()
-            == "LruMap { len: 3, .. } [(2, 20), (1, 100)] the closure failed: 1, out of memory",
+            == "LruMap { len: 3, .. } [(2, 20), (1, 100)] the closure failed: 1, out of memory; \
+                too large, the limiter refused the larger table",
         Err(_) => false,
     }
 }
