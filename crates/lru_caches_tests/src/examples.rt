@@ -175,6 +175,7 @@ fn of_the_memo(rt: HostRuntime) {
         |n: usize| vec![in alloc; 7u8; n].ok(),
     );
     check!(rt; (blocks.answer_with(3, |block| block.is_some()), blocks.len()) == (true, 1));
+    check!(rt; (blocks.answer_with(4, |block| block.is_some()), blocks.len()) == (true, 2));
 }
 
 /// What is the square of a number?
