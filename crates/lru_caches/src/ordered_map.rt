@@ -89,13 +89,11 @@ impl<K: Eq + Hash, V, S: KeyHasher<K>> OrderedMap<K, V, S> {
         }
     }
 
-    /// Returns the number of entries. No two keys are equal.
+    /// Returns the number of entries. No two keys are equal. Cost: `O(1)`.
     ///
     /// ```
     /// assert_eq!(rt; map.len(), 2);
     /// ```
-    ///
-    /// Cost: `O(1)`.
     pub fn len(&self) -> usize
         ensures len { result ≡ length self.now }
         ensures distinct { IsDistinct K.eq (keys_of self.now) }
@@ -103,13 +101,11 @@ impl<K: Eq + Hash, V, S: KeyHasher<K>> OrderedMap<K, V, S> {
         self.map.len()
     }
 
-    /// Returns whether there are no entries.
+    /// Returns whether there are no entries. Cost: `O(1)`.
     ///
     /// ```
     /// assert!(rt; !map.is_empty());
     /// ```
-    ///
-    /// Cost: `O(1)`.
     pub fn is_empty(&self) -> bool
         ensures { result ≡ is_empty self.now }
     {
@@ -378,14 +374,12 @@ impl<K: Eq + Hash + Drop, V: Drop, S: KeyHasher<K>> OrderedMap<K, V, S> {
         self.map.retain(keep);
     }
 
-    /// Drops all entries. The table keeps its memory.
+    /// Drops all entries. The table keeps its memory. Cost: as `LruMap::clear`.
     ///
     /// ```
     /// map.clear();
     /// assert!(rt; map.is_empty());
     /// ```
-    ///
-    /// Cost: as `LruMap::clear`.
     ///
     /// After std's `HashMap::clear`.
     pub fn clear(&mut self)
