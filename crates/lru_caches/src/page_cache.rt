@@ -259,6 +259,7 @@ impl<B: Copy, D: BlockDevice<B>, S: KeyHasher<u64>> PageCache<B, D, S> {
         ensures keeps { ShowsTheSame D.seen D.blocks self.old self.new }
         ensures flushed { OnOk result ((n : ℕ) → D.blocks self.new.device n ≡ shown D.seen D.blocks self.old n) }
         ensures dirty { OnErr result (self.new.round ≡ self.old.round) }
+        ensures clean { OnOk result (self.new.round ≢ self.old.round) }
         ensures pages { self.new.pages ≡ self.old.pages }
         ensures capacity { self.new.capacity ≡ self.old.capacity }
     {
