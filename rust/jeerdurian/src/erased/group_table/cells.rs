@@ -1,0 +1,120 @@
+// Erased from crates/group_table/src/cells.rt: do not edit.
+//! Places for entries in one block of memory. No place has a tag: whoever owns the places knows which of them hold an
+//! entry.
+
+#[allow(unused_imports)]
+use crate::rattle_std::prelude::*;
+
+use crate::rattle_std::alloc::{AllocError, Allocator};
+use crate::rattle_std::marker::{PhantomData, Send, Sync};
+use crate::rattle_std::mem::{align_of, size_of};
+
+// Where the places begin. It owns nothing.
+pub(crate) struct Block<T> {
+    start: *mut T,
+}
+
+impl<T> Clone for Block<T> {
+    fn clone(&self) -> Self {
+        let made = || -> Result<Block<T>, AllocError> { Ok(*self) };
+        never_fails(made())
+    }
+}
+
+impl<T> Copy for Block<T> {}
+
+// SAFETY: a `Block` is an address. To read or write there also takes the `Cells` of the same block, whose `Send` and
+// `Sync` require the same of `T`.
+unsafe impl<T> Send for Block<T> {}
+
+unsafe impl<T> Sync for Block<T> {}
+
+// The owner of the places and of the entries in them. It has no bytes.
+pub(crate) struct Cells<T> {
+    mark: PhantomData<*const T>,
+}
+
+// SAFETY: it owns the entries as a `Box<T>` does, so it may be sent and shared if they may.
+unsafe impl<T: Send> Send for Cells<T> {}
+
+unsafe impl<T: Sync> Sync for Cells<T> {}
+
+// The right to give a block of `count` places back to its allocator. It has no bytes.
+pub(crate) struct Deed<T, A: Allocator> {
+    mark: PhantomData<*const (T, A)>,
+}
+
+// SAFETY: it only gives memory back, by the allocator, so it may be sent if the allocator may.
+unsafe impl<T, A: Allocator + Send> Send for Deed<T, A> {}
+
+// SAFETY: it has no method that takes a `&`.
+unsafe impl<T, A: Allocator> Sync for Deed<T, A> {}
+
+// How many bytes a place has.
+#[inline]
+pub(crate) const fn bytes_of<T>() -> usize {
+    size_of::<T>()
+}
+
+// Returns whether a block may have `count` places.
+#[inline]
+pub(crate) fn fits_in_block<T>(count: usize) -> bool {
+    match count.checked_mul(bytes_of::<T>()) {
+        Some(bytes) => count < 1 << 63 && bytes < 1 << 63,
+        None => false,
+    }
+}
+
+// Takes a block of `count` places, none of which holds an entry.
+pub(crate) fn allocate<T, A: Allocator>(
+    alloc: &A,
+    count: usize,
+) -> Result<(Block<T>, Cells<T>, Deed<T, A>), AllocError> {
+    match alloc.allocate(count * size_of::<T>(), align_of::<T>()) {
+        Ok(bytes) => {
+            let block = Block { start: bytes as *mut T };
+            Ok((block, Cells { mark: PhantomData }, Deed { mark: PhantomData }))
+        }
+        Err(error) => Err(error),
+    }
+}
+
+// Gives a block back. No place holds an entry.
+pub(crate) fn deallocate<T, A: Allocator>(alloc: &A, block: Block<T>, count: usize, cells: Cells<T>, deed: Deed<T, A>) {
+    let Cells { mark: _ } = cells;
+    let Deed { mark: _ } = deed;
+    // SAFETY: `deed` says that this allocator gave this block with these bytes, and no place holds an entry.
+    unsafe {
+        alloc.deallocate(block.start as *mut u8, count * size_of::<T>(), align_of::<T>());
+    }
+}
+
+impl<T> Cells<T> {
+    // Puts an entry into a place that holds none.
+    #[inline]
+    pub(crate) fn write(&mut self, block: Block<T>, b: usize, entry: T) {
+        // SAFETY: the block has place b, which holds no entry, and `self` owns it.
+        unsafe { block.start.add(b).write(entry) }
+    }
+
+    // Takes the entry out of a place.
+    #[inline]
+    pub(crate) fn read(&mut self, block: Block<T>, b: usize) -> T {
+        // SAFETY: place b holds an entry, and `self` no longer counts it as there.
+        unsafe { block.start.add(b).read() }
+    }
+
+    // Returns the entry in a place.
+    #[inline]
+    pub(crate) fn get(&self, block: Block<T>, b: usize) -> &T {
+        // SAFETY: place b holds an entry, which `self` lends as long as it is lent.
+        unsafe { &*block.start.add(b) }
+    }
+
+    // Lends the entry in a place for writing.
+    #[inline]
+    pub(crate) fn get_mut(&mut self, block: Block<T>, b: usize) -> &mut T {
+        // SAFETY: place b holds an entry, which `self` lends to nobody else meanwhile.
+        unsafe { &mut *block.start.add(b) }
+    }
+}

@@ -1,0 +1,42 @@
+// Erased from crates/group_table/src/full_buckets.rt: do not edit.
+//! The full buckets of a table, in rising order.
+
+#[allow(unused_imports)]
+use crate::rattle_std::prelude::*;
+
+use crate::erased::group_table::control::Control;
+use crate::erased::group_table::group::{lowest_lane, without_lowest};
+
+// Where a walk over the full buckets is. It keeps the lanes of a group that are still to come: if each step read a
+// group from the last bucket on, it would have to wait for the step before.
+
+pub(crate) struct FullBuckets {
+    // The bucket of lane 0.
+    start: usize,
+    // The full lanes that are still to come.
+    lanes: u16,
+}
+
+impl FullBuckets {
+    // Begins a walk over all full buckets.
+    pub(crate) fn of(control: &Control) -> FullBuckets {
+        FullBuckets { start: 0, lanes: control.group(0).match_full() }
+    }
+
+    // Returns the next full bucket, or the number of buckets if there is none.
+    #[inline]
+    pub(crate) fn next(&mut self, control: &Control) -> usize {
+        let count = control.buckets();
+        'groups: while self.lanes == 0 {
+            let start = self.start + 16;
+            if start >= count {
+                return count;
+            }
+            self.start = start;
+            self.lanes = control.group(start).match_full();
+        }
+        let b = (self.start + lowest_lane(self.lanes)).min(count);
+        self.lanes = without_lowest(self.lanes);
+        b
+    }
+}

@@ -1,0 +1,105 @@
+// Erased from crates/group_table/src/group.rt: do not edit.
+//! Groups of sixteen control bytes, and masks of their lanes: bit i is lane i.
+
+#[allow(unused_imports)]
+use crate::rattle_std::prelude::*;
+
+use crate::erased::group_table::control::{DELETED, EMPTY};
+use crate::rattle_std::simd::prelude::*;
+
+/// Returns the lanes that hold the tag, of the control bytes of sixteen neighbouring buckets.
+///
+/// Bit i of the result is set if and only if byte i is the tag. The bytes are compared at once. `docs/TABLE.md` shows a
+/// table of masks.
+///
+/// ```text
+/// let bytes: [u8; 16] = [0, 255, 128, 5, 255, 255, 255, 255, 255, 255, 255, 255, 255, 255, 255, 255];
+/// assert_eq!(rt; match_tag(&bytes, 0), 0x0001);
+/// ```
+#[inline]
+pub fn match_tag(bytes: &[u8; 16], tag: u8) -> u16 {
+    u8x16::from_array(*bytes).simd_eq(u8x16::splat(tag)).to_bitmask() as u16
+}
+
+/// Returns the lanes of empty buckets, whose byte is 255.
+///
+/// Bit i of the result is set if and only if bucket i is empty. The bytes are compared at once.
+///
+/// ```text
+/// let bytes: [u8; 16] = [0, 255, 128, 5, 255, 255, 255, 255, 255, 255, 255, 255, 255, 255, 255, 255];
+/// assert_eq!(rt; match_empty(&bytes), 0xfff2);
+/// ```
+#[inline]
+pub fn match_empty(bytes: &[u8; 16]) -> u16 {
+    match_tag(bytes, EMPTY)
+}
+
+/// Returns the lanes of free buckets, whose byte has the top bit set: 255 if empty, 128 if deleted.
+///
+/// Bit i of the result is set if and only if bucket i is free. The bytes are compared at once.
+///
+/// ```text
+/// let bytes: [u8; 16] = [0, 255, 128, 5, 255, 255, 255, 255, 255, 255, 255, 255, 255, 255, 255, 255];
+/// assert_eq!(rt; match_free(&bytes), 0xfff6);
+/// ```
+#[inline]
+pub fn match_free(bytes: &[u8; 16]) -> u16 {
+    u8x16::from_array(*bytes).simd_ge(u8x16::splat(DELETED)).to_bitmask() as u16
+}
+
+// The sixteen control bytes from a bucket on, a lane each.
+
+pub(crate) struct Group {
+    lanes: [u8; 16],
+}
+
+impl Group {
+    // Reads the sixteen bytes from a position on.
+    #[inline]
+    pub(crate) fn load(bytes: &[u8], at: usize) -> Group {
+        Group { lanes: u8x16::from_slice(&(*at!(bytes, at..))).to_array() }
+    }
+
+    // Returns the lanes that hold the tag.
+    #[inline]
+    pub(crate) fn match_tag(&self, tag: u8) -> u16 {
+        match_tag(&self.lanes, tag)
+    }
+
+    // Returns the lanes of empty buckets.
+    #[inline]
+    pub(crate) fn match_empty(&self) -> u16 {
+        match_empty(&self.lanes)
+    }
+
+    // Returns the lanes of empty and deleted buckets.
+    #[inline]
+    pub(crate) fn match_free(&self) -> u16 {
+        match_free(&self.lanes)
+    }
+
+    // Returns the lanes of full buckets.
+    #[inline]
+    pub(crate) fn match_full(&self) -> u16 {
+        u8x16::from_array(self.lanes).simd_lt(u8x16::splat(DELETED)).to_bitmask() as u16
+    }
+}
+
+// Returns the lowest lane of a mask that is not empty.
+#[inline]
+pub(crate) fn lowest_lane(mask: u16) -> usize {
+    mask.trailing_zeros() as usize
+}
+
+// Returns the mask without its lowest lane.
+#[inline]
+pub(crate) fn without_lowest(mask: u16) -> u16 {
+    mask & (mask - 1)
+}
+
+// Returns the lanes before the lowest of a mask: all 32 bits if it is empty, and so more than any mask.
+#[inline]
+pub(crate) fn lanes_below(mask: u16) -> u32 {
+    let mask = mask as u32;
+    mask.wrapping_sub(1) & !mask
+}

@@ -1,0 +1,77 @@
+// Erased from crates/group_table/src/link.rt: do not edit.
+//! `LinkType`: the width of a link, which is the number of a bucket.
+
+#[allow(unused_imports)]
+use crate::rattle_std::prelude::*;
+
+/// The type of a link: the number of a bucket, below `MAX`, or `MAX` itself, which means no bucket.
+///
+/// A table with links of type `N` has fewer than `N::MAX` buckets, so the width of the links limits its size. It is
+/// implemented for `u8`, `u16`, `u32` and `usize`. An impl of your own is a width too: it converts links to numbers and
+/// back, and proves the laws.
+pub trait LinkType: Copy {
+    /// No bucket. As a number, it is one more than the greatest number of a link, and at least 255.
+    const MAX: Self;
+
+    /// Returns the link of this number, which is below `MAX`; no bits are cut off.
+    fn from_usize(value: usize) -> Self;
+
+    /// Returns the number of this link.
+    fn into_usize(self) -> usize;
+}
+
+impl LinkType for u8 {
+    const MAX: u8 = u8::MAX;
+
+    #[inline]
+    fn from_usize(value: usize) -> u8 {
+        value as u8
+    }
+
+    #[inline]
+    fn into_usize(self) -> usize {
+        self as usize
+    }
+}
+
+impl LinkType for u16 {
+    const MAX: u16 = u16::MAX;
+
+    #[inline]
+    fn from_usize(value: usize) -> u16 {
+        value as u16
+    }
+
+    #[inline]
+    fn into_usize(self) -> usize {
+        self as usize
+    }
+}
+
+impl LinkType for u32 {
+    const MAX: u32 = u32::MAX;
+
+    #[inline]
+    fn from_usize(value: usize) -> u32 {
+        value as u32
+    }
+
+    #[inline]
+    fn into_usize(self) -> usize {
+        self as usize
+    }
+}
+
+impl LinkType for usize {
+    const MAX: usize = usize::MAX;
+
+    #[inline]
+    fn from_usize(value: usize) -> usize {
+        value
+    }
+
+    #[inline]
+    fn into_usize(self) -> usize {
+        self
+    }
+}

@@ -1,0 +1,38 @@
+// Erased from crates/group_table/src/neighbours.rt: do not edit.
+//! Whether the 16 neighbouring buckets around a bucket contain an empty one, by two groups of control bytes.
+
+#[allow(unused_imports)]
+use crate::rattle_std::prelude::*;
+
+use crate::erased::group_table::control::Control;
+use crate::erased::group_table::group::lanes_below;
+
+// Returns the empty lanes of the group that ends directly before this bucket.
+#[inline]
+fn empty_before(control: &Control, b: usize) -> u16 {
+    control.group(control.sixteen_before(b)).match_empty()
+}
+
+// Returns the empty lanes of the group that begins at this bucket.
+#[inline]
+fn empty_from(control: &Control, b: usize) -> u16 {
+    control.group(b).match_empty()
+}
+
+// Returns all ones if the first number is less than the second, and 0 otherwise: the sign of their difference.
+#[inline]
+fn ones_if_less(low: u32, high: u16) -> usize {
+    let difference = low as i64 - high as i64;
+    (difference >> 32).cast_unsigned() as usize
+}
+
+// Returns all ones if every 16 neighbouring buckets around this one contain an empty one, and 0 otherwise. The caller
+// makes a count and a byte of it, for which a `bool` would take more instructions. The neighbouring buckets lie between
+// the last empty bucket before this one and the first one after it, so the used buckets between these decide.
+pub(crate) fn ones_if_empty_neighbours(control: &Control, b: usize) -> usize {
+    // `used` has a bit for each used bucket from this one up to the next empty one. The mask of the empty buckets
+    // before is greater exactly if these used ones and those directly before are fewer than sixteen. Comparing the
+    // masks takes fewer instructions than two counts and their sum.
+    let used = lanes_below(empty_from(control, b));
+    ones_if_less(used, empty_before(control, b))
+}

@@ -1,0 +1,123 @@
+// Erased from crates/group_table/src/probe.rt: do not edit.
+//! Searches for a hash, group by group, over the control bytes and the entries.
+
+#[allow(unused_imports)]
+use crate::rattle_std::prelude::*;
+
+use crate::erased::group_table::control::{Control, DELETED, tag_of};
+use crate::erased::group_table::entries::Entries;
+use crate::erased::group_table::group::{lowest_lane, without_lowest};
+
+// The groups of a search. `start` is the first bucket of the present group, and the next group begins `stride` buckets
+// later: 16 for each group so far, the present one included.
+
+pub(crate) struct Probe {
+    start: usize,
+    stride: usize,
+}
+
+impl Probe {
+    // The groups of a search for the hash, from its first one on.
+    #[inline]
+    fn of(control: &Control, hash: u64) -> Probe {
+        Probe { start: control.wrap(hash as usize), stride: 16 }
+    }
+
+    // Goes past a group: the next one begins 16, 32, 48, .. buckets later.
+    #[inline]
+    fn go_on(&mut self, control: &Control) {
+        self.start = control.wrap(self.start + self.stride);
+        self.stride += 16;
+    }
+}
+
+// The result of one group: a bucket whose entry was accepted, the end of the search at an empty bucket, or neither.
+enum Searched {
+    Accepted(usize),
+    Ended,
+    GoesOn,
+}
+
+// Calls `f` with the entries with the tag in the group that begins here, until it accepts one.
+#[inline(always)]
+fn search_group<T, F: FnMut(&T) -> bool>(
+    control: &Control,
+    entries: &Entries<T>,
+    start: usize,
+    tag: u8,
+    f: &mut F,
+) -> Searched {
+    let group = control.group(start);
+    let mut mask = group.match_tag(tag);
+    'lanes: while mask != 0 {
+        let b = control.wrap(start + lowest_lane(mask));
+        if f(entries.get(b)) {
+            return Searched::Accepted(b);
+        }
+        mask = without_lowest(mask);
+    }
+    if group.match_empty() != 0 { Searched::Ended } else { Searched::GoesOn }
+}
+
+// Calls `f` with the entries with the tag of the hash, group by group, until it accepts one.
+pub(crate) fn find_bucket<T, F: FnMut(&T) -> bool>(
+    control: &Control,
+    entries: &Entries<T>,
+    hash: u64,
+    mut f: F,
+) -> Option<usize> {
+    // The first group is not part of the loop: most searches end there, and then need no stride.
+    let tag = tag_of(hash);
+    let mut probe = Probe::of(control, hash);
+    match search_group(control, entries, probe.start, tag, &mut f) {
+        Searched::Accepted(b) => return Some(b),
+        Searched::Ended => return None,
+        Searched::GoesOn => {}
+    }
+    'groups: loop {
+        probe.go_on(control);
+        match search_group(control, entries, probe.start, tag, &mut f) {
+            Searched::Accepted(b) => return Some(b),
+            Searched::Ended => return None,
+            Searched::GoesOn => {}
+        }
+    }
+}
+
+// Returns the first bucket of the group that begins here that is empty or deleted.
+#[inline]
+fn free_in_group(control: &Control, start: usize) -> Option<usize> {
+    let mask = control.group(start).match_free();
+    if mask == 0 {
+        return None;
+    }
+    let b = control.wrap(start + lowest_lane(mask));
+    if control.byte(b) >= DELETED {
+        return Some(b);
+    }
+    // Of 4 or 8 buckets, the lane was one of the bytes between them and their repetition: those from here on are full.
+    Some(lowest_lane(control.group(0).match_free()))
+}
+
+// Returns the first bucket in the order of a search for the hash that is empty or deleted.
+#[inline(always)]
+pub(crate) fn first_free(control: &Control, hash: u64) -> usize {
+    // The first group is not part of the loop: it nearly always has a free bucket, and then needs no stride.
+    let mut probe = Probe::of(control, hash);
+    if let Some(b) = free_in_group(control, probe.start) {
+        return b;
+    }
+    'groups: loop {
+        probe.go_on(control);
+        if let Some(b) = free_in_group(control, probe.start) {
+            return b;
+        }
+    }
+}
+
+// Returns whether the bucket is among the 16 that a search for the hash reads first.
+#[inline]
+pub(crate) fn is_read_first(control: &Control, hash: u64, b: usize) -> bool {
+    let back = control.buckets() - control.wrap(hash as usize);
+    control.wrap(b + back) < 16
+}

@@ -1,0 +1,30 @@
+// Erased from crates/group_table/src/sizes.rt: do not edit.
+//! How many entries a number of buckets holds, and how many buckets a number of entries needs.
+
+#[allow(unused_imports)]
+use crate::rattle_std::prelude::*;
+
+/// Returns how many entries a table of `buckets` buckets may hold: all but one of up to 8 buckets, and seven eighths of
+/// more.
+#[inline]
+
+pub fn full_capacity(buckets: usize) -> usize {
+    if buckets <= 8 { buckets.saturating_sub(1) } else { buckets / 8 * 7 }
+}
+
+/// Returns the number of buckets for `capacity` entries: 0 for none, else a power of two. Returns `None` if it is not
+/// below `max`, the number of the link type's `MAX`, or if eight times the capacity overflows.
+
+pub fn buckets_for_capacity(capacity: usize, max: usize) -> Option<usize> {
+    if capacity == 0 {
+        return Some(0);
+    }
+    if capacity < 4 {
+        return if 4 < max { Some(4) } else { None };
+    }
+    if capacity < 8 {
+        return if 8 < max { Some(8) } else { None };
+    }
+    let buckets = (capacity.checked_mul(8)? / 7).next_power_of_two();
+    if buckets < max { Some(buckets) } else { None }
+}

@@ -1,0 +1,249 @@
+// Erased from crates/group_table/src/table.rt: do not edit.
+//! `Table`. A contract sees a table as its `slots`, one for each bucket, and the numbers of its `insertions`.
+
+#[allow(unused_imports)]
+use crate::rattle_std::prelude::*;
+
+use crate::erased::group_table::control::{Control, emptied_byte, room_taken, tag_of};
+use crate::erased::group_table::entries::Entries;
+use crate::erased::group_table::fields::{drop_entries, empty_bucket, fill_bucket};
+use crate::erased::group_table::neighbours::ones_if_empty_neighbours;
+use crate::erased::group_table::probe::{find_bucket, first_free};
+use crate::erased::group_table::sizes::full_capacity;
+use crate::rattle_std::alloc::{AllocError, Global};
+
+mod copies;
+mod figures;
+mod in_place;
+mod moves;
+mod relocation;
+
+/// A hash table of numbered buckets, each of which is empty, deleted or full.
+///
+/// It sees no key and stores no hash: the caller gives the hash when it inserts an entry, and a search calls the
+/// caller's closure with each entry that may be the one. An entry keeps its bucket until it is taken out, or all
+/// entries are moved. `docs/TABLE.md` explains its rules, which hashbrown's raw table has, too.
+///
+/// A table of B buckets has B + 16 control bytes and B places for entries. Only `with_buckets`, `relocate`, `rehash`
+/// and `clone_with` ask for memory. `get`, `get_mut`, `take` and the figures take O(1). `find`, `place` and
+/// `try_place` take O(1) if the hashes are spread, and at worst O(B). All other calls take O(B).
+///
+/// ```text
+/// let mut table = Table::with_buckets(alloc, 8)?;
+/// let b = table.try_place(7, "a").ok().ok_or("no room")?;
+/// assert_eq!(rt; table.find(7, |entry| *entry == "a"), Some(b));
+/// ```
+pub struct Table<T> {
+    // Not next to `len`: each insertion and each removal changes both, and the compiler would join the two into one
+    // load and one store, which is slower.
+    room: usize,
+    control: Control,
+    entries: Entries<T>,
+    placed: u64,
+    len: usize,
+    moved: u64,
+}
+
+impl<T> Table<T> {
+    /// Makes a table of no buckets, which takes no memory. It rejects each entry until `relocate` gives it buckets.
+    pub const fn new(alloc: Global) -> Self {
+        Table { control: Control::new(alloc), entries: Entries::new(alloc), room: 0, len: 0, placed: 0, moved: 0 }
+    }
+
+    /// Makes a table of `buckets` empty buckets: none, or a power of two from 4 on, and with 16 more at most
+    /// `isize::MAX`.
+    ///
+    /// It takes the bytes of a `T` for each bucket for the entries, and then a byte for each bucket and 16 more for the
+    /// control bytes, each in one request. It takes time O(buckets). No buckets take no memory.
+    ///
+    /// # Errors
+    ///
+    /// Out of memory; never for no buckets.
+    pub fn with_buckets(alloc: Global, buckets: usize) -> Result<Self, AllocError> {
+        if buckets == 0 {
+            return Ok(Table::new(alloc));
+        }
+        // The entries first, so that a table too large for the memory is refused before a byte is written.
+        let entries = Entries::with_places(alloc, buckets)?;
+        let control = match Control::with_buckets(alloc, buckets) {
+            Ok(control) => control,
+            Err(error) => {
+                entries.free(buckets);
+                return Err(error);
+            }
+        };
+        Ok(Table { control, entries, room: full_capacity(buckets), len: 0, placed: 0, moved: 0 })
+    }
+
+    /// Returns the bucket of the first entry that `f` accepts, of those with the tag of the hash, its top 7 bits.
+    ///
+    /// `f` is called with one entry after another in the order of the search, with each at most once, and no more after
+    /// it accepted one. `None` says that it rejected each entry of that hash.
+    ///
+    /// It reads 16 control bytes at once, usually of one group or two, and an entry for each call. At worst it reads
+    /// all control bytes, and calls `f` with each entry with the tag.
+    pub fn find<F: FnMut(&T) -> bool>(&self, hash: u64, f: F) -> Option<usize> {
+        if self.control.is_empty_at(hash) {
+            return None;
+        }
+        find_bucket(&self.control, &self.entries, hash, f)
+    }
+
+    /// Returns the entry in a full bucket. It reads nothing of the table but the address of its entries.
+    #[inline]
+    pub fn get(&self, b: usize) -> &T {
+        self.entries.get(b)
+    }
+
+    /// Lends the entry in a full bucket for writing, at the cost of `get`. The table does not rehash: do not write
+    /// anything that changes the entry's hash.
+    #[inline]
+    pub fn get_mut(&mut self, b: usize) -> &mut T {
+        self.entries.get_mut(b)
+    }
+
+    /// Takes the entry out of a full bucket.
+    ///
+    /// The bucket is then empty, which gives growth left back, if every 16 neighbouring buckets around it contain an
+    /// empty one. Otherwise it is deleted, so that no search that went past it ends there. Up to 16 buckets it is
+    /// always empty.
+    ///
+    /// It reads 32 control bytes and writes one and its repetition, whatever the table's size.
+    #[inline(always)]
+    pub fn take(&mut self, b: usize) -> T {
+        self.len -= 1;
+        let gives_room = ones_if_empty_neighbours(&self.control, b);
+        // To subtract all ones is to add 1.
+        self.room = self.room.wrapping_sub(gives_room);
+        let byte = emptied_byte(gives_room);
+        empty_bucket(&mut self.control, &mut self.entries, b, byte)
+    }
+
+    /// Puts an entry with this hash into the first free bucket in the order of a search, and returns its number. There
+    /// must be growth left, so that each free bucket may take an entry.
+    ///
+    /// An empty bucket takes one of the growth left, a deleted one none. It asks for no memory, moves no other entry,
+    /// and reads 16 control bytes at once, usually of one group or two.
+    ///
+    /// ```text
+    /// if table.room() > 0 {
+    ///     let b = table.place(9, "b");
+    ///     assert_eq!(rt; table.find(9, |entry| *entry == "b"), Some(b));
+    /// }
+    /// ```
+    #[inline(always)]
+    pub fn place(&mut self, hash: u64, entry: T) -> usize {
+        let b = first_free(&self.control, hash);
+        let spent = room_taken(self.control.byte(b));
+        self.fill_free(b, spent, hash, entry);
+        b
+    }
+
+    /// The same for each table: without growth left, only a deleted bucket may take the entry.
+    ///
+    /// # Errors
+    ///
+    /// Returns the entry, and changes nothing, if there are no buckets, or if there is no growth left and the first
+    /// free bucket is empty.
+    #[inline(always)]
+    pub fn try_place(&mut self, hash: u64, entry: T) -> Result<usize, T> {
+        if is_without_buckets(&self.control, self.room) {
+            return Err(entry);
+        }
+        let b = first_free(&self.control, hash);
+        let spent = room_taken(self.control.byte(b));
+        if self.room < spent {
+            return Err(entry);
+        }
+        self.fill_free(b, spent, hash, entry);
+        Ok(b)
+    }
+
+    // Puts an entry with this hash into the first free bucket, which takes this much of the growth left.
+    #[inline(always)]
+    fn fill_free(&mut self, b: usize, spent: usize, hash: u64, entry: T) {
+        // `len` rises before the bucket is written, and `placed` after it: then each takes one instruction.
+        make_count_room(&mut self.placed);
+        self.len += 1;
+        fill_bucket(&mut self.control, &mut self.entries, b, tag_of(hash), entry);
+        self.room -= spent;
+        self.placed += 1;
+    }
+
+    // Makes every bucket of a table without entries empty.
+    fn empty_buckets(&mut self) {
+        self.control.clear();
+        self.room = full_capacity(self.control.buckets());
+    }
+
+    // Gives the memory of a table without entries back.
+    fn free_unused(self) {
+        let (control, unused) = self.into_parts();
+        unused.free(control.buckets());
+    }
+
+    // Returns the control bytes and the entries.
+    fn into_parts(self) -> (Control, Entries<T>) {
+        let whole = ::core::mem::ManuallyDrop::new(self);
+        // SAFETY: each field is read once, and the whole is not dropped.
+        let control = unsafe { ::core::ptr::read(&whole.control) };
+        // SAFETY: each field is read once, and the whole is not dropped.
+        let entries = unsafe { ::core::ptr::read(&whole.entries) };
+        // SAFETY: each field is read once, and the whole is not dropped.
+        let _room = unsafe { ::core::ptr::read(&whole.room) };
+        // SAFETY: each field is read once, and the whole is not dropped.
+        let _len = unsafe { ::core::ptr::read(&whole.len) };
+        // SAFETY: each field is read once, and the whole is not dropped.
+        let _placed = unsafe { ::core::ptr::read(&whole.placed) };
+        // SAFETY: each field is read once, and the whole is not dropped.
+        let _moved = unsafe { ::core::ptr::read(&whole.moved) };
+        (control, entries)
+    }
+}
+
+impl<T> Drop for Table<T> {
+    fn drop(&mut self) {
+        // What is left in its place has nothing to drop.
+        ::core::mem::replace(self, Table::new(crate::rattle_std::alloc::Global)).take_apart();
+    }
+}
+
+impl<T> Table<T> {
+    fn take_apart(self) {
+        let len = self.len;
+        let (control, mut entries) = self.into_parts();
+        drop_entries(&control, &mut entries, len);
+        entries.free(control.buckets());
+    }
+}
+
+impl<T> Table<T> {
+    /// Drops all entries. Every bucket is empty then; their number and the counts of insertions stay.
+    ///
+    /// It writes all control bytes, and goes through the entries' places only if there is an entry. It does nothing if
+    /// all growth is left, because then no bucket is full or deleted.
+    pub fn clear(&mut self) {
+        let most = full_capacity(self.control.buckets());
+        if self.room == most {
+            return;
+        }
+        drop_entries(&self.control, &mut self.entries, self.len);
+        self.control.clear();
+        self.room = most;
+        self.len = 0;
+    }
+}
+
+// Returns whether there are no buckets. With growth left there are some, and the control bytes are not read.
+#[inline]
+fn is_without_buckets(control: &Control, room: usize) -> bool {
+    room == 0 && control.is_empty()
+}
+
+// Subtracts 1 from a count of `u64::MAX`, so that the addition of 1 that follows ends there.
+#[inline]
+fn make_count_room(count: &mut u64) {
+    if *count == u64::MAX {
+        *count -= 1;
+    }
+}

@@ -1,0 +1,69 @@
+// Erased from crates/group_table/src/table/figures.rt: do not edit.
+//! The figures of a `Table`, and which buckets are full.
+
+#[allow(unused_imports)]
+use crate::rattle_std::prelude::*;
+
+use super::Table;
+use crate::erased::group_table::cells::bytes_of;
+use crate::erased::group_table::control::DELETED;
+
+impl<T> Table<T> {
+    /// Returns the number of buckets: none, or a power of two from 4 on. They are numbered from 0 on.
+    #[inline]
+    pub fn buckets(&self) -> usize {
+        self.control.buckets()
+    }
+
+    /// Returns whether a table with buckets has a bucket of this number. It costs one comparison.
+    ///
+    /// ```text
+    /// assert!(rt; table.has_bucket(7) && !table.has_bucket(8));
+    /// ```
+    #[inline]
+    pub fn has_bucket(&self, b: usize) -> bool {
+        self.control.has_bucket(b)
+    }
+
+    /// Returns the number of entries.
+    #[inline]
+    pub fn len(&self) -> usize {
+        self.len
+    }
+
+    /// Returns the growth left: how many more entries find an empty bucket for sure. It is the most entries that the
+    /// table may hold, less the buckets that are full or deleted.
+    #[inline]
+    pub fn room(&self) -> usize {
+        self.room
+    }
+
+    /// Returns how many insertions the table has made. A moved entry counts as one insertion. A count that reaches
+    /// `u64::MAX` stays there.
+    #[inline]
+    pub fn placings(&self) -> u64 {
+        self.placed.saturating_add(self.moved)
+    }
+
+    /// Returns how many entries `place` and `try_place` have inserted. A moved entry is not counted again. A count that
+    /// reaches `u64::MAX` stays there.
+    ///
+    /// ```text
+    /// assert_eq!(rt; (table.placed(), table.placings()), (2, 2));
+    /// ```
+    #[inline]
+    pub fn placed(&self) -> u64 {
+        self.placed
+    }
+
+    /// Returns the bytes that an entry takes in the table: the size of its type.
+    pub const fn entry_bytes() -> usize {
+        bytes_of::<T>()
+    }
+
+    /// Returns whether the bucket exists and holds an entry, for any number.
+    #[inline]
+    pub fn is_full(&self, b: usize) -> bool {
+        b < self.buckets() && self.control.byte(b) < DELETED
+    }
+}

@@ -1,0 +1,50 @@
+// Erased from crates/group_table/src/table/in_place.rt: do not edit.
+//! Rehashing the entries of a table in place.
+
+#[allow(unused_imports)]
+use crate::rattle_std::prelude::*;
+
+use crate::erased::group_table::control::{Control, DELETED, EMPTY, tag_of};
+use crate::erased::group_table::entries::Entries;
+use crate::erased::group_table::fields::put;
+use crate::erased::group_table::link::LinkType;
+use crate::erased::group_table::probe::{first_free, is_read_first};
+
+// Inserts every entry again, over cleared control bytes, and writes where each is now.
+//
+// The control bytes from before say which places held an entry, and are only read. An entry whose turn it is stays, if
+// a search for it reads its bucket among the first 16, and otherwise goes into the first free bucket. A bucket whose
+// entry still waits counts as free: if it is chosen, its entry is taken out and is the next to be inserted.
+pub(crate) fn place_again<T, N: LinkType, H: Fn(&T) -> u64>(
+    before: &Control,
+    control: &mut Control,
+    entries: &mut Entries<T>,
+    links: &mut Vec<N>,
+    hash_of: &H,
+) {
+    for b in 0..before.buckets() {
+        // Another entry has come here, or none was ever here.
+        if control.byte(b) < DELETED || before.byte(b) >= DELETED {
+            continue;
+        }
+        let mut hash = hash_of(entries.get(b));
+        if is_read_first(control, hash, b) {
+            control.set(b, tag_of(hash));
+            (*at_mut!(links, b)) = N::from_usize(b);
+            continue;
+        }
+        let mut old = b;
+        let mut next = Some(entries.read(b));
+        'turns: while let Some(entry) = next {
+            let place = first_free(control, hash);
+            // No entry waits up to here.
+            let byte = if place <= b { EMPTY } else { before.byte(place) };
+            next = put(control, entries, place, byte, tag_of(hash), entry);
+            (*at_mut!(links, old)) = N::from_usize(place);
+            old = place;
+            if let Some(waiting) = &next {
+                hash = hash_of(waiting);
+            }
+        }
+    }
+}

@@ -1,0 +1,87 @@
+// Erased from crates/group_table/src/table/relocation.rt: do not edit.
+//! The calls of `Table` that move every entry.
+//!
+//! They do not require `T: Drop`, so a body that forgets an entry or a table does not compile.
+
+#[allow(unused_imports)]
+use crate::rattle_std::prelude::*;
+
+use crate::erased::group_table::control::Control;
+use crate::erased::group_table::fields::no_links;
+use crate::erased::group_table::link::LinkType;
+use crate::erased::group_table::sizes::full_capacity;
+use crate::erased::group_table::table::Table;
+use crate::erased::group_table::table::in_place::place_again;
+use crate::erased::group_table::table::moves::move_entries;
+use crate::rattle_std::alloc::AllocError;
+use crate::rattle_std::mem;
+
+impl<T> Table<T> {
+    /// Moves all entries, in rising order of their buckets, into a fresh table of `buckets` buckets.
+    ///
+    /// A table without entries may move to no buckets, which gives its memory back.
+    ///
+    /// The result contains a link for each old bucket: the number of the bucket where its entry is now, or `MAX` if it
+    /// was free. It is empty for a table without entries. `hash_of` is called once for each entry. `placings` rises
+    /// by the number of entries, `placed` stays, and no bucket is deleted afterwards. It takes time O(old buckets + new
+    /// buckets).
+    ///
+    /// # Errors
+    ///
+    /// Out of memory, which changes nothing: all memory is taken before the first entry moves, in two requests for the
+    /// table and, if there is an entry, one for the links. No buckets take none, and never fail.
+    pub fn relocate<N: LinkType, H: Fn(&T) -> u64>(
+        &mut self,
+        buckets: usize,
+        hash_of: H,
+    ) -> Result<Vec<N>, AllocError> {
+        let alloc = self.entries.allocator();
+        let mut fresh = Table::with_buckets(alloc, buckets)?;
+        if self.len == 0 {
+            fresh.placed = self.placed;
+            fresh.moved = self.moved;
+            mem::replace(self, fresh).free_unused();
+            return Ok(Vec::new(alloc));
+        }
+        let mut links = match no_links(alloc, self.buckets()) {
+            Ok(links) => links,
+            Err(error) => {
+                fresh.free_unused();
+                return Err(error);
+            }
+        };
+        let placed = self.placed;
+        let moved = self.moved.saturating_add(self.len as u64);
+        let (control, mut entries) = mem::replace(self, fresh).into_parts();
+        move_entries(&control, &mut entries, self, &mut links, &hash_of);
+        self.placed = placed;
+        self.moved = moved;
+        entries.free(control.buckets());
+        Ok(links)
+    }
+
+    /// Moves all entries within the table so that no bucket is deleted, and returns what `relocate` returns.
+    ///
+    /// `hash_of` is called once for each entry, and `placings` rises by their number. It takes time O(buckets).
+    ///
+    /// # Errors
+    ///
+    /// Out of memory, which changes nothing: there are two requests, one for the links and one for fresh control bytes,
+    /// before the first entry moves. A table without entries makes none and never fails: its buckets are emptied in
+    /// place.
+    pub fn rehash<N: LinkType, H: Fn(&T) -> u64>(&mut self, hash_of: H) -> Result<Vec<N>, AllocError> {
+        let alloc = self.entries.allocator();
+        if self.len == 0 {
+            self.empty_buckets();
+            return Ok(Vec::new(alloc));
+        }
+        let buckets = self.buckets();
+        let mut links = no_links(alloc, buckets)?;
+        let fresh = Control::with_buckets(alloc, buckets)?;
+        let before = mem::replace(&mut self.control, fresh);
+        place_again(&before, &mut self.control, &mut self.entries, &mut links, &hash_of);
+        self.room = full_capacity(buckets) - self.len;
+        self.moved = self.moved.saturating_add(self.len as u64);
+        Ok(links)
+    }
+}

@@ -1,0 +1,115 @@
+// Erased from crates/lru_limits/src/accounts.rt: do not edit.
+//! Costs, limiters with a running total of them, and two limiters by cost.
+
+#[allow(unused_imports)]
+use crate::rattle_std::prelude::*;
+
+mod budgeted;
+mod by_cost;
+mod by_weight;
+
+use crate::erased::lru_limits::keys::LookupKey;
+use crate::erased::lru_limits::limiter::Insertion;
+use crate::rattle_std::hash::Hash;
+pub use budgeted::Budgeted;
+pub use by_cost::ByCost;
+pub use by_weight::ByWeight;
+
+/// A value with a cost. An unsigned number of up to 64 bits costs itself, a text its bytes, and a vector the number of
+/// its items.
+///
+/// The cost of a value is read again when its entry is evicted or removed, or the value is replaced. So if the cost
+/// changes in the map, the running total is no longer the sum of the costs.
+///
+/// ```text
+/// struct Page {
+///     bytes: u64,
+/// }
+///
+/// impl Costed for Page {
+///     ghost cost = { λ page. page.bytes };
+///
+///     fn cost(&self) -> u64 {
+///         self.bytes
+///     }
+/// }
+/// ```
+pub trait Costed {
+    /// Returns the cost of the value.
+    fn cost(&self) -> u64;
+}
+
+impl Costed for u8 {
+    #[inline]
+    fn cost(&self) -> u64 {
+        *self as u64
+    }
+}
+
+impl Costed for u16 {
+    #[inline]
+    fn cost(&self) -> u64 {
+        *self as u64
+    }
+}
+
+impl Costed for u32 {
+    #[inline]
+    fn cost(&self) -> u64 {
+        *self as u64
+    }
+}
+
+impl Costed for u64 {
+    #[inline]
+    fn cost(&self) -> u64 {
+        *self
+    }
+}
+
+impl Costed for usize {
+    #[inline]
+    fn cost(&self) -> u64 {
+        *self as u64
+    }
+}
+
+/// A text costs its bytes.
+impl Costed for String {
+    #[inline]
+    fn cost(&self) -> u64 {
+        self.as_bytes().len() as u64
+    }
+}
+
+/// A vector costs the number of its items, whatever they are.
+impl<T> Costed for Vec<T> {
+    #[inline]
+    fn cost(&self) -> u64 {
+        self.len() as u64
+    }
+}
+
+/// A limiter with a running total: the sum of the costs of the entries that it returned for storage and that were not
+/// evicted or removed since.
+///
+/// The total is the sum over the entries of the map after each call, unless somebody writes to the values or to the
+/// limiter through a reference: each callback changes the total as the laws say. The two laws that subtract a cost hold
+/// only if the total is at least that cost. `docs/LIMITERS.md` explains an impl.
+///
+/// ```text
+/// assert_eq!(rt; Summing::<u64, u64, u64>::account(&limiter), 2);
+/// ```
+pub trait Summing<K: Eq + Hash, V, I: LookupKey<K>>: Insertion<K, V, I> {
+    /// Returns the cost of an entry.
+    fn cost_of(key: &K, value: &V) -> u64;
+
+    /// Returns the running total.
+    fn account(&self) -> u64;
+}
+
+// Returns the sum with this cost added, if the cost alone is within the limit and the sum fits.
+#[inline]
+fn sum_with(limit: u64, sum: u64, cost: u64) -> Option<u64> {
+    if cost <= limit { sum.checked_add(cost) } else { None }
+}

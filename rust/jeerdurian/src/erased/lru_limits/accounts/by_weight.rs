@@ -1,0 +1,205 @@
+// Erased from crates/lru_limits/src/accounts/by_weight.rt: do not edit.
+//! The limiter by the sum of the costs of keys, values and entries.
+
+#[allow(unused_imports)]
+use crate::rattle_std::prelude::*;
+
+use crate::erased::lru_limits::accounts::{Budgeted, Costed, Summing, sum_with};
+use crate::erased::lru_limits::admission::Admission;
+use crate::erased::lru_limits::keys::LookupKey;
+use crate::erased::lru_limits::limiter::{Insertion, Limiter};
+use crate::rattle_std::alloc::{AllocError, Global};
+use crate::rattle_std::hash::Hash;
+
+/// Limits the sum of the costs of the entries: of each key, of its value, and `OVERHEAD` for the entry itself. A
+/// contract sees it as its limit and that sum.
+///
+/// So entries without cost of their own cannot fill the memory. It rejects what [`crate::ByCost`] rejects: an entry or
+/// a replacement that costs more than the limit alone, or that would take the sum past `u64::MAX`. An entry costs at
+/// most `u64::MAX`.
+///
+/// ```text
+/// let mut limiter: ByWeight<16> = ByWeight::new(100);
+/// assert!(rt; limiter.on_insert(alloc, 0, 1u64, 2u64)?.is_some());
+/// assert!(rt; limiter.on_insert(alloc, 1, 80u64, 5u64)?.is_none());
+/// assert_eq!(rt; limiter.cost(), 19);
+/// ```
+///
+/// Cost: each callback reads the cost of each key and value that it gets once, and takes no memory.
+#[derive(Clone, Copy, Debug)]
+pub struct ByWeight<const OVERHEAD: u64> {
+    limit: u64,
+    cost: u64,
+}
+
+impl<const OVERHEAD: u64> ByWeight<OVERHEAD> {
+    /// Makes a limiter with this limit. Its sum is 0 so far.
+    ///
+    /// ```text
+    /// let mut limiter: ByWeight<16> = ByWeight::new(100);
+    /// ```
+    pub fn new(limit: u64) -> ByWeight<OVERHEAD> {
+        ByWeight { limit, cost: 0 }
+    }
+
+    /// Returns the same limiter with another limit. The sum stays.
+    ///
+    /// `map.set_limiter(map.limiter().with_limit(n))` sets the limit of a map, and evicts what is over it.
+    ///
+    /// ```text
+    /// let lower = limiter.with_limit(10);
+    /// assert_eq!(rt; (lower.limit(), lower.cost()), (10, 19));
+    /// ```
+    pub fn with_limit(&self, limit: u64) -> ByWeight<OVERHEAD> {
+        ByWeight { limit, cost: self.cost }
+    }
+
+    /// Returns the limit.
+    ///
+    /// ```text
+    /// assert_eq!(rt; limiter.limit(), 100);
+    /// ```
+    pub fn limit(&self) -> u64 {
+        self.limit
+    }
+
+    /// Returns the sum of the costs so far.
+    ///
+    /// ```text
+    /// assert_eq!(rt; limiter.cost(), 19);
+    /// ```
+    pub fn cost(&self) -> u64 {
+        self.cost
+    }
+}
+
+// Returns the cost of an entry.
+#[inline]
+fn cost_of_pair<K: Costed, V: Costed>(overhead: u64, key: &K, value: &V) -> u64 {
+    key.cost().saturating_add(value.cost()).saturating_add(overhead)
+}
+
+impl<K: Costed, V: Costed, const OVERHEAD: u64> Limiter<K, V> for ByWeight<OVERHEAD> {
+    type LinkType = usize;
+
+    #[inline]
+    fn is_over_the_limit(&self, _length: usize) -> bool {
+        self.cost > self.limit
+    }
+
+    #[inline]
+    fn on_removed(&mut self, key: &mut K, value: &mut V) {
+        let cost = cost_of_pair(OVERHEAD, &*key, &*value);
+        self.cost = self.cost.saturating_sub(cost);
+    }
+
+    #[inline]
+    fn on_cleared(&mut self) {
+        self.cost = 0;
+    }
+
+    #[inline]
+    fn on_grow(&mut self, _new_memory_usage: usize) -> bool {
+        true
+    }
+}
+
+impl<K: Costed + Eq + Hash, V: Costed, const OVERHEAD: u64> Insertion<K, V, K> for ByWeight<OVERHEAD> {
+    #[inline]
+    fn on_insert(&mut self, _alloc: Global, _length: usize, key: K, value: V) -> Result<Option<(K, V)>, AllocError> {
+        let cost = cost_of_pair(OVERHEAD, &key, &value);
+        match sum_with(self.limit, self.cost, cost) {
+            Some(sum) => {
+                self.cost = sum;
+                Ok(Some((key, value)))
+            }
+            None => Ok(None),
+        }
+    }
+
+    #[inline]
+    fn on_replace(
+        &mut self,
+        _length: usize,
+        old_key: &mut K,
+        _new_key: K,
+        old_value: &mut V,
+        new_value: &mut V,
+    ) -> bool {
+        let old_cost = cost_of_pair(OVERHEAD, &*old_key, &*old_value);
+        let new_cost = cost_of_pair(OVERHEAD, &*old_key, &*new_value);
+        match sum_with(self.limit, self.cost.saturating_sub(old_cost), new_cost) {
+            Some(sum) => {
+                self.cost = sum;
+                true
+            }
+            None => false,
+        }
+    }
+}
+
+impl<K: Costed + Eq + Hash, V: Costed, const OVERHEAD: u64> Summing<K, V, K> for ByWeight<OVERHEAD> {
+    #[inline]
+    fn cost_of(key: &K, value: &V) -> u64 {
+        cost_of_pair(OVERHEAD, key, value)
+    }
+
+    #[inline]
+    fn account(&self) -> u64 {
+        self.cost
+    }
+}
+
+impl<K: Costed + Eq + Hash, V: Costed, const OVERHEAD: u64> Admission<K, V> for ByWeight<OVERHEAD> {
+    #[inline]
+    fn accepts(&self, _length: usize, key: &K, value: &V) -> bool {
+        let cost = cost_of_pair(OVERHEAD, key, value);
+        sum_with(self.limit, self.cost, cost).is_some()
+    }
+
+    #[inline]
+    fn on_stored(&mut self, _length: usize, key: &K, value: &V) {
+        let cost = cost_of_pair(OVERHEAD, key, value);
+        if let Some(sum) = sum_with(self.limit, self.cost, cost) {
+            self.cost = sum;
+        }
+    }
+
+    #[inline]
+    fn accepts_in_place(&self, _length: usize, key: &K, old_value: &V, new_value: &V) -> bool {
+        let old_cost = cost_of_pair(OVERHEAD, key, old_value);
+        let new_cost = cost_of_pair(OVERHEAD, key, new_value);
+        sum_with(self.limit, self.cost.saturating_sub(old_cost), new_cost).is_some()
+    }
+
+    #[inline]
+    fn on_replaced(&mut self, _length: usize, key: &K, old_value: &V, new_value: &V) {
+        let old_cost = cost_of_pair(OVERHEAD, key, old_value);
+        let new_cost = cost_of_pair(OVERHEAD, key, new_value);
+        if let Some(sum) = sum_with(self.limit, self.cost.saturating_sub(old_cost), new_cost) {
+            self.cost = sum;
+        }
+    }
+}
+
+impl<K: Costed + Eq + Hash, V: Costed, const OVERHEAD: u64> Budgeted<K, V> for ByWeight<OVERHEAD> {
+    #[inline]
+    fn with_budget(budget: u64) -> ByWeight<OVERHEAD> {
+        ByWeight::new(budget)
+    }
+
+    #[inline]
+    fn budget(&self) -> u64 {
+        self.limit
+    }
+
+    #[inline]
+    fn set_budget(&mut self, budget: u64) {
+        self.limit = budget;
+    }
+
+    #[inline]
+    fn has_room_for(&self, key: &K, value: &V) -> bool {
+        sum_with(self.limit, self.cost, cost_of_pair(OVERHEAD, key, value)).is_some()
+    }
+}

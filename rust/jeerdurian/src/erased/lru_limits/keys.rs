@@ -1,0 +1,59 @@
+// Erased from crates/lru_limits/src/keys.rt: do not edit.
+//! What a key may be looked up by.
+
+#[allow(unused_imports)]
+use crate::rattle_std::prelude::*;
+
+use crate::rattle_std::hash::{BuildHasher, Hash};
+
+/// A value that names at most one key, up to equality, and hashes as that key does.
+///
+/// It is implemented for every key itself, and for `&str` if the keys are `String`s: `"a".is_key(&key)` returns whether
+/// the key is the text `a`, so a look-up makes no `String`. An impl of your own says by `names` which key it names,
+/// computes that test in `is_key`, and proves two laws: it names one key up to equality, and it writes to a hasher what
+/// that key writes. A derived `Hash` of a struct with one field writes what the field writes. `docs/LIMITERS.md` shows
+/// two such types.
+///
+/// ```text
+/// let key = String::from_str(rt.alloc(), "a")?;
+/// assert!(rt; "a".is_key(&key));
+/// assert!(rt; !"b".is_key(&key));
+/// ```
+pub trait LookupKey<K: Eq + Hash>: Hash {
+    /// Returns whether the value names this key.
+    fn is_key(&self, key: &K) -> bool;
+}
+
+/// A key names the keys that are equal to it.
+impl<K: Eq + Hash> LookupKey<K> for K {
+    #[inline]
+    fn is_key(&self, key: &K) -> bool {
+        *self == *key
+    }
+}
+
+/// A text names the `String` of its bytes.
+impl LookupKey<String> for &str {
+    #[inline]
+    fn is_key(&self, key: &String) -> bool {
+        *self == key.as_str()
+    }
+}
+
+/// A hasher of keys, and of all that names them. Every `BuildHasher` is one.
+///
+/// ```text
+/// assert_eq!(rt; KeyHasher::<String>::hash_named(&state, &"a"), state.hash_one(&key));
+/// ```
+pub trait KeyHasher<K: Eq + Hash>: BuildHasher {
+    /// Returns the hash of the key that the value names.
+    fn hash_named<Q: LookupKey<K>>(&self, key: &Q) -> u64;
+}
+
+/// Hashes with the hasher that is built.
+impl<K: Eq + Hash, S: BuildHasher> KeyHasher<K> for S {
+    #[inline]
+    fn hash_named<Q: LookupKey<K>>(&self, key: &Q) -> u64 {
+        crate::rattle_std::hash::hash_by(self, key)
+    }
+}

@@ -1,0 +1,91 @@
+// Erased from crates/lru_limits/src/limiter.rt: do not edit.
+//! What a limiter is: the callbacks of a map, and their laws.
+//!
+//! A `ghost` member of a trait is a term that only the prover sees: each impl defines its own, its code is proved to
+//! compute it, and the contracts of the map cite it. `docs/LIMITERS.md` explains an impl.
+
+#[allow(unused_imports)]
+use crate::rattle_std::prelude::*;
+
+use crate::erased::group_table::LinkType;
+use crate::erased::lru_limits::keys::LookupKey;
+use crate::rattle_std::alloc::{AllocError, Global};
+use crate::rattle_std::hash::Hash;
+
+/// Decides when a map is over its limit and whether its table may grow, and is notified of each entry that is evicted
+/// or removed.
+///
+/// Each callback accepts every state, length, key and value. Its result and its effect are a function of these: the
+/// impl defines the four functions as `rules`, and the prover checks that the code computes them. So whoever knows the
+/// `rules` of a limiter knows what a map does under it. For a limiter that never changes, `plain` of
+/// `specs/Stores.antt` defines them in one line. The rules of this crate's limiters are in `specs/Limiters.antt` and
+/// `specs/Budget.antt`. `docs/LIMITERS.md` shows how to write a limiter.
+///
+/// ```text
+/// assert!(rt; !Limiter::<u64, u64>::is_over_the_limit(&limiter, 3));
+/// assert!(rt; Limiter::<u64, u64>::is_over_the_limit(&limiter, 4));
+/// ```
+pub trait Limiter<K, V> {
+    /// The type of the links of the map, which limits the number of its entries.
+    type LinkType: LinkType;
+
+    /// Returns whether a map of `length` entries is over the limit, so that its oldest entry is evicted.
+    ///
+    /// Called at two times:
+    ///
+    /// - Before an insert stores a new entry in a map that is not empty, with the length that the map will have.
+    ///   `try_insert` calls it then on a copy of the limiter, in an empty map too.
+    /// - With the length that the map has, if the map is not empty: by `trim` and `set_limiter`, and by an insert or an
+    ///   update that stored an entry or replaced a value. After each eviction they call it again, unless the map is
+    ///   empty then.
+    fn is_over_the_limit(&self, length: usize) -> bool;
+
+    /// Called with each entry that was evicted, removed or popped, or taken by an iterator, as soon as it is out of the
+    /// map. The caller of the map gets what is written to the key and the value.
+    ///
+    /// It is also called with an entry that `on_insert` returned, if the map cannot store it. After `on_replace`
+    /// returned false, it is called with the entry that is removed. It is not called for the entries that are dropped
+    /// by a clear, or with the map, a `Drain` or an `IntoIter`.
+    fn on_removed(&mut self, key: &mut K, value: &mut V);
+
+    /// Called once by each clear of the map, even if the map is empty, and not for each entry. The drop of a `Drain` is
+    /// a clear.
+    fn on_cleared(&mut self);
+
+    /// Returns whether the map may have a table of `new_memory_usage` bytes, which is more than it has.
+    ///
+    /// Called by an insert that finds no bucket for a new entry, and by `try_reserve` if too little growth is left.
+    /// Neither calls it if there is no larger table, or if the old and the new entries are at most half of what the
+    /// table may hold, because then the table is rehashed at its size. After `false` the insert evicts the oldest
+    /// entries to store the new one, and `try_reserve` returns `Refused`. After `true` there may still be no memory for
+    /// the table; the limiter is not notified of that.
+    fn on_grow(&mut self, new_memory_usage: usize) -> bool;
+}
+
+/// Accepts or rejects entries whose key is given as an `I`.
+///
+/// `I` is the key itself, or something that names the key and becomes it only if it is stored, as a `&str` that becomes
+/// a `String`. The impl defines `offers`: what may be stored of an offered entry, when an offer may run out of memory,
+/// and what a replacement does to the key and the values. For a limiter that stores entries as they come, use
+/// [`crate::Storing`], or define the offers by `offers_if` of `specs/Admissions.antt` in one line, and the laws by
+/// `offers_if-lawful`.
+///
+/// ```text
+/// assert!(rt; limiter.on_insert(alloc, 0, 1u64, 2u64)?.is_some());
+/// assert!(rt; limiter.on_insert(alloc, 1, 2u64, 4u64)?.is_none());
+/// ```
+pub trait Insertion<K: Eq + Hash, V, I: LookupKey<K>>: Limiter<K, V> {
+    /// Called by an insert with a new key and its value, before anything is evicted for it from a map of `length`
+    /// entries. Returns the entry to store, or `None` to reject it; then the map does not change.
+    ///
+    /// # Errors
+    ///
+    /// An `Err` says that there was no memory to make the key. It leaves the limiter unchanged, and comes only if
+    /// `offers.may_run_out` permits it.
+    fn on_insert(&mut self, alloc: Global, length: usize, key: I, value: V) -> Result<Option<(K, V)>, AllocError>;
+
+    /// Called by an insert or an update before `new_value` replaces `old_value` in a map of `length` entries, if
+    /// `new_key` names the stored `old_key`. The stored key stays. Returns whether the new value is accepted. If not,
+    /// the map removes the entry and calls `on_removed` with it.
+    fn on_replace(&mut self, length: usize, old_key: &mut K, new_key: I, old_value: &mut V, new_value: &mut V) -> bool;
+}

@@ -1,0 +1,30 @@
+// Erased from crates/lru_limits/src/limiters.rt: do not edit.
+//! The limiters by the number of entries, by the size of the table, and without a limit, which look at no key or value;
+//! two limiters for one map; and an adapter for limiters of your own that store each entry as it comes.
+
+#[allow(unused_imports)]
+use crate::rattle_std::prelude::*;
+
+use crate::erased::group_table::LinkType;
+use crate::erased::lru_limits::accounts::{ByCost, Costed};
+use crate::erased::lru_limits::limiter::Limiter;
+
+mod both;
+mod by_length;
+mod by_memory_usage;
+mod storing;
+mod unlimited;
+mod unlimited_compact;
+
+pub use both::Both;
+pub use by_length::ByLength;
+pub use by_memory_usage::ByMemoryUsage;
+pub use storing::Storing;
+pub use unlimited::Unlimited;
+pub use unlimited_compact::UnlimitedCompact;
+
+/// A map has links of 32 bits under `ByLength`, `ByMemoryUsage` and `UnlimitedCompact`, and of 64 bits under
+/// `Unlimited`, `ByCost` and `ByWeight`. Under `Storing` it has the links of the limiter inside, and under `Both` the
+/// links of the first limiter. The function does nothing: its contract is the law, which leaves out `ByWeight` and
+/// `Both`.
+pub fn limiters_fix_their_links<K, V, C: Costed, L: Limiter<K, V>>() {}

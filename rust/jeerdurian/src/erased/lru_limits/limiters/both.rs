@@ -1,0 +1,134 @@
+// Erased from crates/lru_limits/src/limiters/both.rt: do not edit.
+//! Two limiters for one map.
+
+#[allow(unused_imports)]
+use crate::rattle_std::prelude::*;
+
+use crate::erased::lru_limits::accounts::Summing;
+use crate::erased::lru_limits::admission::Admission;
+use crate::erased::lru_limits::keys::LookupKey;
+use crate::erased::lru_limits::limiter::{Insertion, Limiter};
+use crate::rattle_std::alloc::{AllocError, Global};
+use crate::rattle_std::hash::Hash;
+
+/// Limits a map by two limiters.
+///
+/// A map is over the limit if it is over either limit, and its table may grow if both permit it. An entry is stored,
+/// and a value replaced, if both accept it. If either rejects it, neither changes. Both are notified of each entry that
+/// is evicted or removed: the second gets the key and the value with what the first wrote to them.
+///
+/// `Both` uses the links of the first limiter. If the first has a running total, so has `Both`: put the limiter by a
+/// cost first. `map.limiter().0` is the first limiter.
+///
+/// ```text
+/// let mut limiter = Both(ByCost::new(9), ByLength::new(3));
+/// assert!(rt; Limiter::<u64, u64>::is_over_the_limit(&limiter, 4));
+/// assert!(rt; limiter.on_insert(alloc, 0, 1u64, 10u64)?.is_none() && limiter.0.cost() == 0);
+/// assert!(rt; limiter.on_insert(alloc, 0, 1u64, 8u64)?.is_some() && limiter.0.cost() == 8);
+/// ```
+///
+/// Cost: each callback calls at most two callbacks of each limiter, and takes no memory of its own.
+#[derive(Clone, Copy, Debug)]
+pub struct Both<A, B>(pub A, pub B);
+
+impl<K, V, A: Limiter<K, V>, B: Limiter<K, V>> Limiter<K, V> for Both<A, B> {
+    type LinkType = A::LinkType;
+
+    #[inline]
+    fn is_over_the_limit(&self, length: usize) -> bool {
+        self.0.is_over_the_limit(length) || self.1.is_over_the_limit(length)
+    }
+
+    #[inline]
+    fn on_removed(&mut self, key: &mut K, value: &mut V) {
+        self.0.on_removed(key, value);
+        self.1.on_removed(key, value);
+    }
+
+    #[inline]
+    fn on_cleared(&mut self) {
+        self.0.on_cleared();
+        self.1.on_cleared();
+    }
+
+    #[inline]
+    fn on_grow(&mut self, new_memory_usage: usize) -> bool {
+        let first = self.0.on_grow(new_memory_usage);
+        let second = self.1.on_grow(new_memory_usage);
+        first && second
+    }
+}
+
+impl<K: Eq + Hash, V, A: Admission<K, V>, B: Admission<K, V>> Insertion<K, V, K> for Both<A, B> {
+    #[inline]
+    fn on_insert(&mut self, _alloc: Global, length: usize, key: K, value: V) -> Result<Option<(K, V)>, AllocError> {
+        if self.0.accepts(length, &key, &value) && self.1.accepts(length, &key, &value) {
+            self.0.on_stored(length, &key, &value);
+            self.1.on_stored(length, &key, &value);
+            Ok(Some((key, value)))
+        } else {
+            Ok(None)
+        }
+    }
+
+    #[inline]
+    fn on_replace(
+        &mut self,
+        length: usize,
+        old_key: &mut K,
+        _new_key: K,
+        old_value: &mut V,
+        new_value: &mut V,
+    ) -> bool {
+        let is_accepted = self.0.accepts_in_place(length, &*old_key, &*old_value, &*new_value)
+            && self.1.accepts_in_place(length, &*old_key, &*old_value, &*new_value);
+        if is_accepted {
+            self.0.on_replaced(length, &*old_key, &*old_value, &*new_value);
+            self.1.on_replaced(length, &*old_key, &*old_value, &*new_value);
+        }
+        is_accepted
+    }
+}
+
+impl<K: Eq + Hash, V, A: Admission<K, V>, B: Admission<K, V>> Admission<K, V> for Both<A, B> {
+    #[inline]
+    fn accepts(&self, length: usize, key: &K, value: &V) -> bool {
+        self.0.accepts(length, key, value) && self.1.accepts(length, key, value)
+    }
+
+    #[inline]
+    fn on_stored(&mut self, length: usize, key: &K, value: &V) {
+        if self.0.accepts(length, key, value) && self.1.accepts(length, key, value) {
+            self.0.on_stored(length, key, value);
+            self.1.on_stored(length, key, value);
+        }
+    }
+
+    #[inline]
+    fn accepts_in_place(&self, length: usize, key: &K, old_value: &V, new_value: &V) -> bool {
+        self.0.accepts_in_place(length, key, old_value, new_value)
+            && self.1.accepts_in_place(length, key, old_value, new_value)
+    }
+
+    #[inline]
+    fn on_replaced(&mut self, length: usize, key: &K, old_value: &V, new_value: &V) {
+        if self.0.accepts_in_place(length, key, old_value, new_value)
+            && self.1.accepts_in_place(length, key, old_value, new_value)
+        {
+            self.0.on_replaced(length, key, old_value, new_value);
+            self.1.on_replaced(length, key, old_value, new_value);
+        }
+    }
+}
+
+impl<K: Eq + Hash, V, A: Admission<K, V> + Summing<K, V, K>, B: Admission<K, V>> Summing<K, V, K> for Both<A, B> {
+    #[inline]
+    fn cost_of(key: &K, value: &V) -> u64 {
+        A::cost_of(key, value)
+    }
+
+    #[inline]
+    fn account(&self) -> u64 {
+        self.0.account()
+    }
+}

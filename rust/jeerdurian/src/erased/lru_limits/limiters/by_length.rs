@@ -1,0 +1,115 @@
+// Erased from crates/lru_limits/src/limiters/by_length.rt: do not edit.
+//! The limiter by the number of entries.
+
+#[allow(unused_imports)]
+use crate::rattle_std::prelude::*;
+
+use crate::erased::lru_limits::admission::Admission;
+use crate::erased::lru_limits::keys::LookupKey;
+use crate::erased::lru_limits::limiter::{Insertion, Limiter};
+use crate::rattle_std::alloc::{AllocError, Global};
+use crate::rattle_std::hash::Hash;
+
+/// Limits the number of entries. A contract sees it as that number.
+///
+/// A map under it has at most `max_length` entries after each call. If the limit is lowered through `limiter_mut`, the
+/// map may have more until a `trim`, or until an insert or an update stores an entry or replaces a value. It rejects an
+/// entry only if `max_length` is 0.
+///
+/// ```text
+/// let limiter = ByLength::new(3);
+/// assert!(rt; !Limiter::<u64, u64>::is_over_the_limit(&limiter, 3));
+/// assert!(rt; Limiter::<u64, u64>::is_over_the_limit(&limiter, 4));
+/// ```
+///
+/// Cost: `O(1)` for each callback, and no memory.
+#[derive(Clone, Copy, Debug)]
+pub struct ByLength {
+    max_length: u32,
+}
+
+impl ByLength {
+    /// Makes a limiter to `max_length` entries.
+    ///
+    /// ```text
+    /// let limiter = ByLength::new(3);
+    /// ```
+    pub const fn new(max_length: u32) -> ByLength {
+        ByLength { max_length }
+    }
+
+    /// Returns the limit.
+    ///
+    /// ```text
+    /// assert_eq!(rt; limiter.max_length(), 3);
+    /// ```
+    pub fn max_length(&self) -> u32 {
+        self.max_length
+    }
+}
+
+/// As `ByLength::new`.
+impl From<u32> for ByLength {
+    fn from(max_length: u32) -> ByLength {
+        ByLength::new(max_length)
+    }
+}
+
+impl<K, V> Limiter<K, V> for ByLength {
+    type LinkType = u32;
+
+    #[inline]
+    fn is_over_the_limit(&self, length: usize) -> bool {
+        length > self.max_length as usize
+    }
+
+    #[inline]
+    fn on_removed(&mut self, _key: &mut K, _value: &mut V) {}
+
+    #[inline]
+    fn on_cleared(&mut self) {}
+
+    #[inline]
+    fn on_grow(&mut self, _new_memory_usage: usize) -> bool {
+        true
+    }
+}
+
+impl<K: Eq + Hash, V> Insertion<K, V, K> for ByLength {
+    // Forced inline: the caller then branches, instead of selecting between `Some` and `None`, and takes the pair as it
+    // came.
+    #[inline(always)]
+    fn on_insert(&mut self, _alloc: Global, _length: usize, key: K, value: V) -> Result<Option<(K, V)>, AllocError> {
+        if self.max_length > 0 { Ok(Some((key, value))) } else { Ok(None) }
+    }
+
+    #[inline]
+    fn on_replace(
+        &mut self,
+        _length: usize,
+        _old_key: &mut K,
+        _new_key: K,
+        _old_value: &mut V,
+        _new_value: &mut V,
+    ) -> bool {
+        true
+    }
+}
+
+impl<K: Eq + Hash, V> Admission<K, V> for ByLength {
+    #[inline]
+    fn accepts(&self, _length: usize, _key: &K, _value: &V) -> bool {
+        self.max_length > 0
+    }
+
+    #[inline]
+    fn on_stored(&mut self, _length: usize, _key: &K, _value: &V) {}
+
+    #[inline]
+    fn accepts_in_place(&self, _length: usize, _key: &K, _old_value: &V, _new_value: &V) -> bool {
+        true
+    }
+
+    #[inline]
+    fn on_replaced(&mut self, _length: usize, _key: &K, _old_value: &V, _new_value: &V) {}
+}

@@ -1,0 +1,112 @@
+// Erased from crates/lru_limits/src/limiters/by_memory_usage.rt: do not edit.
+//! The limiter by the size of the table.
+
+#[allow(unused_imports)]
+use crate::rattle_std::prelude::*;
+
+use crate::erased::lru_limits::admission::Admission;
+use crate::erased::lru_limits::keys::LookupKey;
+use crate::erased::lru_limits::limiter::{Insertion, Limiter};
+use crate::rattle_std::alloc::{AllocError, Global};
+use crate::rattle_std::hash::Hash;
+
+/// Limits the bytes of the table. A contract sees it as that number.
+///
+/// It permits a growth if and only if the grown table is within the limit. After a refusal the map evicts its oldest
+/// entries. The old table, which exists during a growth, is not counted, nor is what keys and values own.
+///
+/// ```text
+/// let mut limiter = ByMemoryUsage::new(152);
+/// assert!(rt; Limiter::<u64, u64>::on_grow(&mut limiter, 152));
+/// assert!(rt; !Limiter::<u64, u64>::on_grow(&mut limiter, 153));
+/// ```
+///
+/// Cost: `O(1)` for each callback, and no memory.
+#[derive(Clone, Copy, Debug)]
+pub struct ByMemoryUsage {
+    max_bytes: usize,
+}
+
+impl ByMemoryUsage {
+    /// Makes a limiter to a table of `max_bytes` bytes.
+    ///
+    /// ```text
+    /// let mut limiter = ByMemoryUsage::new(152);
+    /// ```
+    pub const fn new(max_bytes: usize) -> ByMemoryUsage {
+        ByMemoryUsage { max_bytes }
+    }
+
+    /// Returns the limit.
+    ///
+    /// ```text
+    /// assert_eq!(rt; limiter.max_memory_usage(), 152);
+    /// ```
+    pub fn max_memory_usage(&self) -> usize {
+        self.max_bytes
+    }
+}
+
+/// As `ByMemoryUsage::new`.
+impl From<usize> for ByMemoryUsage {
+    fn from(max_bytes: usize) -> ByMemoryUsage {
+        ByMemoryUsage::new(max_bytes)
+    }
+}
+
+impl<K, V> Limiter<K, V> for ByMemoryUsage {
+    type LinkType = u32;
+
+    #[inline]
+    fn is_over_the_limit(&self, _length: usize) -> bool {
+        false
+    }
+
+    #[inline]
+    fn on_removed(&mut self, _key: &mut K, _value: &mut V) {}
+
+    #[inline]
+    fn on_cleared(&mut self) {}
+
+    #[inline]
+    fn on_grow(&mut self, new_memory_usage: usize) -> bool {
+        new_memory_usage <= self.max_bytes
+    }
+}
+
+impl<K: Eq + Hash, V> Insertion<K, V, K> for ByMemoryUsage {
+    #[inline]
+    fn on_insert(&mut self, _alloc: Global, _length: usize, key: K, value: V) -> Result<Option<(K, V)>, AllocError> {
+        Ok(Some((key, value)))
+    }
+
+    #[inline]
+    fn on_replace(
+        &mut self,
+        _length: usize,
+        _old_key: &mut K,
+        _new_key: K,
+        _old_value: &mut V,
+        _new_value: &mut V,
+    ) -> bool {
+        true
+    }
+}
+
+impl<K: Eq + Hash, V> Admission<K, V> for ByMemoryUsage {
+    #[inline]
+    fn accepts(&self, _length: usize, _key: &K, _value: &V) -> bool {
+        true
+    }
+
+    #[inline]
+    fn on_stored(&mut self, _length: usize, _key: &K, _value: &V) {}
+
+    #[inline]
+    fn accepts_in_place(&self, _length: usize, _key: &K, _old_value: &V, _new_value: &V) -> bool {
+        true
+    }
+
+    #[inline]
+    fn on_replaced(&mut self, _length: usize, _key: &K, _old_value: &V, _new_value: &V) {}
+}

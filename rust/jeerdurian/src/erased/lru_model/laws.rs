@@ -1,0 +1,94 @@
+// Erased from crates/lru_model/src/laws.rt: do not edit.
+//! What is proved of inserts and other single calls, of what inserts keep (`kept`), of shrinks (`shrinks`), of each
+//! call (`calls`) and of calls one after another (`runs`). Each theorem is the contract of a function that does
+//! nothing.
+
+#[allow(unused_imports)]
+use crate::rattle_std::prelude::*;
+
+use crate::erased::lru_limits::{Insertion, KeyHasher, Limiter, LookupKey};
+use crate::rattle_std::hash::Hash;
+
+mod calls;
+mod kept;
+mod runs;
+mod shrinks;
+
+pub use calls::{
+    calls_add_one_pair, calls_evict_the_oldest, calls_keep_maps, calls_keep_sums, calls_keep_the_budget,
+    calls_keep_the_length, calls_keep_the_memory_usage, calls_pay_for_moves,
+};
+pub use kept::{inserts_leave_the_newest, inserts_with_room_are_exact, maps_keep_to_their_length, nothing_is_lost};
+pub use runs::{
+    runs_begin_with_maps, runs_evict_the_oldest, runs_keep_maps, runs_keep_sums, runs_keep_the_budget,
+    runs_keep_the_length, runs_keep_the_memory_usage, runs_pay_for_moves,
+};
+pub use shrinks::{shrinks_keep_the_list, shrinks_leave_a_tight_table, shrinks_pay_for_moves};
+
+/// An insert evicts from the old end alone. The one other entry that it may remove is the entry whose replacement is
+/// rejected.
+pub fn inserts_evict_the_oldest<K: Eq + Hash, V, I: LookupKey<K>, L: Insertion<K, V, I>, S: KeyHasher<K>>() {}
+
+/// An insert returns true if and only if its key is there afterwards. The key is the newest then, and the limiter is
+/// not over its limit.
+pub fn inserts_say_whether<K: Eq + Hash, V, I: LookupKey<K>, L: Insertion<K, V, I>, S: KeyHasher<K>>() {}
+
+/// The entries that an insert passes to its callback, together with those that are left, are at most one more than
+/// there were. So a callback that keeps them needs space for one entry more than the map contains. An insert with such
+/// a callback is an insert like any other (`step`).
+pub fn inserts_pass_few<K: Eq + Hash, V, I: LookupKey<K>, L: Insertion<K, V, I>, S: KeyHasher<K>>() {}
+
+/// If an insert returns true, the newest entry is what the limiter returned for the new key, or what it left of the
+/// entry that was there. So under a limiter that stores values as they come, a look-up of the key returns the value.
+pub fn inserts_store_the_value<K: Eq + Hash, V, I: LookupKey<K>, L: Insertion<K, V, I>, S: KeyHasher<K>>() {}
+
+/// If an insert runs out of memory, `on_insert` did, or the table had no growth left. The entries that stay are the
+/// newest of the old ones.
+pub fn inserts_run_out_without_growth<K: Eq + Hash, V, I: LookupKey<K>, L: Insertion<K, V, I>, S: KeyHasher<K>>() {}
+
+/// An insert into a table of up to 16 buckets has one possible result for each outcome of its allocations: what it
+/// returns, the entries and the limiter follow from the entries and the limiter before. If the limiter's offers are
+/// determined too, two equal inserts end alike, wherever the limiter's entry is stored.
+pub fn small_inserts_are_exact<K: Eq + Hash, V, I: LookupKey<K>, L: Insertion<K, V, I>, S: KeyHasher<K>>() {}
+
+/// If two maps differ at most in which buckets are full, in tables of up to 16 buckets, so do they after equal inserts,
+/// and both inserts return the same. The premises: offers are determined and find their memory, and both inserts find
+/// memory or neither does.
+pub fn small_inserts_look_alike<K: Eq + Hash, V, I: LookupKey<K>, L: Insertion<K, V, I>, S: KeyHasher<K>>() {}
+
+/// If the limiter permits every growth, as `ByLength` and the unlimited ones do, and the tables that an insert may need
+/// are within the reach of links and bytes, the insert does what it would do to a list of entries without a table. Only
+/// whether memory is there stays open.
+pub fn granted_inserts_are_exact<K: Eq + Hash, V, I: LookupKey<K>, L: Insertion<K, V, I>, S: KeyHasher<K>>() {}
+
+/// If an insert grows the table, the new table can hold fewer than four times the entries, the new one included.
+pub fn inserts_grow_little<K: Eq + Hash, V, I: LookupKey<K>, L: Insertion<K, V, I>, S: KeyHasher<K>>() {}
+
+/// If there are entries and no growth left, and a search for the new key meets a deleted bucket first, the new entry
+/// fills that bucket: the limiter is not queried and nothing moves. No other insertion into the table ends so.
+pub fn deleted_buckets_serve<K: Eq + Hash, V, L: Limiter<K, V>, S: KeyHasher<K>>() {}
+
+/// An insert pays for the entries that it moves: the count of moved entries and the potential together rise by at most
+/// 2 for the entry that it stores. So inserts move at most twice as many entries as they store, plus those that shrinks
+/// rehashed. Each entry that an insert moves or stores is counted.
+pub fn inserts_pay_for_moves<K: Eq + Hash, V, I: LookupKey<K>, L: Insertion<K, V, I>, S: KeyHasher<K>>() {}
+
+/// If a full table cannot grow, because the limiter refuses or there is no larger table, the map keeps at least half of
+/// what the table may hold, the new entry included. In a table of up to 16 buckets exactly the oldest entry is evicted.
+pub fn refused_growth_keeps_half<K: Eq + Hash, V, L: Limiter<K, V>, S: KeyHasher<K>>() {}
+
+/// An insertion into the table evicts nothing if the table grows. It evicts only if the table would be more than half
+/// full and cannot grow, because the limiter refuses or there is no larger table, even if it then runs out of memory.
+pub fn growth_keeps_the_list<K: Eq + Hash, V, L: Limiter<K, V>, S: KeyHasher<K>>() {}
+
+/// After a removal the key is not there.
+pub fn removed_keys_are_absent<K: Eq + Hash, V, I: LookupKey<K>, L: Limiter<K, V>, S: KeyHasher<K>>() {}
+
+/// A reservation keeps the entries and the counts of moves.
+pub fn reservations_keep_the_list<K: Eq + Hash, V, L: Limiter<K, V>, S: KeyHasher<K>>() {}
+
+/// After a successful reservation of n, the table holds n more entries without growth.
+pub fn reservations_make_room<K: Eq + Hash, V, L: Limiter<K, V>, S: KeyHasher<K>>() {}
+
+/// If the bytes that a map uses are taken as a budget, the greatest usage within that budget is the same number.
+pub fn usages_are_their_budgets<K: Eq + Hash, V, L: Limiter<K, V>, S: KeyHasher<K>>() {}

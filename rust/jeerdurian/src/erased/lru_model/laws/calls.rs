@@ -1,0 +1,45 @@
+// Erased from crates/lru_model/src/laws/calls.rt: do not edit.
+//! What is proved of each call, whichever it is. A step is what one call makes of a map (`specs/Runs`): `Step` for the
+//! calls that write nothing through a reference, and `AnyStep` also for writes to a value or to the limiter.
+
+#[allow(unused_imports)]
+use crate::rattle_std::prelude::*;
+
+use crate::erased::lru_limits::{Budgeted, ByLength, ByMemoryUsage, Insertion, KeyHasher, Limiter, LookupKey, Summing};
+use crate::rattle_std::hash::Hash;
+
+/// After each call no two keys are equal (`keys`). If the table is sound after the call, as clause `map` of each call
+/// says, inserts moved at most twice as many entries as they stored, plus those that shrinks rehashed (`map`).
+pub fn calls_keep_maps<K: Eq + Hash, V, I: LookupKey<K>, L: Insertion<K, V, I>, S: KeyHasher<K>>() {}
+
+/// A limiter's running total that was the sum of the costs is their sum after each call that writes nothing through a
+/// reference.
+pub fn calls_keep_sums<K: Eq + Hash, V, I: LookupKey<K>, L: Summing<K, V, I>, S: KeyHasher<K>>() {}
+
+/// Each call pays for what it moves: the count of moved entries and the potential together rise by at most two for each
+/// entry that it stores, and by one for each entry that a shrink rehashes, while neither the count of stored entries
+/// nor the count of rehashed entries has reached `u64::MAX` (`rise`). A call that does not shrink the table counts no
+/// entry as rehashed, and the entries that it stores pay alone, even if that count has reached `u64::MAX` (`stored`).
+pub fn calls_pay_for_moves<K: Eq + Hash, V, I: LookupKey<K>, L: Insertion<K, V, I>, S: KeyHasher<K>>() {}
+
+/// With `ByLength` each call leaves the limiter as it is, and at most `max_length` entries, if there were no more
+/// before.
+pub fn calls_keep_the_length<K: Eq + Hash, V, S: KeyHasher<K>>() {}
+
+/// With `ByMemoryUsage` each call leaves the limiter as it is, and a table of at most `max_memory_usage` bytes, if it
+/// had no more before.
+pub fn calls_keep_the_memory_usage<K: Eq + Hash, V, S: KeyHasher<K>>() {}
+
+/// With any limiter that has a budget, as `ByCost` and `ByWeight` have, each call leaves the budget as it is, and a
+/// running total of at most the budget, if that held before and the total was the sum of the costs of the entries.
+pub fn calls_keep_the_budget<K: Eq + Hash, V, L: Budgeted<K, V>, S: KeyHasher<K>>() {}
+
+/// No call adds more than one entry.
+pub fn calls_add_one_pair<K: Eq + Hash, V, I: LookupKey<K>, L: Insertion<K, V, I>, S: KeyHasher<K>>() {}
+
+/// A call evicts from the old end alone: of the entries whose keys it does not name, those that are left are the
+/// newest, in their order. Only `pop_newest` takes from the other end, and is left out.
+///
+/// A call names the key that it inserts, looks up or removes, or whose value it writes, and a retain names the keys
+/// that its closure rejects. An insert may remove the entry of its key, too, if the replacement is rejected.
+pub fn calls_evict_the_oldest<K: Eq + Hash, V, I: LookupKey<K>, L: Insertion<K, V, I>, S: KeyHasher<K>>() {}

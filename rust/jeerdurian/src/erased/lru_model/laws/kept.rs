@@ -1,0 +1,31 @@
+// Erased from crates/lru_model/src/laws/kept.rt: do not edit.
+//! What an insert keeps: it loses no entry; it evicts none if growth is left and the limiter is not over its limit with
+//! the new entry; and with `ByLength` it leaves the newest entries.
+
+#[allow(unused_imports)]
+use crate::rattle_std::prelude::*;
+
+use crate::erased::lru_limits::{ByLength, Insertion, KeyHasher, Limiter, LookupKey};
+use crate::rattle_std::hash::Hash;
+
+/// An insert loses nothing, if the limiter changes no entry that is evicted or removed. The entries that are left,
+/// followed by the entries that the callback got, last one first, are the new entry and the old ones, newest first
+/// (`all`, with a case for each result). If the result is true, the stored entry comes first (`stored`). Whatever it
+/// is, each old entry of another key is left or was passed to the callback (`others`). These two follow from `all`, and
+/// spare a caller its cases.
+pub fn nothing_is_lost<K: Eq + Hash, V, I: LookupKey<K>, L: Insertion<K, V, I>, S: KeyHasher<K>>() {}
+
+/// If growth is left, an insert does what it would do to a plain list without a table (`list`), whatever `on_grow`
+/// returns. If the limiter accepts the entry of a new key, and is not over its limit with it, the insert returns true
+/// and adds the entry to all the others (`added`). So it evicts nothing, and passes nothing to its callback (`passed`).
+pub fn inserts_with_room_are_exact<K: Eq + Hash, V, I: LookupKey<K>, L: Insertion<K, V, I>, S: KeyHasher<K>>() {}
+
+/// With `ByLength` an insert leaves its entry first, under the key that is stored, and then the newest others, up to
+/// `max_length` entries. The premise is that the map keeps to its length (`maps_keep_to_their_length`), or that growth
+/// is left in its table. So do the inserts of a list, such as the inserts of `try_extend` (`lists`).
+pub fn inserts_leave_the_newest<K: Eq + Hash, V, S: KeyHasher<K>>() {}
+
+/// A new map with `ByLength` keeps to its length, if that is at most 939,524,096 and an entry has fewer than 2 ^ 32 - 1
+/// bytes (`begins`). So does a map after any call that does not set the limiter (`goes_on`), and after any value is
+/// written (`written`).
+pub fn maps_keep_to_their_length<K: Eq + Hash, V, S: KeyHasher<K>>() {}

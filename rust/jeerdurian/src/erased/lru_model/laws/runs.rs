@@ -1,0 +1,41 @@
+// Erased from crates/lru_model/src/laws/runs.rt: do not edit.
+//! What is proved of runs, which are calls one after another. Each law is the law of one call (`calls`), by induction.
+
+#[allow(unused_imports)]
+use crate::rattle_std::prelude::*;
+
+use crate::erased::lru_limits::{Budgeted, ByLength, ByMemoryUsage, Insertion, KeyHasher, Limiter, LookupKey, Summing};
+use crate::rattle_std::hash::Hash;
+
+/// After any calls, whatever is written through the references that they lend, no two keys are equal, and inserts moved
+/// at most twice as many entries as they stored, plus those that shrinks rehashed. The table is sound after each call,
+/// as clause `map` of each call says (`Run`).
+pub fn runs_keep_maps<K: Eq + Hash, V, I: LookupKey<K>, L: Insertion<K, V, I>, S: KeyHasher<K>>() {}
+
+/// A limiter's running total that was the sum of the costs is their sum after any calls that write nothing through a
+/// reference.
+pub fn runs_keep_sums<K: Eq + Hash, V, I: LookupKey<K>, L: Summing<K, V, I>, S: KeyHasher<K>>() {}
+
+/// Over any calls the count of moved entries and the potential together rise by at most two for each entry that inserts
+/// store, and by one for each entry that shrinks rehash, while neither the count of stored entries nor the count of
+/// rehashed entries has reached `u64::MAX`.
+pub fn runs_pay_for_moves<K: Eq + Hash, V, I: LookupKey<K>, L: Insertion<K, V, I>, S: KeyHasher<K>>() {}
+
+/// Any calls evict from the old end alone: of the entries whose keys none of them names, those that are left are the
+/// newest, in their order, unless one of the calls is `pop_newest`.
+pub fn runs_evict_the_oldest<K: Eq + Hash, V, I: LookupKey<K>, L: Insertion<K, V, I>, S: KeyHasher<K>>() {}
+
+/// With `ByLength` there are at most `max_length` entries after any calls and writes of values, if there were no more
+/// before. The limiter stays as it is.
+pub fn runs_keep_the_length<K: Eq + Hash, V, S: KeyHasher<K>>() {}
+
+/// With `ByMemoryUsage` the table uses at most `max_memory_usage` bytes after any calls and writes of values, if it
+/// used no more before. The limiter stays as it is.
+pub fn runs_keep_the_memory_usage<K: Eq + Hash, V, S: KeyHasher<K>>() {}
+
+/// With any limiter that has a budget the running total is at most the budget after any calls, if that held before and
+/// the total was the sum of the costs of the entries. The budget stays as it is.
+pub fn runs_keep_the_budget<K: Eq + Hash, V, L: Budgeted<K, V>, S: KeyHasher<K>>() {}
+
+/// A new map, which contains no entries and no buckets, satisfies `IsMap`, the premise of `runs_keep_maps`.
+pub fn runs_begin_with_maps<K: Eq + Hash, V, L: Limiter<K, V>, S: KeyHasher<K>>() {}

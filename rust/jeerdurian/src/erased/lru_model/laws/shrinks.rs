@@ -1,0 +1,18 @@
+// Erased from crates/lru_model/src/laws/shrinks.rt: do not edit.
+//! What is proved of a shrink.
+
+#[allow(unused_imports)]
+use crate::rattle_std::prelude::*;
+
+use crate::erased::lru_limits::{KeyHasher, Limiter};
+use crate::rattle_std::hash::Hash;
+
+/// A shrink keeps the entries, the limiter and the counts of inserts.
+pub fn shrinks_keep_the_list<K: Eq + Hash, V, L: Limiter<K, V>, S: KeyHasher<K>>() {}
+
+/// A shrink rehashes each entry and counts it, and the potential is at most the number of entries then. If it does not
+/// shrink the table, nothing changes.
+pub fn shrinks_pay_for_moves<K: Eq + Hash, V, L: Limiter<K, V>, S: KeyHasher<K>>() {}
+
+/// No shrink makes the table larger, or lets it use more memory. A second shrink finds nothing to do.
+pub fn shrinks_leave_a_tight_table<K: Eq + Hash, V, L: Limiter<K, V>, S: KeyHasher<K>>() {}

@@ -1,0 +1,121 @@
+// Erased from crates/lru_model/src/results.rt: do not edit.
+//! The types that the calls of a map return, except the types of std.
+
+#[allow(unused_imports)]
+use crate::rattle_std::prelude::*;
+
+use crate::rattle_std::fmt::Display;
+
+/// What an insert did, with the value that the map does not keep.
+///
+/// - The key was not there: `unkept` is `None`. `kept` is false if the limiter rejected the entry, if the map could not
+///   store it, or if it was stored and then evicted.
+/// - The key was there, and the limiter accepted the new value: `unkept` is the old value. `kept` is false if the entry
+///   was evicted then, because the limiter was still over its limit.
+/// - The key was there, and the limiter rejected the new value: `unkept` is the new value, and `kept` is false. The
+///   entry was removed.
+///
+/// So a `kept` of false with a value has two causes. In both the callback got the entry of the key: with the new value
+/// if it was evicted, and with the old value if the new one was rejected.
+///
+/// ```text
+/// let inserted = map.insert_full(1, 11, &mut |_, _| {})?;
+/// assert_eq!(rt; (inserted.kept, inserted.unkept), (true, Some(10)));
+/// ```
+#[derive(Clone, Copy, Debug, PartialEq, Eq)]
+pub struct Inserted<V> {
+    /// Whether the key is in the map.
+    pub kept: bool,
+    /// The old value of a key that was there, or the new value, if the limiter rejected it. `None` if the key was not
+    /// there.
+    pub unkept: Option<V>,
+}
+
+/// What an update did, with the value that is not in the map afterwards.
+///
+/// ```text
+/// assert_eq!(rt; map.update(1, 11), Updated::Replaced(10));
+/// ```
+#[derive(Clone, Copy, Debug, PartialEq, Eq)]
+pub enum Updated<V> {
+    /// The limiter accepted the new value in place of this one. If it was over its limit then, the entry may have been
+    /// evicted.
+    Replaced(V),
+    /// The limiter rejected this new value, and the entry was removed.
+    Rejected(V),
+    /// The key is not there. This is the new value.
+    Absent(V),
+}
+
+/// Why a reservation fails.
+///
+/// ```text
+/// let mut map: LruMap<u64, u64, Unlimited> = LruMap::new(alloc, Unlimited, [1, 2, 3, 4], 32);
+/// assert_eq!(rt; map.try_reserve(usize::MAX), Err(ReserveError::TooLarge));
+/// assert_eq!(rt; map.try_reserve(1 << 50), Err(ReserveError::Memory));
+/// let mut map: LruMap<u32, u32, ByMemoryUsage> = LruMap::with_memory_budget(alloc, 84, [1, 2, 3, 4], 16);
+/// assert_eq!(rt; map.try_reserve(4), Err(ReserveError::Refused));
+/// ```
+#[derive(Clone, Copy, Debug, PartialEq, Eq)]
+pub enum ReserveError {
+    /// There is no larger table that holds the entries, or their number overflows.
+    TooLarge = 1,
+    /// The limiter refused the table.
+    Refused = 2,
+    /// Out of memory.
+    Memory = 3,
+}
+
+impl ::core::fmt::Display for ReserveError {
+    fn fmt(&self, f: &mut ::core::fmt::Formatter<'_>) -> ::core::fmt::Result {
+        match self {
+            ReserveError::TooLarge => write!(f, "too large"),
+            ReserveError::Refused => write!(f, "the limiter refused the larger table"),
+            ReserveError::Memory => write!(f, "out of memory"),
+        }
+    }
+}
+
+/// Why `ensure_newest_fallible` or `get_or_insert_fallible` fails.
+///
+/// ```text
+/// let answer = map.ensure_newest_fallible(4, || Err(7u8));
+/// assert_eq!(rt; answer, Err(GetOrInsertError::Caller(7)));
+/// ```
+#[derive(Debug, PartialEq, Eq)]
+
+pub enum GetOrInsertError<E> {
+    /// Out of memory.
+    Memory,
+    /// The closure failed.
+    Caller(E),
+}
+
+impl<E> ::core::fmt::Display for GetOrInsertError<E>
+where
+    E: Display,
+{
+    fn fmt(&self, f: &mut ::core::fmt::Formatter<'_>) -> ::core::fmt::Result {
+        match self {
+            GetOrInsertError::Memory => write!(f, "out of memory"),
+            GetOrInsertError::Caller(value) => write!(f, "the closure failed: {0}", value),
+        }
+    }
+}
+
+/// How many entries the inserts of a map have moved, how many new ones they have stored, and how many entries its
+/// shrinks have rehashed.
+///
+/// ```text
+/// assert_eq!(rt; map.move_report(), MoveReport { moved: 0, placed: 3, shrunk: 0 });
+/// ```
+#[derive(Clone, Copy, Debug, PartialEq, Eq)]
+pub struct MoveReport {
+    /// Entries that inserts moved, because the table grew or was rehashed. Entries that `try_reserve` moves are not
+    /// counted, nor entries that `try_insert` moves, because it reserves.
+    pub moved: u64,
+    /// New entries that inserts stored, `try_insert` included.
+    pub placed: u64,
+    /// Entries that `shrink_to_fit` rehashed.
+    pub shrunk: u64,
+}

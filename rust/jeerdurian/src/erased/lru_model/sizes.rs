@@ -1,0 +1,53 @@
+// Erased from crates/lru_model/src/sizes.rt: do not edit.
+//! What the table of a map takes in bytes, by the bytes of an entry that the map counts, and the table that it grows
+//! into. Each function costs `O(1)`; the map's own calls show what they return.
+
+#[allow(unused_imports)]
+use crate::rattle_std::prelude::*;
+
+use crate::erased::group_table::{buckets_for_capacity, full_capacity};
+
+const MOST_BYTES: usize = isize::MAX as usize - 15;
+
+/// Returns the bytes of a table of this number of buckets, or `None` if there can be no such table.
+
+pub fn usage(entry_bytes: usize, buckets: usize) -> Option<usize> {
+    if buckets == 0 {
+        return Some(0);
+    }
+    let entries = entry_bytes.checked_mul(buckets)?.checked_add(15)? / 16 * 16;
+    let bytes = entries.checked_add(buckets)?.checked_add(16)?;
+    if bytes <= MOST_BYTES { Some(bytes) } else { None }
+}
+
+/// Returns the bytes of a table that exists. It has buckets.
+pub fn bytes_of(entry_bytes: usize, buckets: usize) -> usize {
+    (entry_bytes * buckets + 15) / 16 * 16 + buckets + 16
+}
+
+/// Returns the buckets and the bytes of the table that a table of `buckets` buckets grows into for `pairs` entries. These
+/// must be more than half of its capacity. Returns `None` if links cannot number so large a table, or its bytes would
+/// pass `isize::MAX - 15`.
+
+pub fn larger_table(max: usize, entry_bytes: usize, buckets: usize, pairs: usize) -> Option<(usize, usize)> {
+    let need = buckets_for_capacity(pairs, max)?;
+    let count = if buckets < need { need } else { buckets_for_capacity(full_capacity(2 * buckets), max)? };
+    let bytes = usage(entry_bytes, count)?;
+    Some((count, bytes))
+}
+
+/// Returns the greatest usage within the budget of a table of 4, 8, 16, .. buckets that links can number, or 0.
+pub fn usage_within(max: usize, entry_bytes: usize, budget: usize) -> usize {
+    let mut best = 0;
+    for k in 0..62u32 {
+        let buckets = 4usize << k;
+        if buckets < max {
+            if let Some(bytes) = usage(entry_bytes, buckets) {
+                if bytes <= budget {
+                    best = bytes;
+                }
+            }
+        }
+    }
+    best
+}

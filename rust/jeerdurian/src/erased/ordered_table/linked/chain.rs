@@ -1,0 +1,143 @@
+// Erased from crates/ordered_table/src/linked/chain.rt: do not edit.
+//! `Chain`: a table whose entries have links to their neighbours. Each change of the order changes a few entries.
+
+#[allow(unused_imports)]
+use crate::rattle_std::prelude::*;
+
+use crate::erased::group_table::{LinkType, Table};
+use crate::erased::ordered_table::linked::Entry;
+
+// A table with links to its newest and its oldest entry; `MAX` if it has none. Only the contracts know the order.
+
+pub(crate) struct Chain<K, V, N> {
+    pub(crate) table: Table<Entry<K, V, N>>,
+    pub(crate) newest: N,
+    pub(crate) oldest: N,
+}
+
+impl<K, V, N: LinkType> Chain<K, V, N> {
+    // Takes a bucket out of the chain. Its entry stays in the table, with its own links unchanged.
+    pub(crate) fn unlink(&mut self, b: usize) {
+        let entry = self.table.get(b);
+        let (newer, older) = (entry.newer, entry.older);
+        self.close_gap(newer, older, false);
+    }
+
+    // Links the neighbours of a bucket with these links to each other. Its entry may be gone from the table already. If
+    // the bucket is known to be the oldest (`last`), its older link is not read.
+    #[inline]
+    pub(crate) fn close_gap(&mut self, newer: N, older: N, last: bool) {
+        if last {
+            self.set_older(newer, N::MAX);
+            self.oldest = newer;
+        } else {
+            self.set_older(newer, older);
+            self.set_newer(older, newer);
+        }
+    }
+
+    // Returns whether a link leads to a bucket. It compares the link with the number of buckets, and not with `MAX`:
+    // that takes one instruction less.
+    #[inline]
+    pub(crate) fn leads(&self, link: N) -> bool {
+        self.table.has_bucket(link.into_usize())
+    }
+
+    // Puts a bucket that is in no chain in front of this chain, which is not empty.
+    pub(crate) fn link_newest(&mut self, b: usize) {
+        let first = self.newest;
+        let link = N::from_usize(b);
+        set_links(&mut self.table, b, N::MAX, first);
+        write_newer(&mut self.table, first, link);
+        self.newest = link;
+    }
+
+    // Puts a bucket that is in no chain at the end of this chain, which is not empty.
+    pub(crate) fn link_oldest(&mut self, b: usize) {
+        let last = self.oldest;
+        let link = N::from_usize(b);
+        set_links(&mut self.table, b, last, N::MAX);
+        write_older(&mut self.table, last, link);
+        self.oldest = link;
+    }
+
+    // Puts a bucket that is in no chain in front of the chain, or makes it the only one. Its entry has the links of the
+    // newest entry already: the older one leads to `first`, which has been the newest.
+    pub(crate) fn link_placed(&mut self, b: usize, first: N) {
+        let link = N::from_usize(b);
+        self.set_newer(first, link);
+        self.newest = link;
+    }
+
+    // Sets the newer link of the entry at a link, or the oldest end, if the link is `MAX`.
+    #[inline]
+    fn set_newer(&mut self, at: N, to: N) {
+        if self.leads(at) {
+            write_newer(&mut self.table, at, to);
+        } else {
+            self.oldest = to;
+        }
+    }
+
+    // Sets the older link of the entry at a link, or the newest end, if the link is `MAX`.
+    #[inline]
+    fn set_older(&mut self, at: N, to: N) {
+        if self.leads(at) {
+            write_older(&mut self.table, at, to);
+        } else {
+            self.newest = to;
+        }
+    }
+
+    // Rewrites the links of entries that moved, and the ends: `links` contains the new number of each old bucket.
+    pub(crate) fn rewrite(&mut self, links: &[N]) {
+        for old in 0..links.len() {
+            let moved = (*at!(links, old));
+            if !is_max(moved) {
+                move_links(&mut self.table, moved.into_usize(), links);
+            }
+        }
+        self.newest = moved_link(links, self.newest);
+        self.oldest = moved_link(links, self.oldest);
+    }
+}
+
+// Writes the newer link of the entry at a link that leads to a full bucket.
+#[inline]
+fn write_newer<K, V, N: LinkType>(table: &mut Table<Entry<K, V, N>>, at: N, to: N) {
+    table.get_mut(at.into_usize()).newer = to;
+}
+
+// Writes the older link of the entry at a link that leads to a full bucket.
+#[inline]
+fn write_older<K, V, N: LinkType>(table: &mut Table<Entry<K, V, N>>, at: N, to: N) {
+    table.get_mut(at.into_usize()).older = to;
+}
+
+// Sets both links of the entry in a full bucket.
+#[inline]
+fn set_links<K, V, N: LinkType>(table: &mut Table<Entry<K, V, N>>, b: usize, newer: N, older: N) {
+    let entry = table.get_mut(b);
+    entry.newer = newer;
+    entry.older = older;
+}
+
+// Rewrites the links of an entry to where its neighbours have moved.
+#[inline]
+fn move_links<K, V, N: LinkType>(table: &mut Table<Entry<K, V, N>>, b: usize, links: &[N]) {
+    let entry = table.get_mut(b);
+    entry.newer = moved_link(links, entry.newer);
+    entry.older = moved_link(links, entry.older);
+}
+
+// Returns the link to where the bucket of a link has moved.
+#[inline]
+fn moved_link<N: LinkType>(links: &[N], link: N) -> N {
+    if is_max(link) { link } else { (*at!(links, link.into_usize())) }
+}
+
+// Returns whether a link is `MAX`, which leads to no bucket.
+#[inline]
+fn is_max<N: LinkType>(link: N) -> bool {
+    link.into_usize() == N::MAX.into_usize()
+}

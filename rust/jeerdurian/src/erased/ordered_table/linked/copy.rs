@@ -1,0 +1,35 @@
+// Erased from crates/ordered_table/src/linked/copy.rt: do not edit.
+//! A copy of the table with its order.
+
+#[allow(unused_imports)]
+use crate::rattle_std::prelude::*;
+
+use crate::erased::group_table::LinkType;
+use crate::erased::ordered_table::linked::chain::Chain;
+use crate::erased::ordered_table::linked::{Entry, LinkedTable};
+use crate::erased::ordered_table::ordered::Pair;
+use crate::rattle_std::alloc::AllocError;
+
+impl<K, V, N: LinkType> LinkedTable<K, V, N> {
+    // Clones the pairs, into buckets of the same numbers and in the same order. The links are copied with the entries.
+    //
+    // Cost: `O(buckets)`, and a clone of each key and value.
+    //
+    // # Errors
+    //
+    // Out of memory; never for no buckets.
+    pub(crate) fn copy(&self) -> Result<Self, AllocError>
+    where
+        K: Clone,
+        V: Clone,
+    {
+        let table = self.chain.table.clone_with(|entry| -> Result<Entry<K, V, N>, AllocError> {
+            Ok(Entry {
+                pair: Pair { key: entry.pair.key.try_clone()?, value: entry.pair.value.try_clone()? },
+                newer: entry.newer,
+                older: entry.older,
+            })
+        })?;
+        Ok(LinkedTable { chain: Chain { table, newest: self.chain.newest, oldest: self.chain.oldest } })
+    }
+}

@@ -1,0 +1,42 @@
+// Erased from crates/ordered_table/src/linked/moves.rt: do not edit.
+//! Moving all pairs of a `LinkedTable` into a table of another size.
+
+#[allow(unused_imports)]
+use crate::rattle_std::prelude::*;
+
+use crate::erased::group_table::{LinkType, Table};
+use crate::erased::lru_limits::KeyHasher;
+use crate::erased::ordered_table::linked::{Entry, LinkedTable};
+use crate::rattle_std::alloc::AllocError;
+use crate::rattle_std::hash::{BuildHasher, Hash};
+
+impl<K: Eq + Hash, V, N: LinkType> LinkedTable<K, V, N> {
+    // Moves all pairs into a table of `buckets` buckets, in the same order. If the table has that many buckets already,
+    // the pairs are rehashed in place.
+    //
+    // Cost: `O(buckets)` of both tables, and a hash for each pair.
+    //
+    // # Errors
+    //
+    // Out of memory; never for no buckets, nor for a table without pairs that keeps its number of buckets. Nothing has
+    // changed then.
+    pub(crate) fn move_to<S: KeyHasher<K>>(&mut self, buckets: usize, hasher: &S) -> Result<(), AllocError> {
+        let links = renumber_entries(&mut self.chain.table, buckets, hasher)?;
+        self.chain.rewrite(links.as_slice());
+        Ok(())
+    }
+}
+
+// Moves the entries into a table of `buckets` buckets, or rehashes them in this one, if it has as many. Returns where
+// each is now.
+fn renumber_entries<K: Eq + Hash, V, N: LinkType, S: BuildHasher>(
+    table: &mut Table<Entry<K, V, N>>,
+    buckets: usize,
+    hasher: &S,
+) -> Result<Vec<N>, AllocError> {
+    if buckets == table.buckets() {
+        table.rehash(|entry| crate::rattle_std::hash::hash_by(hasher, &entry.pair.key))
+    } else {
+        table.relocate(buckets, |entry| crate::rattle_std::hash::hash_by(hasher, &entry.pair.key))
+    }
+}

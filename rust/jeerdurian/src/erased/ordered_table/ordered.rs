@@ -1,0 +1,140 @@
+// Erased from crates/ordered_table/src/ordered.rt: do not edit.
+//! `OrderedTable`: a table whose entries are in an order. Its links may show the last promotion one call later.
+
+#[allow(unused_imports)]
+use crate::rattle_std::prelude::*;
+
+use crate::erased::group_table::LinkType;
+use crate::erased::lru_limits::LookupKey;
+use crate::erased::ordered_table::linked::LinkedTable;
+use crate::rattle_std::alloc::Global;
+use crate::rattle_std::hash::Hash;
+
+mod changes;
+mod equal;
+mod index;
+mod promoted;
+
+/// A key and a value of a table.
+
+pub struct Pair<K, V> {
+    pub key: K,
+    pub value: V,
+}
+
+/// A table of buckets, the full ones of which are in an order, newest first. `N` is the type of its links.
+///
+/// A contract sees it as its `slots` and the `order` of the full ones, and as the number of its `insertions`. A caller
+/// computes the hashes; the keys fit the table (`KeysFit`) as long as equal keys get the same hash.
+///
+/// ```text
+/// let mut table: OrderedTable<u64, u64, u32> = OrderedTable::new(alloc);
+/// table.move_to(4, &hasher)?;
+/// for key in [1u64, 2, 3] {
+///     let _ = table.try_place(hasher.hash_one(&key), (key, 10 * key));
+/// }
+/// if let Some(b) = table.find(hasher.hash_one(&1u64), &1u64) {
+///     table.promote(b);
+/// }
+/// assert!(rt; table.iter().next() == Some((&1, &10)));
+/// ```
+pub struct OrderedTable<K, V, N: LinkType> {
+    linked: LinkedTable<K, V, N>,
+    // The bucket of the last promotion, as long as its links show where it was before. The next call that changes the
+    // order changes them. A promotion writes to the neighbours of the bucket, and some processors let no read pass a
+    // write whose address is still to come from memory. By the next call the address is there.
+    promoted: Option<usize>,
+}
+
+impl<K, V, N: LinkType> OrderedTable<K, V, N> {
+    /// Makes a table of no buckets, which takes no memory.
+    pub const fn new(alloc: Global) -> Self {
+        OrderedTable { linked: LinkedTable::new(alloc), promoted: None }
+    }
+
+    /// Returns the bytes of an entry: of a pair, and of two links.
+    pub const fn entry_bytes() -> usize {
+        LinkedTable::<K, V, N>::entry_bytes()
+    }
+
+    /// Returns the number of pairs.
+    #[inline]
+    pub fn len(&self) -> usize {
+        self.linked.len()
+    }
+
+    /// Returns the number of buckets.
+    #[inline]
+    pub fn buckets(&self) -> usize {
+        self.linked.buckets()
+    }
+
+    /// Returns how many empty buckets may still be filled.
+    #[inline]
+    pub fn room(&self) -> usize {
+        self.linked.room()
+    }
+
+    /// Returns how many pairs were put into the table. A pair that moves is not counted again.
+    #[inline]
+    pub fn placed(&self) -> u64 {
+        self.linked.placed()
+    }
+
+    /// Returns the pair in a full bucket.
+    #[inline]
+    pub fn pair(&self, b: usize) -> &Pair<K, V> {
+        self.linked.pair(b)
+    }
+
+    /// Returns the bucket of the newest pair of a table that is not empty.
+    #[inline]
+    pub fn newest(&self) -> usize {
+        promoted::newest(&self.linked, self.promoted)
+    }
+
+    /// Returns the bucket of the oldest pair of a table that is not empty.
+    #[inline]
+    pub fn oldest(&self) -> usize {
+        promoted::oldest(&self.linked, self.promoted)
+    }
+
+    /// Returns the bucket after a full one in the order, towards the oldest. For the last bucket of the order, the
+    /// number says nothing.
+    #[inline]
+    pub fn older_unless_last(&self, b: usize) -> usize {
+        promoted::older_unless_last(&self.linked, self.promoted, b)
+    }
+
+    /// Returns the bucket before a full one in the order, towards the newest. For the first bucket of the order, the
+    /// number says nothing.
+    #[inline]
+    pub fn newer_unless_first(&self, b: usize) -> usize {
+        promoted::newer_unless_first(&self.linked, self.promoted, b)
+    }
+
+    /// Lends the pair in a full bucket for writing. The keys fit the table if the written key has the same hash.
+    #[inline]
+    pub fn pair_mut(&mut self, b: usize) -> &mut Pair<K, V> {
+        self.linked.pair_mut(b)
+    }
+
+    /// Returns the bucket of the first pair that `f` accepts, of those with the tag of the hash, its top 7 bits.
+    ///
+    /// `f` is called with each pair at most once, and no more after it accepted one.
+    ///
+    /// Cost: `O(1)` expected.
+    pub fn find_by<F: FnMut(&K, &V) -> bool>(&self, hash: u64, f: F) -> Option<usize> {
+        self.linked.find_by(hash, f)
+    }
+}
+
+impl<K: Eq + Hash, V, N: LinkType> OrderedTable<K, V, N> {
+    /// Returns the bucket of the key that `key` names, which has this hash.
+    ///
+    /// Cost: `O(1)` expected.
+    #[inline]
+    pub fn find<Q: LookupKey<K>>(&self, hash: u64, key: &Q) -> Option<usize> {
+        self.linked.find(hash, key)
+    }
+}

@@ -1,0 +1,120 @@
+// Erased from crates/ordered_table/src/ordered/changes.rt: do not edit.
+//! The calls that change the order of an `OrderedTable`, or its buckets. Each first lets the links show the last
+//! promotion.
+
+#[allow(unused_imports)]
+use crate::rattle_std::prelude::*;
+
+use crate::erased::group_table::LinkType;
+use crate::erased::lru_limits::KeyHasher;
+use crate::erased::ordered_table::ordered::OrderedTable;
+use crate::erased::ordered_table::ordered::promoted::settle;
+use crate::rattle_std::alloc::AllocError;
+use crate::rattle_std::hash::Hash;
+
+impl<K, V, N: LinkType> OrderedTable<K, V, N> {
+    /// Puts a pair whose key has this hash into the first free bucket of a table with growth left, as the newest.
+    ///
+    /// Cost: `O(1)` expected.
+    #[inline(always)]
+    pub fn place(&mut self, hash: u64, pair: (K, V)) {
+        settle(&mut self.linked, &mut self.promoted);
+        self.linked.place(hash, pair);
+    }
+
+    /// The same for any table.
+    ///
+    /// # Errors
+    ///
+    /// No bucket may take the pair, which is returned. Nothing has changed then.
+    pub fn try_place(&mut self, hash: u64, pair: (K, V)) -> Result<(), (K, V)> {
+        settle(&mut self.linked, &mut self.promoted);
+        self.linked.try_place(hash, pair)
+    }
+
+    /// Makes the pair in a full bucket the newest.
+    ///
+    /// Cost: `O(1)`.
+    pub fn promote(&mut self, b: usize) {
+        match &mut self.promoted {
+            Some(last) => {
+                self.linked.promote(*last);
+                *last = b;
+            }
+            // The links show it at once, which writes to the pair that is the oldest then. If pairs are promoted in the
+            // order of their last promotions, the next call reads that one.
+            None if self.linked.oldest() == b => self.linked.promote(b),
+            None => self.promoted = Some(b),
+        }
+    }
+
+    /// Makes the pair in a full bucket the oldest.
+    ///
+    /// Cost: `O(1)`.
+    pub fn demote(&mut self, b: usize) {
+        settle(&mut self.linked, &mut self.promoted);
+        self.linked.demote(b);
+    }
+
+    /// Takes the pair out of a full bucket.
+    ///
+    /// Cost: `O(1)`.
+    #[inline(always)]
+    pub fn take(&mut self, b: usize) -> (K, V) {
+        settle(&mut self.linked, &mut self.promoted);
+        self.linked.take(b, false)
+    }
+
+    /// Takes the oldest pair out of a table that is not empty. Its older link is not read.
+    ///
+    /// Cost: `O(1)`.
+    #[inline(always)]
+    pub fn take_oldest(&mut self) -> (K, V) {
+        settle(&mut self.linked, &mut self.promoted);
+        let b = self.linked.oldest();
+        self.linked.take(b, true)
+    }
+}
+
+impl<K, V, N: LinkType> OrderedTable<K, V, N> {
+    /// Drops all pairs. The buckets stay, and are empty.
+    ///
+    /// Cost: `O(buckets)`.
+    pub fn clear(&mut self) {
+        self.promoted = None;
+        self.linked.clear();
+    }
+}
+
+impl<K: Eq + Hash, V, N: LinkType> OrderedTable<K, V, N> {
+    /// Moves all pairs into a table of `buckets` buckets, in the same order. If the table has that many buckets already,
+    /// the pairs are rehashed in place.
+    ///
+    /// Cost: `O(buckets)` of both tables, and a hash for each pair.
+    ///
+    /// # Errors
+    ///
+    /// Out of memory; never for no buckets, nor for a table without pairs that keeps its number of buckets. Nothing has
+    /// changed then.
+    pub fn move_to<S: KeyHasher<K>>(&mut self, buckets: usize, hasher: &S) -> Result<(), AllocError> {
+        settle(&mut self.linked, &mut self.promoted);
+        self.linked.move_to(buckets, hasher)
+    }
+}
+
+impl<K, V, N: LinkType> OrderedTable<K, V, N> {
+    /// Clones the pairs, into buckets of the same numbers and in the same order. The links are copied with the entries.
+    ///
+    /// Cost: `O(buckets)`, and a clone of each key and value.
+    ///
+    /// # Errors
+    ///
+    /// Out of memory; never for no buckets.
+    pub fn copy(&self) -> Result<Self, AllocError>
+    where
+        K: Clone,
+        V: Clone,
+    {
+        Ok(OrderedTable { linked: self.linked.copy()?, promoted: self.promoted })
+    }
+}

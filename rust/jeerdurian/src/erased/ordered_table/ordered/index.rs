@@ -1,0 +1,40 @@
+// Erased from crates/ordered_table/src/ordered/index.rt: do not edit.
+//! The buckets by their index in the order.
+
+#[allow(unused_imports)]
+use crate::rattle_std::prelude::*;
+
+use crate::erased::group_table::LinkType;
+use crate::erased::ordered_table::ordered::OrderedTable;
+
+impl<K, V, N: LinkType> OrderedTable<K, V, N> {
+    /// Returns the bucket at this index in the order, counted from 0, the newest, if there is one.
+    ///
+    /// Cost: `O(index)`, and `O(1)` if there is none.
+    pub fn at_index(&self, index: usize) -> Option<usize> {
+        if index >= self.len() {
+            return None;
+        }
+        let mut at = self.newest();
+        'links: for _ in 0..index {
+            at = self.older_unless_last(at);
+        }
+        Some(at)
+    }
+
+    /// Returns the index of a full bucket in the order, counted from 0, the newest.
+    ///
+    /// Cost: `O(index)`.
+    pub fn index_of(&self, b: usize) -> usize {
+        // Nothing at run time: it shows the proof that an index fits.
+        let _ = self.len();
+        let first = self.newest();
+        let mut at = b;
+        let mut index = 0;
+        'links: while at != first {
+            at = self.newer_unless_first(at);
+            index += 1;
+        }
+        index
+    }
+}

@@ -1,0 +1,82 @@
+// Erased from crates/ordered_table/src/ordered/promoted.rt: do not edit.
+//! The order of a table in which the bucket `promoted`, if there is one, is the newest. Its links may still show it
+//! elsewhere.
+
+#[allow(unused_imports)]
+use crate::rattle_std::prelude::*;
+
+use crate::erased::group_table::LinkType;
+use crate::erased::ordered_table::linked::LinkedTable;
+
+// Returns the bucket of the newest pair of a table that is not empty.
+#[inline]
+pub(crate) fn newest<K, V, N: LinkType>(table: &LinkedTable<K, V, N>, promoted: Option<usize>) -> usize {
+    match promoted {
+        Some(b) => b,
+        None => table.newest(),
+    }
+}
+
+// Returns the bucket of the oldest pair of a table that is not empty.
+#[inline]
+pub(crate) fn oldest<K, V, N: LinkType>(table: &LinkedTable<K, V, N>, promoted: Option<usize>) -> usize {
+    let b = table.oldest();
+    match promoted {
+        // The links show the promoted bucket last. The one before it is the oldest, unless there is none.
+        Some(p) if p == b => {
+            if table.newest() == p {
+                p
+            } else {
+                table.newer_unless_first(p)
+            }
+        }
+        _ => b,
+    }
+}
+
+// Returns the bucket after a full one in the order, towards the oldest. For the last bucket of the order, the number
+// says nothing.
+#[inline]
+pub(crate) fn older_unless_last<K, V, N: LinkType>(
+    table: &LinkedTable<K, V, N>,
+    promoted: Option<usize>,
+    b: usize,
+) -> usize {
+    match promoted {
+        None => table.older_unless_last(b),
+        Some(p) => {
+            let next = if b == p { table.newest() } else { table.older_unless_last(b) };
+            if next == p { table.older_unless_last(p) } else { next }
+        }
+    }
+}
+
+// Returns the bucket before a full one in the order, towards the newest. For the first bucket of the order, the number
+// says nothing.
+#[inline]
+pub(crate) fn newer_unless_first<K, V, N: LinkType>(
+    table: &LinkedTable<K, V, N>,
+    promoted: Option<usize>,
+    b: usize,
+) -> usize {
+    match promoted {
+        None => table.newer_unless_first(b),
+        Some(p) => {
+            // The links show no bucket before the first, and the promoted one is in front of it.
+            if table.newest() == b {
+                return p;
+            }
+            let next = table.newer_unless_first(b);
+            if next == p && table.newest() != p { table.newer_unless_first(p) } else { next }
+        }
+    }
+}
+
+// Makes the promoted bucket, if there is one, the newest by the links, too. Afterwards no promotion waits.
+#[inline(always)]
+pub(crate) fn settle<K, V, N: LinkType>(table: &mut LinkedTable<K, V, N>, promoted: &mut Option<usize>) {
+    if let Some(b) = *promoted {
+        *promoted = None;
+        table.promote(b);
+    }
+}

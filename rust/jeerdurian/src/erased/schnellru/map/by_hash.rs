@@ -1,0 +1,73 @@
+// Erased from crates/schnellru/src/map/by_hash.rt: do not edit.
+//! Searches by a hash, with a closure that recognises the entry.
+
+#[allow(unused_imports)]
+use crate::rattle_std::prelude::*;
+
+use crate::erased::lru_limits::{KeyHasher, Limiter};
+use crate::erased::schnellru::map::LruMap;
+use crate::rattle_std::hash::Hash;
+
+impl<K: Eq + Hash, V, L: Limiter<K, V>, S: KeyHasher<K>> LruMap<K, V, L, S> {
+    /// Lends the value of an entry that `is_eq` accepts, for writing, and makes the entry the newest. The limiter is
+    /// not notified of what is written.
+    ///
+    /// `is_eq` gets only entries whose hashes agree with `hash` in the top 7 bits: each at most once, and none after it
+    /// accepted one. It may accept an entry of another hash: let it compare keys. `None` says that it rejected each
+    /// entry of this hash, and that nothing has changed. The hash of a key is what `map.hasher().hash_named(&key)`
+    /// returns.
+    ///
+    /// Cost: `O(1)` expected, with one call of `is_eq` for each entry that it gets.
+    ///
+    /// ```text
+    /// let hash = RandomState::default().hash_one(&1u64);
+    /// assert_eq!(rt; map.get_by_hash(hash, |key, _| *key == 1).copied(), Some(10));
+    /// assert!(rt; map.peek_newest() == Some((&1, &10)));
+    /// ```
+    ///
+    /// After schnellru's `LruMap::get_by_hash`.
+    pub fn get_by_hash<F: FnMut(&K, &V) -> bool>(&mut self, hash: u64, is_eq: F) -> Option<&mut V> {
+        let b = self.find_by(hash, is_eq)?;
+        self.promote_at(b);
+        Some(self.value_in_mut(b))
+    }
+
+    /// Returns the value of an entry that `is_eq` accepts. The order stays. `is_eq` is called as `get_by_hash` calls
+    /// it.
+    ///
+    /// ```text
+    /// assert_eq!(rt; map.peek_by_hash(hash, |_, value| *value == 10).copied(), Some(10));
+    /// ```
+    ///
+    /// Cost: as `get_by_hash`.
+    ///
+    /// After schnellru's `LruMap::peek_by_hash`.
+    pub fn peek_by_hash<F: FnMut(&K, &V) -> bool>(&self, hash: u64, is_eq: F) -> Option<&V> {
+        let b = self.find_by(hash, is_eq)?;
+        Some(&self.pair_in(b).value)
+    }
+
+    /// Lends the value of an entry that `is_eq` accepts, for writing. The order stays. The limiter is not notified of
+    /// what is written. `is_eq` is called as `get_by_hash` calls it.
+    ///
+    /// ```text
+    /// if let Some(value) = map.peek_by_hash_mut(hash, |key, _| *key == 1) {
+    ///     *value = 100;
+    /// }
+    /// assert_eq!(rt; map.peek(&1), Some(&100));
+    /// ```
+    ///
+    /// Cost: as `get_by_hash`.
+    ///
+    /// After schnellru's `LruMap::peek_by_hash_mut`.
+    pub fn peek_by_hash_mut<F: FnMut(&K, &V) -> bool>(&mut self, hash: u64, is_eq: F) -> Option<&mut V> {
+        let b = self.find_by(hash, is_eq)?;
+        Some(self.value_in_mut(b))
+    }
+
+    // Returns the bucket of the entry that `is_eq` accepts, if there is one.
+    #[inline]
+    fn find_by<F: FnMut(&K, &V) -> bool>(&self, hash: u64, is_eq: F) -> Option<usize> {
+        self.entries.find_by(hash, is_eq)
+    }
+}

@@ -1,0 +1,44 @@
+// Erased from crates/schnellru/src/map/clone.rt: do not edit.
+//! A copy of a map.
+
+#[allow(unused_imports)]
+use crate::rattle_std::prelude::*;
+
+use crate::erased::lru_limits::{KeyHasher, Limiter};
+use crate::erased::schnellru::map::LruMap;
+use crate::rattle_std::alloc::AllocError;
+use crate::rattle_std::hash::Hash;
+
+impl<K: Clone, V: Clone, L: Limiter<K, V> + Clone, S: Clone> LruMap<K, V, L, S> {
+    /// Clones the entries in order, the limiter and the hasher, into a table of the same buckets and counts.
+    ///
+    /// ```text
+    /// let mut copy = map.clone()?;
+    /// assert_eq!(rt; copy.remove(&1), Some(10));
+    /// assert_eq!(rt; (copy.len(), map.len()), (2, 3));
+    /// ```
+    ///
+    /// A clone of a key has to equal the key, and a clone of the hasher has to hash alike. So this is a method and no
+    /// impl of `Clone`, and a struct that contains a map derives no `Clone`. Cost: `O(buckets)`, with two
+    /// requests for memory and the requests of the clones; a map without buckets does not make the two.
+    ///
+    /// # Errors
+    ///
+    /// `Err` says that the map ran out of memory, or a clone failed. What was copied is dropped.
+    ///
+    /// After schnellru's `LruMap::clone`.
+    pub fn try_clone(&self) -> Result<Self, AllocError> {
+        let entries = self.entries.copy()?;
+        let hasher = self.hasher.try_clone()?;
+        let limiter = self.limiter.try_clone()?;
+        Ok(LruMap {
+            entries,
+            limiter,
+            hasher,
+            entry_bytes: self.entry_bytes,
+            moved: self.moved,
+            shrunk: self.shrunk,
+            alloc: self.alloc,
+        })
+    }
+}

@@ -1,0 +1,36 @@
+// Erased from crates/schnellru/src/map/extend.rt: do not edit.
+//! Inserting many entries.
+
+#[allow(unused_imports)]
+use crate::rattle_std::prelude::*;
+
+use crate::erased::lru_limits::{Insertion, KeyHasher};
+use crate::erased::schnellru::map::LruMap;
+use crate::rattle_std::alloc::AllocError;
+use crate::rattle_std::hash::Hash;
+
+impl<K: Eq + Hash, V, L: Insertion<K, V, K>, S: KeyHasher<K>> LruMap<K, V, L, S> {
+    /// Inserts each entry, one after another, as `insert` inserts it: the last one is the newest.
+    ///
+    /// ```text
+    /// map.try_extend([(4, 40), (5, 50)])?;
+    /// assert!(rt; map.peek_newest() == Some((&5, &50)));
+    /// ```
+    ///
+    /// Cost: as `insert` of each entry.
+    ///
+    /// # Errors
+    ///
+    /// The insert of an entry ran out of memory. Those before it were inserted, and the others were not.
+    ///
+    /// After std's `Extend::extend`; schnellru has no such call.
+    pub fn try_extend<T: IntoIterator<Item = (K, V)>>(&mut self, entries: T) -> Result<(), AllocError>
+where {
+        for (key, value) in entries {
+            self.insert(key, value)?;
+        }
+        // Nothing at run time: it opens the map, whose invariant is the clause `map`.
+        let _ = &self.entries;
+        Ok(())
+    }
+}

@@ -1,0 +1,165 @@
+// Erased from crates/schnellru/src/map/figures.rt: do not edit.
+//! The length, the capacity, the memory and the limiter of a map.
+
+#[allow(unused_imports)]
+use crate::rattle_std::prelude::*;
+
+use crate::erased::group_table::LinkType;
+use crate::erased::lru_limits::{KeyHasher, Limiter};
+use crate::erased::lru_model::sizes;
+use crate::erased::schnellru::map::LruMap;
+use crate::rattle_std::fmt;
+use crate::rattle_std::hash::Hash;
+
+impl<K: Eq + Hash, V, L: Limiter<K, V>, S: KeyHasher<K>> LruMap<K, V, L, S> {
+    /// Returns the number of entries. Cost: `O(1)`.
+    ///
+    /// ```text
+    /// assert_eq!(rt; map.len(), 3);
+    /// ```
+    ///
+    /// After schnellru's `LruMap::len`.
+    #[inline]
+    pub fn len(&self) -> usize {
+        self.entries.len()
+    }
+
+    /// Returns whether the map is empty. Cost: `O(1)`.
+    ///
+    /// ```text
+    /// let map: LruMap<u64, u32> = LruMap::with_hasher(alloc, ByLength::new(3), RandomState::default(), 24);
+    /// assert!(rt; map.is_empty() && map.memory_usage() == 0);
+    /// ```
+    ///
+    /// After schnellru's `LruMap::is_empty`.
+    #[inline]
+    pub fn is_empty(&self) -> bool {
+        self.entries.len() == 0
+    }
+
+    /// Returns how many entries the table holds for sure without growing: its entries and its growth left.
+    ///
+    /// It does not depend on the limiter. It may fall when an entry is removed from a table of more than 16 buckets.
+    /// Cost: `O(1)`.
+    ///
+    /// ```text
+    /// let mut map: LruMap<u64, u64, UnlimitedCompact> = LruMap::default(alloc);
+    /// assert_eq!(rt; map.try_reserve(7), Ok(()));
+    /// assert_eq!(rt; (map.guaranteed_capacity(), map.len()), (7, 0));
+    /// ```
+    ///
+    /// After schnellru's `LruMap::guaranteed_capacity`.
+    pub fn guaranteed_capacity(&self) -> usize {
+        self.entries.len() + self.entries.room()
+    }
+
+    /// Returns the bytes of the table, or 0 without buckets: `entry_bytes` for each bucket, full or not, together
+    /// rounded up to a multiple of 16, a byte more for each bucket, and 16 more.
+    ///
+    /// `entry_bytes` is the number that the constructor was given, or that `with_limiter` computed. 4 buckets of 16
+    /// bytes are 64 + 4 + 16 = 84. Cost: `O(1)`.
+    ///
+    /// ```text
+    /// let mut map: LruMap<u32, u32, ByMemoryUsage> = LruMap::with_memory_budget(alloc, 84, [1, 2, 3, 4], 16);
+    /// for n in 1..=4 {
+    ///     map.insert(n, n)?;
+    /// }
+    /// assert!(rt; map.len() == 3 && map.memory_usage() == 84 && map.peek(&1).is_none());
+    /// ```
+    ///
+    /// After schnellru's `LruMap::memory_usage`.
+    pub fn memory_usage(&self) -> usize {
+        let buckets = self.bucket_count();
+        if buckets == 0 {
+            return 0;
+        }
+        sizes::bytes_of(self.entry_bytes, buckets)
+    }
+
+    /// Returns the greatest `memory_usage` within a budget that a map with `entry_bytes` bytes an entry can have, or 0
+    /// if no table fits.
+    ///
+    /// ```text
+    /// let usage = LruMap::<u32, u32, UnlimitedCompact>::memory_usage_for_memory_budget(512, 16);
+    /// assert_eq!(rt; usage, 288);
+    /// ```
+    ///
+    /// Cost: at most 62 steps.
+    ///
+    /// After schnellru's `LruMap::memory_usage_for_memory_budget`.
+    pub fn memory_usage_for_memory_budget(budget: usize, entry_bytes: usize) -> usize {
+        sizes::usage_within(L::LinkType::MAX.into_usize(), entry_bytes, budget)
+    }
+
+    /// Returns the limiter. Cost: `O(1)`.
+    ///
+    /// ```text
+    /// let old = map.set_limiter(ByLength::new(1));
+    /// assert_eq!(rt; map.limiter().max_length(), 1);
+    /// ```
+    ///
+    /// After schnellru's `LruMap::limiter`.
+    pub fn limiter(&self) -> &L {
+        &self.limiter
+    }
+
+    /// Returns the hasher of the map. Its `hash_named` returns the hash of a key. Cost: `O(1)`.
+    ///
+    /// ```text
+    /// let hash = map.hasher().hash_named(&5);
+    /// let inserted = map.insert_hashed(hash, 5, 50, &mut |_, _| {})?;
+    /// ```
+    ///
+    /// After std's `HashMap::hasher`; schnellru has no such call.
+    pub fn hasher(&self) -> &S {
+        &self.hasher
+    }
+
+    /// Lends the limiter for writing. A lower limit takes effect at the next `trim`, and at the next insert or update
+    /// that stores an entry or replaces a value. A call whose entry or value the limiter rejects evicts nothing.
+    ///
+    /// Do not write a limiter with another running total: `*map.limiter_mut() = ByCost::new(n)` would count the entries
+    /// that are there as 0. Call `set_limiter` with `map.limiter().with_limit(n)`.
+    ///
+    /// ```text
+    /// *map.limiter_mut() = ByLength::new(1);
+    /// assert_eq!(rt; map.len(), 3);
+    /// map.insert(4, 40)?;
+    /// assert_eq!(rt; map.len(), 1);
+    /// ```
+    ///
+    /// Cost: `O(1)`.
+    ///
+    /// After schnellru's `LruMap::limiter_mut`.
+    pub fn limiter_mut(&mut self) -> &mut L {
+        &mut self.limiter
+    }
+}
+
+impl<K: Eq + Hash, V, L: Limiter<K, V>, S: KeyHasher<K>> LruMap<K, V, L, S> {
+    // Returns the number of buckets, all of which links reach.
+    #[inline]
+    pub(super) fn bucket_count(&self) -> usize {
+        self.entries.buckets()
+    }
+
+    // Returns how many entries the table takes before it is rehashed or grows.
+    #[inline]
+    pub(super) fn growth_left(&self) -> usize {
+        self.entries.room()
+    }
+
+    // Returns whether the limiter is over its limit.
+    #[inline]
+    pub(super) fn is_over_the_limit(&self) -> bool {
+        self.limiter.is_over_the_limit(self.entries.len())
+    }
+}
+
+/// Shows the number of entries alone, as `LruMap { len: 3, .. }`.
+impl<K: Eq + Hash, V, L: Limiter<K, V>, S: KeyHasher<K>> fmt::Debug for LruMap<K, V, L, S> {
+    fn fmt(&self, f: &mut fmt::Formatter<'_>) -> fmt::Result {
+        let len = self.len();
+        f.debug_struct("LruMap").field("len", &len).finish_non_exhaustive()
+    }
+}

@@ -1,0 +1,241 @@
+// Erased from crates/schnellru/src/map/get_or_insert.rt: do not edit.
+//! Getting a value, which is inserted if its key is not there.
+
+#[allow(unused_imports)]
+use crate::rattle_std::prelude::*;
+
+use crate::erased::lru_limits::{Insertion, KeyHasher, Limiter, LookupKey};
+use crate::erased::lru_model::GetOrInsertError;
+use crate::erased::schnellru::map::LruMap;
+use crate::erased::schnellru::map::leave::discard;
+use crate::rattle_std::alloc::AllocError;
+use crate::rattle_std::hash::Hash;
+
+// Why no value is lent: the key is not there, or something failed.
+
+pub(crate) enum NotLent<E> {
+    NotKept,
+    Failed(E),
+}
+
+// `kept_or_error` and `kept_or` do the same for two types of error. They are two functions because their callers are
+// proved by hand: a call whose type argument is `AllocError`, and no type parameter, would need a longer proof.
+fn kept_or_error<V, E>(
+    lent: Result<&mut V, NotLent<GetOrInsertError<E>>>,
+) -> Result<Option<&mut V>, GetOrInsertError<E>> {
+    match lent {
+        Ok(value) => Ok(Some(value)),
+        Err(NotLent::NotKept) => Ok(None),
+        Err(NotLent::Failed(error)) => Err(error),
+    }
+}
+
+fn kept_or<V>(lent: Result<&mut V, NotLent<AllocError>>) -> Result<Option<&mut V>, AllocError> {
+    match lent {
+        Ok(value) => Ok(Some(value)),
+        Err(NotLent::NotKept) => Ok(None),
+        Err(NotLent::Failed(e)) => Err(e),
+    }
+}
+
+impl<K: Eq + Hash, V, L: Limiter<K, V>, S: KeyHasher<K>> LruMap<K, V, L, S> {
+    /// Makes the entry of a key the newest. If the key is not there, inserts it with the value that the closure
+    /// returns. Returns whether the key is in the map then.
+    ///
+    /// The key is looked up once. If it is there, the closure is not called and the limiter is not notified. Otherwise
+    /// the entry is inserted as `insert` inserts it. Then `newest_mut` lends the value.
+    ///
+    /// ```text
+    /// if map.ensure_newest(1, || 0)? {
+    ///     if let Some(count) = map.newest_mut() {
+    ///         *count = count.saturating_add(1);
+    ///     }
+    /// }
+    /// ```
+    ///
+    /// Cost: as `get` if the key is there, else as `insert`.
+    ///
+    /// # Errors
+    ///
+    /// Fails as `insert` does, after the closure was called.
+    ///
+    /// schnellru has no such call.
+    pub fn ensure_newest<I: LookupKey<K>, F: FnOnce() -> V>(&mut self, key: I, make: F) -> Result<bool, AllocError>
+    where
+        L: Insertion<K, V, I>,
+    {
+        // Nothing at run time: it opens the map, whose invariant is the clause `map`.
+        let _ = &self.entries;
+        let answer = self.make_newest(key, make);
+        let _ = &self.entries;
+        answer
+    }
+
+    fn make_newest<I: LookupKey<K>, F: FnOnce() -> V>(&mut self, key: I, make: F) -> Result<bool, AllocError>
+    where
+        L: Insertion<K, V, I>,
+    {
+        let hash = self.hasher.hash_named(&key);
+        match self.find_hashed(hash, &key) {
+            Some(b) => {
+                self.promote_at(b);
+                Ok(true)
+            }
+            None => self.insert_new(hash, key, make(), &mut discard),
+        }
+    }
+
+    // Lends the newest value, if `kept` says that the key is there.
+    #[inline]
+    fn lend_if_kept<E>(&mut self, kept: Result<bool, E>) -> Result<&mut V, NotLent<E>> {
+        // Nothing at run time: it opens the map, whose invariant the clause speaks of.
+        let _ = &self.entries;
+        match kept {
+            Ok(true) => Ok(self.newest_value_mut()),
+            Ok(false) => Err(NotLent::NotKept),
+            Err(error) => Err(NotLent::Failed(error)),
+        }
+    }
+
+    // What `get_or_insert` lends, in a form whose contract reaches a caller's proof.
+    pub(crate) fn lend_or_insert<I: LookupKey<K>, F: FnOnce() -> V>(
+        &mut self,
+        key: I,
+        make: F,
+    ) -> Result<&mut V, NotLent<AllocError>>
+    where
+        L: Insertion<K, V, I>,
+    {
+        let kept = self.ensure_newest(key, make);
+        self.lend_if_kept(kept)
+    }
+
+    /// Lends the value of a key for writing. If the key is not there, inserts it with the value that the closure
+    /// returns.
+    ///
+    /// If the key is there, the closure is not called, its entry becomes the newest, and the limiter is not notified.
+    /// `None` says that the new entry is not in the map, as `false` says it of `insert`. The prover carries no contract
+    /// on this type of result into a caller's proof; write `ensure_newest` and `newest_mut` there.
+    ///
+    /// ```text
+    /// assert_eq!(rt; map.get_or_insert(1, || 10)?.copied(), Some(10));
+    /// assert_eq!(rt; map.get_or_insert(1, || 20)?.copied(), Some(10));
+    /// ```
+    ///
+    /// Cost: as `get` if the key is there, else as `insert`.
+    ///
+    /// # Errors
+    ///
+    /// Fails as `insert` does, after the closure was called.
+    ///
+    /// After schnellru's `LruMap::get_or_insert`.
+    pub fn get_or_insert<I: LookupKey<K>, F: FnOnce() -> V>(
+        &mut self,
+        key: I,
+        make: F,
+    ) -> Result<Option<&mut V>, AllocError>
+    where
+        L: Insertion<K, V, I>,
+    {
+        let lent = self.lend_or_insert(key, make);
+        kept_or(lent)
+    }
+
+    /// The same as `ensure_newest` with a closure that may fail. If it fails, nothing has changed. Cost: as
+    /// `ensure_newest`.
+    ///
+    /// ```text
+    /// assert!(rt; map.ensure_newest_fallible(4, || Err(7u8)).is_err());
+    /// assert!(rt; map.peek(&4).is_none());
+    /// assert!(rt; map.ensure_newest_fallible(4, || Ok::<u64, u8>(40))?);
+    /// assert!(rt; map.peek_newest() == Some((&4, &40)));
+    /// ```
+    ///
+    /// # Errors
+    ///
+    /// `Caller` contains the error of the closure; nothing has changed then. `Memory`: the closure was called, and the
+    /// insert failed as `insert` does. The oldest entries may have been evicted.
+    ///
+    /// schnellru has no such call.
+    pub fn ensure_newest_fallible<I: LookupKey<K>, E, F: FnOnce() -> Result<V, E>>(
+        &mut self,
+        key: I,
+        make: F,
+    ) -> Result<bool, GetOrInsertError<E>>
+    where
+        L: Insertion<K, V, I>,
+    {
+        // Nothing at run time: it opens the map, whose invariant is the clause `map`.
+        let _ = &self.entries;
+        let answer = self.make_newest_if_made(key, make);
+        let _ = &self.entries;
+        answer
+    }
+
+    fn make_newest_if_made<I: LookupKey<K>, E, F: FnOnce() -> Result<V, E>>(
+        &mut self,
+        key: I,
+        make: F,
+    ) -> Result<bool, GetOrInsertError<E>>
+    where
+        L: Insertion<K, V, I>,
+    {
+        let hash = self.hasher.hash_named(&key);
+        match self.find_hashed(hash, &key) {
+            Some(b) => {
+                self.promote_at(b);
+                Ok(true)
+            }
+            None => {
+                let value = match make() {
+                    Ok(value) => value,
+                    Err(error) => return Err(GetOrInsertError::Caller(error)),
+                };
+                match self.insert_new(hash, key, value, &mut discard) {
+                    Ok(kept) => Ok(kept),
+                    Err(_refused) => Err(GetOrInsertError::Memory),
+                }
+            }
+        }
+    }
+
+    // What `get_or_insert_fallible` lends, in a form whose contract reaches a caller's proof.
+    pub(crate) fn lend_or_insert_fallible<I: LookupKey<K>, E, F: FnOnce() -> Result<V, E>>(
+        &mut self,
+        key: I,
+        make: F,
+    ) -> Result<&mut V, NotLent<GetOrInsertError<E>>>
+    where
+        L: Insertion<K, V, I>,
+    {
+        let kept = self.ensure_newest_fallible(key, make);
+        self.lend_if_kept(kept)
+    }
+
+    /// The same as `get_or_insert` with a closure that may fail. If it fails, nothing has changed. Cost: as
+    /// `get_or_insert`.
+    ///
+    /// ```text
+    /// assert!(rt; map.get_or_insert_fallible(5, || Err(7u8)).is_err());
+    /// assert!(rt; map.peek(&5).is_none());
+    /// assert_eq!(rt; map.get_or_insert_fallible(5, || Ok::<u64, u8>(50))?.copied(), Some(50));
+    /// ```
+    ///
+    /// # Errors
+    ///
+    /// `Caller` contains the error of the closure; nothing has changed then. `Memory`: the closure was called, and the
+    /// insert failed as `insert` does. The oldest entries may have been evicted.
+    ///
+    /// After schnellru's `LruMap::get_or_insert_fallible`.
+    pub fn get_or_insert_fallible<I: LookupKey<K>, E, F: FnOnce() -> Result<V, E>>(
+        &mut self,
+        key: I,
+        make: F,
+    ) -> Result<Option<&mut V>, GetOrInsertError<E>>
+    where
+        L: Insertion<K, V, I>,
+    {
+        let lent = self.lend_or_insert_fallible(key, make);
+        kept_or_error(lent)
+    }
+}

@@ -1,0 +1,191 @@
+// Erased from crates/schnellru/src/map/insert.rt: do not edit.
+//! `insert` and its forms.
+
+#[allow(unused_imports)]
+use crate::rattle_std::prelude::*;
+
+use crate::erased::lru_limits::{Insertion, KeyHasher, Limiter, LookupKey};
+use crate::erased::lru_model::Inserted;
+use crate::erased::schnellru::map::LruMap;
+use crate::erased::schnellru::map::leave::discard;
+use crate::rattle_std::alloc::AllocError;
+use crate::rattle_std::hash::Hash;
+
+impl<K: Eq + Hash, V, L: Limiter<K, V>, S: KeyHasher<K>> LruMap<K, V, L, S> {
+    /// Inserts a key with a value, as the newest entry. Returns whether the key is in the map then.
+    ///
+    /// If the key is there, the stored key stays, and the limiter decides whether the new value replaces the old one;
+    /// if it rejects the value, the entry is removed and the result is false. A new key goes to the limiter, which
+    /// returns the entry to store, or none. If one more entry would be over the limit, the oldest is evicted first.
+    ///
+    /// If no bucket takes the entry then, a table with fewer than half of the entries that it may hold is rehashed, and
+    /// any other grows. If there is no larger table, or the limiter refuses it, the oldest entries are evicted until a
+    /// bucket is free, or until fewer than half are left and the table is rehashed. If there is no entry to evict, the
+    /// new one is not stored, and the result is false. At the end, if the key is in the map, the oldest entries are
+    /// evicted while the limiter is over its limit.
+    ///
+    /// ```text
+    /// assert!(rt; map.insert(1, 10)?);
+    /// assert!(rt; map.insert(1, 20)?);
+    /// assert_eq!(rt; map.peek(&1), Some(&20));
+    /// ```
+    ///
+    /// Cost: `O(1)` expected, amortised over the inserts. An insert that grows the table moves all entries; over all
+    /// inserts these are at most two for each new entry, and one for each entry that a shrink rehashed.
+    ///
+    /// # Errors
+    ///
+    /// An `Err` says that the map ran out of memory for a new key, which is not there then. There are two causes.
+    /// Either `on_insert` ran out of memory; then nothing has changed. Or the table had no growth left, and the
+    /// allocation for a rehash or a larger table failed. Then the entries that are left are the newest of the old ones:
+    /// some of the oldest may have been evicted to make room. The limiter was notified of each, and of the new entry.
+    ///
+    /// While there is growth left, only `on_insert` takes memory. Running out of memory evicts nothing by itself: the
+    /// same entries would have been evicted had the insert succeeded.
+    ///
+    /// After schnellru's `LruMap::insert`.
+    #[inline(always)]
+    pub fn insert<I: LookupKey<K>>(&mut self, key: I, value: V) -> Result<bool, AllocError>
+    where
+        L: Insertion<K, V, I>,
+    {
+        self.insert_with(key, value, &mut discard)
+    }
+}
+
+impl<K: Eq + Hash, V, L: Limiter<K, V>, S: KeyHasher<K>> LruMap<K, V, L, S> {
+    /// The same as `insert`, and passes to the callback the entries that the map loses, with what `on_removed` wrote to
+    /// them: the evicted entries, oldest first, the entry that is removed because its new value is rejected, and an
+    /// entry that `on_insert` returned but the map could not store.
+    ///
+    /// Each is passed on once, before the limiter is called again, even if the result is an `Err`. A value that is
+    /// replaced is not passed on. Neither is a new entry that `on_insert` rejects: the limiter drops it.
+    ///
+    /// ```text
+    /// let mut left = None;
+    /// map.insert_with(4, 40, &mut |key, value| left = Some((key, value)))?;
+    /// assert_eq!(rt; left, Some((1, 10)));
+    /// ```
+    ///
+    /// Cost: as `insert`, with one call of the callback for each entry that it gets.
+    ///
+    /// # Errors
+    ///
+    /// Fails as `insert` does. The new entry was passed to the callback then, unless `on_insert` ran out of memory.
+    ///
+    /// schnellru has no such call.
+    #[inline(always)]
+    pub fn insert_with<I: LookupKey<K>, F: FnMut(K, V)>(
+        &mut self,
+        key: I,
+        value: V,
+        sink: &mut F,
+    ) -> Result<bool, AllocError>
+    where
+        L: Insertion<K, V, I>,
+    {
+        match self.insert_full(key, value, sink) {
+            Ok(inserted) => Ok(inserted.kept),
+            Err(error) => Err(error),
+        }
+    }
+}
+
+impl<K: Eq + Hash, V, L: Limiter<K, V>, S: KeyHasher<K>> LruMap<K, V, L, S> {
+    /// The same as `insert_with`, and returns the value that the map does not keep, if the key is there: the old one,
+    /// or the new one if the limiter rejects it, with what `on_replace` wrote to it.
+    ///
+    /// The map drops nothing: an entry that is evicted, removed or not stored is passed to the callback, and a value
+    /// that is replaced or rejected is returned. The limiter drops the offered key if the key is there, and the key and
+    /// the value if `on_insert` rejects them or runs out of memory.
+    ///
+    /// ```text
+    /// let inserted = map.insert_full(1, 11, &mut |_, _| {})?;
+    /// assert_eq!(rt; (inserted.kept, inserted.unkept), (true, Some(10)));
+    /// ```
+    ///
+    /// Cost: as `insert_with`.
+    ///
+    /// # Errors
+    ///
+    /// Fails as `insert_with` does.
+    ///
+    /// After `insert_full` of the crate `indexmap`; schnellru has no such call.
+    #[inline(always)]
+    pub fn insert_full<I: LookupKey<K>, F: FnMut(K, V)>(
+        &mut self,
+        key: I,
+        value: V,
+        sink: &mut F,
+    ) -> Result<Inserted<V>, AllocError>
+    where
+        L: Insertion<K, V, I>,
+    {
+        let hash = self.hasher.hash_named(&key);
+        self.insert_hashed(hash, key, value, sink)
+    }
+
+    /// The same as `insert_full` for a key whose hash is known.
+    ///
+    /// The hash must be the key's by the map's hasher, as `map.hasher().hash_named(&key)` returns it. The prover checks
+    /// that, so no caller can insert a key under another hash.
+    ///
+    /// ```text
+    /// let hash = map.hasher().hash_named(&5);
+    /// let inserted = map.insert_hashed(hash, 5, 50, &mut |_, _| {})?;
+    /// ```
+    ///
+    /// Cost: as `insert_full`, without hashing.
+    ///
+    /// # Errors
+    ///
+    /// Fails as `insert_full` does.
+    ///
+    /// After `RawEntryMut::insert_hashed_nocheck` of the crate `hashlink`; schnellru has no such call.
+    #[inline(always)]
+    pub fn insert_hashed<I: LookupKey<K>, F: FnMut(K, V)>(
+        &mut self,
+        hash: u64,
+        key: I,
+        value: V,
+        sink: &mut F,
+    ) -> Result<Inserted<V>, AllocError>
+    where
+        L: Insertion<K, V, I>,
+    {
+        // Nothing at run time: it opens the map, whose invariant the clauses need.
+        let _ = &self.entries;
+        let inserted = self.insert_or_replace(hash, key, value, sink);
+        let _ = &self.entries;
+        inserted
+    }
+
+    // Inserts a key that has this hash.
+    #[inline(always)]
+    fn insert_or_replace<I: LookupKey<K>, F: FnMut(K, V)>(
+        &mut self,
+        hash: u64,
+        key: I,
+        value: V,
+        sink: &mut F,
+    ) -> Result<Inserted<V>, AllocError>
+    where
+        L: Insertion<K, V, I>,
+    {
+        match self.find_hashed(hash, &key) {
+            Some(b) => {
+                let (accepted, unkept) = self.offer_at(b, key, value, sink);
+                if !accepted {
+                    return Ok(Inserted { kept: false, unkept: Some(unkept) });
+                }
+                self.promote_at(b);
+                let kept = self.evict_over_limit(sink);
+                Ok(Inserted { kept, unkept: Some(unkept) })
+            }
+            None => match self.insert_new(hash, key, value, sink) {
+                Ok(kept) => Ok(Inserted { kept, unkept: None }),
+                Err(error) => Err(error),
+            },
+        }
+    }
+}

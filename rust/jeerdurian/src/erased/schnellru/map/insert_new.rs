@@ -1,0 +1,124 @@
+// Erased from crates/schnellru/src/map/insert_new.rt: do not edit.
+//! Inserting a key that is not there. If the limiter accepts it, the map stores the entry that the limiter returns.
+//! Nothing here requires `K: Drop` or `V: Drop`, so a body that forgets a pair does not compile.
+
+#[allow(unused_imports)]
+use crate::rattle_std::prelude::*;
+
+use crate::erased::lru_limits::{Insertion, KeyHasher, Limiter, LookupKey};
+use crate::erased::ordered_table::OrderedTable;
+use crate::erased::schnellru::map::LruMap;
+use crate::rattle_std::alloc::AllocError;
+use crate::rattle_std::hash::Hash;
+
+// The most bytes of a small entry, with its links. A larger entry is inserted in line at its caller, because a call would
+// copy its key and its value once more. A small one is inserted by a call: in line, its code would take registers from
+// the loop that it is in.
+const SMALL: usize = 32;
+
+impl<K: Eq + Hash, V, L: Limiter<K, V>, S: KeyHasher<K>> LruMap<K, V, L, S> {
+    // Inserts a key that is not there. The compiler knows the size of an entry, which `entry_bytes` of the table
+    // returns, so the program need not test it.
+    #[inline(always)]
+    pub(crate) fn insert_new<I: LookupKey<K>, F: FnMut(K, V)>(
+        &mut self,
+        hash: u64,
+        key: I,
+        value: V,
+        sink: &mut F,
+    ) -> Result<bool, AllocError>
+    where
+        L: Insertion<K, V, I>,
+    {
+        if OrderedTable::<K, V, L::LinkType>::entry_bytes() > SMALL {
+            self.insert_in_line(hash, key, value, sink)
+        } else {
+            self.insert_by_call(hash, key, value, sink)
+        }
+    }
+
+    // The same, out of line.
+    #[inline(never)]
+    fn insert_by_call<I: LookupKey<K>, F: FnMut(K, V)>(
+        &mut self,
+        hash: u64,
+        key: I,
+        value: V,
+        sink: &mut F,
+    ) -> Result<bool, AllocError>
+    where
+        L: Insertion<K, V, I>,
+    {
+        self.insert_in_line(hash, key, value, sink)
+    }
+
+    // The same, in line.
+    #[inline(always)]
+    fn insert_in_line<I: LookupKey<K>, F: FnMut(K, V)>(
+        &mut self,
+        hash: u64,
+        key: I,
+        value: V,
+        sink: &mut F,
+    ) -> Result<bool, AllocError>
+    where
+        L: Insertion<K, V, I>,
+    {
+        // One match, and no `?`, which would copy the pair once more.
+        match self.limiter.on_insert(self.alloc, self.entries.len(), key, value) {
+            Ok(Some(pair)) => self.insert_pair(hash, pair, sink),
+            Ok(None) => Ok(false),
+            Err(error) => Err(error),
+        }
+    }
+
+    // Evicts the oldest pair, if the limiter would be over its limit with one more, and stores a pair that the limiter
+    // returned. Then evicts the oldest pairs while the limiter is over its limit.
+    fn insert_pair<F: FnMut(K, V)>(&mut self, hash: u64, pair: (K, V), sink: &mut F) -> Result<bool, AllocError> {
+        self.make_room(sink);
+        // `insert_without_growth` takes the key and the value apart, because a pair would lie in memory that each insert
+        // clears first.
+        let (key, value) = pair;
+        if self.growth_left() == 0 {
+            return self.insert_without_growth(hash, key, value, sink);
+        }
+        self.store_in_room(hash, (key, value));
+        Ok(self.evict_over_limit(sink))
+    }
+
+    // Stores the pair if there is no growth left. Then only a deleted bucket can take it, and this has to be tested.
+    // Out of line, so that other inserts need no such test.
+    #[cold]
+    #[inline(never)]
+    fn insert_without_growth<F: FnMut(K, V)>(
+        &mut self,
+        hash: u64,
+        key: K,
+        value: V,
+        sink: &mut F,
+    ) -> Result<bool, AllocError> {
+        // An empty map is rehashed, which takes no memory, even if a deleted bucket could take the pair.
+        if self.is_empty() {
+            return self.insert_without_bucket(hash, (key, value), sink);
+        }
+        match self.store_in_bucket(hash, (key, value)) {
+            Ok(()) => Ok(self.evict_over_limit(sink)),
+            Err(pair) => self.insert_without_bucket(hash, pair, sink),
+        }
+    }
+
+    // Stores a pair that no bucket takes, and evicts what is over the limit then. Under `ByMemoryUsage` each new pair
+    // may come here. Out of line, so that the code of other inserts stays short.
+    #[inline(never)]
+    fn insert_without_bucket<F: FnMut(K, V)>(
+        &mut self,
+        hash: u64,
+        pair: (K, V),
+        sink: &mut F,
+    ) -> Result<bool, AllocError> {
+        if !self.store_without_bucket(hash, pair, sink)? {
+            return Ok(false);
+        }
+        Ok(self.evict_over_limit(sink))
+    }
+}

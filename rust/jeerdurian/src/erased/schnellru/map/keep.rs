@@ -1,0 +1,52 @@
+// Erased from crates/schnellru/src/map/keep.rt: do not edit.
+//! An insert that returns the entries that it evicts, removes or cannot store.
+
+#[allow(unused_imports)]
+use crate::rattle_std::prelude::*;
+
+use crate::erased::lru_limits::{Insertion, KeyHasher, Limiter, LookupKey};
+use crate::erased::lru_model::laws::inserts_pass_few;
+use crate::erased::schnellru::map::LruMap;
+use crate::rattle_std::alloc::AllocError;
+use crate::rattle_std::hash::Hash;
+
+impl<K: Eq + Hash, V, L: Limiter<K, V>, S: KeyHasher<K>> LruMap<K, V, L, S> {
+    /// Inserts as `insert` does. Returns its result, and the entries that `insert_with` would pass to its callback, in
+    /// order. Memory for these is taken before the map changes.
+    ///
+    /// ```text
+    /// let (done, left) = map.insert_and_keep(4, 40)?;
+    /// assert!(rt; done == Ok(true) && left.as_slice() == [(1, 10)].as_slice());
+    /// ```
+    ///
+    /// Cost: as `insert`, and memory for one entry more than the map contains, even if nothing is evicted. On a large
+    /// map call `insert_with`.
+    ///
+    /// # Errors
+    ///
+    /// Out of memory for the returned entries: nothing has changed, and the key and the value are dropped. An insert
+    /// that runs out of memory itself returns its error as the first of the two results.
+    ///
+    /// schnellru has no such call.
+    pub fn insert_and_keep<I: LookupKey<K>>(
+        &mut self,
+        key: I,
+        value: V,
+    ) -> Result<(Result<bool, AllocError>, Vec<(K, V)>), AllocError>
+    where
+        L: Insertion<K, V, I>,
+    {
+        // Nothing at run time: it shows the proof that there is memory for all that the callback gets.
+        inserts_pass_few::<K, V, I, L, S>();
+        let mut left = Vec::with_capacity(self.alloc, self.len() + 1)?;
+        let done = self.insert_with(key, value, &mut |key, value| keep(&mut left, (key, value)));
+        Ok((done, left))
+    }
+}
+
+// Adds the pair. A vector without space would drop it, but `insert_and_keep` takes enough.
+fn keep<K, V>(pairs: &mut Vec<(K, V)>, pair: (K, V)) {
+    if pairs.len() < pairs.capacity() {
+        pairs.push_reserved(pair);
+    }
+}

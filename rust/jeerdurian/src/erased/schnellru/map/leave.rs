@@ -1,0 +1,169 @@
+// Erased from crates/schnellru/src/map/leave.rt: do not edit.
+//! Removals, pops, a clear and evictions. The limiter is notified of each.
+
+#[allow(unused_imports)]
+use crate::rattle_std::prelude::*;
+
+use crate::erased::lru_limits::{KeyHasher, Limiter, LookupKey};
+use crate::erased::ordered_table::OrderedTable;
+use crate::erased::schnellru::map::LruMap;
+use crate::rattle_std::hash::Hash;
+
+impl<K: Eq + Hash, V, L: Limiter<K, V>, S: KeyHasher<K>> LruMap<K, V, L, S> {
+    /// Removes and returns the oldest entry, as the limiter leaves it, if there is one.
+    ///
+    /// ```text
+    /// assert_eq!(rt; map.pop_oldest(), Some((1, 10)));
+    /// ```
+    ///
+    /// Cost: `O(1)`.
+    ///
+    /// After schnellru's `LruMap::pop_oldest`.
+    pub fn pop_oldest(&mut self) -> Option<(K, V)> {
+        if self.is_empty() {
+            // Nothing at run time: it opens the map, whose invariant is the clause `map`.
+            let _ = &self.entries;
+            return None;
+        }
+        Some(self.take_oldest())
+    }
+
+    /// Removes and returns the newest entry, as the limiter leaves it, if there is one.
+    ///
+    /// ```text
+    /// assert_eq!(rt; map.pop_newest(), Some((3, 30)));
+    /// ```
+    ///
+    /// Cost: `O(1)`.
+    ///
+    /// After schnellru's `LruMap::pop_newest`.
+    pub fn pop_newest(&mut self) -> Option<(K, V)> {
+        if self.is_empty() {
+            return None;
+        }
+        let b = self.entries.newest();
+        Some(take_out(&mut self.entries, &mut self.limiter, b))
+    }
+
+    /// Removes a key. Returns the stored key and its value, as the limiter leaves them. The other entries keep their
+    /// order.
+    ///
+    /// ```text
+    /// assert_eq!(rt; map.remove_entry(&1), Some((1, 10)));
+    /// assert_eq!(rt; map.remove_entry(&1), None);
+    /// ```
+    ///
+    /// Cost: `O(1)` expected.
+    ///
+    /// After std's `HashMap::remove_entry`; schnellru has no such call.
+    #[inline]
+    pub fn remove_entry<Q: LookupKey<K>>(&mut self, key: &Q) -> Option<(K, V)> {
+        let b = self.find(key)?;
+        Some(self.take_at(b))
+    }
+}
+
+impl<K: Eq + Hash, V, L: Limiter<K, V>, S: KeyHasher<K>> LruMap<K, V, L, S> {
+    /// Removes a key. Returns its value, as the limiter leaves it. The other entries keep their order.
+    ///
+    /// ```text
+    /// assert_eq!(rt; map.remove(&1), Some(10));
+    /// assert_eq!(rt; map.remove(&1), None);
+    /// ```
+    ///
+    /// Cost: `O(1)` expected.
+    ///
+    /// After schnellru's `LruMap::remove`.
+    pub fn remove<Q: LookupKey<K>>(&mut self, key: &Q) -> Option<V> {
+        let (_, value) = self.remove_entry(key)?;
+        Some(value)
+    }
+}
+
+impl<K: Eq + Hash, V, L: Limiter<K, V>, S: KeyHasher<K>> LruMap<K, V, L, S> {
+    /// Drops all entries. The limiter is notified of the clear, not of each entry, even if the map is empty. The table
+    /// keeps its buckets.
+    ///
+    /// ```text
+    /// map.clear();
+    /// assert_eq!(rt; (map.len(), map.guaranteed_capacity()), (0, 3));
+    /// ```
+    ///
+    /// Cost: `O(buckets)`, even if there are few entries; `O(1)` if all growth is left.
+    ///
+    /// After schnellru's `LruMap::clear`.
+    pub fn clear(&mut self) {
+        let alloc = self.alloc;
+        if_unwound(&mut self.entries, |entries| leak(entries, OrderedTable::new(alloc)), |entries| entries.clear());
+        self.limiter.on_cleared();
+    }
+}
+
+impl<K: Eq + Hash, V, L: Limiter<K, V>, S: KeyHasher<K>> LruMap<K, V, L, S> {
+    // Takes out the oldest pair, as the limiter leaves it.
+    #[inline(always)]
+    pub(super) fn take_oldest(&mut self) -> (K, V) {
+        take_out_oldest(&mut self.entries, &mut self.limiter)
+    }
+
+    // Evicts the oldest pair, if the limiter would be over its limit with one more.
+    #[inline]
+    pub(super) fn make_room<F: FnMut(K, V)>(&mut self, sink: &mut F) {
+        if !self.is_empty() && self.limiter.is_over_the_limit(self.entries.len() + 1) {
+            let (key, value) = self.take_oldest();
+            sink(key, value);
+        }
+    }
+
+    // Evicts the oldest pairs of a map with pairs while the limiter is over its limit. Returns whether some are left.
+    #[inline]
+    pub(super) fn evict_over_limit<F: FnMut(K, V)>(&mut self, sink: &mut F) -> bool {
+        if self.is_over_the_limit() { self.evict_while_over(sink) } else { true }
+    }
+
+    // The same if the limiter is over its limit. Out of line, so that an insert's code does not contain the evictions.
+    #[inline(never)]
+    fn evict_while_over<F: FnMut(K, V)>(&mut self, sink: &mut F) -> bool {
+        'evictions: loop {
+            let (key, value) = self.take_oldest();
+            sink(key, value);
+            if self.is_empty() {
+                return false;
+            }
+            if !self.is_over_the_limit() {
+                return true;
+            }
+        }
+    }
+}
+
+// Takes the pair out of a full bucket, and notifies the limiter.
+#[inline]
+pub(super) fn take_out<K: Eq + Hash, V, L: Limiter<K, V>>(
+    entries: &mut OrderedTable<K, V, L::LinkType>,
+    limiter: &mut L,
+    b: usize,
+) -> (K, V) {
+    notify(limiter, entries.take(b))
+}
+
+// Takes out the oldest pair of a table that is not empty, and notifies the limiter.
+#[inline(always)]
+fn take_out_oldest<K: Eq + Hash, V, L: Limiter<K, V>>(
+    entries: &mut OrderedTable<K, V, L::LinkType>,
+    limiter: &mut L,
+) -> (K, V) {
+    notify(limiter, entries.take_oldest())
+}
+
+// Notifies the limiter of a pair that was evicted, removed or not stored, and returns the pair as the limiter leaves
+// it.
+#[inline]
+pub(super) fn notify<K, V, L: Limiter<K, V>>(limiter: &mut L, pair: (K, V)) -> (K, V) {
+    let (mut key, mut value) = pair;
+    limiter.on_removed(&mut key, &mut value);
+    (key, value)
+}
+
+// The callback of the calls that pass nothing on. It drops what they evict, remove or do not store.
+pub(crate) fn discard<K, V>(_: K, _: V) {}

@@ -1,0 +1,225 @@
+// Erased from crates/schnellru/src/map/look_up.rt: do not edit.
+//! Looking up a key.
+
+#[allow(unused_imports)]
+use crate::rattle_std::prelude::*;
+
+use crate::erased::lru_limits::{KeyHasher, Limiter, LookupKey};
+use crate::erased::schnellru::map::LruMap;
+use crate::rattle_std::hash::Hash;
+
+impl<K: Eq + Hash, V, L: Limiter<K, V>, S: KeyHasher<K>> LruMap<K, V, L, S> {
+    /// Lends the value of a key for writing, and makes its entry the newest. The limiter is not notified of what is
+    /// written.
+    ///
+    /// `None` says that the key is not there, and nothing has changed. `String` keys are looked up by a `&str`, as
+    /// `map.get(&"a")`; `docs/LIMITERS.md` shows look-up keys of your own.
+    ///
+    /// ```text
+    /// if let Some(value) = map.get(&1) {
+    ///     *value = 100;
+    /// }
+    /// assert!(rt; map.peek_newest() == Some((&1, &100)));
+    /// ```
+    ///
+    /// Cost: `O(1)` expected.
+    ///
+    /// After schnellru's `LruMap::get`.
+    #[inline(always)]
+    pub fn get<Q: LookupKey<K>>(&mut self, key: &Q) -> Option<&mut V> {
+        // `inline(always)`: with the search inside, the compiler would no longer inline this function.
+        let b = self.find(key)?;
+        self.promote_at(b);
+        Some(self.value_in_mut(b))
+    }
+
+    /// Returns the entry of a key, and makes it the newest.
+    ///
+    /// The returned key is the stored one, which may differ from the equal one that is looked up. `None` says that the
+    /// key is not there, and nothing has changed.
+    ///
+    /// ```text
+    /// assert!(rt; map.get_key_value(&1) == Some((&1, &10)));
+    /// assert!(rt; map.peek_newest() == Some((&1, &10)));
+    /// ```
+    ///
+    /// Cost: `O(1)` expected.
+    ///
+    /// After `get_key_value` of the crate `lru`; schnellru has no such call.
+    #[inline]
+    pub fn get_key_value<Q: LookupKey<K>>(&mut self, key: &Q) -> Option<(&K, &V)> {
+        let b = self.find(key)?;
+        self.promote_at(b);
+        let pair = self.pair_in(b);
+        Some((&pair.key, &pair.value))
+    }
+
+    /// Makes the entry of a key the newest, and returns whether the key is there. If it is not, nothing has changed.
+    ///
+    /// ```text
+    /// assert!(rt; map.promote(&1) && !map.promote(&9));
+    /// assert!(rt; map.peek_newest() == Some((&1, &10)));
+    /// ```
+    ///
+    /// Cost: `O(1)` expected.
+    ///
+    /// After `promote` of the crate `lru`; schnellru has no such call.
+    #[inline]
+    pub fn promote<Q: LookupKey<K>>(&mut self, key: &Q) -> bool {
+        match self.find(key) {
+            Some(b) => {
+                self.promote_at(b);
+                true
+            }
+            None => false,
+        }
+    }
+
+    /// Makes the entry of a key the oldest, and returns whether the key is there. If it is not, nothing has changed.
+    ///
+    /// The oldest entry is the next one to be evicted.
+    ///
+    /// ```text
+    /// assert!(rt; map.demote(&3) && !map.demote(&9));
+    /// assert!(rt; map.peek_oldest() == Some((&3, &30)));
+    /// ```
+    ///
+    /// Cost: `O(1)` expected.
+    ///
+    /// After `demote` of the crate `lru`; schnellru has no such call.
+    pub fn demote<Q: LookupKey<K>>(&mut self, key: &Q) -> bool {
+        match self.find(key) {
+            Some(b) => {
+                self.demote_at(b);
+                true
+            }
+            None => false,
+        }
+    }
+
+    /// Lends the value of the newest entry for writing. The limiter is not notified of what is written.
+    ///
+    /// `None` says that the map is empty. After `ensure_newest` returned true, it is the value of that key. Cost:
+    /// `O(1)`.
+    ///
+    /// ```text
+    /// if let Some(count) = map.newest_mut() {
+    ///     *count = count.saturating_add(1);
+    /// }
+    /// ```
+    #[inline]
+    pub fn newest_mut(&mut self) -> Option<&mut V> {
+        if self.is_empty() {
+            // Nothing at run time: it opens the map, whose invariant the clause `map` needs.
+            let _ = &self.entries;
+            return None;
+        }
+        Some(self.newest_value_mut())
+    }
+
+    // The same for a map with pairs.
+    #[inline]
+    pub(crate) fn newest_value_mut(&mut self) -> &mut V {
+        let b = self.entries.newest();
+        &mut self.entries.pair_mut(b).value
+    }
+
+    /// Returns whether a key is in the map. The order stays.
+    ///
+    /// ```text
+    /// assert!(rt; map.contains(&1) && !map.contains(&9));
+    /// ```
+    ///
+    /// Cost: `O(1)` expected.
+    ///
+    /// After `contains` of the crate `lru`; schnellru has no such call.
+    #[inline]
+    pub fn contains<Q: LookupKey<K>>(&self, key: &Q) -> bool {
+        self.find(key).is_some()
+    }
+
+    /// Returns the value of a key. The order stays.
+    ///
+    /// `String` keys are looked up by a `&str`, as `map.peek(&"a")`. Cost: `O(1)` expected.
+    ///
+    /// ```text
+    /// assert_eq!(rt; map.peek(&1), Some(&10));
+    /// ```
+    ///
+    /// After schnellru's `LruMap::peek`.
+    #[inline]
+    pub fn peek<Q: LookupKey<K>>(&self, key: &Q) -> Option<&V> {
+        let b = self.find(key)?;
+        Some(&self.pair_in(b).value)
+    }
+
+    /// Returns the entry of a key. The order stays.
+    ///
+    /// The returned key is the stored one, which may differ from the equal one that is looked up.
+    ///
+    /// ```text
+    /// assert!(rt; map.peek_key_value(&1) == Some((&1, &10)));
+    /// ```
+    ///
+    /// Cost: `O(1)` expected.
+    ///
+    /// After std's `HashMap::get_key_value`; schnellru has no such call.
+    #[inline]
+    pub fn peek_key_value<Q: LookupKey<K>>(&self, key: &Q) -> Option<(&K, &V)> {
+        let b = self.find(key)?;
+        let pair = self.pair_in(b);
+        Some((&pair.key, &pair.value))
+    }
+
+    /// Lends the value of a key for writing. The order stays. The limiter is not notified of what is written.
+    ///
+    /// ```text
+    /// if let Some(value) = map.peek_mut(&1) {
+    ///     *value = 100;
+    /// }
+    /// assert!(rt; map.peek_oldest() == Some((&1, &100)));
+    /// ```
+    ///
+    /// Cost: `O(1)` expected.
+    ///
+    /// After schnellru's `LruMap::peek_mut`.
+    #[inline]
+    pub fn peek_mut<Q: LookupKey<K>>(&mut self, key: &Q) -> Option<&mut V> {
+        let b = self.find(key)?;
+        Some(self.value_in_mut(b))
+    }
+
+    /// Returns the oldest entry. The order stays.
+    ///
+    /// ```text
+    /// assert!(rt; map.peek_oldest() == Some((&1, &10)));
+    /// ```
+    ///
+    /// Cost: `O(1)`.
+    ///
+    /// After schnellru's `LruMap::peek_oldest`.
+    pub fn peek_oldest(&self) -> Option<(&K, &V)> {
+        if self.is_empty() {
+            return None;
+        }
+        let pair = self.entries.pair(self.entries.oldest());
+        Some((&pair.key, &pair.value))
+    }
+
+    /// Returns the newest entry. The order stays.
+    ///
+    /// ```text
+    /// assert!(rt; map.peek_newest() == Some((&3, &30)));
+    /// ```
+    ///
+    /// Cost: `O(1)`.
+    ///
+    /// After schnellru's `LruMap::peek_newest`.
+    pub fn peek_newest(&self) -> Option<(&K, &V)> {
+        if self.is_empty() {
+            return None;
+        }
+        let pair = self.entries.pair(self.entries.newest());
+        Some((&pair.key, &pair.value))
+    }
+}

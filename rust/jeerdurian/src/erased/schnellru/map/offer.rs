@@ -1,0 +1,53 @@
+// Erased from crates/schnellru/src/map/offer.rt: do not edit.
+//! Offering the limiter a new value for a key that is there.
+
+#[allow(unused_imports)]
+use crate::rattle_std::prelude::*;
+
+use crate::erased::lru_limits::{Insertion, KeyHasher, Limiter, LookupKey};
+use crate::erased::ordered_table::OrderedTable;
+use crate::erased::schnellru::map::LruMap;
+use crate::erased::schnellru::map::leave::take_out;
+use crate::rattle_std::hash::Hash;
+use crate::rattle_std::mem;
+
+impl<K: Eq + Hash, V, L: Limiter<K, V>, S: KeyHasher<K>> LruMap<K, V, L, S> {
+    // Offers the limiter a new value for the pair in a bucket. If it accepts, the pair gets the value and keeps its
+    // place. If not, the pair is removed and passed to the callback. Returns whether it accepted, and the replaced
+    // value if it did, else the rejected one.
+    #[inline]
+    pub(super) fn offer_at<I: LookupKey<K>, F: FnMut(K, V)>(
+        &mut self,
+        b: usize,
+        key: I,
+        value: V,
+        sink: &mut F,
+    ) -> (bool, V)
+    where
+        L: Insertion<K, V, I>,
+    {
+        offer(&mut self.entries, &mut self.limiter, b, key, value, sink)
+    }
+}
+
+// The same, over the table and the limiter.
+#[inline]
+pub(super) fn offer<K: Eq + Hash, V, I: LookupKey<K>, L: Insertion<K, V, I>, F: FnMut(K, V)>(
+    entries: &mut OrderedTable<K, V, L::LinkType>,
+    limiter: &mut L,
+    b: usize,
+    key: I,
+    mut value: V,
+    sink: &mut F,
+) -> (bool, V) {
+    let length = entries.len();
+    let pair = entries.pair_mut(b);
+    let taken = limiter.on_replace(length, &mut pair.key, key, &mut pair.value, &mut value);
+    if taken {
+        (true, mem::replace(&mut pair.value, value))
+    } else {
+        let (key, old) = take_out(entries, limiter, b);
+        sink(key, old);
+        (false, value)
+    }
+}

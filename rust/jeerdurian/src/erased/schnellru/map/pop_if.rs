@@ -1,0 +1,63 @@
+// Erased from crates/schnellru/src/map/pop_if.rt: do not edit.
+//! Removing the oldest entry if a closure agrees.
+
+#[allow(unused_imports)]
+use crate::rattle_std::prelude::*;
+
+use crate::erased::lru_limits::{KeyHasher, Limiter};
+use crate::erased::schnellru::map::LruMap;
+use crate::rattle_std::hash::Hash;
+
+impl<K: Eq + Hash, V, L: Limiter<K, V>, S: KeyHasher<K>> LruMap<K, V, L, S> {
+    /// Removes and returns the oldest entry, as the limiter leaves it, if there is one and the closure returns true for
+    /// it. Otherwise nothing changes.
+    ///
+    /// If each use writes the time into the value, `while map.pop_oldest_if(..).is_some() {}` removes the entries that
+    /// were not used since a given time.
+    ///
+    /// ```text
+    /// assert_eq!(rt; map.pop_oldest_if(|key, _| *key == 9), None);
+    /// assert_eq!(rt; map.pop_oldest_if(|key, _| *key == 1), Some((1, 10)));
+    /// ```
+    ///
+    /// Cost: `O(1)`, and one call of the closure.
+    ///
+    /// After std's `Vec::pop_if`; schnellru has no such call.
+    pub fn pop_oldest_if<F: FnOnce(&K, &V) -> bool>(&mut self, accepts: F) -> Option<(K, V)> {
+        // Nothing at run time: it opens the map, whose invariant is the clause `map`.
+        let _ = &self.entries;
+        let (key, value) = self.peek_oldest()?;
+        if !accepts(key, value) {
+            return None;
+        }
+        self.pop_oldest()
+    }
+
+    /// Removes and returns the oldest entry, as the limiter leaves it, if there is one and the closure succeeds for it.
+    ///
+    /// A write-back cache writes the entry in the closure: the entry is removed only if it was written.
+    ///
+    /// ```text
+    /// assert_eq!(rt; map.try_pop_oldest(|_, _| Err(7u8)), Err(7));
+    /// assert_eq!(rt; map.try_pop_oldest(|_, _| -> Result<(), u8> { Ok(()) }), Ok(Some((1, 10))));
+    /// ```
+    ///
+    /// Cost: `O(1)`, and one call of the closure.
+    ///
+    /// # Errors
+    ///
+    /// Returns the error of the closure. Then nothing has changed.
+    ///
+    /// schnellru has no such call.
+    pub fn try_pop_oldest<E, F: FnOnce(&K, &V) -> Result<(), E>>(&mut self, release: F) -> Result<Option<(K, V)>, E> {
+        // Nothing at run time: it opens the map, whose invariant is the clause `map`.
+        let _ = &self.entries;
+        match self.peek_oldest() {
+            None => Ok(None),
+            Some((key, value)) => match release(key, value) {
+                Ok(()) => Ok(self.pop_oldest()),
+                Err(error) => Err(error),
+            },
+        }
+    }
+}

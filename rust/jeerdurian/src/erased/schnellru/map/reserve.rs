@@ -1,0 +1,71 @@
+// Erased from crates/schnellru/src/map/reserve.rt: do not edit.
+//! Growth ahead of inserts.
+
+#[allow(unused_imports)]
+use crate::rattle_std::prelude::*;
+
+use crate::erased::group_table::full_capacity;
+use crate::erased::lru_limits::{KeyHasher, Limiter};
+use crate::erased::lru_model::ReserveError;
+use crate::erased::schnellru::map::LruMap;
+use crate::rattle_std::hash::Hash;
+
+impl<K: Eq + Hash, V, L: Limiter<K, V>, S: KeyHasher<K>> LruMap<K, V, L, S> {
+    /// Reserves growth for n more entries: afterwards `guaranteed_capacity` is at least `len` + n.
+    ///
+    /// The entries stay, and so do the counts of moves. If there is enough growth left, nothing happens. If at most
+    /// half of what the table may hold is needed, the table is rehashed at its size, and the limiter is not queried.
+    /// Otherwise the limiter is queried for a larger table.
+    ///
+    /// ```text
+    /// let mut map: LruMap<u64, u64, UnlimitedCompact> = LruMap::default(alloc);
+    /// assert_eq!(rt; map.try_reserve(7), Ok(()));
+    /// assert_eq!(rt; (map.guaranteed_capacity(), map.len()), (7, 0));
+    /// ```
+    ///
+    /// Cost: `O(1)` if there is enough growth left, else `O(buckets)` of both tables. A rehash at the same size takes
+    /// no memory if the map is empty.
+    ///
+    /// # Errors
+    ///
+    /// Each error leaves the entries and the table as they are. `TooLarge`: `len` + n overflows, or is more than half of
+    /// what the table may hold, and there is no larger table for it: links cannot number one, or its bytes would pass
+    /// `isize::MAX - 15`. The table is not rehashed then, even if it would hold the entries. `Refused`: the limiter
+    /// refused the larger table. `Memory`: out of memory. After `Refused` and `Memory` the limiter keeps what it noted
+    /// when it was queried.
+    ///
+    /// After schnellru's `LruMap::try_reserve`.
+    pub fn try_reserve(&mut self, n: usize) -> Result<(), ReserveError> {
+        let pairs = match self.len().checked_add(n) {
+            Some(pairs) => pairs,
+            None => return Err(ReserveError::TooLarge),
+        };
+        if n <= self.growth_left() {
+            return Ok(());
+        }
+        let buckets = self.bucket_count();
+        if full_capacity(buckets) / 2 < pairs {
+            return self.reserve_larger(n);
+        }
+        match self.move_to(buckets) {
+            Ok(()) => Ok(()),
+            Err(_) => Err(ReserveError::Memory),
+        }
+    }
+
+    // Makes room in a larger table.
+    fn reserve_larger(&mut self, n: usize) -> Result<(), ReserveError> {
+        match self.next_table(n) {
+            Some((count, bytes)) => {
+                if !self.limiter.on_grow(bytes) {
+                    return Err(ReserveError::Refused);
+                }
+                match self.move_to(count) {
+                    Ok(()) => Ok(()),
+                    Err(_) => Err(ReserveError::Memory),
+                }
+            }
+            None => Err(ReserveError::TooLarge),
+        }
+    }
+}

@@ -1,0 +1,72 @@
+// Erased from crates/schnellru/src/map/retain.rt: do not edit.
+//! Removing the entries that a closure rejects.
+
+#[allow(unused_imports)]
+use crate::rattle_std::prelude::*;
+
+use crate::erased::lru_limits::{KeyHasher, Limiter};
+use crate::erased::schnellru::map::LruMap;
+use crate::erased::schnellru::map::leave::{discard, take_out};
+use crate::rattle_std::hash::Hash;
+
+impl<K: Eq + Hash, V, L: Limiter<K, V>, S: KeyHasher<K>> LruMap<K, V, L, S> {
+    /// Removes the entries for which the closure returns false. The others keep their order.
+    ///
+    /// The closure is called with each entry once, oldest first. The limiter is notified of each removal, before the
+    /// closure is called again.
+    ///
+    /// ```text
+    /// map.retain(|_, value| *value > 10);
+    /// assert!(rt; map.len() == 2 && !map.contains(&1));
+    /// ```
+    ///
+    /// Cost: `O(n)` for n entries. Links are written only next to an entry that is removed.
+    ///
+    /// After std's `HashMap::retain`, whose closure may write the value; schnellru has no such call.
+    pub fn retain<F: FnMut(&K, &V) -> bool>(&mut self, keep: F) {
+        self.retain_with(keep, &mut discard);
+    }
+}
+
+// Nothing here requires `K: Drop` or `V: Drop`, so a body that forgets a pair does not compile.
+impl<K: Eq + Hash, V, L: Limiter<K, V>, S: KeyHasher<K>> LruMap<K, V, L, S> {
+    /// The same as `retain`, and passes each removed entry to the callback, oldest first, as the limiter leaves it.
+    ///
+    /// ```text
+    /// let mut removed = 0u64;
+    /// map.retain_with(|key, _| *key != 2, &mut |key, _| removed = removed.wrapping_add(key));
+    /// assert_eq!(rt; removed, 2);
+    /// ```
+    ///
+    /// Cost: as `retain`, with one call of the callback for each removed entry.
+    ///
+    /// schnellru has no such call.
+    pub fn retain_with<F: FnMut(&K, &V) -> bool, G: FnMut(K, V)>(&mut self, mut keep: F, sink: &mut G) {
+        let mut left = self.len();
+        let (_, mut next) = self.ends();
+        'pairs: while let Some(b) = next {
+            left -= 1;
+            next = self.newer(left, b);
+            if !self.passes(left, b, &mut keep) {
+                let (key, value) = self.take_from(left, b);
+                sink(key, value);
+            }
+        }
+        // Nothing at run time: it opens the map, whose invariant is the clause `map`.
+        let _ = &self.entries;
+    }
+
+    // Returns what the closure returns for the pair in bucket `b`, which is at position `at` counted from the newest.
+    #[inline]
+    fn passes<F: FnMut(&K, &V) -> bool>(&self, at: usize, b: usize, keep: &mut F) -> bool {
+        let pair = self.entries.pair(b);
+        keep(&pair.key, &pair.value)
+    }
+
+    // Takes out the pair in bucket `b`, which is at position `at` counted from the newest, and notifies the limiter.
+    // Returns what the limiter leaves of the pair. The positions of newer pairs stay.
+    #[inline]
+    fn take_from(&mut self, at: usize, b: usize) -> (K, V) {
+        take_out(&mut self.entries, &mut self.limiter, b)
+    }
+}

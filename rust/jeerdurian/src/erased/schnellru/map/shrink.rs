@@ -1,0 +1,50 @@
+// Erased from crates/schnellru/src/map/shrink.rt: do not edit.
+//! A table of as few buckets as hold the pairs.
+
+#[allow(unused_imports)]
+use crate::rattle_std::prelude::*;
+
+use crate::erased::group_table::{LinkType, buckets_for_capacity};
+use crate::erased::lru_limits::{KeyHasher, Limiter};
+use crate::erased::schnellru::map::LruMap;
+use crate::rattle_std::alloc::AllocError;
+use crate::rattle_std::hash::Hash;
+
+impl<K: Eq + Hash, V, L: Limiter<K, V>, S: KeyHasher<K>> LruMap<K, V, L, S> {
+    /// Shrinks the table to as few buckets as hold the entries, and returns true. Returns false if the table has no
+    /// more than these.
+    ///
+    /// The entries and their order stay. The limiter is not called. An empty map gives its table back. The entries that
+    /// move are counted as `shrunk` in the `MoveReport`. The next insert may have to grow the table again, so do not
+    /// shrink a map that is about to grow.
+    ///
+    /// ```text
+    /// let mut map: LruMap<u64, u64, UnlimitedCompact> = LruMap::default(alloc);
+    /// assert_eq!(rt; map.try_reserve(7), Ok(()));
+    /// assert_eq!(rt; map.get_or_insert(1, || 10)?.copied(), Some(10));
+    /// assert_eq!(rt; map.shrink_to_fit(), Ok(true));
+    /// assert_eq!(rt; (map.len(), map.guaranteed_capacity()), (1, 3));
+    /// assert_eq!(rt; map.shrink_to_fit(), Ok(false));
+    /// ```
+    ///
+    /// Cost: `O(1)` if the table stays, else `O(buckets)`, with three requests for memory; an empty map makes none.
+    ///
+    /// # Errors
+    ///
+    /// `Err` says that the map ran out of memory. Nothing has changed then.
+    ///
+    /// schnellru has no such call.
+    pub fn shrink_to_fit(&mut self) -> Result<bool, AllocError> {
+        let len = self.entries.len();
+        let count = match buckets_for_capacity(len, L::LinkType::MAX.into_usize()) {
+            Some(count) => count,
+            None => return Ok(false),
+        };
+        if self.entries.buckets() <= count {
+            return Ok(false);
+        }
+        self.entries.move_to(count, &self.hasher)?;
+        self.shrunk = self.shrunk.saturating_add(len as u64);
+        Ok(true)
+    }
+}

@@ -1,0 +1,126 @@
+// Erased from crates/schnellru/src/map/store.rt: do not edit.
+//! Storing a new pair: in a free bucket, or after the table was rehashed, has grown, or the oldest pairs were evicted.
+//! Nothing here requires `K: Drop` or `V: Drop`, so a body that forgets a pair does not compile.
+
+#[allow(unused_imports)]
+use crate::rattle_std::prelude::*;
+
+use crate::erased::group_table::full_capacity;
+use crate::erased::lru_limits::{KeyHasher, Limiter};
+use crate::erased::schnellru::map::LruMap;
+use crate::erased::schnellru::map::leave::notify;
+use crate::rattle_std::alloc::AllocError;
+use crate::rattle_std::hash::Hash;
+
+impl<K: Eq + Hash, V, L: Limiter<K, V>, S: KeyHasher<K>> LruMap<K, V, L, S> {
+    // Stores a pair whose key is new and has this hash in a table with growth left, as the newest.
+    #[inline(always)]
+    pub(super) fn store_in_room(&mut self, hash: u64, pair: (K, V)) {
+        self.entries.place(hash, pair);
+    }
+
+    // Stores the pair in the first free bucket, if the table may fill that one. Otherwise returns it.
+    pub(super) fn store_in_bucket(&mut self, hash: u64, pair: (K, V)) -> Result<(), (K, V)> {
+        self.entries.try_place(hash, pair)?;
+        Ok(())
+    }
+
+    // Stores a pair that no bucket takes, after a change of the table. Returns whether the pair is stored.
+    pub(super) fn store_without_bucket<F: FnMut(K, V)>(
+        &mut self,
+        hash: u64,
+        pair: (K, V),
+        sink: &mut F,
+    ) -> Result<bool, AllocError> {
+        let buckets = self.bucket_count();
+        if self.len() < full_capacity(buckets) / 2 {
+            self.store_after_move(buckets, hash, pair, sink)
+        } else {
+            self.store_after_growth(hash, pair, sink)
+        }
+    }
+
+    // Stores the pair in a larger table, if there is one and the limiter grants it.
+    fn store_after_growth<F: FnMut(K, V)>(
+        &mut self,
+        hash: u64,
+        pair: (K, V),
+        sink: &mut F,
+    ) -> Result<bool, AllocError> {
+        match self.next_table(1) {
+            Some((count, bytes)) => {
+                if self.limiter.on_grow(bytes) {
+                    self.store_after_move(count, hash, pair, sink)
+                } else {
+                    self.store_without_growth(hash, pair, sink)
+                }
+            }
+            None => self.store_without_growth(hash, pair, sink),
+        }
+    }
+
+    // Stores the pair after the oldest were evicted. If there are none, the pair is not stored.
+    fn store_without_growth<F: FnMut(K, V)>(
+        &mut self,
+        hash: u64,
+        pair: (K, V),
+        sink: &mut F,
+    ) -> Result<bool, AllocError> {
+        if self.is_empty() {
+            self.pass_unstored(pair, sink);
+            return Ok(false);
+        }
+        self.store_after_eviction(hash, pair, sink)
+    }
+
+    // Stores the pair after the oldest pairs were evicted, at least one.
+    fn store_after_eviction<F: FnMut(K, V)>(
+        &mut self,
+        hash: u64,
+        mut pair: (K, V),
+        sink: &mut F,
+    ) -> Result<bool, AllocError> {
+        let buckets = self.bucket_count();
+        let half = full_capacity(buckets) / 2;
+        'evictions: loop {
+            let (key, value) = self.take_oldest();
+            sink(key, value);
+            if self.len() < half {
+                return self.store_after_move(buckets, hash, pair, sink);
+            }
+            match self.store_in_bucket(hash, pair) {
+                Ok(()) => return Ok(true),
+                Err(back) => pair = back,
+            }
+        }
+    }
+
+    // Moves all pairs to a table of `count` buckets, counts the moves, and stores the pair there. If the number of
+    // buckets stays and there are no pairs, this needs no memory.
+    #[cold]
+    fn store_after_move<F: FnMut(K, V)>(
+        &mut self,
+        count: usize,
+        hash: u64,
+        pair: (K, V),
+        sink: &mut F,
+    ) -> Result<bool, AllocError> {
+        match self.move_to(count) {
+            Ok(()) => {
+                self.count_moves();
+                self.store_in_room(hash, pair);
+                Ok(true)
+            }
+            Err(error) => {
+                self.pass_unstored(pair, sink);
+                Err(error)
+            }
+        }
+    }
+
+    // Notifies the limiter of a pair that was not stored, and passes what it left of the pair to the callback.
+    fn pass_unstored<F: FnMut(K, V)>(&mut self, pair: (K, V), sink: &mut F) {
+        let (key, value) = notify(&mut self.limiter, pair);
+        sink(key, value);
+    }
+}

@@ -1,0 +1,88 @@
+// Erased from crates/schnellru/src/map/trim.rt: do not edit.
+//! Bringing a map within its limit without an insert.
+
+#[allow(unused_imports)]
+use crate::rattle_std::prelude::*;
+
+use crate::erased::lru_limits::{KeyHasher, Limiter};
+use crate::erased::schnellru::map::LruMap;
+use crate::erased::schnellru::map::leave::discard;
+use crate::rattle_std::hash::Hash;
+use crate::rattle_std::mem;
+
+impl<K: Eq + Hash, V, L: Limiter<K, V>, S: KeyHasher<K>> LruMap<K, V, L, S> {
+    /// Evicts the oldest entries while the limiter is over its limit.
+    ///
+    /// So a limit that was lowered through `limiter_mut` takes effect now.
+    ///
+    /// ```text
+    /// *map.limiter_mut() = ByLength::new(1);
+    /// map.trim();
+    /// assert!(rt; map.len() == 1 && map.contains(&3));
+    /// ```
+    ///
+    /// Cost: `O(1)` for each entry that is evicted.
+    ///
+    /// After Guava's `Cache::cleanUp`; schnellru has no such call.
+    pub fn trim(&mut self) {
+        self.trim_with(&mut discard);
+    }
+
+    /// Sets another limiter, and evicts the oldest entries while it is over its limit. Returns the old limiter.
+    ///
+    /// The new limiter is not notified of the entries that are there. A limiter with a running total, such as `ByCost`,
+    /// must begin with the sum of their costs, as `map.limiter().with_limit(n)` does.
+    ///
+    /// ```text
+    /// let old = map.set_limiter(ByLength::new(1));
+    /// assert!(rt; old.max_length() == 3 && map.len() == 1);
+    /// ```
+    ///
+    /// Cost: `O(1)` for each entry that is evicted.
+    ///
+    /// After `resize` of the crate `lru`; schnellru has no such call.
+    pub fn set_limiter(&mut self, limiter: L) -> L {
+        self.set_limiter_with(limiter, &mut discard)
+    }
+}
+
+// Nothing here requires `K: Drop` or `V: Drop`, so a body that forgets a pair does not compile.
+impl<K: Eq + Hash, V, L: Limiter<K, V>, S: KeyHasher<K>> LruMap<K, V, L, S> {
+    /// The same as `trim`, and passes each evicted entry to the callback, oldest first, as the limiter leaves it.
+    ///
+    /// ```text
+    /// let mut evicted = 0u64;
+    /// *map.limiter_mut() = ByLength::new(1);
+    /// map.trim_with(&mut |key, _| evicted = evicted.wrapping_add(key));
+    /// assert_eq!(rt; evicted, 3);
+    /// ```
+    ///
+    /// Cost: as `trim`, with one call of the callback for each evicted entry.
+    ///
+    /// schnellru has no such call.
+    pub fn trim_with<F: FnMut(K, V)>(&mut self, sink: &mut F) {
+        if !self.is_empty() {
+            self.evict_over_limit(sink);
+        }
+        // Nothing at run time: it opens the map, whose invariant is the clause `map`.
+        let _ = &self.entries;
+    }
+
+    /// The same as `set_limiter`, and passes each evicted entry to the callback, oldest first, as the new limiter
+    /// leaves it.
+    ///
+    /// ```text
+    /// let mut evicted = 0u64;
+    /// map.set_limiter_with(ByLength::new(1), &mut |key, _| evicted = evicted.wrapping_add(key));
+    /// assert_eq!(rt; evicted, 3);
+    /// ```
+    ///
+    /// Cost: as `set_limiter`, with one call of the callback for each evicted entry.
+    ///
+    /// schnellru has no such call.
+    pub fn set_limiter_with<F: FnMut(K, V)>(&mut self, limiter: L, sink: &mut F) -> L {
+        let old = mem::replace(&mut self.limiter, limiter);
+        self.trim_with(sink);
+        old
+    }
+}

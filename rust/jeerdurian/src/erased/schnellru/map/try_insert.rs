@@ -1,0 +1,101 @@
+// Erased from crates/schnellru/src/map/try_insert.rt: do not edit.
+//! Inserting a new entry only if nothing has to be evicted for it.
+
+#[allow(unused_imports)]
+use crate::rattle_std::prelude::*;
+
+use crate::erased::lru_limits::{Admission, KeyHasher};
+use crate::erased::schnellru::map::LruMap;
+use crate::erased::schnellru::map::leave::discard;
+use crate::rattle_std::hash::Hash;
+
+impl<K: Eq + Hash, V, L: Admission<K, V> + Copy, S: KeyHasher<K>> LruMap<K, V, L, S> {
+    /// Inserts a new key with its value, as the newest entry, if nothing has to be evicted for it. Otherwise returns
+    /// both. Then no entry is evicted, moves in the order of use, or changes its value.
+    ///
+    /// While no growth is left it fills no deleted bucket, but reserves. So if the limiter refuses a larger table, it
+    /// may return an entry that `insert` would store without an eviction.
+    ///
+    /// ```text
+    /// assert_eq!(rt; map.try_insert(4, 40), Err((4, 40)));
+    /// map.pop_oldest();
+    /// assert_eq!(rt; (map.try_insert(4, 40), map.try_insert(4, 41)), (Ok(()), Err((4, 41))));
+    /// ```
+    ///
+    /// Cost: `O(1)` expected, amortised over the inserts, with one search for the key. An insert that finds no growth
+    /// left reserves some, as `try_reserve(1)` does. `move_report` does not count the entries that this moves.
+    ///
+    /// # Errors
+    ///
+    /// An `Err` returns the key and the value, for one of five causes, which it does not name; `contains` tells the
+    /// first from the others:
+    ///
+    /// - The key is there.
+    /// - The limiter rejects the entry.
+    /// - The limiter would be over its limit with the entry.
+    /// - No growth is left, and there is no larger table, or the limiter refuses it.
+    /// - No growth is left, and there is no memory for the table.
+    ///
+    /// If there was growth left, nothing has changed. If there was none, the table may have more buckets, and the
+    /// limiter keeps what it noted when it was queried for them.
+    ///
+    /// After std's `HashMap::try_insert`; schnellru has no such call.
+    pub fn try_insert(&mut self, key: K, value: V) -> Result<(), (K, V)> {
+        let hash = self.hasher.hash_named(&key);
+        let inserted = self.try_insert_hashed(hash, key, value);
+        // Nothing at run time: it opens the map, whose invariant the clauses need.
+        let _ = &self.entries;
+        inserted
+    }
+
+    // The same for a key that has this hash.
+    fn try_insert_hashed(&mut self, hash: u64, key: K, value: V) -> Result<(), (K, V)> {
+        match self.find_hashed(hash, &key) {
+            Some(_) => Err((key, value)),
+            None => self.try_insert_new(hash, key, value),
+        }
+    }
+
+    // The same for a key that is not there.
+    fn try_insert_new(&mut self, hash: u64, key: K, value: V) -> Result<(), (K, V)> {
+        if !self.can_store(&key, &value) {
+            return Err((key, value));
+        }
+        if !self.get_ready_for(&key, &value) {
+            return Err((key, value));
+        }
+        self.add(hash, key, value);
+        Ok(())
+    }
+
+    // Makes sure that there is growth left for one entry more. Returns whether there is, and the limiter can store the
+    // entry then.
+    fn get_ready_for(&mut self, key: &K, value: &V) -> bool {
+        if self.growth_left() > 0 {
+            return true;
+        }
+        match self.try_reserve(1) {
+            Ok(()) => self.can_store(key, value),
+            Err(_) => false,
+        }
+    }
+
+    // Returns whether the limiter accepts the entry of a new key, and is not over its limit with it.
+    fn can_store(&self, key: &K, value: &V) -> bool {
+        let length = self.entries.len();
+        if !self.limiter.accepts(length, key, value) {
+            return false;
+        }
+        let mut limiter = self.limiter;
+        limiter.on_stored(length, key, value);
+        !limiter.is_over_the_limit(length + 1)
+    }
+
+    // Inserts a key that is new and has this hash, if there is growth left and the limiter can store the entry.
+    fn add(&mut self, hash: u64, key: K, value: V) {
+        match self.insert_new(hash, key, value, &mut discard) {
+            Ok(_) => {}
+            Err(_) => nowhere!(),
+        }
+    }
+}

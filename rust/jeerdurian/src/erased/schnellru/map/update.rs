@@ -1,0 +1,76 @@
+// Erased from crates/schnellru/src/map/update.rt: do not edit.
+//! Replacing a value, with the entry in its place.
+
+#[allow(unused_imports)]
+use crate::rattle_std::prelude::*;
+
+use crate::erased::lru_limits::{Insertion, KeyHasher, Limiter, LookupKey};
+use crate::erased::lru_model::Updated;
+use crate::erased::schnellru::map::LruMap;
+use crate::erased::schnellru::map::leave::discard;
+use crate::rattle_std::hash::Hash;
+
+impl<K: Eq + Hash, V, L: Limiter<K, V>, S: KeyHasher<K>> LruMap<K, V, L, S> {
+    /// Offers the limiter a new value for a key that is there. The entry keeps its place in the order of use.
+    ///
+    /// If the limiter accepts the value, the oldest entries are evicted then while it is over its limit; the updated
+    /// entry is one of these if it is old enough. If the limiter rejects the value, the entry is removed. If the key is
+    /// not there, nothing changes. Returns which of these it was, with the value that is not in the map then.
+    ///
+    /// ```text
+    /// assert_eq!(rt; map.update(1, 11), Updated::Replaced(10));
+    /// assert!(rt; map.peek_oldest() == Some((&1, &11)) && map.update(9, 90) == Updated::Absent(90));
+    /// ```
+    ///
+    /// Cost: `O(1)` expected, and `O(1)` for each entry that is evicted.
+    ///
+    /// After `LinkedHashMap::replace` of the crate `hashlink`; schnellru has no such call.
+    pub fn update<I: LookupKey<K>>(&mut self, key: I, value: V) -> Updated<V>
+    where
+        L: Insertion<K, V, I>,
+    {
+        self.update_with(key, value, &mut discard)
+    }
+}
+
+// Nothing here requires `K: Drop` or `V: Drop`, so a body that forgets a pair does not compile.
+impl<K: Eq + Hash, V, L: Limiter<K, V>, S: KeyHasher<K>> LruMap<K, V, L, S> {
+    /// The same as `update`, and passes each entry that is evicted or removed to the callback, as the limiter leaves
+    /// it: the evicted entries, oldest first, or the entry whose new value is rejected.
+    ///
+    /// ```text
+    /// let mut left = None;
+    /// map.update_with(2, 21, &mut |key, value| left = Some((key, value)));
+    /// assert!(rt; left.is_none() && map.peek(&2) == Some(&21));
+    /// ```
+    ///
+    /// Cost: as `update`, with one call of the callback for each entry that it gets.
+    ///
+    /// schnellru has no such call.
+    pub fn update_with<I: LookupKey<K>, F: FnMut(K, V)>(&mut self, key: I, value: V, sink: &mut F) -> Updated<V>
+    where
+        L: Insertion<K, V, I>,
+    {
+        let updated = self.update_entry(key, value, sink);
+        // Nothing at run time: it opens the map, whose invariant is the clause `map`.
+        let _ = &self.entries;
+        updated
+    }
+
+    // The body of `update_with`. Its contract speaks of the map with the list of what the callback got.
+    fn update_entry<I: LookupKey<K>, F: FnMut(K, V)>(&mut self, key: I, value: V, sink: &mut F) -> Updated<V>
+    where
+        L: Insertion<K, V, I>,
+    {
+        let b = match self.find(&key) {
+            Some(b) => b,
+            None => return Updated::Absent(value),
+        };
+        let (accepted, unkept) = self.offer_at(b, key, value, sink);
+        if !accepted {
+            return Updated::Rejected(unkept);
+        }
+        self.evict_over_limit(sink);
+        Updated::Replaced(unkept)
+    }
+}

@@ -1,0 +1,26 @@
+// Erased from crates/schnellru/src/lib.rt: do not edit.
+//! A hash map that remembers the order in which its entries were used, and evicts the oldest ones when a limiter says
+//! so.
+//!
+//! [`LruMap`] is the map, [`ByLength`] and its like are limiters. `docs/LIMITERS.md` shows how to write a limiter and a
+//! look-up key, `docs/CALLING.md` how to prove code that calls the map, and `docs/DIFFERENCES.md` lists what differs
+//! from the Rust crate. The theorems on all calls are the contracts of the functions of
+//! [`laws`], from `lru_model`.
+
+#[allow(unused_imports)]
+use crate::rattle_std::prelude::*;
+
+mod map;
+mod walk;
+
+pub use crate::erased::lru_limits::{
+    Admission, Both, Budgeted, ByCost, ByLength, ByMemoryUsage, ByWeight, Costed, DefaultHasher, Insertion, KeyHasher,
+    Limiter, LinkType, LookupKey, RandomState, Storing, Summing, Unlimited, UnlimitedCompact,
+};
+pub use crate::erased::lru_model::{GetOrInsertError, Inserted, MoveReport, ReserveError, Updated, laws};
+pub use crate::erased::ordered_table::{Keys, Values, Walk};
+pub use map::LruMap;
+pub use walk::Iter;
+pub use walk::drain::Drain;
+pub use walk::into_iter::IntoIter;
+pub use walk::iter_mut::IterMut;

@@ -1,0 +1,109 @@
+// Erased from crates/schnellru/src/walk.rt: do not edit.
+//! Walking the entries of a map in their order of use.
+
+#[allow(unused_imports)]
+use crate::rattle_std::prelude::*;
+
+use crate::erased::group_table::LinkType;
+use crate::erased::lru_limits::{KeyHasher, Limiter, LookupKey};
+use crate::erased::ordered_table::{Keys, Values, Walk};
+use crate::erased::schnellru::map::LruMap;
+use crate::rattle_std::hash::Hash;
+
+pub(crate) mod drain;
+pub(crate) mod into_iter;
+pub(crate) mod iter_mut;
+mod positions;
+
+/// The iterator over a map under this limiter. A function over the iterators of all limiters takes a `Walk`.
+///
+/// ```text
+/// let mut walk = map.iter();
+/// ```
+///
+/// After schnellru's `Iter`.
+pub type Iter<'a, K, V, L> = Walk<'a, K, V, <L as Limiter<K, V>>::LinkType>;
+
+impl<K: Eq + Hash, V, L: Limiter<K, V>, S: KeyHasher<K>> LruMap<K, V, L, S> {
+    /// Returns an iterator over the entries, newest first. The order stays.
+    ///
+    /// ```text
+    /// for (key, value) in map.iter() {
+    ///     total = total.wrapping_add(key.wrapping_mul(*value));
+    /// }
+    /// ```
+    ///
+    /// Cost: `O(1)`, and so is each step of the walk from either end.
+    ///
+    /// After schnellru's `LruMap::iter`.
+    pub fn iter(&self) -> Iter<'_, K, V, L> {
+        self.entries.iter()
+    }
+
+    /// Returns an iterator over the keys, newest first. The order stays.
+    ///
+    /// ```text
+    /// assert!(rt; map.keys().next() == Some(&3) && map.keys().next_back() == Some(&1));
+    /// ```
+    ///
+    /// Cost: `O(1)`, and so is each step of the walk from either end.
+    ///
+    /// After std's `HashMap::keys`; schnellru has no such call.
+    pub fn keys(&self) -> Keys<'_, K, V, L::LinkType> {
+        self.entries.keys()
+    }
+
+    /// Returns an iterator over the values, newest first. The order stays.
+    ///
+    /// ```text
+    /// assert!(rt; map.values().next() == Some(&30) && map.values().len() == 3);
+    /// ```
+    ///
+    /// Cost: `O(1)`, and so is each step of the walk from either end.
+    ///
+    /// After std's `HashMap::values`; schnellru has no such call.
+    pub fn values(&self) -> Values<'_, K, V, L::LinkType> {
+        self.entries.values()
+    }
+
+    /// Returns the entry at this index in the order of use, counted from 0, the newest. The order stays.
+    ///
+    /// ```text
+    /// assert!(rt; map.get_index(0) == Some((&3, &30)) && map.get_index(3).is_none());
+    /// ```
+    ///
+    /// Cost: `O(index)`, and `O(1)` if there is no such entry.
+    ///
+    /// After `get_index` of the crate `indexmap`; schnellru has no such call.
+    pub fn get_index(&self, index: usize) -> Option<(&K, &V)> {
+        let pair = self.entries.pair(self.entries.at_index(index)?);
+        Some((&pair.key, &pair.value))
+    }
+
+    /// Returns the index of a key in the order of use, counted from 0, the newest. The order stays.
+    ///
+    /// ```text
+    /// assert_eq!(rt; (map.get_index_of(&1), map.get_index_of(&9)), (Some(2), None));
+    /// ```
+    ///
+    /// Cost: `O(1)` expected to find the key, and `O(index)` to count the entries that are newer.
+    ///
+    /// After `get_index_of` of the crate `indexmap`; schnellru has no such call.
+    pub fn get_index_of<Q: LookupKey<K>>(&self, key: &Q) -> Option<usize> {
+        let b = self.find(key)?;
+        Some(self.entries.index_of(b))
+    }
+}
+
+/// `for (key, value) in &map` walks the entries, newest first.
+impl<'a, K: Eq + Hash, V, N: LinkType + 'a, L: Limiter<K, V, LinkType = N>, S: KeyHasher<K>> IntoIterator
+    for &'a LruMap<K, V, L, S>
+{
+    type Item = (&'a K, &'a V);
+
+    type IntoIter = Walk<'a, K, V, N>;
+
+    fn into_iter(self) -> Walk<'a, K, V, N> {
+        self.iter()
+    }
+}

@@ -1,0 +1,181 @@
+// Erased from crates/schnellru/src/walk/iter_mut.rt: do not edit.
+//! An iterator that lends each value for writing.
+
+#[allow(unused_imports)]
+use crate::rattle_std::prelude::*;
+
+use crate::erased::lru_limits::{KeyHasher, Limiter};
+use crate::erased::schnellru::map::LruMap;
+use crate::rattle_std::hash::Hash;
+
+/// An iterator over the entries of a map, newest first, from both ends, that lends each value until its next call.
+///
+/// ```text
+/// let mut walk = map.iter_mut();
+/// if let Some((_, value)) = walk.next() {
+///     *value = 300;
+/// }
+/// ```
+///
+/// After schnellru's `IterMut`.
+
+pub struct IterMut<'a, K, V, L: Limiter<K, V>, S> {
+    map: &'a mut LruMap<K, V, L, S>,
+    // The entries at the positions from `start` up to `end`, counted from the newest, are left. `front` and `back` are
+    // the buckets of the first and the last of them, so a step reads one entry.
+    start: usize,
+    end: usize,
+    front: Option<usize>,
+    back: Option<usize>,
+}
+
+impl<'a, K: Eq + Hash, V, L: Limiter<K, V>, S: KeyHasher<K>> IterMut<'a, K, V, L, S> {
+    /// Returns how many entries are left.
+    ///
+    /// ```text
+    /// assert_eq!(rt; walk.len(), 1);
+    /// ```
+    pub fn len(&self) -> usize {
+        self.end.saturating_sub(self.start)
+    }
+
+    /// Lends the newest entry that is left, its value for writing until the next call. `None` says that no entry is
+    /// left.
+    ///
+    /// The prover carries no contract on this type of result into a caller's proof; write `len` and `lend_next` there.
+    ///
+    /// ```text
+    /// if let Some((_, value)) = walk.next() {
+    ///     *value = 300;
+    /// }
+    /// ```
+    ///
+    /// Cost: `O(1)`.
+    pub fn next(&mut self) -> Option<(&K, &mut V)> {
+        if self.start < self.end {
+            return Some(self.lend_next());
+        }
+        None
+    }
+
+    /// Lends the oldest entry that is left, as `next` lends the newest.
+    ///
+    /// ```text
+    /// if let Some((_, value)) = walk.next_back() {
+    ///     *value = 100;
+    /// }
+    /// ```
+    ///
+    /// Cost: `O(1)`.
+    pub fn next_back(&mut self) -> Option<(&K, &mut V)> {
+        if self.start < self.end {
+            return Some(self.lend_next_back());
+        }
+        None
+    }
+
+    /// The same as `next`, if an entry is left.
+    ///
+    /// ```text
+    /// if walk.len() > 0 {
+    ///     let (_, value) = walk.lend_next();
+    ///     *value = 200;
+    /// }
+    /// ```
+    ///
+    /// Cost: `O(1)`.
+    pub fn lend_next(&mut self) -> (&K, &mut V) {
+        let at = self.start;
+        match self.front {
+            Some(b) => {
+                self.front = self.map.older(at, b);
+                self.start += 1;
+                self.map.pair_at_mut(at, b)
+            }
+            None => nowhere!(),
+        }
+    }
+
+    /// The same as `next_back`, if an entry is left.
+    ///
+    /// ```text
+    /// if walk.len() > 0 {
+    ///     let (_, value) = walk.lend_next_back();
+    ///     *value = 100;
+    /// }
+    /// ```
+    ///
+    /// Cost: `O(1)`.
+
+    pub fn lend_next_back(&mut self) -> (&K, &mut V) {
+        let at = self.end - 1;
+        match self.back {
+            Some(b) => {
+                self.back = self.map.newer(at, b);
+                self.end = at;
+                self.map.pair_at_mut(at, b)
+            }
+            None => nowhere!(),
+        }
+    }
+}
+
+impl<K: Eq + Hash, V, L: Limiter<K, V>, S: KeyHasher<K>> LruMap<K, V, L, S> {
+    /// Returns an iterator over the entries, newest first, that lends each value for writing. The order stays. The
+    /// limiter is not notified of what is written.
+    ///
+    /// It is no `Iterator`, so no `for` loop walks it: write `while let Some((key, value)) = walk.next()`, or call
+    /// `for_each_mut`.
+    ///
+    /// ```text
+    /// let mut walk = map.iter_mut();
+    /// if let Some((_, value)) = walk.next() {
+    ///     *value = 300;
+    /// }
+    /// if let Some((_, value)) = walk.next_back() {
+    ///     *value = 100;
+    /// }
+    /// assert_eq!(rt; walk.len(), 1);
+    /// ```
+    ///
+    /// Cost: `O(1)`.
+    ///
+    /// After schnellru's `LruMap::iter_mut`.
+    pub fn iter_mut(&mut self) -> IterMut<'_, K, V, L, S> {
+        let end = self.len();
+        let (front, back) = self.ends();
+        IterMut { map: self, start: 0, end, front, back }
+    }
+
+    /// Lends the closure each value for writing, with its key, newest first. The order stays. The limiter is not
+    /// notified of what is written.
+    ///
+    /// ```text
+    /// map.for_each_mut(|_, value| *value = value.saturating_add(1));
+    /// assert_eq!(rt; map.peek(&1), Some(&11));
+    /// ```
+    ///
+    /// Cost: `O(n)` for n entries.
+    ///
+    /// After `Iterator::for_each` over the `iter_mut` of std's `HashMap`; schnellru has no such call.
+    pub fn for_each_mut<F: FnMut(&K, &mut V)>(&mut self, mut f: F) {
+        // Nothing at run time: it shows the proof that a position fits.
+        let _ = self.len();
+        let (mut next, _) = self.ends();
+        let mut at = 0;
+        'pairs: while let Some(b) = next {
+            next = self.older(at, b);
+            self.write_at(at, b, &mut f);
+            at += 1;
+        }
+        // Nothing at run time: it opens the map, whose invariant is the clause `map`.
+        let _ = &self.entries;
+    }
+
+    // Calls the closure with the pair in bucket `b`, which is at position `at` counted from the newest.
+    #[inline]
+    fn write_at<F: FnMut(&K, &mut V)>(&mut self, at: usize, b: usize, f: &mut F) {
+        let (key, value) = self.pair_at_mut(at, b);
+        f(key, value);
+    }
+}

@@ -1,0 +1,36 @@
+//! The default hasher's seeds.
+
+use crate::erased::lru_limits;
+use crate::erased::lru_limits::DefaultHasher;
+use core::hash::BuildHasher;
+
+/// Builds the default hasher of a map from its seeds.
+///
+/// Its algorithm is not that of `schnellru`. Proved: equal seeds and equal bytes give equal hashes.
+#[derive(Clone, Debug)]
+pub struct RandomState(lru_limits::RandomState);
+
+impl RandomState {
+    pub(crate) const fn with_seeds(seeds: [u64; 4]) -> Self {
+        RandomState(lru_limits::RandomState::with_seeds(seeds))
+    }
+}
+
+impl BuildHasher for RandomState {
+    type Hasher = DefaultHasher;
+
+    #[inline]
+    fn build_hasher(&self) -> DefaultHasher {
+        self.0.build_hasher()
+    }
+}
+
+#[cfg(feature = "runtime-rng")]
+impl Default for RandomState {
+    /// Takes random seeds, from those of std's hash maps.
+    fn default() -> Self {
+        extern crate std;
+        let state = std::collections::hash_map::RandomState::new();
+        RandomState::with_seeds([0u8, 1, 2, 3].map(|n| state.hash_one(n)))
+    }
+}

@@ -1,0 +1,79 @@
+//! An LRU map with the API and the behaviour of the crate `schnellru` 0.2.4, erased from verified sources.
+//!
+//! [`LruMap`] keeps its entries in the order of their use. A [`Limiter`] decides which entries it accepts and when it is
+//! over its limit; then the least recently used entries are evicted.
+//!
+//! ```
+//! use jeerdurian::{ByLength, LruMap};
+//!
+//! let mut map = LruMap::new(ByLength::new(2));
+//! map.insert("a", 1);
+//! map.insert("b", 2);
+//! map.get(&"a"); // "a" is now the most recently used
+//! map.insert("c", 3); // the map is full: "b" is evicted
+//! assert!(map.peek(&"b").is_none());
+//! ```
+//!
+//! In Cargo.toml, `schnellru = { package = "jeerdurian", path = ".." }` puts it in the place of `schnellru`. The trait
+//! [`More`] adds the calls that `schnellru` lacks.
+//!
+//! # What is proved
+//!
+//! The table, the order of use, the limiters and the calls of the map are written in Rattle, which is Rust with contracts,
+//! and a prover checks that each function meets its contract. A script takes the contracts off, and the result is
+//! [tested](https://doc.rust-lang.org/cargo/guide/tests.html) here. What this crate adds by hand, in terms of Rust's
+//! library and of `schnellru`'s signatures, is tested and not proved. The proofs assume that the keys, the hasher and the
+//! limiter satisfy the laws of their traits; memory safety does not depend on that (`SAFETY.md`).
+#![no_std]
+#![deny(missing_docs, unsafe_op_in_unsafe_fn)]
+
+#[cfg(not(target_pointer_width = "64"))]
+compile_error!("the sources are proved for a `usize` of 64 bits");
+
+extern crate alloc;
+
+mod rattle_std;
+
+#[allow(missing_docs)]
+mod erased;
+
+mod fallible;
+mod hasher;
+mod iter;
+mod keys;
+mod limiter;
+mod map;
+mod more;
+
+pub use erased::lru_limits::{
+    ByCost, ByLength, ByMemoryUsage, ByWeight, Costed, DefaultHasher, Unlimited, UnlimitedCompact,
+};
+pub use erased::lru_model::{GetOrInsertError, Inserted, MoveReport, ReserveError, Updated};
+pub use fallible::Fallible;
+pub use hasher::RandomState;
+pub use iter::{Drain, IntoIter, Iter, IterMut, Keys, Values};
+pub use limiter::{Admission, Limiter};
+pub use map::LruMap;
+pub use more::More;
+pub use rattle_std::alloc::AllocError;
+
+// The unit tests of schnellru, from a file that `rust/upstream.sh` names.
+#[cfg(all(test, upstream_tests))]
+include!(env!("UPSTREAM_TESTS"));
+
+// The generator of random numbers that these tests name.
+#[cfg(all(test, upstream_tests))]
+mod oorandom {
+    pub struct Rand32(u64);
+
+    impl Rand32 {
+        pub fn new(seed: u64) -> Self {
+            Rand32(seed)
+        }
+
+        pub fn rand_range(&mut self, range: core::ops::Range<u32>) -> u32 {
+            self.0 = self.0.wrapping_mul(6364136223846793005).wrapping_add(1442695040888963407);
+            range.start + (self.0 >> 33) as u32 % (range.end - range.start)
+        }
+    }
+}

@@ -1,0 +1,288 @@
+//! Limiters with the signatures of `schnellru`, and as the proved map calls them.
+
+use crate::erased::lru_limits as proved;
+use crate::erased::lru_limits::{
+    ByCost, ByLength, ByMemoryUsage, ByWeight, Costed, LinkType, Unlimited, UnlimitedCompact,
+};
+use crate::keys::Offered;
+use crate::rattle_std::alloc::{AllocError, Global};
+use core::fmt::Debug;
+use core::hash::Hash;
+
+/// Decides which entries a map accepts, when it is over its limit, and whether its table may grow.
+///
+/// The map's answers are proved for limiters whose callbacks are functions of their state and their arguments, and whose
+/// `is_over_the_limit` does not change while no callback that takes `&mut self` is called. A limiter that breaks this
+/// gets other answers, and breaks no memory.
+///
+/// ```
+/// use jeerdurian::{Limiter, LruMap};
+///
+/// struct Even;
+///
+/// impl<V> Limiter<u64, V> for Even {
+///     type KeyToInsert<'a> = u64;
+///     type LinkType = u32;
+///
+///     fn is_over_the_limit(&self, length: usize) -> bool {
+///         length > 100
+///     }
+///     fn on_insert(&mut self, _length: usize, key: u64, value: V) -> Option<(u64, V)> {
+///         (key % 2 == 0).then_some((key, value))
+///     }
+///     fn on_replace(&mut self, _length: usize, _: &mut u64, _: u64, _: &mut V, _: &mut V) -> bool {
+///         true
+///     }
+///     fn on_removed(&mut self, _key: &mut u64, _value: &mut V) {}
+///     fn on_cleared(&mut self) {}
+///     fn on_grow(&mut self, _new_memory_usage: usize) -> bool {
+///         true
+///     }
+/// }
+///
+/// let mut map = LruMap::new(Even);
+/// assert!(map.insert(2, "two"));
+/// assert!(!map.insert(3, "three"));
+/// ```
+pub trait Limiter<K, V> {
+    /// What `insert` takes as a key: the key itself, or something that becomes it only if it is stored.
+    type KeyToInsert<'a>;
+
+    /// The type of the links between the entries: `u8`, `u16`, `u32` or `usize`. It bounds the number of entries: 112,
+    /// 28,672, 1,879,048,192, or as many as memory holds.
+    type LinkType: LinkType + Eq + Debug;
+
+    /// Returns whether a map of `length` entries is over the limit, so that its oldest entry is evicted.
+    ///
+    /// It is asked before an insert of a new entry, with the length that the map will have, and after an insert.
+    fn is_over_the_limit(&self, length: usize) -> bool;
+
+    /// Called before a new entry is stored in a map of `length` entries. `None` rejects it.
+    fn on_insert(&mut self, length: usize, key: Self::KeyToInsert<'_>, value: V) -> Option<(K, V)>;
+
+    /// Called before `new_value` replaces `old_value`. The old key stays. `false` rejects the value, and the entry is
+    /// removed.
+    fn on_replace(
+        &mut self,
+        length: usize,
+        old_key: &mut K,
+        new_key: Self::KeyToInsert<'_>,
+        old_value: &mut V,
+        new_value: &mut V,
+    ) -> bool;
+
+    /// Called after an entry was removed from the map, or accepted and then not stored for want of a larger table.
+    fn on_removed(&mut self, key: &mut K, value: &mut V);
+
+    /// Called after the map was cleared.
+    fn on_cleared(&mut self);
+
+    /// Called before the table grows to `new_memory_usage` bytes. `false` refuses that.
+    fn on_grow(&mut self, new_memory_usage: usize) -> bool;
+}
+
+/// A limiter that says in advance what it accepts, which [`More::try_insert`](crate::More::try_insert) asks.
+///
+/// The limiters of this crate do. For the promises of `try_insert`, `accepts` returns whether `on_insert` would accept
+/// the entry as it is, and `on_stored` changes the limiter as that `on_insert` would.
+pub trait Admission<K, V>: for<'a> Limiter<K, V, KeyToInsert<'a> = K> {
+    /// Returns whether `on_insert` would accept this entry in a map of `length` entries.
+    fn accepts(&self, length: usize, key: &K, value: &V) -> bool;
+
+    /// Changes the limiter as `on_insert` of this entry would.
+    fn on_stored(&mut self, length: usize, key: &K, value: &V);
+}
+
+// The callbacks of a proved limiter under schnellru's signatures, with the two that take a key to insert as they are given.
+macro_rules! by_the_proved_limiter {
+    ([$($parameters:tt)*] $limiter:ty, $link:ty, { $($with_key:tt)* }) => {
+        impl<$($parameters)*> Limiter<K, V> for $limiter {
+            type KeyToInsert<'a> = K;
+            type LinkType = $link;
+
+            $($with_key)*
+
+            #[inline]
+            fn is_over_the_limit(&self, length: usize) -> bool {
+                proved::Limiter::<K, V>::is_over_the_limit(self, length)
+            }
+
+            #[inline]
+            fn on_removed(&mut self, key: &mut K, value: &mut V) {
+                proved::Limiter::<K, V>::on_removed(self, key, value);
+            }
+
+            #[inline]
+            fn on_cleared(&mut self) {
+                proved::Limiter::<K, V>::on_cleared(self);
+            }
+
+            #[inline]
+            fn on_grow(&mut self, new_memory_usage: usize) -> bool {
+                proved::Limiter::<K, V>::on_grow(self, new_memory_usage)
+            }
+        }
+    };
+}
+
+// The proved `on_insert` and `on_replace` have bounds on keys that schnellru's have not, so they are written again here.
+macro_rules! without_bounds {
+    ($limiter:ty, $link:ty, |$this:ident| $accepts:expr) => {
+        by_the_proved_limiter!([K, V] $limiter, $link, {
+            #[inline(always)]
+            fn on_insert(&mut self, _length: usize, key: K, value: V) -> Option<(K, V)> {
+                let $this = self;
+                if $accepts { Some((key, value)) } else { None }
+            }
+
+            #[inline]
+            fn on_replace(&mut self, _: usize, _: &mut K, _: K, _: &mut V, _: &mut V) -> bool {
+                true
+            }
+        });
+
+        impl<K, V> Admission<K, V> for $limiter {
+            #[inline]
+            fn accepts(&self, _length: usize, _key: &K, _value: &V) -> bool {
+                let $this = self;
+                $accepts
+            }
+
+            #[inline]
+            fn on_stored(&mut self, _length: usize, _key: &K, _value: &V) {}
+        }
+    };
+}
+
+without_bounds!(ByLength, u32, |limiter| limiter.max_length() > 0);
+without_bounds!(ByMemoryUsage, u32, |_limiter| true);
+without_bounds!(Unlimited, usize, |_limiter| true);
+without_bounds!(UnlimitedCompact, u32, |_limiter| true);
+
+macro_rules! with_bounds {
+    ([$($parameters:tt)*] $limiter:ty, $link:ty) => {
+        by_the_proved_limiter!([$($parameters)*] $limiter, $link, {
+            #[inline]
+            fn on_insert(&mut self, length: usize, key: K, value: V) -> Option<(K, V)> {
+                proved::Insertion::<K, V, K>::on_insert(self, Global, length, key, value).unwrap_or(None)
+            }
+
+            #[inline]
+            fn on_replace(&mut self, length: usize, old_key: &mut K, key: K, old: &mut V, new: &mut V) -> bool {
+                proved::Insertion::<K, V, K>::on_replace(self, length, old_key, key, old, new)
+            }
+        });
+
+        impl<$($parameters)*> Admission<K, V> for $limiter {
+            #[inline]
+            fn accepts(&self, length: usize, key: &K, value: &V) -> bool {
+                proved::Admission::<K, V>::accepts(self, length, key, value)
+            }
+
+            #[inline]
+            fn on_stored(&mut self, length: usize, key: &K, value: &V) {
+                proved::Admission::<K, V>::on_stored(self, length, key, value);
+            }
+        }
+    };
+}
+
+with_bounds!([K: PartialEq + Hash, V: Costed] ByCost, usize);
+with_bounds!([K: PartialEq + Hash + Costed, V: Costed, const OVERHEAD: u64] ByWeight<OVERHEAD>, usize);
+
+/// A limiter as the proved map calls it.
+#[derive(Clone, Copy)]
+pub(crate) struct Calls<L>(pub(crate) L);
+
+impl<K, V, L: Limiter<K, V>> proved::Limiter<K, V> for Calls<L> {
+    type LinkType = L::LinkType;
+
+    #[inline]
+    fn is_over_the_limit(&self, length: usize) -> bool {
+        self.0.is_over_the_limit(length)
+    }
+
+    #[inline]
+    fn on_removed(&mut self, key: &mut K, value: &mut V) {
+        self.0.on_removed(key, value);
+    }
+
+    #[inline]
+    fn on_cleared(&mut self) {
+        self.0.on_cleared();
+    }
+
+    #[inline]
+    fn on_grow(&mut self, new_memory_usage: usize) -> bool {
+        self.0.on_grow(new_memory_usage)
+    }
+}
+
+impl<'a, K, V, L> proved::Insertion<K, V, Offered<L::KeyToInsert<'a>>> for Calls<L>
+where
+    K: PartialEq + Hash,
+    L: Limiter<K, V>,
+    L::KeyToInsert<'a>: Hash + PartialEq<K>,
+{
+    #[inline(always)]
+    fn on_insert(
+        &mut self,
+        _: Global,
+        length: usize,
+        key: Offered<L::KeyToInsert<'a>>,
+        value: V,
+    ) -> Result<Option<(K, V)>, AllocError> {
+        Ok(self.0.on_insert(length, key.0, value))
+    }
+
+    #[inline]
+    fn on_replace(
+        &mut self,
+        length: usize,
+        old_key: &mut K,
+        new_key: Offered<L::KeyToInsert<'a>>,
+        old_value: &mut V,
+        new_value: &mut V,
+    ) -> bool {
+        self.0.on_replace(length, old_key, new_key.0, old_value, new_value)
+    }
+}
+
+impl<K: PartialEq + Hash, V, L: Admission<K, V>> proved::Insertion<K, V, K> for Calls<L> {
+    #[inline]
+    fn on_insert(&mut self, _: Global, length: usize, key: K, value: V) -> Result<Option<(K, V)>, AllocError> {
+        Ok(self.0.on_insert(length, key, value))
+    }
+
+    #[inline]
+    fn on_replace(&mut self, length: usize, old_key: &mut K, key: K, old: &mut V, new: &mut V) -> bool {
+        self.0.on_replace(length, old_key, key, old, new)
+    }
+}
+
+impl<K: PartialEq + Hash, V, L: Admission<K, V>> proved::Admission<K, V> for Calls<L> {
+    #[inline]
+    fn accepts(&self, length: usize, key: &K, value: &V) -> bool {
+        self.0.accepts(length, key, value)
+    }
+
+    #[inline]
+    fn on_stored(&mut self, length: usize, key: &K, value: &V) {
+        self.0.on_stored(length, key, value);
+    }
+
+    // A map of this crate never asks what it would replace in place.
+    fn accepts_in_place(&self, _: usize, _: &K, _: &V, _: &V) -> bool {
+        false
+    }
+
+    fn on_replaced(&mut self, _: usize, _: &K, _: &V, _: &V) {}
+}
+
+impl<T> Costed for alloc::vec::Vec<T> {
+    /// The number of items.
+    #[inline]
+    fn cost(&self) -> u64 {
+        self.len() as u64
+    }
+}

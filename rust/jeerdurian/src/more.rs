@@ -1,0 +1,270 @@
+//! The calls that `schnellru` lacks, as a trait: inherent methods would hide those of a trait of yours.
+
+use crate::fallible::Fallible;
+use crate::iter::{Keys, Values};
+use crate::keys::{Named, Offered};
+use crate::limiter::{Admission, Calls, Limiter};
+use crate::map::LruMap;
+use crate::{Inserted, MoveReport, ReserveError, Updated};
+use core::hash::{BuildHasher, Hash};
+
+/// Calls of [`LruMap`] that `schnellru` lacks. Import it to use them.
+///
+/// ```
+/// use jeerdurian::{ByLength, LruMap, More};
+///
+/// let mut map = LruMap::new(ByLength::new(3));
+/// for n in 1..=3 {
+///     map.insert(n, 10 * n);
+/// }
+/// assert!(map.contains(&1) && map.promote(&1) && map.demote(&3));
+/// map.retain(|_, value| *value != 20);
+/// assert!(map.keys().eq([&1, &3]));
+/// ```
+#[allow(private_bounds)]
+pub trait More<K, V, L, S>: Sealed
+where
+    K: Hash + PartialEq,
+    S: BuildHasher,
+    L: Limiter<K, V>,
+{
+    /// Returns whether a key is there. The order of use stays.
+    fn contains(&self, key: &(impl Hash + PartialEq<K> + ?Sized)) -> bool;
+
+    /// Returns the stored key and the value of a key. The order of use stays.
+    fn peek_key_value(&self, key: &(impl Hash + PartialEq<K> + ?Sized)) -> Option<(&K, &V)>;
+
+    /// Returns the stored key and the value of a key, and makes its entry the newest.
+    fn get_key_value(&mut self, key: &(impl Hash + PartialEq<K> + ?Sized)) -> Option<(&K, &V)>;
+
+    /// Makes the entry of a key the newest. Returns whether the key is there.
+    fn promote(&mut self, key: &(impl Hash + PartialEq<K> + ?Sized)) -> bool;
+
+    /// Makes the entry of a key the oldest, the next to be evicted. Returns whether the key is there.
+    fn demote(&mut self, key: &(impl Hash + PartialEq<K> + ?Sized)) -> bool;
+
+    /// Lends the newest value for writing.
+    fn newest_mut(&mut self) -> Option<&mut V>;
+
+    /// Returns the entry at an index, of which 0 is the newest. Cost: `O(index)`.
+    fn get_index(&self, index: usize) -> Option<(&K, &V)>;
+
+    /// Returns the index of a key's entry, of which 0 is the newest. Cost: `O(len)`.
+    fn get_index_of(&self, key: &(impl Hash + PartialEq<K> + ?Sized)) -> Option<usize>;
+
+    /// Returns the keys, the newest first.
+    fn keys(&self) -> Keys<'_, K, V, L>;
+
+    /// Returns the values, the newest first.
+    fn values(&self) -> Values<'_, K, V, L>;
+
+    /// Removes a key. Returns the stored key and its value, as the limiter leaves them.
+    fn remove_entry(&mut self, key: &(impl Hash + PartialEq<K> + ?Sized)) -> Option<(K, V)>;
+
+    /// Removes the entries that `keep` rejects. It is asked once for each entry, from the oldest to the newest.
+    fn retain(&mut self, keep: impl FnMut(&K, &V) -> bool);
+
+    /// The same, and passes each removed entry to a callback, before `keep` is asked again.
+    fn retain_with(&mut self, keep: impl FnMut(&K, &V) -> bool, removed: impl FnMut(K, V));
+
+    /// Removes the oldest entry if the closure agrees.
+    fn pop_oldest_if(&mut self, accepts: impl FnOnce(&K, &V) -> bool) -> Option<(K, V)>;
+
+    /// Inserts as [`LruMap::insert`] does, and passes to a callback each entry that the map evicts, removes, or cannot
+    /// store.
+    fn insert_with<'a>(&mut self, key: L::KeyToInsert<'a>, value: V, lost: impl FnMut(K, V)) -> bool
+    where
+        L::KeyToInsert<'a>: Hash + PartialEq<K>;
+
+    /// The same, and returns the value that the map does not keep if the key is there: the old one, or the new one if
+    /// the limiter rejects it. Out of memory, nothing is kept.
+    fn insert_full<'a>(&mut self, key: L::KeyToInsert<'a>, value: V, lost: impl FnMut(K, V)) -> Inserted<V>
+    where
+        L::KeyToInsert<'a>: Hash + PartialEq<K>;
+
+    /// Inserts a new key if nothing has to be evicted for it: the key is absent, the limiter accepts the entry and is
+    /// within its limit with it, and a bucket takes it.
+    ///
+    /// # Errors
+    ///
+    /// Returns the key and the value, and no entry has changed.
+    ///
+    /// ```
+    /// use jeerdurian::{ByLength, LruMap, More};
+    ///
+    /// let mut map = LruMap::new(ByLength::new(1));
+    /// assert_eq!(map.try_insert(1, 10), Ok(()));
+    /// assert_eq!(map.try_insert(2, 20), Err((2, 20)));
+    /// ```
+    fn try_insert(&mut self, key: K, value: V) -> Result<(), (K, V)>
+    where
+        L: Admission<K, V> + Copy;
+
+    /// Replaces the value of a key that is there, if the limiter accepts that. The entry keeps its place in the order.
+    fn update<'a>(&mut self, key: L::KeyToInsert<'a>, value: V) -> Updated<V>
+    where
+        L::KeyToInsert<'a>: Hash + PartialEq<K>;
+
+    /// Evicts the oldest entries while the limiter is over its limit.
+    fn trim(&mut self);
+
+    /// Sets the limiter, and evicts the oldest entries while it is over its limit. Returns the old one. A running total
+    /// is the new limiter's own: it is not computed from the entries.
+    fn set_limiter(&mut self, limiter: L) -> L;
+
+    /// Returns the hasher.
+    fn hasher(&self) -> &S;
+
+    /// Reserves growth for at least `additional` new entries.
+    ///
+    /// # Errors
+    ///
+    /// Says why there is no such table. Nothing has changed then.
+    fn try_reserve(&mut self, additional: usize) -> Result<(), ReserveError>;
+
+    /// Moves the entries into the smallest table that holds them. Returns whether it moved them. Out of memory it did
+    /// not.
+    fn shrink_to_fit(&mut self) -> bool;
+
+    /// Returns how many entries were stored, were moved by inserts, and were rehashed by shrinks.
+    ///
+    /// Proved: `moved` is at most twice `placed` plus `shrunk`.
+    fn move_report(&self) -> MoveReport;
+
+    /// Returns the calls that need memory in forms that return an error when it runs out.
+    fn fallible(&mut self) -> Fallible<'_, K, V, L, S>;
+}
+
+/// Only [`LruMap`] has these calls, so that calls can be added.
+pub(crate) trait Sealed {}
+
+impl<K, V, L: Limiter<K, V>, S> Sealed for LruMap<K, V, L, S> {}
+
+impl<K, V, L, S> More<K, V, L, S> for LruMap<K, V, L, S>
+where
+    K: Hash + PartialEq,
+    S: BuildHasher,
+    L: Limiter<K, V>,
+{
+    #[inline]
+    fn contains(&self, key: &(impl Hash + PartialEq<K> + ?Sized)) -> bool {
+        self.map.contains(&Named(key))
+    }
+
+    #[inline]
+    fn peek_key_value(&self, key: &(impl Hash + PartialEq<K> + ?Sized)) -> Option<(&K, &V)> {
+        self.map.peek_key_value(&Named(key))
+    }
+
+    #[inline]
+    fn get_key_value(&mut self, key: &(impl Hash + PartialEq<K> + ?Sized)) -> Option<(&K, &V)> {
+        self.map.get_key_value(&Named(key))
+    }
+
+    #[inline]
+    fn promote(&mut self, key: &(impl Hash + PartialEq<K> + ?Sized)) -> bool {
+        self.map.promote(&Named(key))
+    }
+
+    fn demote(&mut self, key: &(impl Hash + PartialEq<K> + ?Sized)) -> bool {
+        self.map.demote(&Named(key))
+    }
+
+    fn newest_mut(&mut self) -> Option<&mut V> {
+        self.map.newest_mut()
+    }
+
+    fn get_index(&self, index: usize) -> Option<(&K, &V)> {
+        self.map.get_index(index)
+    }
+
+    fn get_index_of(&self, key: &(impl Hash + PartialEq<K> + ?Sized)) -> Option<usize> {
+        self.map.get_index_of(&Named(key))
+    }
+
+    fn keys(&self) -> Keys<'_, K, V, L> {
+        Keys { walk: self.map.keys() }
+    }
+
+    fn values(&self) -> Values<'_, K, V, L> {
+        Values { walk: self.map.values() }
+    }
+
+    fn remove_entry(&mut self, key: &(impl Hash + PartialEq<K> + ?Sized)) -> Option<(K, V)> {
+        self.map.remove_entry(&Named(key))
+    }
+
+    fn retain(&mut self, keep: impl FnMut(&K, &V) -> bool) {
+        self.map.retain(keep);
+    }
+
+    fn retain_with(&mut self, keep: impl FnMut(&K, &V) -> bool, mut removed: impl FnMut(K, V)) {
+        self.map.retain_with(keep, &mut removed);
+    }
+
+    fn pop_oldest_if(&mut self, accepts: impl FnOnce(&K, &V) -> bool) -> Option<(K, V)> {
+        self.map.pop_oldest_if(accepts)
+    }
+
+    #[inline]
+    fn insert_with<'a>(&mut self, key: L::KeyToInsert<'a>, value: V, mut lost: impl FnMut(K, V)) -> bool
+    where
+        L::KeyToInsert<'a>: Hash + PartialEq<K>,
+    {
+        self.map.insert_with(Offered(key), value, &mut lost).unwrap_or(false)
+    }
+
+    #[inline]
+    fn insert_full<'a>(&mut self, key: L::KeyToInsert<'a>, value: V, mut lost: impl FnMut(K, V)) -> Inserted<V>
+    where
+        L::KeyToInsert<'a>: Hash + PartialEq<K>,
+    {
+        match self.map.insert_full(Offered(key), value, &mut lost) {
+            Ok(inserted) => inserted,
+            Err(_) => Inserted { kept: false, unkept: None },
+        }
+    }
+
+    fn try_insert(&mut self, key: K, value: V) -> Result<(), (K, V)>
+    where
+        L: Admission<K, V> + Copy,
+    {
+        self.map.try_insert(key, value)
+    }
+
+    #[inline]
+    fn update<'a>(&mut self, key: L::KeyToInsert<'a>, value: V) -> Updated<V>
+    where
+        L::KeyToInsert<'a>: Hash + PartialEq<K>,
+    {
+        self.map.update(Offered(key), value)
+    }
+
+    fn trim(&mut self) {
+        self.map.trim();
+    }
+
+    fn set_limiter(&mut self, limiter: L) -> L {
+        self.map.set_limiter(Calls(limiter)).0
+    }
+
+    fn hasher(&self) -> &S {
+        self.map.hasher()
+    }
+
+    fn try_reserve(&mut self, additional: usize) -> Result<(), ReserveError> {
+        self.map.try_reserve(additional)
+    }
+
+    fn shrink_to_fit(&mut self) -> bool {
+        self.map.shrink_to_fit().unwrap_or(false)
+    }
+
+    fn move_report(&self) -> MoveReport {
+        self.map.move_report()
+    }
+
+    fn fallible(&mut self) -> Fallible<'_, K, V, L, S> {
+        Fallible { map: self }
+    }
+}

@@ -1,0 +1,65 @@
+//! Macros of Rattle's library, and of the erasure. With the feature `checked`, and in a debug build, what is proved is
+//! tested.
+
+/// `vec![in alloc; item; n]`, which may fail.
+macro_rules! vec {
+    (in $alloc:expr; $item:expr; $n:expr) => {
+        $crate::rattle_std::vec::Vec::filled($alloc, $item, $n)
+    };
+}
+
+/// The item at an index that is proved to be within, or a part of a slice.
+macro_rules! at {
+    ($items:expr, $index:expr) => {
+        if cfg!(any(debug_assertions, feature = "checked")) {
+            &$items[$index]
+        } else {
+            // SAFETY: the index is within. `SAFETY.md` says why, for each use.
+            unsafe { $items.get_unchecked($index) }
+        }
+    };
+}
+
+/// The same for writing.
+macro_rules! at_mut {
+    ($items:expr, $index:expr) => {
+        if cfg!(any(debug_assertions, feature = "checked")) {
+            &mut $items[$index]
+        } else {
+            // SAFETY: the index is within. `SAFETY.md` says why, for each use.
+            unsafe { $items.get_unchecked_mut($index) }
+        }
+    };
+}
+
+/// Tests that the control byte of a bucket says that it is full, as the contract of the function requires.
+macro_rules! full {
+    ($byte:expr) => {
+        if cfg!(any(debug_assertions, feature = "checked")) {
+            assert!($byte < 0x80, "a bucket that is not full");
+        }
+    };
+}
+
+/// A condition that is proved.
+macro_rules! prove {
+    ($($condition:tt)*) => {
+        if cfg!(any(debug_assertions, feature = "checked")) {
+            assert!($($condition)*);
+        }
+    };
+}
+
+/// Code that is proved never to be reached.
+macro_rules! nowhere {
+    () => {
+        if cfg!(any(debug_assertions, feature = "checked")) {
+            unreachable!()
+        } else {
+            // SAFETY: it is not reached. `SAFETY.md` says why, for each use.
+            unsafe { ::core::hint::unreachable_unchecked() }
+        }
+    };
+}
+
+pub(crate) use {at, at_mut, full, nowhere, prove, vec};

@@ -1,0 +1,60 @@
+//! The names of Rattle's library that the erased crates use, in terms of Rust's. Written by hand, and not proved.
+//!
+//! A name that means the same in both languages is Rust's own. The others differ as their modules say.
+#![allow(dead_code, unused_imports, unused_macros)]
+
+pub mod alloc;
+pub mod clone;
+pub mod simd;
+pub mod unwinding;
+pub mod vec;
+
+#[macro_use]
+mod macros;
+
+/// Rattle proves of an `Eq` that it is an equality. In Rust each type with an `==` may be a key, so nothing that runs
+/// relies on that law; `SAFETY.md` says what does.
+pub mod cmp {
+    pub trait Eq: PartialEq {}
+
+    impl<T: PartialEq + ?Sized> Eq for T {}
+}
+
+pub mod hash {
+    pub use core::hash::*;
+
+    /// Hashes as Rattle's `hash_one` does. An impl of Rust's `BuildHasher` may override `hash_one`, even by type.
+    #[allow(clippy::manual_hash_one)]
+    #[inline]
+    pub fn hash_by<S: BuildHasher + ?Sized, T: Hash + ?Sized>(state: &S, item: &T) -> u64 {
+        let mut hasher = state.build_hasher();
+        item.hash(&mut hasher);
+        hasher.finish()
+    }
+}
+
+pub mod fmt {
+    pub use core::fmt::*;
+}
+
+pub mod iter {
+    pub use core::iter::*;
+}
+
+pub mod marker {
+    pub use core::marker::*;
+}
+
+pub mod mem {
+    pub use core::mem::*;
+}
+
+/// What Rattle's prelude has and Rust's has not.
+pub mod prelude {
+    pub use super::clone::{TryClone, never_fails};
+    pub use super::cmp::Eq;
+    pub use super::unwinding::{if_unwound, leak};
+    pub use super::vec::Vec;
+    pub use ::alloc::string::String;
+    pub(crate) use {at, at_mut, full, nowhere, prove, vec};
+}

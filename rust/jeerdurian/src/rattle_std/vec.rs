@@ -1,0 +1,83 @@
+//! A vector whose growth may fail.
+
+use super::alloc::{AllocError, Global};
+use core::ops::{Deref, DerefMut};
+
+/// Rust's `Vec`, but each call that asks for memory returns a `Result`.
+#[derive(Debug)]
+pub struct Vec<T>(::alloc::vec::Vec<T>);
+
+impl<T> Vec<T> {
+    pub const fn new(_: Global) -> Self {
+        Vec(::alloc::vec::Vec::new())
+    }
+
+    pub fn with_capacity(_: Global, n: usize) -> Result<Self, AllocError> {
+        let mut items = ::alloc::vec::Vec::new();
+        items.try_reserve_exact(n).map_err(|_| AllocError)?;
+        Ok(Vec(items))
+    }
+
+    /// What `vec![in alloc; item; n]` makes.
+    pub fn filled(alloc: Global, item: T, n: usize) -> Result<Self, AllocError>
+    where
+        T: Clone,
+    {
+        let mut items = Self::with_capacity(alloc, n)?;
+        items.0.resize(n, item);
+        Ok(items)
+    }
+
+    pub fn from_slice(alloc: Global, items: &[T]) -> Result<Self, AllocError>
+    where
+        T: Copy,
+    {
+        let mut copy = Self::with_capacity(alloc, items.len())?;
+        copy.0.extend_from_slice(items);
+        Ok(copy)
+    }
+
+    /// Adds an item, for which there is memory.
+    #[inline]
+    pub fn push_reserved(&mut self, item: T) {
+        self.0.push(item);
+    }
+
+    #[inline]
+    pub fn pop(&mut self) -> Option<T> {
+        self.0.pop()
+    }
+
+    pub fn capacity(&self) -> usize {
+        self.0.capacity()
+    }
+
+    pub fn as_slice(&self) -> &[T] {
+        &self.0
+    }
+
+    pub fn as_mut_slice(&mut self) -> &mut [T] {
+        &mut self.0
+    }
+
+    /// Rust's vector of the same items.
+    pub fn into_std(self) -> ::alloc::vec::Vec<T> {
+        self.0
+    }
+}
+
+impl<T> Deref for Vec<T> {
+    type Target = [T];
+
+    #[inline]
+    fn deref(&self) -> &[T] {
+        &self.0
+    }
+}
+
+impl<T> DerefMut for Vec<T> {
+    #[inline]
+    fn deref_mut(&mut self) -> &mut [T] {
+        &mut self.0
+    }
+}

@@ -1,0 +1,1 @@
+//! The crates of the workspace, erased: written by `python3 rust/erase`.
