@@ -41,7 +41,7 @@ ALLOW = "#[allow(dead_code, unused_imports, unused_labels, unused_macros, unused
 
 
 def places():
-    """The places of places.txt, each a file, an old text that stands there once, and the new one."""
+    """The places of places.txt by file: a text that stands there once, and the new one."""
     found = {}
     for block in (RUST / "erase" / "places.txt").read_text().split("\n\n"):
         parts = {"file": [], "old": [], "new": []}
@@ -49,8 +49,8 @@ def places():
             key, _, value = line.partition(": ")
             if key in parts:
                 parts[key].append(value)
-        if parts["file"]:
-            found.setdefault(parts["file"][0], []).append(("\n".join(parts["old"]), "\n".join(parts["new"])))
+        for file in parts["file"]:
+            found.setdefault(file, []).append(("\n".join(parts["old"]), "\n".join(parts["new"])))
     return found
 
 
@@ -64,7 +64,7 @@ def with_places(text, at, todo):
 
 def erase(text, crate, modules):
     """The Rust module of a Rattle file, without the places and the head."""
-    toks = drop_bounds(drop_attributes(displayed_errors(lex(text))))
+    toks = drop_bounds(drop_attributes(displayed_errors(lex(text, tests_full=crate == "group_table"))))
     toks, dropped = impls(toks)
     toks = calls(take_apart(toks, dropped))
     toks = tests(key_bounds(indices(hashes(toks)), dropped))

@@ -92,6 +92,7 @@ impl<T> Table<T> {
     /// Returns the entry in a full bucket. It reads nothing of the table but the address of its entries.
     #[inline]
     pub fn get(&self, b: usize) -> &T {
+        full!(self.control.byte(b));
         self.entries.get(b)
     }
 
@@ -99,6 +100,7 @@ impl<T> Table<T> {
     /// anything that changes the entry's hash.
     #[inline]
     pub fn get_mut(&mut self, b: usize) -> &mut T {
+        full!(self.control.byte(b));
         self.entries.get_mut(b)
     }
 
@@ -111,6 +113,7 @@ impl<T> Table<T> {
     /// It reads 32 control bytes and writes one and its repetition, whatever the table's size.
     #[inline(always)]
     pub fn take(&mut self, b: usize) -> T {
+        full!(self.control.byte(b));
         self.len -= 1;
         let gives_room = ones_if_empty_neighbours(&self.control, b);
         // To subtract all ones is to add 1.
