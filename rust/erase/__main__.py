@@ -21,12 +21,9 @@ import tempfile
 from pathlib import Path
 
 import audit
-from bodies import calls, hashes, indices, key_bounds
-from contracts import drop_attributes, drop_bounds, lex
-from impls import displayed_errors, impls, take_apart
-from names import docs, imports, paths, with_head
-from tests import macros, tests
-from tokens import EraseError, text_of
+from names import with_head
+from rules import erase
+from tokens import EraseError
 
 RUST = Path(__file__).resolve().parent.parent
 CRATES = RUST.parent / "crates"
@@ -60,16 +57,6 @@ def with_places(text, at, todo):
             raise EraseError(f"the place {old!r} stands there {text.count(old)} times")
         text = text.replace(old, new)
     return text
-
-
-def erase(text, crate, modules):
-    """The Rust module of a Rattle file, without the places and the head."""
-    toks = drop_bounds(drop_attributes(displayed_errors(lex(text, tests_full=crate == "group_table"))))
-    toks, dropped = impls(toks)
-    toks = calls(take_apart(toks, dropped))
-    toks = tests(key_bounds(indices(hashes(toks)), dropped))
-    docs(toks)
-    return macros(imports(text_of(paths(toks, crate, modules))))
 
 
 def write_crate(crate, out, todo):
