@@ -2,11 +2,12 @@
 # Compares the crate jeerdurian with a checkout of schnellru 0.2.4, which cargo builds.
 #
 #     rust/compare.sh SCHNELLRU calls [CALLS [SEED]]     random calls on both, 10,000,000 of them; each call is compared
+#     rust/compare.sh SCHNELLRU soak [CALLS [SEED]]      a billion calls on one map of each; a sum of the answers is compared
 #     rust/compare.sh SCHNELLRU counts [SIZE [LOAD..]]   instructions an operation, by valgrind
 #     rust/compare.sh SCHNELLRU times [SIZES [LOAD..]]   nanoseconds an operation, the best of PROCESSES (7)
 set -euo pipefail
 checkout=$(realpath "${1:?the folder of a checkout of schnellru}")
-what=${2:?calls, counts or times}
+what=${2:?calls, soak, counts or times}
 shift 2
 cd "$(dirname "$0")"
 out=$(mktemp -d)
@@ -22,6 +23,10 @@ calls)
     build --bin calls
     "$CARGO_TARGET_DIR/debug/calls" "$@"
     ;;
+soak)
+    build --release --bin soak
+    "$CARGO_TARGET_DIR/release/soak" "$@"
+    ;;
 counts)
     for profile in release plain; do
         build --profile "$profile" --bin loads
@@ -34,7 +39,7 @@ times)
     for _ in $(seq "${PROCESSES:-7}"); do "$CARGO_TARGET_DIR/release/loads" "${ROUNDS:-3}" "$@"; done | python3 compare/best.py
     ;;
 *)
-    echo "calls, counts or times" >&2
+    echo "calls, soak, counts or times" >&2
     exit 2
     ;;
 esac
