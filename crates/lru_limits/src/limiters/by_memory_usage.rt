@@ -43,7 +43,7 @@ impl ByMemoryUsage {
     /// ```
     /// let mut limiter = ByMemoryUsage::new(152);
     /// ```
-    pub fn new(max_bytes: usize) -> ByMemoryUsage
+    pub const fn new(max_bytes: usize) -> ByMemoryUsage
         ensures { result ≡ max_bytes }
     {
         ByMemoryUsage { max_bytes }
@@ -54,7 +54,7 @@ impl ByMemoryUsage {
     /// ```
     /// assert_eq!(rt; limiter.max_memory_usage(), 152);
     /// ```
-    pub fn max_memory_usage(&self) -> usize
+    pub const fn max_memory_usage(&self) -> usize
         ensures { result ≡ self.now }
     {
         self.max_bytes
