@@ -22,7 +22,7 @@ where
         70..=71 => map.iter_mut().for_each(|(_, it)| it.number ^= 1),
         72 => _ = map.drain().nth(3),
         73 => std::mem::forget(map.drain()),
-        74 => std::mem::forget((map.iter_mut().next(), 0)),
+        74 => _ = map.iter_mut().next(),
         75 => lend_all(map),
         76 => map.clear(),
         77 => map.retain(|_, _| any(3) != 1),

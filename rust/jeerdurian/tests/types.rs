@@ -7,7 +7,7 @@ use std::cell::{Cell, RefCell, UnsafeCell};
 use std::fmt::Debug;
 use std::hash::{BuildHasher, Hash};
 use std::panic::{RefUnwindSafe, UnwindSafe};
-use std::sync::MutexGuard;
+use std::sync::{Mutex, MutexGuard};
 
 /// Answers whether a type has an auto trait: the inherent method hides the trait's.
 struct Asked<T: ?Sized>(std::marker::PhantomData<T>);
@@ -123,25 +123,27 @@ fn holders_and_generic_callers() {
 }
 
 type S = std::hash::BuildHasherDefault<std::hash::DefaultHasher>;
-static MAPS: (
-    std::sync::Mutex<LruMap<u64, u64, ByLength, S>>,
-    std::sync::Mutex<LruMap<u64, u64, ByMemoryUsage, S>>,
-    std::sync::Mutex<LruMap<u64, u64, Unlimited>>,
-) = (
-    std::sync::Mutex::new(LruMap::with_hasher(ByLength::new(2), S::new())),
-    std::sync::Mutex::new(LruMap::with_memory_budget_and_hasher(1000, S::new())),
-    std::sync::Mutex::new(LruMap::with_seed(Unlimited, [1, 2, 3, 4])),
-);
+static BY_LENGTH: Mutex<LruMap<u64, u64, ByLength, S>> = Mutex::new(LruMap::with_hasher(ByLength::new(2), S::new()));
+static BY_MEMORY: Mutex<LruMap<u64, u64, ByMemoryUsage, S>> =
+    Mutex::new(LruMap::with_memory_budget_and_hasher(1000, S::new()));
+static UNLIMITED: Mutex<LruMap<u64, u64, Unlimited>> = Mutex::new(LruMap::with_seed(Unlimited, [1, 2, 3, 4]));
 
 #[test]
 fn constructors_are_const() {
-    assert!(MAPS.0.lock().unwrap().insert(1, 2));
-    assert!(MAPS.1.lock().unwrap().insert(1, 2));
-    assert!(MAPS.2.lock().unwrap().insert(1, 2));
+    assert!(BY_LENGTH.lock().unwrap().insert(1, 2));
+    assert!(BY_MEMORY.lock().unwrap().insert(1, 2));
+    assert!(UNLIMITED.lock().unwrap().insert(1, 2));
+}
+
+/// These limiters may be passed by value to C.
+#[deny(improper_ctypes_definitions)]
+extern "C" fn most(length: ByLength, _: ByMemoryUsage) -> u32 {
+    length.max_length()
 }
 
 #[test]
 fn limiters_are_what_they_limit() {
+    assert_eq!(most(ByLength::new(3), ByMemoryUsage::new(4)), 3);
     assert_eq!((size_of::<ByLength>(), align_of::<ByLength>()), (4, 4));
     assert_eq!(size_of::<ByMemoryUsage>(), size_of::<usize>());
     assert_eq!((size_of::<Unlimited>(), size_of::<UnlimitedCompact>()), (0, 0));

@@ -24,6 +24,7 @@ use std::marker::Model;
 ///
 /// Cost: `O(1)` for each callback, and no memory.
 #[derive(Clone, Copy, Debug)]
+#[repr(transparent)]
 pub struct ByLength {
     max_length: u32,
 }

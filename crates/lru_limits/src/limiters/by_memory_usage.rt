@@ -23,6 +23,7 @@ use std::marker::Model;
 ///
 /// Cost: `O(1)` for each callback, and no memory.
 #[derive(Clone, Copy, Debug)]
+#[repr(transparent)]
 pub struct ByMemoryUsage {
     max_bytes: usize,
 }
