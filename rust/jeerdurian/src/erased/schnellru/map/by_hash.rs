@@ -13,9 +13,9 @@ impl<K: Eq + Hash, V, L: Limiter<K, V>, S: KeyHasher<K>> LruMap<K, V, L, S> {
     /// not notified of what is written.
     ///
     /// `is_eq` gets only entries whose hashes agree with `hash` in the top 7 bits: each at most once, and none after it
-    /// accepted one. It may accept an entry of another hash: let it compare keys. `None` says that it rejected each
-    /// entry of this hash, and that nothing has changed. The hash of a key is what `map.hasher().hash_named(&key)`
-    /// returns.
+    /// accepted one, which is only tested. It may accept an entry of another hash: let it compare keys. `None` says
+    /// that it rejected each entry of this hash, and that nothing has changed. The hash of a key is what
+    /// `map.hasher().hash_named(&key)` returns.
     ///
     /// Cost: `O(1)` expected, with one call of `is_eq` for each entry that it gets.
     ///

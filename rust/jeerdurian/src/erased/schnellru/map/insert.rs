@@ -58,8 +58,9 @@ impl<K: Eq + Hash, V, L: Limiter<K, V>, S: KeyHasher<K>> LruMap<K, V, L, S> {
     /// them: the evicted entries, oldest first, the entry that is removed because its new value is rejected, and an
     /// entry that `on_insert` returned but the map could not store.
     ///
-    /// Each is passed on once, before the limiter is called again, even if the result is an `Err`. A value that is
-    /// replaced is not passed on. Neither is a new entry that `on_insert` rejects: the limiter drops it.
+    /// Each is passed on once, even if the result is an `Err`, and before the limiter is called again, which is only
+    /// tested. A value that is replaced is not passed on. Neither is a new entry that `on_insert` rejects: the limiter
+    /// drops it.
     ///
     /// ```text
     /// let mut left = None;

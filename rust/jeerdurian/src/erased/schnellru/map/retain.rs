@@ -12,8 +12,7 @@ use crate::rattle_std::hash::Hash;
 impl<K: Eq + Hash, V, L: Limiter<K, V>, S: KeyHasher<K>> LruMap<K, V, L, S> {
     /// Removes the entries for which the closure returns false. The others keep their order.
     ///
-    /// The closure is called with each entry once, oldest first. The limiter is notified of each removal, before the
-    /// closure is called again.
+    /// The closure is called with each entry, oldest first. The limiter is notified of each removal.
     ///
     /// ```text
     /// map.retain(|_, value| *value > 10);

@@ -31,8 +31,8 @@ impl<K: Eq + Hash, V, L: Admission<K, V> + Copy, S: KeyHasher<K>> LruMap<K, V, L
     /// first from the others:
     ///
     /// - The key is there.
-    /// - The limiter rejects the entry.
-    /// - The limiter would be over its limit with the entry.
+    /// - The limiter rejects the entry, also after the table grew.
+    /// - The limiter would be over its limit with the entry, also after the table grew.
     /// - No growth is left, and there is no larger table, or the limiter refuses it.
     /// - No growth is left, and there is no memory for the table.
     ///
