@@ -109,7 +109,7 @@ module _ {K V S H I : Type 0} (rules : Rules K V S) (offers : Offers K V S I) {n
       (contents (noted before old))) (noted between next)
   replaced_front = offered_front offer accepted named (noted between next) is
 
-  -- what may evict some of these pairs may call the callback
+  -- the callback may be called with each pair that is evicted then
   pub replaced_callable : {F : Type 0} (closure : Mut F (K × (V × Unit {0})) (Unit {0})) (f g : F) → g ≡ f
       → MayTakeReplaced rules closure offers names i v (contents old) f → MayTakeEach rules closure next.pairs g
   replaced_callable closure f g same may = subst (λ pairs. MayTakeEach rules closure pairs g)
@@ -117,7 +117,7 @@ module _ {K V S H I : Type 0} (rules : Rules K V S) (offers : Offers K V S I) {n
       (subst (MayTakeEach rules closure (with_replaced rules offers names offer.pair i v (contents old)).pairs)
       (sym same) (may.accepted offer.pair offer.there (offer.taken ∙ accepted)))
 
-  -- and after the evictions it is an insert
+  -- and with the evictions the call is an insert
   pub replaced_inserts : (hash_of : H → K → ℕ) {kept : Bool} {new : State K V S H} {after : List (K × V)}
       → kept ≡ not (is_empty new.pairs)
       → Leaves (noted between next) (trim (noting rules) (contents (noted between next))) (noted after new)

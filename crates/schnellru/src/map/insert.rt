@@ -71,8 +71,8 @@ impl<K: Eq + Hash, V: Drop, L: Limiter<K, V>, S: KeyHasher<K>> LruMap<K, V, L, S
     /// entry that `on_insert` returned but the map could not store.
     ///
     /// Each is passed on once, before the limiter is called again, even if the result is an `Err`. A replaced value is
-    /// not passed on, but dropped before anything is evicted. Nor is a new entry that `on_insert` rejects passed on: the
-    /// limiter drops it.
+    /// not passed on, but dropped before anything is evicted. A new entry that `on_insert` rejects is not passed on
+    /// either: the limiter drops it.
     ///
     /// ```
     /// let mut left = None;

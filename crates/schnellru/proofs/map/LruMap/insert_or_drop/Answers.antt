@@ -22,8 +22,8 @@ returns-else-not-accepted g c = record {
       let (after, had, trimmed) = c.evict_over_limit.ensures.passed first between more in (
         after,
         had,
-        replaced_inserts g.L.Limiter.rules g.L.Insertion.offers g.met.I.LookupKey.laws g.met.L.Insertion.laws offer c.if-not-accepted.false
-            c.in-Some.ensures.found
+        replaced_inserts g.L.Limiter.rules g.L.Insertion.offers g.met.I.LookupKey.laws g.met.L.Insertion.laws
+            offer c.if-not-accepted.false c.in-Some.ensures.found
             (c.promote_at.ensures.promoted (g.I.LookupKey.names c.args.key) (g.met.I.LookupKey.laws.one c.args.key))
             g.S.KeyHasher.hash_of c.evict_over_limit.ensures.left trimmed,
       );

@@ -18,17 +18,19 @@ returns-else-not-accepted-clause-passed g c = λ first before taken.
     let (after, had, trimmed) = c.evict_over_limit-kept.ensures.passed first between more in (
       after,
       had,
-      replaced_inserts g.L.Limiter.rules g.L.Insertion.offers g.met.I.LookupKey.laws g.met.L.Insertion.laws offer c.if-not-accepted.false
-          c.in-Some.ensures.found
+      replaced_inserts g.L.Limiter.rules g.L.Insertion.offers g.met.I.LookupKey.laws g.met.L.Insertion.laws
+          offer c.if-not-accepted.false c.in-Some.ensures.found
           (c.promote_at.ensures.promoted (g.I.LookupKey.names c.args.key) (g.met.I.LookupKey.laws.one c.args.key))
           g.S.KeyHasher.hash_of c.evict_over_limit-kept.ensures.left trimmed,
     )
 
 pub returns-then-not-accepted-clause-unkept : goal.returns-then-not-accepted-clause-unkept
-returns-then-not-accepted-clause-unkept g c = offered_unkept (c.offer_at-accepted.ensures.passed c.args.sink.now [] refl).2
+returns-then-not-accepted-clause-unkept g c =
+    offered_unkept (c.offer_at-accepted.ensures.passed c.args.sink.now [] refl).2
 
 pub returns-else-not-accepted-clause-unkept : goal.returns-else-not-accepted-clause-unkept
-returns-else-not-accepted-clause-unkept g c = offered_unkept (c.offer_at-accepted.ensures.passed c.args.sink.now [] refl).2
+returns-else-not-accepted-clause-unkept g c =
+    offered_unkept (c.offer_at-accepted.ensures.passed c.args.sink.now [] refl).2
 
 pub offer_at-accepted-requires-clause-callable : goal.offer_at-accepted-requires-clause-callable
 offer_at-accepted-requires-clause-callable g c = c.requires.callable.replaced.rejected
