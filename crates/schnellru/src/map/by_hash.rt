@@ -30,6 +30,7 @@ impl<K: Eq + Hash, V, L: Limiter<K, V>, S: KeyHasher<K>> LruMap<K, V, L, S> {
     /// ```
     ///
     /// After schnellru's `LruMap::get_by_hash`.
+    #[inline]
     pub fn get_by_hash<F: FnMut(&K, &V) -> bool>(&mut self, hash: u64, is_eq: F) -> Option<&mut V>
         requires callable { F.IsAlwaysCallable is_eq }
         ensures* writes_back { sem 𝓛 (lends_given K.row V.row L.row S.row L.LinkType.row S.Hasher.row K.Hash L.Limiter
@@ -54,6 +55,7 @@ impl<K: Eq + Hash, V, L: Limiter<K, V>, S: KeyHasher<K>> LruMap<K, V, L, S> {
     /// Cost: as `get_by_hash`.
     ///
     /// After schnellru's `LruMap::peek_by_hash`.
+    #[inline]
     pub fn peek_by_hash<F: FnMut(&K, &V) -> bool>(&self, hash: u64, is_eq: F) -> Option<&V>
         requires callable { F.IsAlwaysCallable is_eq }
         ensures found { IfSome result (λ value. (key : K)
@@ -78,6 +80,7 @@ impl<K: Eq + Hash, V, L: Limiter<K, V>, S: KeyHasher<K>> LruMap<K, V, L, S> {
     /// Cost: as `get_by_hash`.
     ///
     /// After schnellru's `LruMap::peek_by_hash_mut`.
+    #[inline]
     pub fn peek_by_hash_mut<F: FnMut(&K, &V) -> bool>(
         &mut self,
         hash: u64,

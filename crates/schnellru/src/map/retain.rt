@@ -23,7 +23,8 @@ impl<K: Eq + Hash + Drop, V: Drop, L: Limiter<K, V>, S: KeyHasher<K>> LruMap<K, 
     /// assert!(rt; map.len() == 2 && !map.contains(&1));
     /// ```
     ///
-    /// Cost: `O(n)` for n entries. Links are written only next to an entry that is removed.
+    /// Cost: `O(n)` for n entries. Links are written only next to an entry that is removed, or to show the last
+    /// promotion.
     ///
     /// After std's `HashMap::retain`, whose closure may write the value; schnellru has no such call.
     pub fn retain<F: FnMut(&K, &V) -> bool>(&mut self, keep: F)

@@ -126,9 +126,7 @@ impl<K: Eq + Hash + Drop, V: Drop, L: Admission<K, V> + Copy, S: KeyHasher<K>> L
         requires storable { can_store L.terms L.rules key value (contents self.old) ≡ true }
         ensures { Insert L.rules L.offers K.eq S.hash_of key value self.old (Ok true) self.new }
     {
-        match self.insert_new(hash, key, value, &mut discard) {
-            Ok(_) => {}
-            Err(_) => nowhere!(),
-        }
+        // The result is `Ok(true)`: there is growth left, and the limiter accepts the entry and needs no memory for it.
+        let _ = self.insert_new(hash, key, value, &mut discard);
     }
 }
