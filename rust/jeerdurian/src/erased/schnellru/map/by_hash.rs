@@ -26,6 +26,7 @@ impl<K: Eq + Hash, V, L: Limiter<K, V>, S: KeyHasher<K>> LruMap<K, V, L, S> {
     /// ```
     ///
     /// After schnellru's `LruMap::get_by_hash`.
+    #[inline]
     pub fn get_by_hash<F: FnMut(&K, &V) -> bool>(&mut self, hash: u64, is_eq: F) -> Option<&mut V> {
         let b = self.find_by(hash, is_eq)?;
         self.promote_at(b);
@@ -42,6 +43,7 @@ impl<K: Eq + Hash, V, L: Limiter<K, V>, S: KeyHasher<K>> LruMap<K, V, L, S> {
     /// Cost: as `get_by_hash`.
     ///
     /// After schnellru's `LruMap::peek_by_hash`.
+    #[inline]
     pub fn peek_by_hash<F: FnMut(&K, &V) -> bool>(&self, hash: u64, is_eq: F) -> Option<&V> {
         let b = self.find_by(hash, is_eq)?;
         Some(&self.pair_in(b).value)
@@ -60,6 +62,7 @@ impl<K: Eq + Hash, V, L: Limiter<K, V>, S: KeyHasher<K>> LruMap<K, V, L, S> {
     /// Cost: as `get_by_hash`.
     ///
     /// After schnellru's `LruMap::peek_by_hash_mut`.
+    #[inline]
     pub fn peek_by_hash_mut<F: FnMut(&K, &V) -> bool>(&mut self, hash: u64, is_eq: F) -> Option<&mut V> {
         let b = self.find_by(hash, is_eq)?;
         Some(self.value_in_mut(b))

@@ -19,7 +19,8 @@ impl<K: Eq + Hash, V, L: Limiter<K, V>, S: KeyHasher<K>> LruMap<K, V, L, S> {
     /// assert!(rt; map.len() == 2 && !map.contains(&1));
     /// ```
     ///
-    /// Cost: `O(n)` for n entries. Links are written only next to an entry that is removed.
+    /// Cost: `O(n)` for n entries. Links are written only next to an entry that is removed, or to show the last
+    /// promotion.
     ///
     /// After std's `HashMap::retain`, whose closure may write the value; schnellru has no such call.
     pub fn retain<F: FnMut(&K, &V) -> bool>(&mut self, keep: F) {
