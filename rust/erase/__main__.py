@@ -32,11 +32,17 @@ RUST = Path(__file__).resolve().parent.parent
 CRATES = RUST.parent / "crates"
 # The crates of each package, lowest first. `programs` contains those of `jeerdurian` as `crate::erased`, too.
 PACKAGES = {
-    "jeerdurian": ["group_table", "lru_limits", "lru_model", "ordered_table", "schnellru"],
+    "jeerdurian": [
+        "group_table", "lru_limits", "lru_model", "block_device", "ordered_table", "schnellru", "lru_tenants", "lru_caches",
+        "recency", "lru_trace",
+    ],
     "programs": [],
 }
+# Those that need std. Of the others, places.txt names the items that need it.
+OF_STD = ("lru_tenants", "lru_trace")
 MODULES = {name: ("crate::erased::" if package == "jeerdurian" else "crate::programs::") + name
            for package, names in PACKAGES.items() for name in names}
+STD = '#[cfg(feature = "std")]\n'
 ALLOW = "#[allow(dead_code, unused_imports, unused_labels, unused_macros, unused_parens, unused_variables, clippy::all)]"
 
 
@@ -95,7 +101,7 @@ def write_all(top):
         out.mkdir(parents=True)
         for crate in crates:
             write_crate(crate, out, todo)
-        lines = "".join(f"{ALLOW}\npub(crate) mod {crate};\n" for crate in crates)
+        lines = "".join(f"{STD if crate in OF_STD else ''}{ALLOW}\npub(crate) mod {crate};\n" for crate in crates)
         (out / "mod.rs").write_text(f"//! The crates of the workspace, erased: written by `python3 rust/erase`.\n\n{lines}")
         lay_out(out)
     if todo:

@@ -4,6 +4,8 @@ import re
 from impls import Impl, begins_impl
 from tokens import CLOSE, OPEN, after, before, closing, find, is_trivia, item_start, raw, significant, text_of, words
 
+# Traits whose keys are bound.
+BOUND_BY_KEYS = ("Insertion", "Budgeted")
 KEYWORDS = {"mut", "in", "return", "let", "if", "match", "else", "dyn", "as", "ref", "move", "while", "break"}
 
 
@@ -119,15 +121,16 @@ def base_start(out):
 
 def key_bounds(toks, dropped):
     """Removes the bounds that only an invariant reads (`Eq`, `Hash`, `KeyHasher`) from structs without a destructor, and
-    from impls that clone them."""
+    from impls that clone them. A bound that is left may need them."""
     out, i = [], 0
     while i < len(toks):
         is_struct = toks[i].kind == "id" and toks[i].text == "struct" and toks[after(toks, i)].text not in dropped
         if is_struct or clones(toks, i):
             end = find(toks, i, "{", ";", "(")
-            out.append(raw(without_key_bounds(text_of(toks[i:end]))))
-            i = end
-            continue
+            if not any(name in BOUND_BY_KEYS for name in words(toks[i:end])):
+                out.append(raw(without_key_bounds(text_of(toks[i:end]))))
+                i = end
+                continue
         out.append(toks[i])
         i += 1
     return out

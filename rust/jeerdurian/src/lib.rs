@@ -31,6 +31,8 @@
 compile_error!("the sources are proved for a `usize` of 64 bits");
 
 extern crate alloc;
+#[cfg(feature = "std")]
+extern crate std;
 
 mod rattle_std;
 

@@ -8,6 +8,13 @@ macro_rules! vec {
     };
 }
 
+/// `format!(in alloc; ..)`, which may fail.
+macro_rules! format {
+    (in $alloc:expr; $($text:tt)*) => {
+        $crate::rattle_std::string::made($alloc, ::core::format_args!($($text)*))
+    };
+}
+
 /// The item at an index that is proved to be within, or a part of a slice.
 macro_rules! at {
     ($items:expr, $index:expr) => {
@@ -62,4 +69,4 @@ macro_rules! nowhere {
     };
 }
 
-pub(crate) use {at, at_mut, full, nowhere, prove, vec};
+pub(crate) use {at, at_mut, format, full, nowhere, prove, vec};

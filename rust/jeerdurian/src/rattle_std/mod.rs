@@ -5,7 +5,12 @@
 
 pub mod alloc;
 pub mod clone;
+#[cfg(feature = "std")]
+pub mod collections;
+#[cfg(feature = "std")]
+pub mod io;
 pub mod simd;
+pub mod string;
 pub mod unwinding;
 pub mod vec;
 
@@ -37,6 +42,11 @@ pub mod fmt {
     pub use core::fmt::*;
 }
 
+#[cfg(feature = "std")]
+pub mod fs {
+    pub use std::fs::*;
+}
+
 pub mod iter {
     pub use core::iter::*;
 }
@@ -49,12 +59,17 @@ pub mod mem {
     pub use core::mem::*;
 }
 
+pub mod str {
+    pub use core::str::*;
+}
+
 /// What Rattle's prelude has and Rust's has not.
 pub mod prelude {
     pub use super::clone::{TryClone, never_fails};
     pub use super::cmp::Eq;
+    pub use super::string::MadeByAlloc;
     pub use super::unwinding::{if_unwound, leak};
     pub use super::vec::Vec;
     pub use ::alloc::string::String;
-    pub(crate) use {at, at_mut, full, nowhere, prove, vec};
+    pub(crate) use {at, at_mut, format, full, nowhere, prove, vec};
 }
