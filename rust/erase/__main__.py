@@ -21,7 +21,7 @@ import tempfile
 from pathlib import Path
 
 import audit
-from bodies import calls, hashes, indices, key_bounds
+from bodies import calls, indices, key_bounds
 from contracts import drop_attributes, drop_bounds, lex
 from impls import displayed_errors, impls, take_apart
 from names import docs, imports, paths, with_head
@@ -36,14 +36,25 @@ PACKAGES = {
         "group_table", "lru_limits", "lru_model", "block_device", "ordered_table", "schnellru", "lru_tenants", "lru_caches",
         "recency", "lru_trace",
     ],
-    "programs": [],
+    "programs": [
+        "test_helpers", "map_helpers", "replay_model", "lru_theory", "lru_replay", "row_model", "trace", "replay", "pages",
+        "responses", "rows", "group_table_tests", "ordered_table_tests", "lru_limits_tests", "schnellru_tests",
+        "schnellru_memory_tests", "lru_replay_tests", "lru_tenants_tests", "block_device_tests", "lru_caches_tests",
+        "lru_trace_tests",
+    ],
 }
 # Those that need std. Of the others, places.txt names the items that need it.
 OF_STD = ("lru_tenants", "lru_trace")
 MODULES = {name: ("crate::erased::" if package == "jeerdurian" else "crate::programs::") + name
            for package, names in PACKAGES.items() for name in names}
-STD = '#[cfg(feature = "std")]\n'
 ALLOW = "#[allow(dead_code, unused_imports, unused_labels, unused_macros, unused_parens, unused_variables, clippy::all)]"
+
+
+def condition(crate):
+    """When a crate is compiled."""
+    if crate in OF_STD:
+        return '#[cfg(feature = "std")]\n'
+    return "#[cfg(test)]\n" if crate.endswith("_tests") else ""
 
 
 def places():
@@ -73,7 +84,7 @@ def erase(text, crate, modules):
     toks = drop_bounds(drop_attributes(displayed_errors(lex(text))))
     toks, dropped = impls(toks)
     toks = calls(take_apart(toks, dropped))
-    toks = tests(key_bounds(indices(hashes(toks)), dropped))
+    toks = tests(key_bounds(indices(toks), dropped))
     docs(toks)
     return macros(imports(text_of(paths(toks, crate, modules))))
 
@@ -101,7 +112,7 @@ def write_all(top):
         out.mkdir(parents=True)
         for crate in crates:
             write_crate(crate, out, todo)
-        lines = "".join(f"{STD if crate in OF_STD else ''}{ALLOW}\npub(crate) mod {crate};\n" for crate in crates)
+        lines = "".join(f"{condition(crate)}{ALLOW}\npub(crate) mod {crate};\n" for crate in crates)
         (out / "mod.rs").write_text(f"//! The crates of the workspace, erased: written by `python3 rust/erase`.\n\n{lines}")
         lay_out(out)
     if todo:

@@ -1,13 +1,17 @@
-"""Tests, whose runtime is a parameter in Rattle, and macros, which the other modules name."""
+"""Tests and programs, whose runtime is a parameter in Rattle, and macros, which the other modules name."""
 from tokens import after, closing, find, raw, text_of, words
 
 
 def tests(toks):
-    """`fn f(rt: HostRuntime) -> R { .. }` of a test calls a closure with the runtime."""
+    """`fn f(rt: HostRuntime) -> R { .. }` of a test calls a closure with the runtime. A `main` is called with it."""
     out, i = [], 0
     while i < len(toks):
         if toks[i].text != "fn" or not takes_runtime(toks, i):
             out.append(toks[i])
+            i += 1
+            continue
+        if toks[after(toks, i)].text == "main":
+            out += [raw("pub(crate) "), toks[i]]
             i += 1
             continue
         paren = after(toks, after(toks, i))

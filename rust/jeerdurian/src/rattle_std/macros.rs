@@ -43,7 +43,7 @@ macro_rules! at_mut {
 macro_rules! full {
     ($byte:expr) => {
         if cfg!(any(debug_assertions, feature = "checked")) {
-            assert!($byte < 0x80, "a bucket that is not full");
+            ::core::assert!($byte < 0x80, "a bucket that is not full");
         }
     };
 }
@@ -52,7 +52,7 @@ macro_rules! full {
 macro_rules! prove {
     ($($condition:tt)*) => {
         if cfg!(any(debug_assertions, feature = "checked")) {
-            assert!($($condition)*);
+            ::core::assert!($($condition)*);
         }
     };
 }

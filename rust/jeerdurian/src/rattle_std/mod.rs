@@ -29,13 +29,17 @@ pub mod hash {
     pub use core::hash::*;
 
     /// Hashes as Rattle's `hash_one` does. An impl of Rust's `BuildHasher` may override `hash_one`, even by type.
-    #[allow(clippy::manual_hash_one)]
-    #[inline]
-    pub fn hash_by<S: BuildHasher + ?Sized, T: Hash + ?Sized>(state: &S, item: &T) -> u64 {
-        let mut hasher = state.build_hasher();
-        item.hash(&mut hasher);
-        hasher.finish()
+    pub trait HashBy: BuildHasher {
+        #[allow(clippy::manual_hash_one)]
+        #[inline]
+        fn hash_by<T: Hash + ?Sized>(&self, item: &T) -> u64 {
+            let mut hasher = self.build_hasher();
+            item.hash(&mut hasher);
+            hasher.finish()
+        }
     }
+
+    impl<S: BuildHasher + ?Sized> HashBy for S {}
 }
 
 pub mod fmt {
@@ -67,6 +71,7 @@ pub mod str {
 pub mod prelude {
     pub use super::clone::{TryClone, never_fails};
     pub use super::cmp::Eq;
+    pub use super::hash::HashBy;
     pub use super::string::MadeByAlloc;
     pub use super::unwinding::{if_unwound, leak};
     pub use super::vec::Vec;

@@ -127,5 +127,5 @@ impl<F: Read + Write + Seek + Durable, const N: usize> BlockDevice<[u8; N]> for 
 
 // The hash of a block, by the hasher with the default seeds.
 fn hash_of<const N: usize>(block: &[u8; N]) -> u64 {
-    crate::rattle_std::hash::hash_by(&RandomState::with_seeds([1, 2, 3, 4]), block)
+    RandomState::with_seeds([1, 2, 3, 4]).hash_by(block)
 }

@@ -1,0 +1,26 @@
+//! Calls of texts that take an allocator in Rattle.
+
+use super::alloc::{AllocError, Global};
+
+/// Calls of `String`.
+pub trait Texts {
+    fn new_in(alloc: Global) -> Self;
+}
+
+impl Texts for String {
+    fn new_in(_: Global) -> String {
+        String::new()
+    }
+}
+
+/// `replace` of a text.
+pub trait ReplaceIn {
+    /// Without memory the program ends, where Rattle's `replace` returns an error.
+    fn replace_in(&self, alloc: Global, from: &str, to: &str) -> Result<String, AllocError>;
+}
+
+impl ReplaceIn for str {
+    fn replace_in(&self, _: Global, from: &str, to: &str) -> Result<String, AllocError> {
+        Ok(self.replace(from, to))
+    }
+}
