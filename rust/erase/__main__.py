@@ -8,10 +8,13 @@ change. What no rule knows is an error.
 
   contracts.py   `ghost ..`, `requires`, `ensures`, with the comments above them; proof attributes; the bound `Drop`
   impls.py       impls of `Model` and `Eq`, which have no code; destructors, which take the value in Rattle and a borrow in
-                 Rust; `Clone`, whose result is a `Result` in Rattle; the `Display` of errors, which thiserror derives
-  bodies.py      calls of `clone`, `fmt` and `hash_one`; an index that is proved to be within; bounds of structs
+                 Rust; `Clone`, whose result is a `Result` in Rattle, and which is `TryClone` if it may fail; the `Display`
+                 of errors, which thiserror derives
+  bodies.py      calls of `clone`, `fmt`, `hash_one`, `String::new` and `replace`, of which Rust has others; the bound
+                 `Clone`; an index that is proved to be within; bounds of structs
   names.py       paths, imports, docs
-  tests.py       a test gets its runtime from a closure; macros are exported by a `use`
+  tests.py       a test gets its runtime from a closure, and a program's `main` from its caller; macros are exported by a
+                 `use`
 """
 import filecmp
 import shutil
@@ -47,7 +50,7 @@ PACKAGES = {
 OF_STD = ("lru_tenants", "lru_trace")
 MODULES = {name: ("crate::erased::" if package == "jeerdurian" else "crate::programs::") + name
            for package, names in PACKAGES.items() for name in names}
-ALLOW = "#[allow(dead_code, unused_imports, unused_labels, unused_macros, unused_parens, unused_variables, clippy::all)]"
+ALLOW = "#[allow(dropping_copy_types, unused, clippy::all)]"
 
 
 def condition(crate):

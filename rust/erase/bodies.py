@@ -27,7 +27,10 @@ def calls(toks):
 
 
 def renamed_clone(toks, i, out):
-    """`.clone()` and `T::clone(`, which may fail, and a method `clone` whose result is a `Result`, are called `try_clone`."""
+    """`.clone()` and `T::clone(`, which may fail, and a method `clone` whose result is a `Result`, are called `try_clone`. The
+    bound `Clone` is `TryClone`."""
+    if toks[i].text == "Clone" and significant(out, -1) and significant(out, -1).text in (":", "+"):
+        return raw("TryClone"), i + 1
     if toks[i].text != "clone" or not out:
         return None
     is_call = (out[-1].text == "." and text_of(toks[i:i + 3]) == "clone()") or (out[-1].text == "::" and toks[i + 1].text == "(")

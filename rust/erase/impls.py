@@ -128,7 +128,8 @@ def fields_of(pattern, value):
 
 
 def clone(it):
-    """`fn clone(&self) -> Result<..>`: Rust's returns the value. These clones take no memory."""
+    """`fn clone(&self) -> Result<..>`: Rust's returns the value. A clone that names an error is a `TryClone`, and the others
+    never fail."""
     i = find(it.inside, 0, "clone")
     brace = find(it.inside, i, "{")
     m = re.fullmatch(r"clone\(&self\)\s*->\s*(Result<.*, AllocError>)\s*", text_of(it.inside[i:brace]), re.S)
@@ -136,6 +137,10 @@ def clone(it):
         raise EraseError("a clone of another form: " + text_of(it.inside[i:brace]))
     lead = text_of(it.inside[:i])
     body = it.inside[brace:closing(it.inside, brace) + 1]
+    if "AllocError" in words(body):
+        next(t for t in it.head if t.text == "Clone").text = "TryClone"
+        it.inside[i].text = "try_clone"
+        return it.head + [raw("{")] + it.inside + [raw("}")]
     return (it.head + [raw(f"{{{lead}clone(&self) -> Self {{\n        let made = || -> {m[1]} ")] + body
             + [raw(";\n        never_fails(made())\n    }\n}")])
 

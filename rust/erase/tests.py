@@ -19,7 +19,7 @@ def tests(toks):
         end = closing(toks, brace)
         result = text_of(toks[closing(toks, paren) + 1:brace]).replace("->", "").strip() or "()"
         out += toks[i:paren] + [raw(f"() {{\n    let run = |rt: HostRuntime| -> {result} {{")]
-        out += toks[brace + 1:end] + [raw("};\n    let _ = run(HostRuntime);\n}")]
+        out += toks[brace + 1:end] + [raw("};\n    run(HostRuntime).passes();\n}")]
         i = end + 1
     return out
 

@@ -1,11 +1,14 @@
 //! The programs of the workspace and its proved tests, erased as `jeerdurian` is.
 //!
 //! The erased modules of `jeerdurian` are private, so this crate compiles them again.
+#![cfg(feature = "std")]
 
 extern crate alloc;
 
 #[path = "../../jeerdurian/src/rattle_std/mod.rs"]
 mod library;
+#[cfg(test)]
+mod memory;
 mod rattle_std;
 #[macro_use]
 #[path = "rattle_std/macros.rs"]

@@ -32,7 +32,7 @@ pub mod hash {
     pub trait HashBy: BuildHasher {
         #[allow(clippy::manual_hash_one)]
         #[inline]
-        fn hash_by<T: Hash + ?Sized>(&self, item: &T) -> u64 {
+        fn hash_by<T: Hash>(&self, item: T) -> u64 {
             let mut hasher = self.build_hasher();
             item.hash(&mut hasher);
             hasher.finish()

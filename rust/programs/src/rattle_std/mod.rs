@@ -45,14 +45,29 @@ pub mod test {
             panic!("{error:?}")
         }
     }
+
+    /// What a test returns.
+    pub trait Outcome {
+        fn passes(self);
+    }
+
+    impl Outcome for () {
+        fn passes(self) {}
+    }
+
+    impl<E> Outcome for Result<(), E> {
+        fn passes(self) {
+            assert!(self.is_ok(), "the test returned an error");
+        }
+    }
 }
 
 /// What Rattle's prelude has and Rust's has not.
 pub mod prelude {
     pub use super::runtime::HostRuntime;
+    pub use super::test::Outcome;
     pub use super::texts::{ReplaceIn, Texts};
     pub(crate) use crate::library::prelude::{
-        Eq, HashBy, MadeByAlloc, String, TryClone, Vec, at, at_mut, full, if_unwound, leak, never_fails, nowhere,
-        prove,
+        Eq, HashBy, MadeByAlloc, String, TryClone, Vec, at, at_mut, full, if_unwound, leak, never_fails, nowhere, prove,
     };
 }

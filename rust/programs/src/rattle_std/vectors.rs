@@ -1,6 +1,7 @@
 //! More calls of vectors.
 
 use super::alloc::{AllocError, Global};
+use super::clone::TryClone;
 use super::vec::Vec;
 
 impl<T> Vec<T> {
@@ -59,5 +60,13 @@ impl<T: PartialEq> PartialEq for Vec<T> {
 impl<T> AsRef<[T]> for Vec<T> {
     fn as_ref(&self) -> &[T] {
         self
+    }
+}
+
+impl<T: Clone> TryClone for Vec<T> {
+    fn try_clone(&self) -> Result<Self, AllocError> {
+        let mut copy = Vec::with_capacity(Global, self.len())?;
+        copy.as_std_mut().extend_from_slice(self);
+        Ok(copy)
     }
 }

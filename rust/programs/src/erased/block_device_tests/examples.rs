@@ -34,5 +34,5 @@ fn of_the_file_devices() {
         check!(rt; Cursor::new([0u8; 4]).make_durable().is_ok());
         Ok(())
     };
-    let _ = run(HostRuntime);
+    run(HostRuntime).passes();
 }

@@ -15,8 +15,8 @@ const CALLS: u64 = 100_000;
 const BLOCKS: u64 = 10_000;
 
 // A file of blocks that are zero. Out of memory, it lacks blocks.
-fn file(alloc: Global) -> Cursor<Vec<u8>> {
-    Cursor::new(vec![in alloc; 0u8; 80_000].unwrap_or(Vec::new(alloc)))
+fn file(alloc: Global) -> Cursor<std::vec::Vec<u8>> {
+    Cursor::new(vec![in alloc; 0u8; 80_000].unwrap_or(Vec::new(alloc)).into_std())
 }
 
 // Writes random blocks to both devices, and reads others. Returns after how many writes these agree with a list. If a
@@ -56,5 +56,5 @@ fn files_contain_what_was_written() {
     let run = |rt: HostRuntime| -> () {
         check!(rt; calls_that_agree(rt.alloc()) == CALLS);
     };
-    let _ = run(HostRuntime);
+    run(HostRuntime).passes();
 }

@@ -44,5 +44,5 @@ fn entries_are_dropped() {
         check!(rt; Rc::strong_count(&shared) == 1);
         Ok(())
     };
-    let _ = run(HostRuntime);
+    run(HostRuntime).passes();
 }

@@ -29,5 +29,5 @@ fn of_the_table() {
         check!(rt; masks == [0x0008, 0xfff2, 0xfff6]);
         Ok(())
     };
-    let _ = run(HostRuntime);
+    run(HostRuntime).passes();
 }

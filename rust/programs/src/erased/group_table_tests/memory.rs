@@ -46,5 +46,5 @@ fn memory_is_given_back() {
         check!(rt; made == CYCLES);
         Ok(())
     };
-    let _ = run(HostRuntime);
+    run(HostRuntime).passes();
 }

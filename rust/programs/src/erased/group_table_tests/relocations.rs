@@ -47,7 +47,7 @@ fn up_and_down() {
         }
         Ok(())
     };
-    let _ = run(HostRuntime);
+    run(HostRuntime).passes();
 }
 
 // Rehashes, copies and relocates a table of 2^20 buckets. Whether the moves follow the rules.
@@ -70,7 +70,7 @@ fn many_buckets() {
         check!(rt; moves_many(rt.alloc(), &mut table) == Ok(true));
         Ok(())
     };
-    let _ = run(HostRuntime);
+    run(HostRuntime).passes();
 }
 
 // Tries a move, with one more request met each time, until it succeeds. Returns how often it was refused.
@@ -104,5 +104,5 @@ fn each_request_is_refused() {
         }
         Ok(())
     };
-    let _ = run(HostRuntime);
+    run(HostRuntime).passes();
 }

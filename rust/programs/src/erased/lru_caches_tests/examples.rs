@@ -48,7 +48,7 @@ fn of_the_page_cache() {
         check!(rt; cache.read(1) == Ok(20));
         cache.discard();
     };
-    let _ = run(HostRuntime);
+    run(HostRuntime).passes();
 }
 
 #[test]
@@ -61,7 +61,7 @@ fn of_the_errors() {
         check!(rt; text.as_str() == "the device failed: no such block, out of memory");
         Ok(())
     };
-    let _ = run(HostRuntime);
+    run(HostRuntime).passes();
 }
 
 type Map = OrderedMap<u64, u64>;
@@ -150,7 +150,7 @@ fn of_ordered_maps() {
             == (2, Some((1, 11)), Some((2, 20))));
         Ok(())
     };
-    let _ = run(HostRuntime);
+    run(HostRuntime).passes();
 }
 
 #[test]
@@ -166,7 +166,7 @@ fn of_the_memo() {
         check!(rt; (blocks.answer_with(3, |block| block.is_some()), blocks.len()) == (true, 1));
         check!(rt; (blocks.answer_with(4, |block| block.is_some()), blocks.len()) == (true, 2));
     };
-    let _ = run(HostRuntime);
+    run(HostRuntime).passes();
 }
 
 /// What is the square of a number?
@@ -185,7 +185,7 @@ fn of_the_memo_table() {
         let empty = MemoTable::with_hasher(rt.alloc(), ByLength::new(9), seeded, 24, Squares);
         check!(rt; empty.is_empty());
     };
-    let _ = run(HostRuntime);
+    run(HostRuntime).passes();
 }
 
 #[test]
@@ -200,5 +200,5 @@ fn of_the_loader() {
         let empty = Loader::with_hasher(alloc, ByLength::new(9), seeded, 24, |n: u64| n.checked_add(1).ok_or(n));
         check!(rt; empty.is_empty());
     };
-    let _ = run(HostRuntime);
+    run(HostRuntime).passes();
 }

@@ -18,7 +18,7 @@ fn functions_are_called_if_a_result_is_not_stored() {
         check!(rt; memos::calls_that_agree(rt.alloc()) == memos::CALLS);
         check!(rt; recursion::answers(rt.alloc()) == 1);
     };
-    let _ = run(HostRuntime);
+    run(HostRuntime).passes();
 }
 
 /// No insert into an ordered map fails above some number of keys.
@@ -30,7 +30,7 @@ fn an_ordered_map_of_many_keys() {
             check!(rt; map.insert(key, key) == Ok(None));
         }
     };
-    let _ = run(HostRuntime);
+    run(HostRuntime).passes();
 }
 
 /// A page cache and an ordered map run out of memory exactly if a request of a growth is refused: the first, the second,
@@ -42,7 +42,7 @@ fn growths_without_memory() {
             check!(rt; memory::grows_if_met(rt.alloc(), met));
         }
     };
-    let _ = run(HostRuntime);
+    run(HostRuntime).passes();
 }
 
 #[test]
@@ -51,7 +51,7 @@ fn nothing_leaks() {
         check!(rt; memory::references(rt.alloc()) == [1, 3, 3, 3, 1]);
         check!(rt; memory::caches_that_find_memory(rt.alloc()) == 1000);
     };
-    let _ = run(HostRuntime);
+    run(HostRuntime).passes();
 }
 
 /// A disk that fails at each call that the lists need, and again after as many more, and a disk that stays broken.
@@ -59,9 +59,9 @@ fn nothing_leaks() {
 fn a_disk_that_fails_loses_no_write() {
     let run = |rt: HostRuntime| -> () {
         for stays_broken in [false, true] {
-            let (tried, kept) = crate::programs::pages::runs_that_lose_nothing(rt.alloc(), stays_broken);
-            check!(rt; (tried, kept) == (crate::programs::pages::NEEDED, crate::programs::pages::NEEDED));
+            let (tried, kept) = pages::runs_that_lose_nothing(rt.alloc(), stays_broken);
+            check!(rt; (tried, kept) == (pages::NEEDED, pages::NEEDED));
         }
     };
-    let _ = run(HostRuntime);
+    run(HostRuntime).passes();
 }

@@ -43,5 +43,5 @@ fn of_texts() {
         check!(rt; offer_and_remove(&mut limiter, alloc, key, text) == Ok(0));
         Ok(())
     };
-    let _ = run(HostRuntime);
+    run(HostRuntime).passes();
 }

@@ -42,7 +42,7 @@ fn of_limiters() {
             !Limiter::<u64, u64>::is_over_the_limit(&UnlimitedCompact, usize::MAX)
         ));
     };
-    let _ = run(HostRuntime);
+    run(HostRuntime).passes();
 }
 
 #[test]
@@ -73,7 +73,7 @@ fn of_running_totals() {
         check!(rt; Budgeted::<u64, u64>::budget(&limiter) == 5);
         Ok(())
     };
-    let _ = run(HostRuntime);
+    run(HostRuntime).passes();
 }
 
 #[test]
@@ -93,5 +93,5 @@ fn of_keys_costs_and_hashes() {
         check!(rt; hasher.finish() == state.hash_by(&key));
         Ok(())
     };
-    let _ = run(HostRuntime);
+    run(HostRuntime).passes();
 }

@@ -64,7 +64,7 @@ fn what_is_offered_is_dropped() {
         ));
         Ok(())
     };
-    let _ = run(HostRuntime);
+    run(HostRuntime).passes();
 }
 
 #[test]
@@ -78,5 +78,5 @@ fn texts() {
             Storing(Unlimited) RandomState { .. }");
         Ok(())
     };
-    let _ = run(HostRuntime);
+    run(HostRuntime).passes();
 }

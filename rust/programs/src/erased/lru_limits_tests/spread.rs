@@ -116,5 +116,5 @@ fn of_regular_keys() {
         }
         check!(rt; are_different());
     };
-    let _ = run(HostRuntime);
+    run(HostRuntime).passes();
 }

@@ -19,7 +19,7 @@ fn of_lists_of_calls() {
         check!(rt; gives && answers.get(2) == Some(&Answer::Value(None)));
         Ok(())
     };
-    let _ = run(HostRuntime);
+    run(HostRuntime).passes();
 }
 
 #[test]
@@ -33,7 +33,7 @@ fn of_summing_lists() {
         check!(rt; refuses && answers.get(2) == Some(&Answer::Value(Some(2))));
         Ok(())
     };
-    let _ = run(HostRuntime);
+    run(HostRuntime).passes();
 }
 
 #[test]
@@ -46,7 +46,7 @@ fn of_errors() {
         check!(rt; (read as u8, write as u8) == (1, 2));
         Ok(())
     };
-    let _ = run(HostRuntime);
+    run(HostRuntime).passes();
 }
 
 #[test]
@@ -58,5 +58,5 @@ fn of_a_replay() {
         check!(rt; writer.as_slice() == b"true\n".as_slice());
         Ok(())
     };
-    let _ = run(HostRuntime);
+    run(HostRuntime).passes();
 }

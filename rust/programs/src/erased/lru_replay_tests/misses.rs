@@ -45,5 +45,5 @@ fn curves_and_maps_agree() {
         }
         Ok(())
     };
-    let _ = run(HostRuntime);
+    run(HostRuntime).passes();
 }

@@ -76,7 +76,7 @@ fn lists_of_calls() {
             }
         }
     };
-    let _ = run(HostRuntime);
+    run(HostRuntime).passes();
 }
 
 /// Replays the lines, of which the first requests for memory are met. Returns whether all is done, with this text.
@@ -133,7 +133,7 @@ fn lines() {
         }
         Ok(())
     };
-    let _ = run(HostRuntime);
+    run(HostRuntime).passes();
 }
 
 /// Many replays run in the memory of a few.
@@ -155,5 +155,5 @@ fn replays_give_their_memory_back() {
         check!(rt; right == 4000);
         Ok(())
     };
-    let _ = run(HostRuntime);
+    run(HostRuntime).passes();
 }

@@ -93,7 +93,7 @@ fn of_caches_of_numbers() {
         check!(rt; of_values_that_come_back(&mut with_a_tenant(alloc)) == Ok(true));
         check!(rt; of_values_made_and_totals(&mut with_a_tenant(alloc)));
     };
-    let _ = run(HostRuntime);
+    run(HostRuntime).passes();
 }
 
 #[test]
@@ -106,7 +106,7 @@ fn of_weights() {
         check!(rt; weighed.cost(&1) == Ok(25));
         Ok(())
     };
-    let _ = run(HostRuntime);
+    run(HostRuntime).passes();
 }
 
 #[test]
@@ -123,7 +123,7 @@ fn of_the_errors() {
         }
         Ok(())
     };
-    let _ = run(HostRuntime);
+    run(HostRuntime).passes();
 }
 
 #[test]
@@ -138,7 +138,7 @@ fn of_keys_that_are_texts() {
         check!(rt; page.as_str() == "hello");
         Ok(())
     };
-    let _ = run(HostRuntime);
+    run(HostRuntime).passes();
 }
 
 #[test]
@@ -156,5 +156,5 @@ fn of_runs() {
         check!(rt; answers.get(2) == Some(&TenantAnswer::Got(Err(TenantError::NotOpen))));
         Ok(())
     };
-    let _ = run(HostRuntime);
+    run(HostRuntime).passes();
 }

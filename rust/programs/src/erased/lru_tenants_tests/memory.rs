@@ -53,7 +53,7 @@ fn each_request_is_refused() {
         }
         check!(rt; refused > 0);
     };
-    let _ = run(HostRuntime);
+    run(HostRuntime).passes();
 }
 
 // Carries out a hundred lists of one call. Returns how many found memory for their answers, or 0 if a list found none
@@ -87,7 +87,7 @@ fn a_list_takes_the_memory_of_its_answers() {
         check!(rt; with == 100 && (without == 0 || !all));
         Ok(())
     };
-    let _ = run(HostRuntime);
+    run(HostRuntime).passes();
 }
 
 struct Share(Rc<u64>);
@@ -154,7 +154,7 @@ fn a_closed_tenant_gives_its_memory_back() {
         }
         Ok(())
     };
-    let _ = run(HostRuntime);
+    run(HostRuntime).passes();
 }
 
 type Named = TenantCache<Rc<u64>, u64, u64>;
@@ -181,5 +181,5 @@ fn names_are_dropped() {
         check!(rt; Rc::strong_count(&name) == 1);
         Ok(())
     };
-    let _ = run(HostRuntime);
+    run(HostRuntime).passes();
 }

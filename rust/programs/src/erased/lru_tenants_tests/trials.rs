@@ -70,5 +70,5 @@ fn a_hundred_thousand_tenants() {
         }
         check!(rt; cache.is_empty() && cache.open(7, u64::MAX) == Ok(()));
     };
-    let _ = run(HostRuntime);
+    run(HostRuntime).passes();
 }

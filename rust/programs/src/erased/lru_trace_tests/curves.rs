@@ -20,7 +20,7 @@ fn of_the_curve() {
         check!(rt; (curve.keys(), curve.references()) == (3, 5));
         Ok(())
     };
-    let _ = run(HostRuntime);
+    run(HostRuntime).passes();
 }
 
 #[test]
@@ -35,5 +35,5 @@ fn of_the_errors() {
         }
         Ok(())
     };
-    let _ = run(HostRuntime);
+    run(HostRuntime).passes();
 }

@@ -48,7 +48,7 @@ fn of_the_report() {
         ##################################################\n";
         check!(rt; (end, report.as_slice()) == (Ok(TraceEnd::Done), text.as_slice()));
     };
-    let _ = run(HostRuntime);
+    run(HostRuntime).passes();
 }
 
 /// A word that is no number, and a flush that fails.
@@ -60,7 +60,7 @@ fn of_other_ends() {
         let (end, _report) = traced(rt.alloc(), b"1\na\n", true);
         check!(rt; end == Err(TraceError::Write));
     };
-    let _ = run(HostRuntime);
+    run(HostRuntime).passes();
 }
 
 /// Two million and one empty lines: each is malformed, and each counts for the progress.
@@ -80,5 +80,5 @@ fn of_the_progress() {
         check!(rt; report.starts_with(b"references 0 keys 0 malformed 2000001\n"));
         Ok(())
     };
-    let _ = run(HostRuntime);
+    run(HostRuntime).passes();
 }

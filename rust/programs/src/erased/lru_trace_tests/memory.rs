@@ -29,7 +29,7 @@ fn of_many_keys() {
         check!(rt; misses == (300_000, 150_000));
         Ok(())
     };
-    let _ = run(HostRuntime);
+    run(HostRuntime).passes();
 }
 
 /// Twenty keys are referenced 200,000 times, with memory for 16 blocks.
@@ -49,5 +49,5 @@ fn references_give_their_memory_back() {
         check!(rt; (met, curve.misses(19)) == (200_000, 200_200));
         Ok(())
     };
-    let _ = run(HostRuntime);
+    run(HostRuntime).passes();
 }

@@ -26,5 +26,5 @@ fn a_table_in_an_order() {
         check!(rt; walk.next_back() == Some((&2, &20)) && walk.len() == 2);
         Ok(())
     };
-    let _ = run(HostRuntime);
+    run(HostRuntime).passes();
 }

@@ -121,7 +121,7 @@ fn keys_and_values_are_dropped_once() {
             check!(rt; balances(map, &lives, pairs));
         }
     };
-    let _ = run(HostRuntime);
+    run(HostRuntime).passes();
 }
 
 /// Extends a map of three pairs, which has no growth left, by two pairs. Returns whether it runs out of memory and drops
@@ -169,7 +169,7 @@ fn what_trims_evict_is_dropped() {
         drop(map.into_iter().next());
         check!(rt; lives.are(0));
     };
-    let _ = run(HostRuntime);
+    run(HostRuntime).passes();
 }
 
 /// Makes a call with a closure that owns a value, and compares a value that it gets with this value.
@@ -210,5 +210,5 @@ fn closures_are_dropped() {
             check!(rt; is_filled & lives.are(map.len() as u64));
         }
     };
-    let _ = run(HostRuntime);
+    run(HostRuntime).passes();
 }

@@ -85,7 +85,7 @@ fn calls_give_their_memory_back() {
         check!(rt; cycles_made(rt.alloc(), (CYCLES, SPARE), 30) == Ok(CYCLES));
         check!(rt; cycles_made(rt.alloc(), (LARGE_CYCLES, LARGE_SPARE), 400) == Ok(LARGE_CYCLES));
     };
-    let _ = run(HostRuntime);
+    run(HostRuntime).passes();
 }
 
 /// Makes new maps, and returns whether the only block of memory that is left is still there. `with_seed` calls `new`,
@@ -111,5 +111,5 @@ fn a_new_map_takes_no_memory() {
         }
         check!(rt; is_left);
     };
-    let _ = run(HostRuntime);
+    run(HostRuntime).passes();
 }

@@ -79,13 +79,10 @@ impl Live<'_> {
     }
 }
 
-impl Clone for Live<'_> {
-    fn clone(&self) -> Self {
-        let made = || -> Result<Self, AllocError> {
-            self.clones.set(self.clones.get().checked_sub(1).ok_or(AllocError)?);
-            Ok(Live::new(self.number, self.lives, self.clones))
-        };
-        never_fails(made())
+impl TryClone for Live<'_> {
+    fn try_clone(&self) -> Result<Self, AllocError> {
+        self.clones.set(self.clones.get().checked_sub(1).ok_or(AllocError)?);
+        Ok(Live::new(self.number, self.lives, self.clones))
     }
 }
 

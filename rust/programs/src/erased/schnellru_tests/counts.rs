@@ -82,5 +82,5 @@ fn calls_hash_and_ask_once() {
         let held = is_filled & (builds_of_calls(&mut map) == 15);
         check!(rt; held & moves_hash_once(&mut map) & searches_end(&mut map));
     };
-    let _ = run(HostRuntime);
+    run(HostRuntime).passes();
 }

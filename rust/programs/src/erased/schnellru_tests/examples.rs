@@ -252,7 +252,7 @@ fn of_a_new_map() {
         let held = held & fill(&mut map) & of_searches_by_a_hash(&mut map);
         check!(rt; held & of_new_maps(alloc));
     };
-    let _ = run(HostRuntime);
+    run(HostRuntime).passes();
 }
 
 #[test]
@@ -267,7 +267,7 @@ fn of_a_map_with_a_limiter() {
         let held = held & fill(&mut map) & of_limits(&mut map);
         check!(rt; held & fill(&mut map) & of_updates_and_retains(&mut map));
     };
-    let _ = run(HostRuntime);
+    run(HostRuntime).passes();
 }
 
 /// The map is taken apart.
@@ -289,5 +289,5 @@ fn of_a_map_with_seeds() {
         let held = all!(map.peek_by_hash(hash, |key, _| *key == 1).copied() == Some(10));
         check!(rt; is_filled & held & of_walks(map));
     };
-    let _ = run(HostRuntime);
+    run(HostRuntime).passes();
 }

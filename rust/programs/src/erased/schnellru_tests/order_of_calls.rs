@@ -139,7 +139,7 @@ fn each_pair_is_passed_on_before_the_next_callback() {
             check!(rt; is_traced(rt.alloc(), case));
         }
     };
-    let _ = run(HostRuntime);
+    run(HostRuntime).passes();
 }
 
 /// Makes calls on a map of three pairs, and at last on an empty one.
@@ -164,7 +164,7 @@ fn the_limiter_is_asked_once() {
         call(&mut map);
         check!(rt; trace.get() == 4_514_114_116_161_210);
     };
-    let _ = run(HostRuntime);
+    run(HostRuntime).passes();
 }
 
 /// Inserts three entries of 48 bytes, which are inserted in line, into a map of at most two. Returns the calls of the
@@ -184,5 +184,5 @@ fn a_large_entry_is_inserted_once() {
     let run = |rt: HostRuntime| -> () {
         check!(rt; large_inserts(rt.alloc()) == (5_111_121, 3));
     };
-    let _ = run(HostRuntime);
+    run(HostRuntime).passes();
 }

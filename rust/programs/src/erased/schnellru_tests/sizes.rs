@@ -24,7 +24,7 @@ fn keys_and_values_of_4_kib() {
             check!(rt; map.insert(page(n), page(n.wrapping_add(100))) == Ok(true));
         }
     };
-    let _ = run(HostRuntime);
+    run(HostRuntime).passes();
 }
 
 /// The number of pairs that fill a table of 2^20 buckets.
@@ -61,5 +61,5 @@ fn many_pairs() {
     let run = |rt: HostRuntime| -> () {
         check!(rt; are_sized(&mut map_of(rt.alloc(), UnlimitedCompact)));
     };
-    let _ = run(HostRuntime);
+    run(HostRuntime).passes();
 }

@@ -59,5 +59,5 @@ fn walks_that_do_not_end() {
         check!(rt; (ReserveError::TooLarge as u8, ReserveError::Refused as u8) == (1, 2));
         check!(rt; ReserveError::Memory as u8 == 3);
     };
-    let _ = run(HostRuntime);
+    run(HostRuntime).passes();
 }
