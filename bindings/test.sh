@@ -1,9 +1,8 @@
 #!/usr/bin/env bash
-# Proves and builds crates/lru_c, and runs the tests of the C header and of the Rust crate. It prints one line.
+# Proves and builds crates/lru_c, and runs the tests of the C header. It prints one line.
 #
 # It needs rt and a compiler of C. With clang, 10,000,000 random calls on each kind of map are compared with a plain list
-# under the address sanitizer; with valgrind, 160,000; with cargo, the Rust crate is tested. What is missing is named in
-# the line.
+# under the address sanitizer; with valgrind, 160,000. What is missing is named in the line.
 set -euo pipefail
 cd "$(dirname "$0")"
 out=$(mktemp -d)
@@ -50,13 +49,6 @@ if has valgrind && [ -x "$out/random_calls" ]; then
     done+=(valgrind)
 else
     missing+=(valgrind)
-fi
-if has cargo; then
-    rust() { (cd rust && JEERDURIAN_LIB=$out CARGO_TARGET_DIR=$out/target cargo test --offline); }
-    quiet rust
-    done+=(cargo)
-else
-    missing+=(cargo)
 fi
 list() { local IFS=,; echo "${*//,/}" | sed 's/,/, /g'; }
 echo "bindings: passed with $(list "${done[@]}")${missing:+; missing: $(list "${missing[@]}")}"

@@ -26,7 +26,7 @@ static bool put(struct lru_bytes *pages, const char *key, const char *value) {
 }
 
 static bool cache_pages(void) {
-    uint8_t page[100];
+    uint8_t page[100] = {0};
     struct lru_bytes pages = LRU_NONE;
     if (!lru_bytes_new(&pages, 200, seeds)) return false;
     bool stored = put(&pages, "/", "home") && put(&pages, "/a", "first");

@@ -6,8 +6,9 @@
  *
  * What is proved. Each function meets its contract in crates/lru_c/src/exports.rt or crates/lru_c/src/bytes/exports.rt,
  * for every input: it is safe, it ends, and it does to the map what the comment here says, unless the comment says
- * "tested". A map is a list of entries with distinct keys, the most recently used first. Nothing is proved of what C
- * and its compiler do.
+ * "tested". A map is a list of entries with distinct keys, the most recently used first. That it keeps to its maximum
+ * length or its budget over many calls follows from laws of the map in crates/lru_model; no contract of a handle says
+ * it. Nothing is proved of what C and its compiler do.
  *
  * What the caller must guarantee, since nothing checks it:
  * - A handle is LRU_NONE, or what the last call left in it. Nothing writes its field, and no copy of a handle is
@@ -81,20 +82,20 @@ struct lru_inserted {
 /* What lru_insert, lru_put and lru_bytes_put return. */
 #define LRU_STORED 0u        /* the key is there, and has the value */
 #define LRU_REJECTED 1u      /* the key is not there, although no allocation failed: the entry does not fit */
-#define LRU_OUT_OF_MEMORY 2u /* there was no memory */
+#define LRU_OUT_OF_MEMORY 2u /* there was no memory: tested, as a contract names no cause */
 #define LRU_NO_MAP 3u        /* the handle has no map */
 
-/* Makes an empty map of at most `max_length` entries, and returns whether there was memory. A map that the handle
- * had is dropped in either case. The seeds are those of the hasher: if strangers choose the keys, take four numbers
- * that nobody can guess. The table takes memory at the first insert. */
+/* Makes an empty map of at most `max_length` entries, and returns whether it did; false says that there was no memory
+ * (tested). A map that the handle had is dropped in either case. The seeds are those of the hasher: if strangers choose
+ * the keys, take four numbers that nobody can guess. The table takes memory at the first insert. */
 bool lru_new(struct lru *lru, uint32_t max_length, const uint64_t seeds[4]);
 
 /* Drops the map, and gives back its memory. The handle has no map then. Returning the memory is tested. */
 void lru_free(struct lru *lru);
 
 /* Makes `copy` a copy of the map: the same entries in the same order, maximum length, seeds and capacity. Returns
- * whether there was a map, and memory for the copy. A map that `copy` had is dropped in either case; `lru` stays as
- * it is. */
+ * whether it did; false says that there was no map, or no memory (tested). A map that `copy` had is dropped in either
+ * case; `lru` stays as it is. */
 bool lru_clone(struct lru *lru, struct lru *copy);
 
 /* Inserts a key with a value, as the newest entry. A key that is there gets the new value, and the old one is
@@ -156,18 +157,17 @@ size_t lru_capacity(struct lru *lru);
 size_t lru_memory_usage(struct lru *lru);
 
 /* Makes the table large enough for `additional` more entries. Returns whether it is: false says that there was no
- * memory, or that no table is as large. The entries stay in any case. */
+ * memory (tested), or that no table is as large. The entries stay in any case. */
 bool lru_reserve(struct lru *lru, size_t additional);
 
 /* Shrinks the table to as few buckets as hold the entries. Returns false, and changes nothing, if there was no
- * memory for the smaller table. */
+ * memory for the smaller table (tested). */
 bool lru_shrink(struct lru *lru);
 
 /* A handle of a map from byte strings to byte strings: the address of a map on the heap, or null. Begin with LRU_NONE.
  *
  * Each call copies bytes in or out, so a caller never holds a pointer into the map. A key or a value may have length 0,
- * and may contain any bytes. Only lru_bytes_new, lru_bytes_put and
- * lru_bytes_clone take memory. */
+ * and may contain any bytes. Only lru_bytes_new, lru_bytes_put and lru_bytes_clone take memory (tested). */
 struct lru_bytes {
     void *map;
 };
@@ -190,8 +190,9 @@ struct lru_popped {
     bool removed; /* whether both were copied, and the entry was removed */
 };
 
-/* Makes an empty map whose entries weigh at most `budget` together, and returns whether there was memory. A map that
- * the handle had is dropped in either case. The seeds are those of the hasher, as for lru_new. */
+/* Makes an empty map whose entries weigh at most `budget` together, and returns whether it did; false says that there
+ * was no memory (tested). A map that the handle had is dropped in either case. The seeds are those of the hasher, as
+ * for lru_new. */
 bool lru_bytes_new(struct lru_bytes *lru, uint64_t budget, const uint64_t seeds[4]);
 
 /* Drops the map, and gives back its memory. The handle has no map then. Returning the memory is tested. */
@@ -201,9 +202,9 @@ void lru_bytes_free(struct lru_bytes *lru);
  * the oldest entries are evicted while the entries together weigh more than the budget. To see them, call
  * lru_bytes_pop_oldest before.
  *
- * LRU_REJECTED: the entry alone weighs more than the budget (tested). Then the value is not read, and the entry of the
- * key is removed, so no old value stays under the key. LRU_OUT_OF_MEMORY: all memory is taken first, so nothing has
- * changed. A key that is there takes memory for the two copies alone, and none for the table. */
+ * LRU_REJECTED: the entry alone weighs more than the budget. Then the value is not read (both are tested), and the
+ * entry of the key is removed, so no old value stays under the key. LRU_OUT_OF_MEMORY: all memory is taken first, so
+ * nothing has changed. A key that is there takes memory for the two copies alone, and none for the table. */
 uint32_t lru_bytes_put(struct lru_bytes *lru, const uint8_t *key, size_t key_len, const uint8_t *value,
                        size_t value_len);
 
@@ -240,8 +241,8 @@ struct lru_popped lru_bytes_peek_at(struct lru_bytes *lru, size_t index, uint8_t
                                     size_t value_size);
 
 /* Makes `copy` a copy of the map: entries with the same bytes in the same order, budget, seeds and capacity. Returns
- * whether there was a map, and memory for the copy. A map that `copy` had is dropped in either case; `lru` stays as it
- * is. `copy` is another handle than `lru`. */
+ * whether it did; false says that there was no map, or no memory (tested). A map that `copy` had is dropped in either
+ * case; `lru` stays as it is. `copy` is another handle than `lru`. */
 bool lru_bytes_clone(struct lru_bytes *lru, struct lru_bytes *copy);
 
 /* Returns the number of entries. */

@@ -24,12 +24,9 @@ import tempfile
 from pathlib import Path
 
 import audit
-from bodies import calls, indices, key_bounds
-from contracts import drop_attributes, drop_bounds, lex
-from impls import displayed_errors, impls, take_apart
-from names import docs, imports, paths, with_head
-from tests import macros, tests
-from tokens import EraseError, text_of
+from names import with_head
+from rules import erase
+from tokens import EraseError
 
 RUST = Path(__file__).resolve().parent.parent
 CRATES = RUST.parent / "crates"
@@ -61,7 +58,7 @@ def condition(crate):
 
 
 def places():
-    """The places of places.txt, each a file, an old text that stands there once, and the new one."""
+    """The places of places.txt by file: a text that stands there once, and the new one."""
     found = {}
     for block in (RUST / "erase" / "places.txt").read_text().split("\n\n"):
         parts = {"file": [], "old": [], "new": []}
@@ -69,8 +66,8 @@ def places():
             key, _, value = line.partition(": ")
             if key in parts:
                 parts[key].append(value)
-        if parts["file"]:
-            found.setdefault(parts["file"][0], []).append(("\n".join(parts["old"]), "\n".join(parts["new"])))
+        for file in parts["file"]:
+            found.setdefault(file, []).append(("\n".join(parts["old"]), "\n".join(parts["new"])))
     return found
 
 
@@ -80,16 +77,6 @@ def with_places(text, at, todo):
             raise EraseError(f"the place {old!r} stands there {text.count(old)} times")
         text = text.replace(old, new)
     return text
-
-
-def erase(text, crate, modules):
-    """The Rust module of a Rattle file, without the places and the head."""
-    toks = drop_bounds(drop_attributes(displayed_errors(lex(text))))
-    toks, dropped = impls(toks)
-    toks = calls(take_apart(toks, dropped))
-    toks = tests(key_bounds(indices(toks), dropped))
-    docs(toks)
-    return macros(imports(text_of(paths(toks, crate, modules))))
 
 
 def write_crate(crate, out, todo):

@@ -8,9 +8,10 @@ PROOF_ATTRIBUTES = ("tactic", "cycle", "error", "error_bound")
 PROOF_DERIVES = ("Drop", "Error")
 
 
-def lex(text):
-    """The tokens of a file without its ghosts and clauses."""
-    out, at = [], 0
+def lex(text, tests_full=False):
+    """The tokens of a file without its ghosts and clauses. With `tests_full`, a function of a table that requires a full
+    bucket begins with a test of that."""
+    out, at, full = [], 0, ""
     while at < len(text):
         token, end = token_at(text, at)
         if token.kind == "id" and token.text == "ghost":
@@ -18,11 +19,21 @@ def lex(text):
         elif token.kind == "id" and token.text in ("requires", "ensures"):
             drop_leading(out, keep_blank=False)
             at = skip_antt(text, text.index("{", end) + 1, "") + 1
+            full = full or full_bucket(text[text.index("{", end):at])
             out.append(Token("ws", "\n"))
         else:
             out.append(token)
             at = end
+            if full and token.text == "{":
+                out += [Token("ws", "\n        "), raw(f"full!(self.control.byte({full}));")] if tests_full else []
+                full = ""
     return out
+
+
+def full_bucket(clause):
+    """The bucket of a clause `{ IsFull self.now.slots b }`, or an empty text."""
+    m = re.fullmatch(r"\{ IsFull self\.(?:now|old)\.slots (\w+) \}", clause)
+    return m[1] if m else ""
 
 
 def skip_ghost(text, at, end, out):

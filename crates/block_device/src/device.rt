@@ -8,8 +8,13 @@ ghost use Rattle.std.specs.Prelude.{◌≡◌, ◌≢◌, ℕ, IfOk, OnOk};
 ///
 /// It also defines `seen`, what contracts see of a block. For most devices this is the block itself, by
 /// `ghost seen = { λ block. block };`. A device that keeps only hashes, such as [`HashedFileDevice`], says that it is
-/// the hash: a read returns a block of the right hash then.
+/// the hash: a read returns a block of the right hash then. Contracts do not tell blocks apart that `seen` does not.
 ///
+/// Contracts do not speak of a crash. They demand that no call changes another block, and that a `sync` changes none,
+/// even if it fails. A plain file does not meet this, because the system may drop writes after a `sync` that failed;
+/// [`FileDevice`] does, because it returns an error for a block that it finds changed.
+///
+/// [`FileDevice`]: crate::FileDevice
 /// [`HashedFileDevice`]: crate::HashedFileDevice
 ///
 /// ```
@@ -51,13 +56,13 @@ pub trait BlockDevice<B> {
         ensures written { OnOk result (blocks self.new n ≡ seen block.now) }
         ensures others { (m : ℕ) → m ≢ n → blocks self.new m ≡ blocks self.old m };
 
-    /// Makes the blocks durable: returns `Ok` once a crash loses none of the blocks that were written before. No block
-    /// changes. A device in memory returns `Ok`.
+    /// Asks the device to make its blocks durable. No block changes, even at an error; nothing is proved of a crash. A
+    /// device in memory returns `Ok`.
     ///
     /// # Errors
     ///
-    /// The device failed. A crash may lose what was written since the last `sync` that returned `Ok`. No block has
-    /// changed.
+    /// The device failed. A crash may lose what was written since the last `sync` that returned `Ok`, whatever a later
+    /// `sync` returns.
     fn sync(&mut self) -> Result<(), Self::Error>
         ensures keeps { (m : ℕ) → blocks self.new m ≡ blocks self.old m };
 }

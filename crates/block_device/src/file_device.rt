@@ -35,9 +35,10 @@ pub enum FileError {
 
 /// A device of the blocks of a file, of `N` bytes each, that compares what it reads with a copy.
 ///
-/// Nothing is proved of the bytes that an operating system returns. So the device keeps a copy of each block in memory,
-/// and a read fails if the file's block differs. [`HashedFileDevice`] needs only 8 bytes a block. After a failed write
-/// the reads of that block may fail, until a write of it succeeds.
+/// Nothing is proved of the bytes that an operating system returns or keeps. So the device keeps a copy of each block
+/// in memory, and a read fails if the file's block differs. [`HashedFileDevice`] needs only 8 bytes a block. After a
+/// failed write the reads of that block may fail, until a write of it succeeds. After a failed `sync` the system may
+/// drop earlier writes: then reads of these blocks fail, and a later `sync` may return `Ok` all the same.
 ///
 /// [`HashedFileDevice`]: crate::HashedFileDevice
 ///
@@ -114,8 +115,7 @@ impl<F: Read + Write + Seek, const N: usize> FileDevice<F, N> {
 
     /// Drops the copies and returns the file.
     ///
-    /// A page cache returns the device by `close`, which syncs the file. After other writes, call
-    /// `sync` first.
+    /// A page cache returns the device by `close`, which calls `sync`. After other writes, call `sync` first.
     ///
     /// ```
     /// let bytes = device.into_file().into_inner();

@@ -78,7 +78,7 @@ unsafe impl<T, A: Allocator> Sync for Deed<T, A> {}
 
 // How many bytes a place has.
 #[inline]
-pub(crate) fn bytes_of<T>() -> usize
+pub(crate) const fn bytes_of<T>() -> usize
     ensures { result ≡ capped (type_size T.row) }
 {
     size_of::<T>()

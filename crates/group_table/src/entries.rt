@@ -38,7 +38,7 @@ impl<T> Entries<T> {
     ghost use Rattle.group_table.specs.EntryLends.{lends_held};
 
     // No places, which take no memory.
-    pub(crate) fn new(alloc: Global) -> Entries<T>
+    pub(crate) const fn new(alloc: Global) -> Entries<T>
         ensures { result ≡ [] }
     {
         Entries { row: None, alloc }

@@ -93,6 +93,7 @@ fn search_group<T, F: FnMut(&T) -> bool>(
 }
 
 // Calls `f` with the entries with the tag of the hash, group by group, until it accepts one.
+#[inline]
 pub(crate) fn find_bucket<T, F: FnMut(&T) -> bool>(
     control: &Control,
     entries: &Entries<T>,

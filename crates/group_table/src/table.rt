@@ -138,6 +138,7 @@ impl<T> Table<T> {
     ///
     /// It reads 16 control bytes at once, usually of one group or two, and an entry for each call. At worst it reads
     /// all control bytes, and calls `f` with each entry with the tag.
+    #[inline]
     pub fn find<F: FnMut(&T) -> bool>(&self, hash: u64, f: F) -> Option<usize>
         requires { F.IsAlwaysCallable f }
         ensures found { IfSome result (Finds F.FnMut self.now.slots hash f) }

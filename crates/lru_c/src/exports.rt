@@ -39,7 +39,7 @@ pub extern "C" fn lru_abi_version() -> u32
     3
 }
 
-/// Makes an empty map of at most `max_length` entries, whose hasher has these seeds. Returns whether there was memory.
+/// Makes an empty map of at most `max_length` entries, whose hasher has these seeds. Returns whether it did.
 ///
 /// A map that the handle had is dropped.
 #[unsafe(no_mangle)]
@@ -340,7 +340,8 @@ pub extern "C" fn lru_reserve(alloc: Global, lru: &mut Lru, additional: usize) -
     }
 }
 
-/// Shrinks the table to as few buckets as hold the entries. Returns false if there was no memory for that.
+/// Shrinks the table to as few buckets as hold the entries. Returns false, and changes nothing, if it ran out of
+/// memory.
 #[unsafe(no_mangle)]
 pub extern "C" fn lru_shrink(alloc: Global, lru: &mut Lru) -> bool
     ensures { OnMap (result ≡ false) (λ old new. (done : Result Bool AllocError) × (result ≡ is_ok done)
@@ -369,7 +370,7 @@ pub extern "C" fn lru_set_max_length(alloc: Global, lru: &mut Lru, max_length: u
 }
 
 /// Makes a copy of the map: the same entries in the same order, with the same maximum length, seeds and capacity.
-/// Returns whether there was a map, and memory for the copy. A map that the handle of the copy had is dropped.
+/// Returns whether it did. A map that the handle of the copy had is dropped.
 #[unsafe(no_mangle)]
 pub extern "C" fn lru_clone(alloc: Global, lru: &mut Lru, copy: &mut Lru) -> bool
     ensures kept { lru.new.map ≡ lru.old.map }

@@ -14,7 +14,9 @@ use std::marker::Model;
 pub(crate) mod loader;
 pub(crate) mod table;
 
-/// A function that remembers its newest results, up to a limit.
+/// A function with its newest results, up to a limit, so that it is not called again at the same key.
+///
+/// It is proved that each result is right. That a result is remembered, and the limit kept, is only tested.
 ///
 /// ```
 /// let mut squares = Memo::new(alloc, ByLength::new(9), |n: u64| n.wrapping_mul(n));

@@ -357,7 +357,7 @@ impl<K: Eq + Hash + Drop, V: Drop, S: KeyHasher<K>> OrderedMap<K, V, S> {
 
     /// Removes the entries for which the closure returns false. The others keep their order.
     ///
-    /// The closure is called with each entry once, oldest first.
+    /// The closure is called with each entry, oldest first.
     ///
     /// ```
     /// map.retain(|key, value| *key == 1 || *value > 30);

@@ -39,8 +39,10 @@ pub enum PageError<E> {
 /// then, and goes to the device when it is evicted or flushed. So the cache shows a block at each number, which is the
 /// cached page, or else the block of the device.
 ///
-/// No call loses a page: whichever call of the device fails, the cache shows the same blocks as before. Code that drops
-/// or forgets a cache does not compile, because its dirty pages would be lost. Call `close` or `discard`.
+/// Whichever call of the device fails, the cache shows the same blocks as before, if the device meets the contract of
+/// [`BlockDevice`]. That contract does not speak of a crash: after a `sync` that failed, a file may lose pages that
+/// were evicted before, and no later flush writes them again. `docs/CACHES.md` says more. Code that drops or forgets a
+/// cache does not compile, because its dirty pages would be lost. Call `close` or `discard`.
 ///
 /// ```
 /// let mut cache = PageCache::new(alloc, disk, 2);
@@ -242,8 +244,8 @@ impl<B: Copy, D: BlockDevice<B>, S: KeyHasher<u64>> PageCache<B, D, S> {
         Ok(())
     }
 
-    /// Writes all dirty pages to the device, and makes its blocks durable by its `sync`. The pages stay cached, and are
-    /// clean then.
+    /// Writes all dirty pages to the device, and then calls its `sync`. The pages stay cached, and no page that was
+    /// dirty is dirty then.
     ///
     /// ```
     /// assert_eq!(rt; cache.flush(), Ok(()));
@@ -255,6 +257,7 @@ impl<B: Copy, D: BlockDevice<B>, S: KeyHasher<u64>> PageCache<B, D, S> {
     /// # Errors
     ///
     /// `Device`: a write or the `sync` failed. All pages stay as dirty as before, so the next flush writes them again.
+    /// It does not write a page again that was evicted before.
     pub fn flush(&mut self) -> Result<(), PageError<D::Error>>
         ensures keeps { ShowsTheSame D.seen D.blocks self.old self.new }
         ensures flushed { OnOk result ((n : ℕ) → D.blocks self.new.device n ≡ shown D.seen D.blocks self.old n) }
@@ -269,7 +272,7 @@ impl<B: Copy, D: BlockDevice<B>, S: KeyHasher<u64>> PageCache<B, D, S> {
         Ok(())
     }
 
-    /// Flushes the cache, which makes the blocks of the device durable, and returns the device.
+    /// Flushes the cache, and returns the device.
     ///
     /// ```
     /// let mut cache = match cache.close() {

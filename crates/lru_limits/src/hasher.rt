@@ -49,7 +49,7 @@ impl RandomState {
     /// ```
     /// let state = RandomState::with_seeds([5, 6, 7, 8]);
     /// ```
-    pub fn with_seeds(seeds: [u64; 4]) -> RandomState
+    pub const fn with_seeds(seeds: [u64; 4]) -> RandomState
         ensures { result ≡ seeded seeds }
     {
         RandomState {
@@ -120,7 +120,7 @@ impl Model for DefaultHasher {
 
 // The 128 bits of the product, their halves joined by xor.
 #[inline]
-fn folded(a: u64, b: u64) -> u64
+const fn folded(a: u64, b: u64) -> u64
     ensures { result ≡ folded a b }
 {
     let product = a as u128 * b as u128;

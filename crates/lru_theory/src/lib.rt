@@ -1,6 +1,7 @@
-//! What a larger cache is worth: theorems on runs of references to a map with a maximum length.
+//! What a larger cache is worth: theorems on runs of references, and of other calls, to a map that is empty at first.
 //!
-//! A reference is a call that inserts a key, or that gets its value and inserts it if it is not there. The functions do
+//! A reference is a call that inserts a key, or that gets its value and inserts it if it is not there. No call of a run
+//! runs out of memory, and equal keys are the same key (`IsExact`), as numbers are, and texts are not. The functions do
 //! nothing: their contracts are the theorems. `docs/THEORY.md` says each in words.
 #![tactic(auto)]
 
@@ -39,7 +40,8 @@ pub fn references_keep_the_newest<K: Eq + Hash + Drop, V: Drop, S: KeyHasher<K>>
 }
 
 /// More capacity never means more misses. After the same references, the keys of the smaller map are the newest keys of
-/// the larger map (`front`), and the larger map stored no more entries than the smaller map (`misses`).
+/// the larger map (`front`), and the larger map has stored no more entries than the smaller map, if both had stored the
+/// same number before, and the smaller length is not 0 (`misses`).
 pub fn more_capacity_never_misses_more<K: Eq + Hash + Drop, V: Drop, S: KeyHasher<K>>()
     ensures front { (keys : List K) (old small other large : State K V ByLength S) →
         IsExact K.eq → References K.eq S.hash_of keys old small → References K.eq S.hash_of keys other large →
@@ -90,9 +92,9 @@ pub fn a_smaller_budget_is_included<K: Eq + Hash + Drop, V: Costed + Drop, S: Ke
     recency::a_larger_budget_never_misses_more::<K>();
 }
 
-/// LRU is competitive. Take any demand policy with h places, one that knows the future too, from any keys in its cache.
-/// If it misses m times at the same references, a new map with `ByLength(k)`, h ≤ k, stores at most
-/// k / (k + 1 - h) * m + k entries.
+/// LRU is competitive. Take any demand policy with h places that stores each key it misses, one that knows the future
+/// too, from any keys in its cache. If it misses m times at the same references, a new map with `ByLength(k)`, h ≤ k,
+/// stores at most k / (k + 1 - h) * m + k entries.
 pub fn maps_are_competitive<K: Eq + Hash + Drop, V: Drop, S: KeyHasher<K>>()
     ensures { (keys : List K) (old new : State K V ByLength S) (h missed : ℕ) (first left : List K) →
         IsExact K.eq → References K.eq S.hash_of keys old new → 0 < old.limiter → old.counts.placed ≡ 0 →

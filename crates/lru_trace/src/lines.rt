@@ -77,7 +77,8 @@ pub fn sizes_of(alloc: Global, line: &[u8]) -> Result<Option<Vec<usize>>, TraceE
 /// bytes. `line` is a buffer, whose bytes are not used. The number of lines is written to `progress` after each
 /// million.
 ///
-/// The curve is new. If the reader reports its bytes, the call leaves the curve of the trace that the lines spell.
+/// The curve is new. If the type of the reader says which bytes are left, the call leaves the curve of the trace that
+/// the lines spell, and the count is exact. The type of standard input does not say so.
 ///
 /// # Errors
 ///

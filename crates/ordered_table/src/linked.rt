@@ -87,7 +87,7 @@ impl<K, V, N: LinkType> LinkedTable<K, V, N> {
     }
 
     // Returns the bytes of an entry: of a pair, and of two links.
-    pub(crate) fn entry_bytes() -> usize
+    pub(crate) const fn entry_bytes() -> usize
         ensures { result ≡ entry_size K.row V.row N.row }
     {
         Table::<Entry<K, V, N>>::entry_bytes()
@@ -196,6 +196,7 @@ impl<K, V, N: LinkType> LinkedTable<K, V, N> {
     // `f` is called with each pair at most once, and no more after it accepted one.
     //
     // Cost: `O(1)` expected.
+    #[inline]
     pub(crate) fn find_by<F: FnMut(&K, &V) -> bool>(&self, hash: u64, mut f: F) -> Option<usize>
         requires { F.IsAlwaysCallable f }
         ensures found { IfSome result (FindsPair F.FnMut self.now.slots hash f) }
@@ -214,6 +215,7 @@ impl<K, V, N: LinkType> LinkedTable<K, V, N> {
     // Makes the pair in a full bucket the newest.
     //
     // Cost: `O(1)`.
+    #[inline]
     pub(crate) fn promote(&mut self, b: usize)
         requires { IsFull self.old.slots b }
         ensures slots { self.new.slots ≡ self.old.slots }

@@ -93,7 +93,7 @@ impl<K, V, N: LinkType> OrderedTable<K, V, N> {
     }
 
     /// Returns the bytes of an entry: of a pair, and of two links.
-    pub fn entry_bytes() -> usize
+    pub const fn entry_bytes() -> usize
         ensures { result ≡ entry_size K.row V.row N.row }
     {
         LinkedTable::<K, V, N>::entry_bytes()
@@ -202,6 +202,7 @@ impl<K, V, N: LinkType> OrderedTable<K, V, N> {
     /// `f` is called with each pair at most once, and no more after it accepted one.
     ///
     /// Cost: `O(1)` expected.
+    #[inline]
     pub fn find_by<F: FnMut(&K, &V) -> bool>(&self, hash: u64, f: F) -> Option<usize>
         requires { F.IsAlwaysCallable f }
         ensures found { IfSome result (FindsPair F.FnMut self.now.slots hash f) }

@@ -1,6 +1,7 @@
 //! Traces of references to keys: recency lists, reuse distances, and how often an LRU cache of n places misses.
 //!
-//! The functions do nothing: their contracts are the theorems. `docs/THEORY.md` says each in words.
+//! The functions do nothing: their contracts are the theorems. `docs/THEORY.md` says each in words. Two of them require
+//! that equal keys are the same key (`IsExact`), as numbers are, and texts are not.
 #![tactic(auto)]
 
 ghost use Rattle.std.specs.Prelude.{◌≡◌, ℕ, ◌+◌, ◌-◌, ◌*◌, ◌≤◌, List, length, take, true};
@@ -25,8 +26,9 @@ pub fn more_places_never_miss_more<K: Eq>()
     ensures { (n m : ℕ) (past : List K) → n ≤ m → misses K.eq m past ≤ misses K.eq n past }
 {}
 
-/// LRU is competitive. Take any demand policy with h places, one that knows the whole trace in advance, from any keys
-/// in its cache. If it misses m times, an LRU cache of k ≥ h places misses at most k / (k + 1 - h) * m + k times.
+/// LRU is competitive. Take any demand policy with h places that stores each key it misses (`Served`), one that knows
+/// the whole trace in advance, from any keys in its cache. If it misses m times, an LRU cache of k ≥ h places misses at
+/// most k / (k + 1 - h) * m + k times.
 pub fn lru_is_competitive<K: Eq>()
     ensures { (k h : ℕ) (past first left : List K) (missed : ℕ) → IsExact K.eq → h ≤ k →
         Served K.eq h first past missed left →

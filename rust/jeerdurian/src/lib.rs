@@ -59,7 +59,9 @@ pub use map::LruMap;
 pub use more::More;
 pub use rattle_std::alloc::AllocError;
 
-// The unit tests of schnellru, from a file that `rust/upstream.sh` names.
+// The unit tests of schnellru, from a file that `rust/upstream.sh` names, and what they take from its root.
+#[cfg(all(test, upstream_tests))]
+use core::hash::{BuildHasher, Hash};
 #[cfg(all(test, upstream_tests))]
 include!(env!("UPSTREAM_TESTS"));
 

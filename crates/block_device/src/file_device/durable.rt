@@ -3,7 +3,7 @@ use std::fs::File;
 use std::io;
 use std::io::Cursor;
 
-/// A file with a call that makes its bytes outlast a crash.
+/// A file with a call that is to make its bytes outlast a crash. Nothing is proved of a crash.
 ///
 /// A file device calls this when it syncs, after it has flushed the writer.
 ///
@@ -11,11 +11,12 @@ use std::io::Cursor;
 /// assert!(rt; Cursor::new([0u8; 4]).make_durable().is_ok());
 /// ```
 pub trait Durable {
-    /// Returns `Ok` once a crash of the system loses no byte that was written and flushed before.
+    /// Asks the system to make the bytes durable that were written and flushed before, and returns when it has.
     ///
     /// # Errors
     ///
-    /// The system reported an error. A crash may lose bytes.
+    /// The system reported an error. It may have dropped bytes that were written since the last `Ok`, and a later call
+    /// may return `Ok` without them.
     fn make_durable(&mut self) -> io::Result<()>;
 }
 

@@ -19,7 +19,8 @@ use std::marker::Model;
 /// block of such a device as its hash, so they do not tell two blocks with the same hash apart, and whoever looks for
 /// such blocks can find them. [`FileDevice`] compares whole blocks.
 ///
-/// After a failed write the reads of that block may fail, until a write of it succeeds.
+/// After a failed write the reads of that block may fail, until a write of it succeeds. After a failed `sync` the
+/// system may drop earlier writes, as of a [`FileDevice`].
 ///
 /// [`FileDevice`]: crate::FileDevice
 ///
@@ -96,8 +97,7 @@ impl<F: Read + Write + Seek, const N: usize> HashedFileDevice<F, N> {
 
     /// Drops the hashes and returns the file.
     ///
-    /// A page cache returns the device by `close`, which syncs the file. After other writes, call
-    /// `sync` first.
+    /// A page cache returns the device by `close`, which calls `sync`. After other writes, call `sync` first.
     ///
     /// ```
     /// let bytes = hashed.into_file().into_inner();

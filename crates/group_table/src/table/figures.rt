@@ -78,7 +78,7 @@ impl<T> Table<T> {
     }
 
     /// Returns the bytes that an entry takes in the table: the size of its type.
-    pub fn entry_bytes() -> usize
+    pub const fn entry_bytes() -> usize
         ensures { result ≡ capped (type_size T.row) }
     {
         bytes_of::<T>()

@@ -23,8 +23,8 @@ use std::alloc::Global;
 // A bucket contains two vectors of 24 bytes and two links of 64 bits.
 const ENTRY_BYTES: usize = 64;
 
-/// Makes an empty map whose entries weigh at most `budget` bytes, and whose hasher has these seeds. Returns whether
-/// there was memory.
+/// Makes an empty map whose entries weigh at most `budget` bytes, and whose hasher has these seeds. Returns whether it
+/// did.
 ///
 /// A map that the handle had is dropped.
 #[unsafe(no_mangle)]
@@ -60,8 +60,8 @@ pub extern "C" fn lru_bytes_free(alloc: Global, lru: &mut LruBytes)
 /// Inserts a copy of the value under a copy of the key, as the newest entry, and evicts the oldest entries while the
 /// map is over its budget. Returns a code, as `lru_put` does.
 ///
-/// `REJECTED`: the entry alone weighs more than the budget, and the entry of the key was removed. `OUT_OF_MEMORY`:
-/// nothing has changed.
+/// `REJECTED`: the entry alone weighs more than the budget (tested), and the entry of the key was removed.
+/// `OUT_OF_MEMORY`: nothing has changed.
 #[unsafe(no_mangle)]
 pub extern "C" fn lru_bytes_put(alloc: Global, lru: &mut LruBytes, key: &[u8], value: &[u8]) -> u32
     ensures { OnMap (result ≡ 3) (λ old new. Puts key.now value.now old result new) lru.old.map lru.new.map }
@@ -281,7 +281,7 @@ pub extern "C" fn lru_bytes_set_budget(alloc: Global, lru: &mut LruBytes, budget
 }
 
 /// Makes a copy of the map: the same entries in the same order, with the same budget, seeds and capacity. Returns
-/// whether there was a map, and memory for the copy.
+/// whether it did.
 ///
 /// A map that the handle of the copy had is dropped.
 #[unsafe(no_mangle)]

@@ -10,8 +10,11 @@ use std::alloc::Global;
 use std::hash::Hash;
 use std::marker::Model;
 
-/// A memo of a function that may fail, such as a read of a file. It remembers the newest values that were loaded, up to
-/// a limit, and no failure.
+/// A memo of a function that may fail, such as a read of a file. It stores the newest values that were loaded, up to a
+/// limit, and no failure.
+///
+/// It is proved that each value is right, and that a failure stores nothing. That a value is remembered, and the limit
+/// kept, is only tested.
 ///
 /// The function may borrow what it reads by `&`.
 ///

@@ -169,7 +169,7 @@ impl<
     }
 
     /// Stores an answer at a key, as the newest. If the table runs out of memory or its limiter rejects the answer, it
-    /// is not stored.
+    /// is not stored. No clause says what is stored: that is tested.
     ///
     /// ```
     /// squares.store(3, 9);

@@ -46,7 +46,7 @@ impl<K: Eq + Hash, V, S: KeyHasher<K>> OrderedMap<K, V, S> {
         self.map.promote(key)
     }
 
-    /// Takes memory for n more entries, so that inserting them does not grow the table. The entries stay.
+    /// Reserves memory for n more entries. The entries stay; no clause says that the memory is there.
     ///
     /// ```
     /// assert_eq!(rt; map.try_reserve(100), Ok(()));
@@ -65,7 +65,8 @@ impl<K: Eq + Hash, V, S: KeyHasher<K>> OrderedMap<K, V, S> {
         self.map.try_reserve(n)
     }
 
-    /// Shrinks the table to as few buckets as hold the entries, and returns whether it had more. The entries stay.
+    /// Shrinks the table to as few buckets as hold the entries, and returns whether it had more. The entries stay; no
+    /// clause speaks of the table.
     ///
     /// ```
     /// assert_eq!(rt; map.try_reserve(100), Ok(()));
@@ -76,7 +77,7 @@ impl<K: Eq + Hash, V, S: KeyHasher<K>> OrderedMap<K, V, S> {
     ///
     /// # Errors
     ///
-    /// An `Err` says that the map ran out of memory. Nothing has changed then.
+    /// An `Err` says that the map ran out of memory.
     ///
     /// After indexmap's `IndexMap::shrink_to_fit`.
     pub fn shrink_to_fit(&mut self) -> Result<bool, AllocError>

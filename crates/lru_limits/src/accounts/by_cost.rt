@@ -1,6 +1,7 @@
 //! The limiter by the sum of the costs of the values.
 ghost use Rattle.std.specs.Prelude.{◌≡◌};
-ghost use Rattle.lru_limits.specs.Budget.{can_add, by_cost, charges, charges-lawful, charges-sums, budget_terms, weighs-terms};
+ghost use Rattle.lru_limits.specs.Budget.{can_add, by_cost, charges, charges-lawful, charges-sums, budget_terms};
+ghost use Rattle.lru_limits.specs.Budget.{weighs-terms};
 ghost use Rattle.lru_limits.specs.Budgeted.{weighs-budgeted};
 
 use crate::accounts::{Budgeted, Costed, Summing, sum_with};
@@ -46,7 +47,7 @@ impl ByCost {
     /// ```
     /// let mut limiter = ByCost::new(3);
     /// ```
-    pub fn new(limit: u64) -> ByCost
+    pub const fn new(limit: u64) -> ByCost
         ensures { result ≡ record { limit = limit; cost = 0 } }
     {
         ByCost { limit, cost: 0 }
@@ -60,7 +61,7 @@ impl ByCost {
     /// let lower = limiter.with_limit(1);
     /// assert_eq!(rt; (lower.limit(), lower.cost()), (1, 2));
     /// ```
-    pub fn with_limit(&self, limit: u64) -> ByCost
+    pub const fn with_limit(&self, limit: u64) -> ByCost
         ensures { result ≡ record self.now { limit = limit } }
     {
         ByCost {
@@ -74,7 +75,7 @@ impl ByCost {
     /// ```
     /// assert_eq!(rt; limiter.limit(), 3);
     /// ```
-    pub fn limit(&self) -> u64
+    pub const fn limit(&self) -> u64
         ensures { result ≡ self.now.limit }
     {
         self.limit
@@ -85,7 +86,7 @@ impl ByCost {
     /// ```
     /// assert_eq!(rt; limiter.cost(), 2);
     /// ```
-    pub fn cost(&self) -> u64
+    pub const fn cost(&self) -> u64
         ensures { result ≡ self.now.cost }
     {
         self.cost

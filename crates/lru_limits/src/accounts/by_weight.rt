@@ -1,6 +1,7 @@
 //! The limiter by the sum of the costs of keys, values and entries.
 ghost use Rattle.std.specs.Prelude.{◌≡◌};
-ghost use Rattle.lru_limits.specs.Budget.{can_add, pair_cost, by_weight, weighs, weighs-lawful, weighs-sums, budget_terms, weighs-terms};
+ghost use Rattle.lru_limits.specs.Budget.{can_add, pair_cost, by_weight, weighs, weighs-lawful, weighs-sums};
+ghost use Rattle.lru_limits.specs.Budget.{budget_terms, weighs-terms};
 ghost use Rattle.lru_limits.specs.Budgeted.{weighs-budgeted};
 
 use crate::accounts::{Budgeted, Costed, Summing, sum_with};
@@ -48,7 +49,7 @@ impl<const OVERHEAD: u64> ByWeight<OVERHEAD> {
     /// ```
     /// let mut limiter: ByWeight<16> = ByWeight::new(100);
     /// ```
-    pub fn new(limit: u64) -> ByWeight<OVERHEAD>
+    pub const fn new(limit: u64) -> ByWeight<OVERHEAD>
         ensures { result ≡ record { limit = limit; cost = 0 } }
     {
         ByWeight { limit, cost: 0 }
@@ -62,7 +63,7 @@ impl<const OVERHEAD: u64> ByWeight<OVERHEAD> {
     /// let lower = limiter.with_limit(10);
     /// assert_eq!(rt; (lower.limit(), lower.cost()), (10, 19));
     /// ```
-    pub fn with_limit(&self, limit: u64) -> ByWeight<OVERHEAD>
+    pub const fn with_limit(&self, limit: u64) -> ByWeight<OVERHEAD>
         ensures { result ≡ record self.now { limit = limit } }
     {
         ByWeight {
@@ -76,7 +77,7 @@ impl<const OVERHEAD: u64> ByWeight<OVERHEAD> {
     /// ```
     /// assert_eq!(rt; limiter.limit(), 100);
     /// ```
-    pub fn limit(&self) -> u64
+    pub const fn limit(&self) -> u64
         ensures { result ≡ self.now.limit }
     {
         self.limit
@@ -87,7 +88,7 @@ impl<const OVERHEAD: u64> ByWeight<OVERHEAD> {
     /// ```
     /// assert_eq!(rt; limiter.cost(), 19);
     /// ```
-    pub fn cost(&self) -> u64
+    pub const fn cost(&self) -> u64
         ensures { result ≡ self.now.cost }
     {
         self.cost

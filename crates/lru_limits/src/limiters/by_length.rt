@@ -24,6 +24,7 @@ use std::marker::Model;
 ///
 /// Cost: `O(1)` for each callback, and no memory.
 #[derive(Clone, Copy, Debug)]
+#[repr(transparent)]
 pub struct ByLength {
     max_length: u32,
 }
@@ -44,7 +45,7 @@ impl ByLength {
     /// ```
     /// let limiter = ByLength::new(3);
     /// ```
-    pub fn new(max_length: u32) -> ByLength
+    pub const fn new(max_length: u32) -> ByLength
         ensures { result ≡ max_length }
     {
         ByLength { max_length }
@@ -55,7 +56,7 @@ impl ByLength {
     /// ```
     /// assert_eq!(rt; limiter.max_length(), 3);
     /// ```
-    pub fn max_length(&self) -> u32
+    pub const fn max_length(&self) -> u32
         ensures { result ≡ self.now }
     {
         self.max_length

@@ -23,6 +23,7 @@ use std::marker::Model;
 ///
 /// Cost: `O(1)` for each callback, and no memory.
 #[derive(Clone, Copy, Debug)]
+#[repr(transparent)]
 pub struct ByMemoryUsage {
     max_bytes: usize,
 }
@@ -43,7 +44,7 @@ impl ByMemoryUsage {
     /// ```
     /// let mut limiter = ByMemoryUsage::new(152);
     /// ```
-    pub fn new(max_bytes: usize) -> ByMemoryUsage
+    pub const fn new(max_bytes: usize) -> ByMemoryUsage
         ensures { result ≡ max_bytes }
     {
         ByMemoryUsage { max_bytes }
@@ -54,7 +55,7 @@ impl ByMemoryUsage {
     /// ```
     /// assert_eq!(rt; limiter.max_memory_usage(), 152);
     /// ```
-    pub fn max_memory_usage(&self) -> usize
+    pub const fn max_memory_usage(&self) -> usize
         ensures { result ≡ self.now }
     {
         self.max_bytes

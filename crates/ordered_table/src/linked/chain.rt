@@ -22,6 +22,7 @@ pub(crate) struct Chain<K, V, N> {
 
 impl<K, V, N: LinkType> Chain<K, V, N> {
     // Takes a bucket out of the chain. Its entry stays in the table, with its own links unchanged.
+    #[inline]
     pub(crate) fn unlink(&mut self, b: usize)
         requires { InChain N.number N.link N.MAX self.old b }
         ensures pairs { pair_slots self.new.table.slots ≡ pair_slots self.old.table.slots }
@@ -67,6 +68,7 @@ impl<K, V, N: LinkType> Chain<K, V, N> {
     }
 
     // Puts a bucket that is in no chain in front of this chain, which is not empty.
+    #[inline]
     pub(crate) fn link_newest(&mut self, b: usize)
         requires full { IsFull self.old.table.slots b }
         requires some { self.old.newest ≢ N.MAX }
@@ -102,6 +104,7 @@ impl<K, V, N: LinkType> Chain<K, V, N> {
 
     // Puts a bucket that is in no chain in front of the chain, or makes it the only one. Its entry has the links of the
     // newest entry already: the older one leads to `first`, which has been the newest.
+    #[inline]
     pub(crate) fn link_placed(&mut self, b: usize, first: N)
         requires first { first ≡ self.old.newest }
         requires full { IsFull self.old.table.slots b }

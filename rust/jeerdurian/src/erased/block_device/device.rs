@@ -11,8 +11,13 @@ use crate::rattle_std::prelude::*;
 ///
 /// It also defines `seen`, what contracts see of a block. For most devices this is the block itself, by
 /// `ghost seen = { λ block. block };`. A device that keeps only hashes, such as [`HashedFileDevice`], says that it is
-/// the hash: a read returns a block of the right hash then.
+/// the hash: a read returns a block of the right hash then. Contracts do not tell blocks apart that `seen` does not.
 ///
+/// Contracts do not speak of a crash. They demand that no call changes another block, and that a `sync` changes none,
+/// even if it fails. A plain file does not meet this, because the system may drop writes after a `sync` that failed;
+/// [`FileDevice`] does, because it returns an error for a block that it finds changed.
+///
+/// [`FileDevice`]: crate::FileDevice
 /// [`HashedFileDevice`]: crate::HashedFileDevice
 ///
 /// ```text
@@ -44,12 +49,12 @@ pub trait BlockDevice<B> {
     /// The device failed. That block may be anything then, and no other block has changed.
     fn write(&mut self, n: u64, block: &B) -> Result<(), Self::Error>;
 
-    /// Makes the blocks durable: returns `Ok` once a crash loses none of the blocks that were written before. No block
-    /// changes. A device in memory returns `Ok`.
+    /// Asks the device to make its blocks durable. No block changes, even at an error; nothing is proved of a crash. A
+    /// device in memory returns `Ok`.
     ///
     /// # Errors
     ///
-    /// The device failed. A crash may lose what was written since the last `sync` that returned `Ok`. No block has
-    /// changed.
+    /// The device failed. A crash may lose what was written since the last `sync` that returned `Ok`, whatever a later
+    /// `sync` returns.
     fn sync(&mut self) -> Result<(), Self::Error>;
 }

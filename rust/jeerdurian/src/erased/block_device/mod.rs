@@ -2,8 +2,7 @@
 //! Devices of numbered blocks, such as a disk or a file.
 //!
 //! [`BlockDevice`] is a device whose reads and writes may fail. [`FileDevice`] and [`HashedFileDevice`] are devices
-//! over a file, whose bytes are made [`Durable`], and check what they read. The page cache of `lru_caches` works on any
-//! device.
+//! over a [`Durable`] file, and check what they read. The page cache of `lru_caches` works on any device.
 
 #[allow(unused_imports)]
 use crate::rattle_std::prelude::*;

@@ -82,6 +82,7 @@ impl<T> Table<T> {
     ///
     /// It reads 16 control bytes at once, usually of one group or two, and an entry for each call. At worst it reads
     /// all control bytes, and calls `f` with each entry with the tag.
+    #[inline]
     pub fn find<F: FnMut(&T) -> bool>(&self, hash: u64, f: F) -> Option<usize> {
         if self.control.is_empty_at(hash) {
             return None;
@@ -92,6 +93,7 @@ impl<T> Table<T> {
     /// Returns the entry in a full bucket. It reads nothing of the table but the address of its entries.
     #[inline]
     pub fn get(&self, b: usize) -> &T {
+        full!(self.control.byte(b));
         self.entries.get(b)
     }
 
@@ -99,6 +101,7 @@ impl<T> Table<T> {
     /// anything that changes the entry's hash.
     #[inline]
     pub fn get_mut(&mut self, b: usize) -> &mut T {
+        full!(self.control.byte(b));
         self.entries.get_mut(b)
     }
 
@@ -111,6 +114,7 @@ impl<T> Table<T> {
     /// It reads 32 control bytes and writes one and its repetition, whatever the table's size.
     #[inline(always)]
     pub fn take(&mut self, b: usize) -> T {
+        full!(self.control.byte(b));
         self.len -= 1;
         let gives_room = ones_if_empty_neighbours(&self.control, b);
         // To subtract all ones is to add 1.

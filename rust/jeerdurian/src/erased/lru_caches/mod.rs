@@ -1,11 +1,10 @@
 // Erased from crates/lru_caches/src/lib.rt: do not edit.
 //! Caches above the verified LRU map.
 //!
-//! [`PageCache`] keeps the blocks of a [`BlockDevice`] that were used last, writes them back when they are evicted or
-//! flushed, and loses no block that was written to it, whichever call of the device fails. [`FileDevice`] and
-//! [`HashedFileDevice`] are devices over a file. [`Memo`] is a function that remembers its newest results, [`Loader`]
-//! one that may fail, and [`MemoTable`] a table for one that calls itself. [`OrderedMap`] is a hash map in the order of
-//! insertion.
+//! [`PageCache`] keeps the blocks of a [`BlockDevice`] that were used last, and writes them back when they are evicted
+//! or flushed. A call that fails changes no block that it shows. [`FileDevice`] and [`HashedFileDevice`] are devices
+//! over a file. [`Memo`] stores the newest results of a function, [`Loader`] of one that may fail, and [`MemoTable`] of
+//! one that calls itself. [`OrderedMap`] is a hash map in the order of insertion.
 
 #[allow(unused_imports)]
 use crate::rattle_std::prelude::*;

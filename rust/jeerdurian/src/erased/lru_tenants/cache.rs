@@ -151,9 +151,10 @@ impl<N: Eq + Hash, K: Eq + Hash, V, L: Budgeted<K, V>, S: KeyHasher<K> + Copy> T
 
     /// Inserts a key with a value, as the newest entry of the tenant. Returns whether the key is there then.
     ///
-    /// It is an `insert` into the map of the tenant. It rejects an entry that alone costs more than the budget, or that
-    /// would take the tenant's total past `u64::MAX`. Otherwise it evicts the tenant's oldest entries until the total
-    /// is within the budget. If the key is there and the new value is rejected, its entry is removed.
+    /// It is an `insert` into the map of the tenant. `ByCost` and `ByWeight` reject an entry that alone costs more than
+    /// the budget, or that would take the tenant's total past `u64::MAX`. Otherwise the tenant's oldest entries are
+    /// evicted until the total is within the budget. If the key is there and the new value is rejected, its entry is
+    /// removed.
     ///
     /// ```text
     /// assert_eq!(rt; cache.put(&1, 8, 1), Ok(true));

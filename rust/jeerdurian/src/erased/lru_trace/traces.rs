@@ -11,7 +11,8 @@ use crate::erased::lru_trace::report::write_report;
 use crate::rattle_std::alloc::Global;
 use crate::rattle_std::io::{BufRead, Write};
 
-/// Reads a trace, and writes how often LRU caches of each size miss at it.
+/// Reads a trace, and writes how often LRU caches of each size miss at it. No contract says what is written: it is
+/// tested.
 ///
 /// The first line names sizes, and each other line is a key that is referenced: text of 1 to 64 bytes. Other lines are
 /// counted as malformed. `docs/TRACE.md` shows the report. The number of lines is written to `progress` after each

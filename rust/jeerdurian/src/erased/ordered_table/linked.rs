@@ -109,6 +109,7 @@ impl<K, V, N: LinkType> LinkedTable<K, V, N> {
     // `f` is called with each pair at most once, and no more after it accepted one.
     //
     // Cost: `O(1)` expected.
+    #[inline]
     pub(crate) fn find_by<F: FnMut(&K, &V) -> bool>(&self, hash: u64, mut f: F) -> Option<usize> {
         self.chain.table.find(hash, move |entry: &Entry<K, V, N>| -> bool { f(&entry.pair.key, &entry.pair.value) })
     }
@@ -116,6 +117,7 @@ impl<K, V, N: LinkType> LinkedTable<K, V, N> {
     // Makes the pair in a full bucket the newest.
     //
     // Cost: `O(1)`.
+    #[inline]
     pub(crate) fn promote(&mut self, b: usize) {
         let newer = self.chain.table.get(b).newer;
         if !self.chain.leads(newer) {

@@ -124,6 +124,7 @@ impl<K, V, N: LinkType> OrderedTable<K, V, N> {
     /// `f` is called with each pair at most once, and no more after it accepted one.
     ///
     /// Cost: `O(1)` expected.
+    #[inline]
     pub fn find_by<F: FnMut(&K, &V) -> bool>(&self, hash: u64, f: F) -> Option<usize> {
         self.linked.find_by(hash, f)
     }

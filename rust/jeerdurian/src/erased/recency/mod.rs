@@ -1,7 +1,8 @@
 // Erased from crates/recency/src/lib.rt: do not edit.
 //! Traces of references to keys: recency lists, reuse distances, and how often an LRU cache of n places misses.
 //!
-//! The functions do nothing: their contracts are the theorems. `docs/THEORY.md` says each in words.
+//! The functions do nothing: their contracts are the theorems. `docs/THEORY.md` says each in words. Two of them require
+//! that equal keys are the same key (`IsExact`), as numbers are, and texts are not.
 
 #[allow(unused_imports)]
 use crate::rattle_std::prelude::*;
@@ -16,8 +17,9 @@ pub fn faults_are_misses<K: Eq>() {}
 /// More places never mean more misses.
 pub fn more_places_never_miss_more<K: Eq>() {}
 
-/// LRU is competitive. Take any demand policy with h places, one that knows the whole trace in advance, from any keys
-/// in its cache. If it misses m times, an LRU cache of k ≥ h places misses at most k / (k + 1 - h) * m + k times.
+/// LRU is competitive. Take any demand policy with h places that stores each key it misses (`Served`), one that knows
+/// the whole trace in advance, from any keys in its cache. If it misses m times, an LRU cache of k ≥ h places misses at
+/// most k / (k + 1 - h) * m + k times.
 pub fn lru_is_competitive<K: Eq>() {}
 
 /// After the same calls a smaller cache is included in a larger one, if it was before (`included`): its keys are keys

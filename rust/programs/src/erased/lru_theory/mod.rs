@@ -1,7 +1,8 @@
 // Erased from crates/lru_theory/src/lib.rt: do not edit.
-//! What a larger cache is worth: theorems on runs of references to a map with a maximum length.
+//! What a larger cache is worth: theorems on runs of references, and of other calls, to a map that is empty at first.
 //!
-//! A reference is a call that inserts a key, or that gets its value and inserts it if it is not there. The functions do
+//! A reference is a call that inserts a key, or that gets its value and inserts it if it is not there. No call of a run
+//! runs out of memory, and equal keys are the same key (`IsExact`), as numbers are, and texts are not. The functions do
 //! nothing: their contracts are the theorems. `docs/THEORY.md` says each in words.
 
 #[allow(unused_imports)]
@@ -23,7 +24,8 @@ pub fn references_keep_the_newest<K: Eq + Hash, V, S: KeyHasher<K>>() {
 }
 
 /// More capacity never means more misses. After the same references, the keys of the smaller map are the newest keys of
-/// the larger map (`front`), and the larger map stored no more entries than the smaller map (`misses`).
+/// the larger map (`front`), and the larger map has stored no more entries than the smaller map, if both had stored the
+/// same number before, and the smaller length is not 0 (`misses`).
 pub fn more_capacity_never_misses_more<K: Eq + Hash, V, S: KeyHasher<K>>() {
     references_keep_the_newest::<K, V, S>();
     crate::erased::recency::more_places_never_miss_more::<K>();
@@ -48,9 +50,9 @@ pub fn a_smaller_budget_is_included<K: Eq + Hash, V: Costed, S: KeyHasher<K>>() 
     crate::erased::recency::a_larger_budget_never_misses_more::<K>();
 }
 
-/// LRU is competitive. Take any demand policy with h places, one that knows the future too, from any keys in its cache.
-/// If it misses m times at the same references, a new map with `ByLength(k)`, h ≤ k, stores at most
-/// k / (k + 1 - h) * m + k entries.
+/// LRU is competitive. Take any demand policy with h places that stores each key it misses, one that knows the future
+/// too, from any keys in its cache. If it misses m times at the same references, a new map with `ByLength(k)`, h ≤ k,
+/// stores at most k / (k + 1 - h) * m + k entries.
 pub fn maps_are_competitive<K: Eq + Hash, V, S: KeyHasher<K>>() {
     references_keep_the_newest::<K, V, S>();
     crate::erased::recency::lru_is_competitive::<K>();

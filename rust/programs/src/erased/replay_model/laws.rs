@@ -75,7 +75,8 @@ pub fn small_budgets_are_alike<K: Eq + Hash, V, S: KeyHasher<K>>() {
     small_calls_are_alike::<K, V, ByMemoryUsage, S>();
 }
 
-/// So do two runs under a limiter with a running total.
+/// So do two runs under a limiter with a running total. No contract shows that the tables of a run of `run_summing`
+/// have at most 16 buckets.
 pub fn small_summing_is_alike<K: Eq + Hash, V, L: Summing<K, V, K>, S: KeyHasher<K>>() {
     laws::small_inserts_look_alike::<K, V, K, L, S>();
 }

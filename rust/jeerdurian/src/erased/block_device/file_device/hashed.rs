@@ -19,7 +19,8 @@ use crate::rattle_std::io::{Read, Seek, Write};
 /// block of such a device as its hash, so they do not tell two blocks with the same hash apart, and whoever looks for
 /// such blocks can find them. [`FileDevice`] compares whole blocks.
 ///
-/// After a failed write the reads of that block may fail, until a write of it succeeds.
+/// After a failed write the reads of that block may fail, until a write of it succeeds. After a failed `sync` the
+/// system may drop earlier writes, as of a [`FileDevice`].
 ///
 /// [`FileDevice`]: crate::FileDevice
 ///
@@ -82,8 +83,7 @@ where {
 
     /// Drops the hashes and returns the file.
     ///
-    /// A page cache returns the device by `close`, which syncs the file. After other writes, call
-    /// `sync` first.
+    /// A page cache returns the device by `close`, which calls `sync`. After other writes, call `sync` first.
     ///
     /// ```text
     /// let bytes = hashed.into_file().into_inner();

@@ -22,9 +22,9 @@ impl<T> Table<T> {
     /// A table without entries may move to no buckets, which gives its memory back.
     ///
     /// The result contains a link for each old bucket: the number of the bucket where its entry is now, or `MAX` if it
-    /// was free. It is empty for a table without entries. `hash_of` is called once for each entry. `placings` rises
-    /// by the number of entries, `placed` stays, and no bucket is deleted afterwards. It takes time O(old buckets + new
-    /// buckets).
+    /// was free. It is empty for a table without entries. `hash_of` is called once for each entry. Of the
+    /// `insertions`, `moved` rises by the number of entries, and `placed` stays. No bucket is deleted afterwards. It
+    /// takes time O(old buckets + new buckets).
     ///
     /// # Errors
     ///
@@ -62,7 +62,8 @@ impl<T> Table<T> {
 
     /// Moves all entries within the table so that no bucket is deleted, and returns what `relocate` returns.
     ///
-    /// `hash_of` is called once for each entry, and `placings` rises by their number. It takes time O(buckets).
+    /// `hash_of` is called once for each entry. Of the `insertions`, `moved` rises by their number, and `placed` stays.
+    /// It takes time O(buckets).
     ///
     /// # Errors
     ///

@@ -101,7 +101,7 @@ impl<K: Copy + Eq + Hash, V: Copy, Q: Question<K, V>, L: Insertion<K, V, K>, S: 
     }
 
     /// Stores an answer at a key, as the newest. If the table runs out of memory or its limiter rejects the answer, it
-    /// is not stored.
+    /// is not stored. No clause says what is stored: that is tested.
     ///
     /// ```text
     /// squares.store(3, 9);

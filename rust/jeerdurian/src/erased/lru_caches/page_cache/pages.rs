@@ -79,7 +79,7 @@ fn write_back<B: Copy, D: BlockDevice<B>>(
     device.write(n, &page.block).map_err(PageError::Device)
 }
 
-// Writes each dirty page to the device, and makes its blocks durable.
+// Writes each dirty page to the device, and syncs it.
 pub(super) fn write_all_back<B: Copy, D: BlockDevice<B>, S: KeyHasher<u64>>(
     map: &Pages<B, S>,
     device: &mut D,

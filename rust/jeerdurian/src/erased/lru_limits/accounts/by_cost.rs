@@ -36,7 +36,7 @@ impl ByCost {
     /// ```text
     /// let mut limiter = ByCost::new(3);
     /// ```
-    pub fn new(limit: u64) -> ByCost {
+    pub const fn new(limit: u64) -> ByCost {
         ByCost { limit, cost: 0 }
     }
 
@@ -48,7 +48,7 @@ impl ByCost {
     /// let lower = limiter.with_limit(1);
     /// assert_eq!(rt; (lower.limit(), lower.cost()), (1, 2));
     /// ```
-    pub fn with_limit(&self, limit: u64) -> ByCost {
+    pub const fn with_limit(&self, limit: u64) -> ByCost {
         ByCost { limit, cost: self.cost }
     }
 
@@ -57,7 +57,7 @@ impl ByCost {
     /// ```text
     /// assert_eq!(rt; limiter.limit(), 3);
     /// ```
-    pub fn limit(&self) -> u64 {
+    pub const fn limit(&self) -> u64 {
         self.limit
     }
 
@@ -66,7 +66,7 @@ impl ByCost {
     /// ```text
     /// assert_eq!(rt; limiter.cost(), 2);
     /// ```
-    pub fn cost(&self) -> u64 {
+    pub const fn cost(&self) -> u64 {
         self.cost
     }
 }

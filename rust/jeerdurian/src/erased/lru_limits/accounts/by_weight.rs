@@ -38,7 +38,7 @@ impl<const OVERHEAD: u64> ByWeight<OVERHEAD> {
     /// ```text
     /// let mut limiter: ByWeight<16> = ByWeight::new(100);
     /// ```
-    pub fn new(limit: u64) -> ByWeight<OVERHEAD> {
+    pub const fn new(limit: u64) -> ByWeight<OVERHEAD> {
         ByWeight { limit, cost: 0 }
     }
 
@@ -50,7 +50,7 @@ impl<const OVERHEAD: u64> ByWeight<OVERHEAD> {
     /// let lower = limiter.with_limit(10);
     /// assert_eq!(rt; (lower.limit(), lower.cost()), (10, 19));
     /// ```
-    pub fn with_limit(&self, limit: u64) -> ByWeight<OVERHEAD> {
+    pub const fn with_limit(&self, limit: u64) -> ByWeight<OVERHEAD> {
         ByWeight { limit, cost: self.cost }
     }
 
@@ -59,7 +59,7 @@ impl<const OVERHEAD: u64> ByWeight<OVERHEAD> {
     /// ```text
     /// assert_eq!(rt; limiter.limit(), 100);
     /// ```
-    pub fn limit(&self) -> u64 {
+    pub const fn limit(&self) -> u64 {
         self.limit
     }
 
@@ -68,7 +68,7 @@ impl<const OVERHEAD: u64> ByWeight<OVERHEAD> {
     /// ```text
     /// assert_eq!(rt; limiter.cost(), 19);
     /// ```
-    pub fn cost(&self) -> u64 {
+    pub const fn cost(&self) -> u64 {
         self.cost
     }
 }

@@ -24,6 +24,7 @@ use crate::rattle_std::hash::Hash;
 ///
 /// Cost: `O(1)` for each callback, and no memory.
 #[derive(Clone, Copy, Debug)]
+#[repr(transparent)]
 pub struct ByLength {
     max_length: u32,
 }
@@ -43,7 +44,7 @@ impl ByLength {
     /// ```text
     /// assert_eq!(rt; limiter.max_length(), 3);
     /// ```
-    pub fn max_length(&self) -> u32 {
+    pub const fn max_length(&self) -> u32 {
         self.max_length
     }
 }

@@ -23,6 +23,7 @@ use crate::rattle_std::hash::Hash;
 ///
 /// Cost: `O(1)` for each callback, and no memory.
 #[derive(Clone, Copy, Debug)]
+#[repr(transparent)]
 pub struct ByMemoryUsage {
     max_bytes: usize,
 }
@@ -42,7 +43,7 @@ impl ByMemoryUsage {
     /// ```text
     /// assert_eq!(rt; limiter.max_memory_usage(), 152);
     /// ```
-    pub fn max_memory_usage(&self) -> usize {
+    pub const fn max_memory_usage(&self) -> usize {
         self.max_bytes
     }
 }

@@ -17,6 +17,7 @@ pub(crate) struct Chain<K, V, N> {
 
 impl<K, V, N: LinkType> Chain<K, V, N> {
     // Takes a bucket out of the chain. Its entry stays in the table, with its own links unchanged.
+    #[inline]
     pub(crate) fn unlink(&mut self, b: usize) {
         let entry = self.table.get(b);
         let (newer, older) = (entry.newer, entry.older);
@@ -44,6 +45,7 @@ impl<K, V, N: LinkType> Chain<K, V, N> {
     }
 
     // Puts a bucket that is in no chain in front of this chain, which is not empty.
+    #[inline]
     pub(crate) fn link_newest(&mut self, b: usize) {
         let first = self.newest;
         let link = N::from_usize(b);
@@ -63,6 +65,7 @@ impl<K, V, N: LinkType> Chain<K, V, N> {
 
     // Puts a bucket that is in no chain in front of the chain, or makes it the only one. Its entry has the links of the
     // newest entry already: the older one leads to `first`, which has been the newest.
+    #[inline]
     pub(crate) fn link_placed(&mut self, b: usize, first: N) {
         let link = N::from_usize(b);
         self.set_newer(first, link);

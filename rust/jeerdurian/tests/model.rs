@@ -1,0 +1,192 @@
+//! Random calls against a plain list, the newest first, with texts as keys.
+
+use jeerdurian::{ByCost, ByLength, LruMap, More, Updated};
+
+struct Random(u64);
+
+impl Random {
+    fn below(&mut self, n: u64) -> u64 {
+        self.0 = self.0.wrapping_mul(6364136223846793005).wrapping_add(1442695040888963407);
+        (self.0 >> 33) % n
+    }
+}
+
+/// The entries, the newest first, and the most there may be.
+#[derive(Default)]
+struct List {
+    pairs: Vec<(String, u64)>,
+    most: usize,
+}
+
+impl List {
+    fn at(&self, k: &str) -> Option<usize> {
+        self.pairs.iter().position(|it| it.0 == k)
+    }
+
+    fn promote(&mut self, k: &str) -> Option<&mut u64> {
+        let pair = self.pairs.remove(self.at(k)?);
+        self.pairs.insert(0, pair);
+        Some(&mut self.pairs[0].1)
+    }
+
+    fn demote(&mut self, k: &str) -> bool {
+        let at = self.at(k);
+        let pair = at.map(|at| self.pairs.remove(at));
+        self.pairs.extend(pair);
+        at.is_some()
+    }
+
+    fn insert(&mut self, k: &str, v: u64) -> bool {
+        if let Some(old) = self.promote(k) {
+            *old = v;
+        } else if self.most > 0 {
+            self.pairs.truncate(self.most - 1);
+            self.pairs.insert(0, (k.into(), v));
+        }
+        !self.pairs.is_empty() && self.most > 0
+    }
+}
+
+/// Makes one call on both, and compares what they return.
+fn step(map: &mut LruMap<String, u64>, list: &mut List, kind: u64, k: &str, v: u64) {
+    match kind {
+        0..=6 => assert_eq!(map.insert(k.to_string(), v), list.insert(k, v)),
+        7..=9 => assert_eq!(map.get(k), list.promote(k)),
+        10 => assert_eq!(map.peek(k), list.at(k).map(|i| &list.pairs[i].1)),
+        11 => assert_eq!(map.contains(k), list.at(k).is_some()),
+        12..=14 => assert_eq!(map.remove(k), list.at(k).map(|i| list.pairs.remove(i).1)),
+        15 => assert_eq!(map.pop_oldest(), list.pairs.pop()),
+        16 => {
+            let is_there = list.promote(k).is_some() || list.insert(k, v);
+            assert_eq!(map.get_or_insert(k.to_string(), || v), is_there.then(|| &mut list.pairs[0].1));
+        }
+        17 => assert_eq!(map.promote(k), list.promote(k).is_some()),
+        18 => assert_eq!(map.demote(k), list.demote(k)),
+        19 => {
+            map.retain(|_, it| it % 11 != v % 11);
+            list.pairs.retain(|it| it.1 % 11 != v % 11);
+        }
+        20 => assert_eq!(map.get_index_of(k), list.at(k)),
+        21 => assert_eq!(map.get_index(v as usize % 9), list.pairs.get(v as usize % 9).map(|it| (&it.0, &it.1))),
+        22 => update(map, list, k, v),
+        _ => {
+            map.iter_mut().for_each(|(_, it)| *it ^= 1);
+            list.pairs.iter_mut().for_each(|it| it.1 ^= 1);
+        }
+    }
+}
+
+fn update(map: &mut LruMap<String, u64>, list: &mut List, k: &str, v: u64) {
+    let old = list.at(k).map(|i| std::mem::replace(&mut list.pairs[i].1, v));
+    assert_eq!(map.update(k.to_string(), v), old.map_or(Updated::Absent(v), Updated::Replaced));
+}
+
+#[test]
+fn as_a_list() {
+    for seed in 0..120 {
+        let mut random = Random(seed);
+        let most = [0, 1, 2, 5, 7, 14, 40, 100, 300, 1000][seed as usize % 10];
+        let mut list = List { most, ..Default::default() };
+        let mut map = LruMap::with_seed(ByLength::new(most as u32), [seed, 2, 3, 4]);
+        let keys = 1 + random.below(3 * most as u64 + 3);
+        for v in 0..3000u64 {
+            let (k, kind) = (random.below(keys).to_string(), random.below(24));
+            step(&mut map, &mut list, kind, &k, v);
+            assert_eq!(map.len(), list.pairs.len());
+            if v % 7 == 0 {
+                assert!(map.iter().eq(list.pairs.iter().map(|it| (&it.0, &it.1))));
+                assert!(map.iter().rev().eq(list.pairs.iter().rev().map(|it| (&it.0, &it.1))));
+                assert!(map.keys().eq(list.pairs.iter().map(|it| &it.0)));
+                assert!(map.values().rev().eq(list.pairs.iter().rev().map(|it| &it.1)));
+            }
+        }
+        assert!(map.into_iter().eq(list.pairs));
+    }
+}
+
+#[test]
+fn a_running_total_is_the_sum() {
+    let mut map: LruMap<String, String, ByCost> = LruMap::new(ByCost::new(100));
+    let mut random = Random(5);
+    for n in 0..20_000u64 {
+        let (key, value) = (random.below(60).to_string(), "x".repeat(random.below(110) as usize));
+        let (is_fitting, answer) = (value.len() <= 100, map.insert(key.clone(), value));
+        assert_eq!(answer, is_fitting && map.contains(&key));
+        if n % 5 == 0 {
+            map.remove(&random.below(60).to_string());
+        }
+        let sum: usize = map.values().map(String::len).sum();
+        assert_eq!(map.limiter().cost(), sum as u64);
+        assert!(sum <= 100);
+    }
+}
+
+/// A limiter over what values keep themselves: a replaced value is dropped before anything is evicted.
+#[test]
+fn a_replaced_value_is_dropped_before_evictions() {
+    use std::{cell::Cell, rc::Rc};
+    struct Blob(Rc<Cell<u64>>);
+    impl Blob {
+        fn new(total: &Rc<Cell<u64>>) -> Self {
+            total.set(total.get() + 25);
+            Blob(total.clone())
+        }
+    }
+    impl Drop for Blob {
+        fn drop(&mut self) {
+            self.0.set(self.0.get() - 25);
+        }
+    }
+    struct Total(Rc<Cell<u64>>);
+    impl jeerdurian::Limiter<u64, Blob> for Total {
+        type KeyToInsert<'a> = u64;
+        type LinkType = u32;
+        fn is_over_the_limit(&self, _: usize) -> bool {
+            self.0.get() > 100
+        }
+        fn on_insert(&mut self, _: usize, key: u64, value: Blob) -> Option<(u64, Blob)> {
+            Some((key, value))
+        }
+        fn on_replace(&mut self, _: usize, _: &mut u64, _: u64, _: &mut Blob, _: &mut Blob) -> bool {
+            true
+        }
+        fn on_removed(&mut self, _: &mut u64, _: &mut Blob) {}
+        fn on_cleared(&mut self) {}
+        fn on_grow(&mut self, _: usize) -> bool {
+            true
+        }
+    }
+    let total = Rc::new(Cell::new(0));
+    let mut map = LruMap::new(Total(total.clone()));
+    (0..4).for_each(|n| assert!(map.insert(n, Blob::new(&total))));
+    assert!(map.insert(3, Blob::new(&total)));
+    assert_eq!((map.len(), total.get()), (4, 100));
+}
+
+/// Of an entry that the map drops, the key is dropped first.
+#[test]
+fn a_key_is_dropped_before_its_value() {
+    use std::{cell::RefCell, rc::Rc};
+    type Log = Rc<RefCell<Vec<&'static str>>>;
+    struct Noted(u64, &'static str, Log);
+    impl Drop for Noted {
+        fn drop(&mut self) {
+            self.2.borrow_mut().push(self.1);
+        }
+    }
+    impl PartialEq for Noted {
+        fn eq(&self, other: &Self) -> bool {
+            self.0 == other.0
+        }
+    }
+    impl std::hash::Hash for Noted {
+        fn hash<H: std::hash::Hasher>(&self, hasher: &mut H) {
+            self.0.hash(hasher);
+        }
+    }
+    let log = Log::default();
+    let mut map = LruMap::new(ByLength::new(1));
+    map.insert(Noted(1, "key", log.clone()), Noted(1, "value", log.clone()));
+    map.insert(Noted(2, "", log.clone()), Noted(2, "", log.clone()));
+    assert_eq!(*log.borrow(), ["key", "value"]);
+}

@@ -1,0 +1,16 @@
+#!/usr/bin/env bash
+# Runs the tests of the crate under the address sanitizer, and under valgrind, in a release build, where nothing of what is
+# proved is tested. It takes a quarter of an hour.
+set -euo pipefail
+cd "$(dirname "$0")"
+out=$(mktemp -d)
+trap 'rm -rf "$out"' EXIT
+target=x86_64-unknown-linux-gnu
+# The sanitizer is not stable; this variable lets a stable compiler take the flag.
+RUSTC_BOOTSTRAP=1 RUSTFLAGS="-Zsanitizer=address" ASAN_OPTIONS=detect_leaks=0 CARGO_TARGET_DIR=$out/address \
+    cargo test --offline --release -p jeerdurian --tests --target "$target"
+CARGO_TARGET_DIR=$out/plain cargo test --offline --release -p jeerdurian --tests --no-run
+for test in "$out"/plain/release/deps/{lies,panics}-*[!.d]; do
+    # What leaks where the docs say so is not an error here; the tests count it.
+    SHORT=1 valgrind -q --error-exitcode=9 "$test"
+done
