@@ -46,6 +46,8 @@ mod keys;
 mod limiter;
 mod map;
 mod more;
+#[cfg(feature = "std")]
+pub mod tenants;
 
 pub use erased::lru_limits::{
     ByCost, ByLength, ByMemoryUsage, ByWeight, Costed, DefaultHasher, Unlimited, UnlimitedCompact,
