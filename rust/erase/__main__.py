@@ -30,7 +30,8 @@ from tokens import EraseError
 
 RUST = Path(__file__).resolve().parent.parent
 CRATES = RUST.parent / "crates"
-# The crates of each package, lowest first. `programs` contains those of `jeerdurian` as `crate::erased`, too.
+# The crates of each package, lowest first. `programs` contains those of `jeerdurian` as `crate::erased`, too. Left out are
+# `lru_c`, the map for C, and `bench_loads`. Two tests are ignored, as places.txt says.
 PACKAGES = {
     "jeerdurian": [
         "group_table", "lru_limits", "lru_model", "block_device", "ordered_table", "schnellru", "lru_tenants", "lru_caches",

@@ -39,6 +39,7 @@ mod rattle_std;
 #[allow(missing_docs)]
 mod erased;
 
+pub mod caches;
 mod fallible;
 mod hasher;
 mod iter;
@@ -48,6 +49,8 @@ mod map;
 mod more;
 #[cfg(feature = "std")]
 pub mod tenants;
+#[cfg(feature = "std")]
+pub mod trace;
 
 pub use erased::lru_limits::{
     ByCost, ByLength, ByMemoryUsage, ByWeight, Costed, DefaultHasher, Unlimited, UnlimitedCompact,
