@@ -167,7 +167,7 @@ bool lru_shrink(struct lru *lru);
 /* A handle of a map from byte strings to byte strings: the address of a map on the heap, or null. Begin with LRU_NONE.
  *
  * Each call copies bytes in or out, so a caller never holds a pointer into the map. A key or a value may have length 0,
- * and may contain any bytes. Only lru_bytes_new, lru_bytes_put and lru_bytes_clone take memory (tested). */
+ * and may contain any bytes. Only lru_bytes_new, lru_bytes_put and lru_bytes_clone need memory (tested). */
 struct lru_bytes {
     void *map;
 };

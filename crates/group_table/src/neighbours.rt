@@ -42,6 +42,7 @@ fn ones_if_less(low: u32, high: u16) -> usize
 // Returns all ones if every 16 neighbouring buckets around this one contain an empty one, and 0 otherwise. The caller
 // makes a count and a byte of it, for which a `bool` would take more instructions. The neighbouring buckets lie between
 // the last empty bucket before this one and the first one after it, so the used buckets between these decide.
+#[inline]
 pub(crate) fn ones_if_empty_neighbours(control: &Control, b: usize) -> usize
     requires bucket { b < buckets_of control.now }
     requires used { slice_index control.now b ≢ empty_byte }

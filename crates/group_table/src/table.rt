@@ -134,7 +134,7 @@ impl<T> Table<T> {
     /// Returns the bucket of the first entry that `f` accepts, of those with the tag of the hash, its top 7 bits.
     ///
     /// `f` is called with one entry after another in the order of the search, with each at most once, and no more after
-    /// it accepted one. `None` says that it rejected each entry of that hash.
+    /// it accepted one, which is only tested. `None` says that it rejected each entry of that hash.
     ///
     /// It reads 16 control bytes at once, usually of one group or two, and an entry for each call. At worst it reads
     /// all control bytes, and calls `f` with each entry with the tag.

@@ -151,9 +151,9 @@ pub fn small_inserts_are_exact<
         EndsAlike result other new others }
 {}
 
-/// If two maps differ at most in which buckets are full, in tables of up to 16 buckets, so do they after equal inserts,
-/// and both inserts return the same. The premises: offers are determined and find their memory, and both inserts find
-/// memory or neither does.
+/// If two maps differ at most in which buckets are full, so do they after equal inserts, and both inserts return the
+/// same. The premises: no table has more than 16 buckets, before and after; offers are determined and find their
+/// memory; and both inserts find memory or neither does.
 pub fn small_inserts_look_alike<
     K: Eq + Hash,
     V,

@@ -199,7 +199,7 @@ impl<K, V, N: LinkType> OrderedTable<K, V, N> {
 
     /// Returns the bucket of the first pair that `f` accepts, of those with the tag of the hash, its top 7 bits.
     ///
-    /// `f` is called with each pair at most once, and no more after it accepted one.
+    /// `f` is called with each pair at most once, and no more after it accepted one, which is only tested.
     ///
     /// Cost: `O(1)` expected.
     #[inline]

@@ -55,9 +55,9 @@ pub(crate) mod update;
 ///
 /// # The bytes of an entry
 ///
-/// `default`, `with_limiter` and `with_limiter_and_hasher` compute the bytes of an entry. The other constructors take the
-/// number, as `entry_bytes`. The map computes `memory_usage`, and the sizes that it passes to `on_grow`, from this number. An
-/// entry contains a key, a value and two links of a type `N`, so the number is `size_of::<(N, N, (K, V))>()`. It is 24
+/// `default`, `with_limiter` and `with_limiter_and_hasher` compute the bytes of an entry. The other constructors take
+/// the number, as `entry_bytes`. The map computes `memory_usage`, and the sizes that it passes to `on_grow`, from this
+/// number. An entry contains a key, a value and two links of a type `N`: pass `size_of::<(N, N, (K, V))>()`. It is 24
 /// for `u64` keys, `u32` values and links of 32 bits, and 32 for `u64` keys and values and links of 64 bits.
 ///
 /// The number does not change the memory that the map takes. If it is too small, `ByMemoryUsage` permits tables that
@@ -190,7 +190,7 @@ impl<K: Eq + Hash, V, L: Limiter<K, V>, S: KeyHasher<K>> LruMap<K, V, L, S> {
     /// assert!(rt; map.is_empty());
     /// ```
     ///
-    /// After schnellru's `LruMap::with_hasher`, which takes the same arguments.
+    /// After schnellru's `LruMap::with_hasher`, which takes no allocator.
     pub fn with_limiter_and_hasher(alloc: Global, limiter: L, hasher: S) -> Self
         ensures { result ≡ empty_map limiter hasher (entry_size K.row V.row L.LinkType.row)
             (L.LinkType.number L.LinkType.MAX) }

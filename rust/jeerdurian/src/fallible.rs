@@ -76,15 +76,15 @@ where
         L::KeyToInsert<'a>: Hash + PartialEq<K>,
     {
         let map = &mut self.map.map;
-        if !map.promote(&Named(&key)) {
-            let value = get().map_err(GetOrInsertError::Caller)?;
-            match map.insert(Offered(key.into()), value) {
-                Ok(true) => {}
-                Ok(false) => return Ok(None),
-                Err(AllocError) => return Err(GetOrInsertError::Memory),
-            }
+        if map.promote(&Named(&key)) {
+            return Ok(map.newest_mut());
         }
-        Ok(map.newest_mut())
+        let value = get().map_err(GetOrInsertError::Caller)?;
+        match map.insert(Offered(key.into()), value) {
+            Ok(true) => Ok(map.newest_mut()),
+            Ok(false) => Ok(None),
+            Err(AllocError) => Err(GetOrInsertError::Memory),
+        }
     }
 
     /// Clones the map as `clone` does.

@@ -1,14 +1,20 @@
 -- The limiter was offered a new value for a pair.
 use Rattle.std.proofs.Common.{◌≡◌, ℕ, ◌<◌, Bool, true, false, List, [], ◌∷◌, length, Some, refl, option_map, ap, sym}
-use Rattle.std.proofs.Common.{◌∙◌, subst, arith}
+use Rattle.std.proofs.Common.{◌∙◌, subst, arith, not, Ok}
+use Rattle.std.specs.Fn.{Mut}
+use Rattle.lru_limits.specs.Laws.{IsLookup, IsInsertion}
 use Rattle.lru_limits.specs.Rules.{Rules, Offers}
 use Rattle.std.proofs.lemmas.Option.{none-some}
+use Rattle.lru_model.specs.Callbacks.{noting, noting_offers, noted}
 use Rattle.lru_model.specs.Calls.{promoted}
-use Rattle.lru_model.specs.Inserts.{replacement, with_replaced, unkept_of, unkept_value}
+use Rattle.lru_model.specs.Inserts.{Insert, replaced, replacement, with_replaced, unkept_of, unkept_value}
+use Rattle.lru_model.specs.MayTake.{MayTakeEach, MayTakeReplaced}
 use Rattle.schnellru.specs.Inside.Steps.{IsOffered}
-use Rattle.lru_model.specs.Lists.{lookup_entry, front, place_of}
-use Rattle.lru_model.specs.State.{State, Contents, Leaves, contents}
+use Rattle.lru_model.specs.Lists.{is_empty, lookup_entry, front, place_of}
+use Rattle.lru_model.specs.State.{State, Contents, Leaves, contents, place_in, trim}
+use Rattle.lru_model.proofs.States.LeavingPairs.{leaves_trimmed}
 use Rattle.lru_model.proofs.States.Promotions.{length-front_pairs}
+use Rattle.lru_model.proofs.Theorems.Fronts.{replaced_named}
 use Rattle.lru_model.proofs.PairLists.SetEntries.{length-set_entry, place-set_entry, front-set_entry}
 
 -- if a pair comes to the front, what left left
@@ -81,3 +87,41 @@ module _ {K V S H I : Type 0} {rules : Rules K V S} {offers : Offers K V S I} {n
 
       pub offered_some : 0 < length next.pairs
       offered_some = omega (arith, ap (λ st. length st.pairs) offered_front.is)
+
+-- An insert of a key that is there: the limiter accepted the new value, and the pair came to the front.
+module _ {K V S H I : Type 0} (rules : Rules K V S) (offers : Offers K V S I) {names : I → K → Bool}
+    {eq : K → K → Bool} {query_input : I → List (List ℕ)} {key_input : K → List (List ℕ)}
+    (looks_up : IsLookup names eq query_input key_input) (laws : IsInsertion names eq offers) {i : I} {v : V}
+    {old mid next : State K V S H} {before between : List (K × V)} {result : Bool × V}
+    (offer : IsOffered (noting rules) (noting_offers offers) names i v (noted before old) result (noted between mid))
+    (accepted : result.0 ≡ true) {b : ℕ} (found : place_in (names i) old ≡ Some b)
+    (promotes : place_in (names i) mid ≡ Some b → next ≡ promoted (names i) mid) where
+  named : names i (replacement rules offers names offer.pair i v (contents old)).key ≡ true
+  named = replaced_named rules offers names looks_up laws i v old offer.pair offer.there
+
+  is : noted between next ≡ promoted (names i) (noted between mid)
+  is = ap (noted between) (promotes (offered_place offer accepted named b found))
+
+  pub replaced_some : 0 < length next.pairs
+  replaced_some = offered_some offer accepted named (noted between next) is
+
+  replaced_front : Leaves (noted before old) (with_replaced (noting rules) (noting_offers offers) names offer.pair i v
+      (contents (noted before old))) (noted between next)
+  replaced_front = offered_front offer accepted named (noted between next) is
+
+  -- the callback may be called with each pair that is evicted then
+  pub replaced_callable : {F : Type 0} (closure : Mut F (K × (V × Unit {0})) (Unit {0})) (f g : F) → g ≡ f
+      → MayTakeReplaced rules closure offers names i v (contents old) f → MayTakeEach rules closure next.pairs g
+  replaced_callable closure f g same may = subst (λ pairs. MayTakeEach rules closure pairs g)
+      (sym (ap (λ st. st.pairs) replaced_front.is))
+      (subst (MayTakeEach rules closure (with_replaced rules offers names offer.pair i v (contents old)).pairs)
+      (sym same) (may.accepted offer.pair offer.there (offer.taken ∙ accepted)))
+
+  -- and with the evictions the call is an insert
+  pub replaced_inserts : (hash_of : H → K → ℕ) {kept : Bool} {new : State K V S H} {after : List (K × V)}
+      → kept ≡ not (is_empty new.pairs)
+      → Leaves (noted between next) (trim (noting rules) (contents (noted between next))) (noted after new)
+      → Insert (noting rules) (noting_offers offers) names hash_of i v (noted before old) (Ok kept) (noted after new)
+  replaced_inserts hash_of {kept} {new} {after} left trimmed = replaced offer.pair offer.there (offer.taken ∙ accepted)
+      (ap Ok left) (leaves_trimmed (noting rules) (noted before old) (noted between next) (noted after new) _
+      replaced_front trimmed)

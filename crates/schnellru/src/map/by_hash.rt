@@ -17,9 +17,9 @@ impl<K: Eq + Hash, V, L: Limiter<K, V>, S: KeyHasher<K>> LruMap<K, V, L, S> {
     /// not notified of what is written.
     ///
     /// `is_eq` gets only entries whose hashes agree with `hash` in the top 7 bits: each at most once, and none after it
-    /// accepted one. It may accept an entry of another hash: let it compare keys. `None` says that it rejected each
-    /// entry of this hash, and that nothing has changed. The hash of a key is what `map.hasher().hash_named(&key)`
-    /// returns.
+    /// accepted one, which is only tested. It may accept an entry of another hash: let it compare keys. `None` says
+    /// that it rejected each entry of this hash, and that nothing has changed. The hash of a key is what
+    /// `map.hasher().hash_named(&key)` returns.
     ///
     /// Cost: `O(1)` expected, with one call of `is_eq` for each entry that it gets.
     ///
@@ -30,6 +30,7 @@ impl<K: Eq + Hash, V, L: Limiter<K, V>, S: KeyHasher<K>> LruMap<K, V, L, S> {
     /// ```
     ///
     /// After schnellru's `LruMap::get_by_hash`.
+    #[inline]
     pub fn get_by_hash<F: FnMut(&K, &V) -> bool>(&mut self, hash: u64, is_eq: F) -> Option<&mut V>
         requires callable { F.IsAlwaysCallable is_eq }
         ensures* writes_back { sem 𝓛 (lends_given K.row V.row L.row S.row L.LinkType.row S.Hasher.row K.Hash L.Limiter
@@ -54,6 +55,7 @@ impl<K: Eq + Hash, V, L: Limiter<K, V>, S: KeyHasher<K>> LruMap<K, V, L, S> {
     /// Cost: as `get_by_hash`.
     ///
     /// After schnellru's `LruMap::peek_by_hash`.
+    #[inline]
     pub fn peek_by_hash<F: FnMut(&K, &V) -> bool>(&self, hash: u64, is_eq: F) -> Option<&V>
         requires callable { F.IsAlwaysCallable is_eq }
         ensures found { IfSome result (λ value. (key : K)
@@ -78,6 +80,7 @@ impl<K: Eq + Hash, V, L: Limiter<K, V>, S: KeyHasher<K>> LruMap<K, V, L, S> {
     /// Cost: as `get_by_hash`.
     ///
     /// After schnellru's `LruMap::peek_by_hash_mut`.
+    #[inline]
     pub fn peek_by_hash_mut<F: FnMut(&K, &V) -> bool>(
         &mut self,
         hash: u64,

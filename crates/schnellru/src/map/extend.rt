@@ -21,7 +21,8 @@ impl<K: Eq + Hash + Drop, V: Drop, L: Insertion<K, V, K>, S: KeyHasher<K>> LruMa
     ///
     /// # Errors
     ///
-    /// The insert of an entry ran out of memory. Those before it were inserted, and the others were not.
+    /// The insert of an entry ran out of memory. Those before it were inserted, and the others were not. The iterator
+    /// has yielded that entry; whether it yielded more, no contract says.
     ///
     /// After std's `Extend::extend`; schnellru has no such call.
     pub fn try_extend<T: IntoIterator<Item = (K, V)>>(

@@ -15,9 +15,9 @@ use ordered_table::OrderedTable;
 use std::alloc::AllocError;
 use std::hash::Hash;
 
-// The most bytes of a small entry, with its links. A larger entry is inserted in line at its caller, because a call would
-// copy its key and its value once more. A small one is inserted by a call: in line, its code would take registers from
-// the loop that it is in.
+// The most bytes of a small entry, with its links. A larger entry is inserted in line at its caller, because a call
+// would copy its key and its value once more. A small one is inserted by a call: in line, its code would take registers
+// from the loop that it is in.
 const SMALL: usize = 32;
 
 impl<K: Eq + Hash, V, L: Limiter<K, V>, S: KeyHasher<K>> LruMap<K, V, L, S> {
@@ -112,8 +112,8 @@ impl<K: Eq + Hash, V, L: Limiter<K, V>, S: KeyHasher<K>> LruMap<K, V, L, S> {
             S.hash_of pair (noted before self.old) result (noted after self.new)) }
     {
         self.make_room(sink);
-        // `insert_without_growth` takes the key and the value apart, because a pair would lie in memory that each insert
-        // clears first.
+        // `insert_without_growth` takes the key and the value apart, because a pair would lie in memory that each
+        // insert clears first.
         let (key, value) = pair;
         if self.growth_left() == 0 {
             return self.insert_without_growth(hash, key, value, sink);

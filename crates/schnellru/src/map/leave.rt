@@ -26,6 +26,7 @@ impl<K: Eq + Hash, V, L: Limiter<K, V>, S: KeyHasher<K>> LruMap<K, V, L, S> {
     /// Cost: `O(1)`.
     ///
     /// After schnellru's `LruMap::pop_oldest`.
+    #[inline]
     pub fn pop_oldest(&mut self) -> Option<(K, V)>
         ensures step { PopOldest L.rules self.old result self.new }
         ensures freed { IfSome result (λ _. Frees (last self.old.table.places) self.old.table self.new.table) }
@@ -94,6 +95,7 @@ impl<K: Eq + Hash + Drop, V, L: Limiter<K, V>, S: KeyHasher<K>> LruMap<K, V, L, 
     /// Cost: `O(1)` expected.
     ///
     /// After schnellru's `LruMap::remove`.
+    #[inline]
     pub fn remove<Q: LookupKey<K>>(&mut self, key: &Q) -> Option<V>
         ensures step { Remove L.rules (Q.names key.now) self.old result self.new }
         ensures freed { IfSome result (λ _.
@@ -234,5 +236,9 @@ pub(super) fn notify<K, V, L: Limiter<K, V>>(limiter: &mut L, pair: (K, V)) -> (
     (key, value)
 }
 
-// The callback of the calls that pass nothing on. It drops what they evict, remove or do not store.
-pub(crate) fn discard<K: Drop, V: Drop>(_: K, _: V) {}
+// The callback of the calls that pass nothing on. It drops what they evict, remove or do not store, the key first.
+// Parameters without a name would be dropped in the opposite order.
+pub(crate) fn discard<K: Drop, V: Drop>(key: K, value: V) {
+    drop(key);
+    drop(value);
+}

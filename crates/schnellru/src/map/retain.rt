@@ -16,15 +16,15 @@ use std::hash::Hash;
 impl<K: Eq + Hash + Drop, V: Drop, L: Limiter<K, V>, S: KeyHasher<K>> LruMap<K, V, L, S> {
     /// Removes the entries for which the closure returns false. The others keep their order.
     ///
-    /// The closure is called with each entry once, oldest first. The limiter is notified of each removal, before the
-    /// closure is called again.
+    /// The closure is called with each entry, oldest first. The limiter is notified of each removal.
     ///
     /// ```
     /// map.retain(|_, value| *value > 10);
     /// assert!(rt; map.len() == 2 && !map.contains(&1));
     /// ```
     ///
-    /// Cost: `O(n)` for n entries. Links are written only next to an entry that is removed.
+    /// Cost: `O(n)` for n entries. Links are written only next to an entry that is removed, or to show the last
+    /// promotion.
     ///
     /// After std's `HashMap::retain`, whose closure may write the value; schnellru has no such call.
     pub fn retain<F: FnMut(&K, &V) -> bool>(&mut self, keep: F)

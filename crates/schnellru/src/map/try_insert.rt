@@ -33,8 +33,8 @@ impl<K: Eq + Hash + Drop, V: Drop, L: Admission<K, V> + Copy, S: KeyHasher<K>> L
     /// first from the others:
     ///
     /// - The key is there.
-    /// - The limiter rejects the entry.
-    /// - The limiter would be over its limit with the entry.
+    /// - The limiter rejects the entry, also after the table grew.
+    /// - The limiter would be over its limit with the entry, also after the table grew.
     /// - No growth is left, and there is no larger table, or the limiter refuses it.
     /// - No growth is left, and there is no memory for the table.
     ///
@@ -126,9 +126,7 @@ impl<K: Eq + Hash + Drop, V: Drop, L: Admission<K, V> + Copy, S: KeyHasher<K>> L
         requires storable { can_store L.terms L.rules key value (contents self.old) ≡ true }
         ensures { Insert L.rules L.offers K.eq S.hash_of key value self.old (Ok true) self.new }
     {
-        match self.insert_new(hash, key, value, &mut discard) {
-            Ok(_) => {}
-            Err(_) => nowhere!(),
-        }
+        // The result is `Ok(true)`: there is growth left, and the limiter accepts the entry and needs no memory for it.
+        let _ = self.insert_new(hash, key, value, &mut discard);
     }
 }

@@ -29,6 +29,7 @@ fn ones_if_less(low: u32, high: u16) -> usize {
 // Returns all ones if every 16 neighbouring buckets around this one contain an empty one, and 0 otherwise. The caller
 // makes a count and a byte of it, for which a `bool` would take more instructions. The neighbouring buckets lie between
 // the last empty bucket before this one and the first one after it, so the used buckets between these decide.
+#[inline]
 pub(crate) fn ones_if_empty_neighbours(control: &Control, b: usize) -> usize {
     // `used` has a bit for each used bucket from this one up to the next empty one. The mask of the empty buckets
     // before is greater exactly if these used ones and those directly before are fewer than sixteen. Comparing the

@@ -45,7 +45,7 @@ pub trait Limiter<K, V> {
     ///
     /// It is also called with an entry that `on_insert` returned, if the map cannot store it. After `on_replace`
     /// returned false, it is called with the entry that is removed. It is not called for the entries that are dropped
-    /// by a clear, or with the map, a `Drain` or an `IntoIter`.
+    /// by a clear or a `Drain`, nor for those dropped with the map or an `IntoIter`, of which no contract speaks.
     fn on_removed(&mut self, key: &mut K, value: &mut V);
 
     /// Called once by each clear of the map, even if the map is empty, and not for each entry. The drop of a `Drain` is

@@ -51,9 +51,9 @@ pub fn inserts_run_out_without_growth<K: Eq + Hash, V, I: LookupKey<K>, L: Inser
 /// determined too, two equal inserts end alike, wherever the limiter's entry is stored.
 pub fn small_inserts_are_exact<K: Eq + Hash, V, I: LookupKey<K>, L: Insertion<K, V, I>, S: KeyHasher<K>>() {}
 
-/// If two maps differ at most in which buckets are full, in tables of up to 16 buckets, so do they after equal inserts,
-/// and both inserts return the same. The premises: offers are determined and find their memory, and both inserts find
-/// memory or neither does.
+/// If two maps differ at most in which buckets are full, so do they after equal inserts, and both inserts return the
+/// same. The premises: no table has more than 16 buckets, before and after; offers are determined and find their
+/// memory; and both inserts find memory or neither does.
 pub fn small_inserts_look_alike<K: Eq + Hash, V, I: LookupKey<K>, L: Insertion<K, V, I>, S: KeyHasher<K>>() {}
 
 /// If the limiter permits every growth, as `ByLength` and the unlimited ones do, and the tables that an insert may need

@@ -1,24 +1,8 @@
-use Rattle.std.proofs.Common.{[], refl, sym, ◌∙◌, subst}
+use Rattle.std.proofs.Common.{[], refl, subst}
 use Rattle.lru_model.specs.Inserts.{Insert}
 use Rattle.lru_model.proofs.Theorems.AdmittedPairs.{adds}
 use Rattle.lru_model.proofs.Theorems.PlainInserts.{plain_insert}
 use Rattle.schnellru.proofs.map.LruMap.add.Goals as goal
-
-pub bounds-0 : goal.bounds-0
-bounds-0 g c =
-    let added = adds g.L.Admission.terms g.L.Limiter.rules g.L.Insertion.offers g.K.PartialEq.eq g.met.L.Admission.laws
-    c.args.key c.args.value c.args.self.now _ c.insert_new.new.self c.requires.storable c.requires.absent
-    c.requires.room
-    (plain_insert (c.insert_new.ensures.passed _ [] refl).2) in
-    let e = sym c.in-Err.is ∙ added.answer in absurd cc
-
-pub unreachable-requires-in-None : goal.unreachable-requires-in-None
-unreachable-requires-in-None g c =
-    let added = adds g.L.Admission.terms g.L.Limiter.rules g.L.Insertion.offers g.K.PartialEq.eq g.met.L.Admission.laws
-    c.args.key c.args.value c.args.self.now _ c.insert_new.new.self c.requires.storable c.requires.absent
-    c.requires.room
-    (plain_insert (c.insert_new.ensures.passed _ [] refl).2) in
-    let e = sym c.in-Err.is ∙ added.answer in cc
 
 pub returns : goal.returns
 returns g c =

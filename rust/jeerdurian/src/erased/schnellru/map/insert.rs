@@ -22,7 +22,7 @@ impl<K: Eq + Hash, V, L: Limiter<K, V>, S: KeyHasher<K>> LruMap<K, V, L, S> {
     /// any other grows. If there is no larger table, or the limiter refuses it, the oldest entries are evicted until a
     /// bucket is free, or until fewer than half are left and the table is rehashed. If there is no entry to evict, the
     /// new one is not stored, and the result is false. At the end, if the key is in the map, the oldest entries are
-    /// evicted while the limiter is over its limit.
+    /// evicted while the limiter is over its limit. A replaced value is dropped before anything is evicted.
     ///
     /// ```text
     /// assert!(rt; map.insert(1, 10)?);
@@ -58,8 +58,9 @@ impl<K: Eq + Hash, V, L: Limiter<K, V>, S: KeyHasher<K>> LruMap<K, V, L, S> {
     /// them: the evicted entries, oldest first, the entry that is removed because its new value is rejected, and an
     /// entry that `on_insert` returned but the map could not store.
     ///
-    /// Each is passed on once, before the limiter is called again, even if the result is an `Err`. A value that is
-    /// replaced is not passed on. Neither is a new entry that `on_insert` rejects: the limiter drops it.
+    /// Each is passed on once, even if the result is an `Err`, and before the limiter is called again, which is only
+    /// tested. A replaced value is not passed on, but dropped before anything is evicted. A new entry that `on_insert`
+    /// rejects is not passed on either: the limiter drops it.
     ///
     /// ```text
     /// let mut left = None;
@@ -84,9 +85,38 @@ impl<K: Eq + Hash, V, L: Limiter<K, V>, S: KeyHasher<K>> LruMap<K, V, L, S> {
     where
         L: Insertion<K, V, I>,
     {
-        match self.insert_full(key, value, sink) {
-            Ok(inserted) => Ok(inserted.kept),
-            Err(error) => Err(error),
+        let hash = self.hasher.hash_named(&key);
+        // Nothing at run time: it opens the map, whose invariant the clauses need.
+        let _ = &self.entries;
+        let kept = self.insert_or_drop(hash, key, value, sink);
+        let _ = &self.entries;
+        kept
+    }
+
+    // Inserts a key that has this hash. The value that the map does not keep is dropped before anything is evicted, so
+    // that a limiter which is notified of it by `Drop` no longer counts it.
+    #[inline(always)]
+    fn insert_or_drop<I: LookupKey<K>, F: FnMut(K, V)>(
+        &mut self,
+        hash: u64,
+        key: I,
+        value: V,
+        sink: &mut F,
+    ) -> Result<bool, AllocError>
+    where
+        L: Insertion<K, V, I>,
+    {
+        match self.find_hashed(hash, &key) {
+            Some(b) => {
+                let (accepted, unkept) = self.offer_at(b, key, value, sink);
+                drop(unkept);
+                if !accepted {
+                    return Ok(false);
+                }
+                self.promote_at(b);
+                Ok(self.evict_over_limit(sink))
+            }
+            None => self.insert_new(hash, key, value, sink),
         }
     }
 }
@@ -160,7 +190,7 @@ impl<K: Eq + Hash, V, L: Limiter<K, V>, S: KeyHasher<K>> LruMap<K, V, L, S> {
         inserted
     }
 
-    // Inserts a key that has this hash.
+    // Inserts a key that has this hash. The value that the map does not keep is returned.
     #[inline(always)]
     fn insert_or_replace<I: LookupKey<K>, F: FnMut(K, V)>(
         &mut self,

@@ -11,9 +11,9 @@ use crate::erased::schnellru::map::LruMap;
 use crate::rattle_std::alloc::AllocError;
 use crate::rattle_std::hash::Hash;
 
-// The most bytes of a small entry, with its links. A larger entry is inserted in line at its caller, because a call would
-// copy its key and its value once more. A small one is inserted by a call: in line, its code would take registers from
-// the loop that it is in.
+// The most bytes of a small entry, with its links. A larger entry is inserted in line at its caller, because a call
+// would copy its key and its value once more. A small one is inserted by a call: in line, its code would take registers
+// from the loop that it is in.
 const SMALL: usize = 32;
 
 impl<K: Eq + Hash, V, L: Limiter<K, V>, S: KeyHasher<K>> LruMap<K, V, L, S> {
@@ -76,8 +76,8 @@ impl<K: Eq + Hash, V, L: Limiter<K, V>, S: KeyHasher<K>> LruMap<K, V, L, S> {
     // returned. Then evicts the oldest pairs while the limiter is over its limit.
     fn insert_pair<F: FnMut(K, V)>(&mut self, hash: u64, pair: (K, V), sink: &mut F) -> Result<bool, AllocError> {
         self.make_room(sink);
-        // `insert_without_growth` takes the key and the value apart, because a pair would lie in memory that each insert
-        // clears first.
+        // `insert_without_growth` takes the key and the value apart, because a pair would lie in memory that each
+        // insert clears first.
         let (key, value) = pair;
         if self.growth_left() == 0 {
             return self.insert_without_growth(hash, key, value, sink);

@@ -19,6 +19,7 @@ impl<K: Eq + Hash, V, L: Limiter<K, V>, S: KeyHasher<K>> LruMap<K, V, L, S> {
     /// Cost: `O(1)`.
     ///
     /// After schnellru's `LruMap::pop_oldest`.
+    #[inline]
     pub fn pop_oldest(&mut self) -> Option<(K, V)> {
         if self.is_empty() {
             // Nothing at run time: it opens the map, whose invariant is the clause `map`.
@@ -74,6 +75,7 @@ impl<K: Eq + Hash, V, L: Limiter<K, V>, S: KeyHasher<K>> LruMap<K, V, L, S> {
     /// Cost: `O(1)` expected.
     ///
     /// After schnellru's `LruMap::remove`.
+    #[inline]
     pub fn remove<Q: LookupKey<K>>(&mut self, key: &Q) -> Option<V> {
         let (_, value) = self.remove_entry(key)?;
         Some(value)
@@ -165,5 +167,9 @@ pub(super) fn notify<K, V, L: Limiter<K, V>>(limiter: &mut L, pair: (K, V)) -> (
     (key, value)
 }
 
-// The callback of the calls that pass nothing on. It drops what they evict, remove or do not store.
-pub(crate) fn discard<K, V>(_: K, _: V) {}
+// The callback of the calls that pass nothing on. It drops what they evict, remove or do not store, the key first.
+// Parameters without a name would be dropped in the opposite order.
+pub(crate) fn discard<K, V>(key: K, value: V) {
+    drop(key);
+    drop(value);
+}

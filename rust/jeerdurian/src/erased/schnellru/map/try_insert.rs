@@ -31,8 +31,8 @@ impl<K: Eq + Hash, V, L: Admission<K, V> + Copy, S: KeyHasher<K>> LruMap<K, V, L
     /// first from the others:
     ///
     /// - The key is there.
-    /// - The limiter rejects the entry.
-    /// - The limiter would be over its limit with the entry.
+    /// - The limiter rejects the entry, also after the table grew.
+    /// - The limiter would be over its limit with the entry, also after the table grew.
     /// - No growth is left, and there is no larger table, or the limiter refuses it.
     /// - No growth is left, and there is no memory for the table.
     ///
@@ -93,9 +93,7 @@ impl<K: Eq + Hash, V, L: Admission<K, V> + Copy, S: KeyHasher<K>> LruMap<K, V, L
 
     // Inserts a key that is new and has this hash, if there is growth left and the limiter can store the entry.
     fn add(&mut self, hash: u64, key: K, value: V) {
-        match self.insert_new(hash, key, value, &mut discard) {
-            Ok(_) => {}
-            Err(_) => nowhere!(),
-        }
+        // The result is `Ok(true)`: there is growth left, and the limiter accepts the entry and needs no memory for it.
+        let _ = self.insert_new(hash, key, value, &mut discard);
     }
 }
