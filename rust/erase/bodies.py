@@ -27,13 +27,13 @@ def calls(toks):
 
 
 def renamed_clone(toks, i, out):
-    """`.clone()` and `T::clone(`, which may fail, and a method `clone` whose result is a `Result`, are called `try_clone`. The
-    bound `Clone` is `TryClone`."""
+    """`.clone()` and `T::clone(`, which may fail, and a method `clone` whose result is a `Result`, are called `try_clone`.
+    The bound `Clone` is `TryClone`."""
     if toks[i].text == "Clone" and significant(out, -1) and significant(out, -1).text in (":", "+"):
         return raw("TryClone"), i + 1
     if toks[i].text != "clone" or not out:
         return None
-    is_call = (out[-1].text == "." and text_of(toks[i:i + 3]) == "clone()") or (out[-1].text == "::" and toks[i + 1].text == "(")
+    is_call = (out[-1].text == "." and text_of(toks[i:i + 3]) == "clone()") or text_of(out[-1:] + toks[i:i + 2]) == "::clone("
     is_method = significant(out, -1).text == "fn" and "-> Result" in text_of(toks[i:i + 40]).split("{")[0]
     return (raw("try_clone"), i + 1) if is_call or is_method else None
 
@@ -44,7 +44,10 @@ def hash_by(toks, i, out):
 
 
 def made_in(toks, i, out):
-    """`String::new(alloc)` and `s.replace(alloc, ..)`, of which Rust's take no allocator, are `new_in` and `replace_in`."""
+    """`String::new(alloc)` and `s.replace(alloc, ..)`, of which Rust's take no allocator, are `new_in` and `replace_in`.
+    `into_bytes`, of which Rust's makes another vector, is `into_vec`."""
+    if toks[i].text == "into_bytes":
+        return raw("into_vec"), i + 1
     lead = text_of(out[-2:])
     is_text = (toks[i].text == "new" and lead == "String::") or (toks[i].text == "replace" and lead.endswith("."))
     if not is_text or toks[i + 1].text != "(" or "alloc" not in words(toks[i + 2:i + 7]):

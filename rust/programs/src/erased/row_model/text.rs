@@ -22,8 +22,8 @@ impl Text {
     }
 
     /// The bytes of the text.
-    pub fn into_bytes(self) -> Vec<u8> {
-        Vec::from_std(self.0.into_bytes())
+    pub fn into_vec(self) -> Vec<u8> {
+        self.0.into_vec()
     }
 
     /// Adds a word.

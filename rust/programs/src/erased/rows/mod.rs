@@ -37,7 +37,7 @@ const BOUNDS: [Bounds; 4] = [
 /// The answers to a row, whose first line may name a map.
 fn answers_of(alloc: Global, input: &[u8]) -> Vec<u8> {
     if input.starts_with(b"map ") {
-        maps::answers_of(alloc, str::from_utf8(input).unwrap_or("")).into_bytes()
+        maps::answers_of(alloc, str::from_utf8(input).unwrap_or("")).into_vec()
     } else {
         lines::answers_of(alloc, input)
     }
