@@ -15,7 +15,7 @@ pub enum TenantError {
     #[error("not open")]
     NotOpen = 2,
     /// Out of memory.
-    #[error("no memory")]
+    #[error("out of memory")]
     Memory = 3,
     /// The sum of all budgets would be above the total limit.
     #[error("over the total limit")]

@@ -26,7 +26,7 @@ impl ::core::fmt::Display for TenantError {
         match self {
             TenantError::AlreadyOpen => write!(f, "already open"),
             TenantError::NotOpen => write!(f, "not open"),
-            TenantError::Memory => write!(f, "no memory"),
+            TenantError::Memory => write!(f, "out of memory"),
             TenantError::OverTotal => write!(f, "over the total limit"),
         }
     }

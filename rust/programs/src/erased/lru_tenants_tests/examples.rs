@@ -115,7 +115,7 @@ fn of_the_errors() {
         for (error, text, number) in [
             (TenantError::AlreadyOpen, "already open", 1),
             (TenantError::NotOpen, "not open", 2),
-            (TenantError::Memory, "no memory", 3),
+            (TenantError::Memory, "out of memory", 3),
             (TenantError::OverTotal, "over the total limit", 4),
         ] {
             check!(rt; format!(in rt.alloc(); "{error}")?.as_str() == text);
