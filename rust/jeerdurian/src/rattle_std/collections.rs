@@ -11,10 +11,9 @@ pub struct HashMap<K, V, S = rust::RandomState, A = Global>(rust::HashMap<Key<K>
 
 /// A key. Rust's map wants an `Eq`; if the `==` of a key is no equality, the map gives other answers, and no more.
 #[derive(Hash, PartialEq)]
-#[repr(transparent)]
-struct Key<K: ?Sized>(K);
+struct Key<K>(K);
 
-impl<K: PartialEq + ?Sized> Eq for Key<K> {}
+impl<K: PartialEq> Eq for Key<K> {}
 
 /// What a key is looked up by. Each value can be borrowed as itself, so this is another type than `Key`.
 #[derive(Hash, PartialEq)]
