@@ -8,10 +8,13 @@ change. What no rule knows is an error.
 
   contracts.py   `ghost ..`, `requires`, `ensures`, with the comments above them; proof attributes; the bound `Drop`
   impls.py       impls of `Model` and `Eq`, which have no code; destructors, which take the value in Rattle and a borrow in
-                 Rust; `Clone`, whose result is a `Result` in Rattle; the `Display` of errors, which thiserror derives
-  bodies.py      calls of `clone`, `fmt` and `hash_one`; an index that is proved to be within; bounds of structs
+                 Rust; `Clone`, whose result is a `Result` in Rattle, and which is `TryClone` if it may fail; the `Display`
+                 of errors, which thiserror derives
+  bodies.py      calls of `clone`, `fmt`, `hash_one`, `into_bytes`, `String::new` and `replace`, of which Rust has
+                 others; the bound `Clone`; an index that is proved to be within; bounds of structs
   names.py       paths, imports, docs
-  tests.py       a test gets its runtime from a closure; macros are exported by a `use`
+  tests.py       a test gets its runtime from a closure, and a program's `main` from its caller; macros are exported by a
+                 `use`
 """
 import filecmp
 import shutil
@@ -27,14 +30,32 @@ from tokens import EraseError
 
 RUST = Path(__file__).resolve().parent.parent
 CRATES = RUST.parent / "crates"
-# The crates of each package, lowest first. `programs` contains those of `jeerdurian` as `crate::erased`, too.
+# The crates of each package, lowest first. `programs` contains those of `jeerdurian` as `crate::erased`, too. Left out are
+# `lru_c`, the map for C, and `bench_loads`. Two tests are ignored, as places.txt says.
 PACKAGES = {
-    "jeerdurian": ["group_table", "lru_limits", "lru_model", "ordered_table", "schnellru"],
-    "programs": [],
+    "jeerdurian": [
+        "group_table", "lru_limits", "lru_model", "block_device", "ordered_table", "schnellru", "lru_tenants", "lru_caches",
+        "recency", "lru_trace",
+    ],
+    "programs": [
+        "test_helpers", "map_helpers", "replay_model", "lru_theory", "lru_replay", "row_model", "trace", "replay", "pages",
+        "responses", "rows", "group_table_tests", "ordered_table_tests", "lru_limits_tests", "schnellru_tests",
+        "schnellru_memory_tests", "lru_replay_tests", "lru_tenants_tests", "block_device_tests", "lru_caches_tests",
+        "lru_trace_tests",
+    ],
 }
+# Those that need std. Of the others, places.txt names the items that need it.
+OF_STD = ("lru_tenants", "lru_trace")
 MODULES = {name: ("crate::erased::" if package == "jeerdurian" else "crate::programs::") + name
            for package, names in PACKAGES.items() for name in names}
-ALLOW = "#[allow(dead_code, unused_imports, unused_labels, unused_macros, unused_parens, unused_variables, clippy::all)]"
+ALLOW = "#[allow(dropping_copy_types, unused, clippy::all)]"
+
+
+def condition(crate):
+    """When a crate is compiled."""
+    if crate in OF_STD:
+        return '#[cfg(feature = "std")]\n'
+    return "#[cfg(test)]\n" if crate.endswith("_tests") else ""
 
 
 def places():
@@ -82,7 +103,7 @@ def write_all(top):
         out.mkdir(parents=True)
         for crate in crates:
             write_crate(crate, out, todo)
-        lines = "".join(f"{ALLOW}\npub(crate) mod {crate};\n" for crate in crates)
+        lines = "".join(f"{condition(crate)}{ALLOW}\npub(crate) mod {crate};\n" for crate in crates)
         (out / "mod.rs").write_text(f"//! The crates of the workspace, erased: written by `python3 rust/erase`.\n\n{lines}")
         lay_out(out)
     if todo:

@@ -4,6 +4,8 @@ import re
 from impls import Impl, begins_impl
 from tokens import CLOSE, OPEN, after, before, closing, find, is_trivia, item_start, raw, significant, text_of, words
 
+# Traits whose keys are bound.
+BOUND_BY_KEYS = ("Insertion", "Budgeted")
 KEYWORDS = {"mut", "in", "return", "let", "if", "match", "else", "dyn", "as", "ref", "move", "while", "break"}
 
 
@@ -11,7 +13,7 @@ def calls(toks):
     """Renames calls and functions of which Rust knows others by the same name."""
     out, i = [], 0
     while i < len(toks):
-        written = renamed_clone(toks, i, out) or fmt(toks, i, out)
+        written = renamed_clone(toks, i, out) or hash_by(toks, i, out) or made_in(toks, i, out) or fmt(toks, i, out)
         if written:
             token, i = written
             out.append(token)
@@ -25,12 +27,32 @@ def calls(toks):
 
 
 def renamed_clone(toks, i, out):
-    """`.clone()`, which may fail, and a method `clone` whose result is a `Result`, are called `try_clone`."""
+    """`.clone()` and `T::clone(`, which may fail, and a method `clone` whose result is a `Result`, are called `try_clone`.
+    The bound `Clone` is `TryClone`."""
+    if toks[i].text == "Clone" and significant(out, -1) and significant(out, -1).text in (":", "+"):
+        return raw("TryClone"), i + 1
     if toks[i].text != "clone" or not out:
         return None
-    is_call = out[-1].text == "." and text_of(toks[i:i + 3]) == "clone()"
+    is_call = (out[-1].text == "." and text_of(toks[i:i + 3]) == "clone()") or text_of(out[-1:] + toks[i:i + 2]) == "::clone("
     is_method = significant(out, -1).text == "fn" and "-> Result" in text_of(toks[i:i + 40]).split("{")[0]
     return (raw("try_clone"), i + 1) if is_call or is_method else None
+
+
+def hash_by(toks, i, out):
+    """`s.hash_one(&x)` is called `hash_by`: an impl of Rust's `BuildHasher` may override `hash_one`."""
+    return (raw("hash_by"), i + 1) if toks[i].text == "hash_one" and out and out[-1].text == "." else None
+
+
+def made_in(toks, i, out):
+    """`String::new(alloc)` and `s.replace(alloc, ..)`, of which Rust's take no allocator, are `new_in` and `replace_in`.
+    `into_bytes`, of which Rust's makes another vector, is `into_vec`."""
+    if toks[i].text == "into_bytes":
+        return raw("into_vec"), i + 1
+    lead = text_of(out[-2:])
+    is_text = (toks[i].text == "new" and lead == "String::") or (toks[i].text == "replace" and lead.endswith("."))
+    if not is_text or toks[i + 1].text != "(" or "alloc" not in words(toks[i + 2:i + 7]):
+        return None
+    return raw(toks[i].text + "_in"), i + 1
 
 
 def fmt(toks, i, out):
@@ -44,25 +66,6 @@ def fmt(toks, i, out):
 
 def defines_nowhere(toks, i):
     return toks[i].text == "macro_rules" and "nowhere" in words(toks[i:i + 8])
-
-
-def hashes(toks):
-    """`s.hash_one(&x)` calls `hash_by(s, &x)`: an impl of Rust's `BuildHasher` may override `hash_one`."""
-    out, i = [], 0
-    while i < len(toks):
-        is_call = toks[i].text == "hash_one" and out and out[-1].text == "." and toks[i + 1].text == "("
-        if not is_call:
-            out.append(toks[i])
-            i += 1
-            continue
-        out.pop()
-        start = base_start(out)
-        base, end = out[start:], closing(toks, i + 1)
-        del out[start:]
-        owned = [] if text_of(base) in ("self", "hasher") else [raw("&")]
-        out += [raw("crate::rattle_std::hash::hash_by(")] + owned + base + [raw(", ")] + toks[i + 2:end + 1]
-        i = end + 1
-    return out
 
 
 def indices(toks):
@@ -83,7 +86,7 @@ def indices(toks):
         base = out[start:]
         del out[start:]
         rest = "".join(t.text for t in toks[after(toks, end):after(toks, end) + 3])
-        is_written = re.match(r"[-+*/|&^]?=(?!=)", rest) or (significant(out, -1) and significant(out, -1).text == "mut")
+        is_written = re.match(r"[-+*/|&^]?=(?!=)|\.copy_from_slice\(", rest) or (significant(out, -1) and significant(out, -1).text == "mut")
         macro = "at_mut" if is_written else "at"
         out += [raw(f"(*{macro}!(")] + base + [raw(", ")] + indices(inside) + [raw("))")]
         i = end + 1
@@ -119,15 +122,16 @@ def base_start(out):
 
 def key_bounds(toks, dropped):
     """Removes the bounds that only an invariant reads (`Eq`, `Hash`, `KeyHasher`) from structs without a destructor, and
-    from impls that clone them."""
+    from impls that clone them. A bound that is left may need them."""
     out, i = [], 0
     while i < len(toks):
         is_struct = toks[i].kind == "id" and toks[i].text == "struct" and toks[after(toks, i)].text not in dropped
         if is_struct or clones(toks, i):
             end = find(toks, i, "{", ";", "(")
-            out.append(raw(without_key_bounds(text_of(toks[i:end]))))
-            i = end
-            continue
+            if not any(name in BOUND_BY_KEYS for name in words(toks[i:end])):
+                out.append(raw(without_key_bounds(text_of(toks[i:end]))))
+                i = end
+                continue
         out.append(toks[i])
         i += 1
     return out

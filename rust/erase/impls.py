@@ -3,6 +3,8 @@ import re
 
 from tokens import EraseError, after, before, closing, find, item_start, raw, text_of, words
 
+# A field that is a reference or a number.
+NOTHING_TO_DROP = r"(pub )?\w+ : (& [^:]*|[iu](8|16|32|64|128|size))( ,)?"
 READ_ONCE = "// SAFETY: each field is read once, and the whole is not dropped."
 
 
@@ -87,13 +89,13 @@ def destructor(it, toks):
 
 def taken_out(name, toks):
     """A value in place of which nothing is left to drop: an empty one, or no field has anything to drop."""
-    names = " ".join(words(toks))
+    names = re.sub(r"# \[ [^]]*\] ", "", " ".join(words(toks)))
     if re.search(rf"impl < [^{{]*> {name} < [^{{]*{{ (.*?)fn new \( alloc : Global \) -> Self", names):
         return ("// What is left in its place has nothing to drop.\n        "
                 f"::core::mem::replace(self, {name}::new(crate::rattle_std::alloc::Global))")
     fields = re.search(rf"struct {name} < [^{{]*{{ ([^}}]*) }}", names)
-    if fields and re.fullmatch(r"\w+ : & [^:]*", fields[1]):
-        return ("// SAFETY: the field, a reference, is not dropped after this.\n        "
+    if fields and all(re.fullmatch(NOTHING_TO_DROP, field) for field in re.split(r" , (?=(?:pub )?\w+ :)", fields[1])):
+        return ("// SAFETY: each field is a reference or a number, which has nothing to drop.\n        "
                 "unsafe { ::core::ptr::read(self) }")
     raise EraseError(f"what is left in the place of a dropped {name}?")
 
@@ -126,7 +128,8 @@ def fields_of(pattern, value):
 
 
 def clone(it):
-    """`fn clone(&self) -> Result<..>`: Rust's returns the value. These clones take no memory."""
+    """`fn clone(&self) -> Result<..>`: Rust's returns the value. A clone that names an error is a `TryClone`, and the others
+    never fail."""
     i = find(it.inside, 0, "clone")
     brace = find(it.inside, i, "{")
     m = re.fullmatch(r"clone\(&self\)\s*->\s*(Result<.*, AllocError>)\s*", text_of(it.inside[i:brace]), re.S)
@@ -134,6 +137,10 @@ def clone(it):
         raise EraseError("a clone of another form: " + text_of(it.inside[i:brace]))
     lead = text_of(it.inside[:i])
     body = it.inside[brace:closing(it.inside, brace) + 1]
+    if "AllocError" in words(body):
+        next(t for t in it.head if t.text == "Clone").text = "TryClone"
+        it.inside[i].text = "try_clone"
+        return it.head + [raw("{")] + it.inside + [raw("}")]
     return (it.head + [raw(f"{{{lead}clone(&self) -> Self {{\n        let made = || -> {m[1]} ")] + body
             + [raw(";\n        never_fails(made())\n    }\n}")])
 

@@ -7,9 +7,13 @@ PRELUDE = "#[allow(unused_imports)]\nuse crate::rattle_std::prelude::*;\n"
 
 
 def paths(toks, crate, modules):
-    """`std::`, `crate::` and the names of the crates lead to modules of the one crate."""
+    """`std::`, `crate::` and the names of the crates lead to modules of the one crate, unless a module of the file has the
+    name."""
     lead = dict(modules)
     lead["crate"], lead["std"] = modules[crate], "crate::rattle_std"
+    for i, t in enumerate(toks):
+        if t.text == "mod":
+            lead.pop(toks[after(toks, i)].text, None)
     out = []
     for i, t in enumerate(toks):
         if t.kind == "id" and t.text in lead and names_crate(toks, i):

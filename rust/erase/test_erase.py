@@ -38,19 +38,37 @@ CASES = [
      "fn f() { (*at_mut!(v, i)) = w[0]; (*at_mut!(self.a.b, g((*at!(x, j))) + 1)) += 1;"
      " let t: [u8; 3] = [1, 2, 3]; &(*at!(s, a..)); }"),
     ("fn f() { x.y.clone()?; z.clone(); }", "fn f() { x.y.try_clone()?; z.try_clone(); }"),
-    ("fn f() { hasher.hash_one(&x.y) }", "fn f() { crate::rattle_std::hash::hash_by(hasher, &x.y) }"),
+    ("fn f<T: Eq + Clone>(x: &T) { T::clone(x)?; x.swap(0); }", "fn f<T: Eq + TryClone>(x: &T) { T::try_clone(x)?; x.swap(0); }"),
+    ("impl Clone for S { fn clone(&self) -> Result<Self, AllocError> { Err(AllocError) } }",
+     "impl TryClone for S { fn try_clone(&self) -> Result<Self, AllocError> { Err(AllocError) } }"),
+    ("fn f() { b[..n].copy_from_slice(c); String::new(self.alloc); t.replace(alloc, a, b); mem::replace(alloc, a); }",
+     "fn f() { (*at_mut!(b, ..n)).copy_from_slice(c); String::new_in(self.alloc); t.replace_in(alloc, a, b);"
+     " mem::replace(alloc, a); }"),
+    ("struct S<K: Eq, V> { k: K, v: V } struct T<K: Eq, L: Budgeted<K>> { k: K, l: L }",
+     "struct S<K, V> { k: K, v: V } struct T<K: Eq, L: Budgeted<K>> { k: K, l: L }"),
+    ("fn f() { hasher.hash_one(&x.y) }", "fn f() { hasher.hash_by(&x.y) }"),
     ("fn fmt<W: fmt::Write>(&self, f: &mut fmt::Formatter<W>) -> fmt::Result {}",
      "fn fmt(&self, f: &mut fmt::Formatter<'_>) -> fmt::Result {}"),
     # Paths.
     ("use std::mem; use crate::a::b; use low::C; fn f() { low::g(); x.std; pub(crate) struct S; }",
      "use crate::rattle_std::mem; use crate::me::a::b; use crate::low::C;"
      " fn f() { crate::low::g(); x.std; pub(crate) struct S; }"),
+    ("mod low; fn f() { low::g(); }", "mod low; fn f() { low::g(); }"),
+    # The runtime.
+    ("#[test] fn f(rt: HostRuntime) -> R { g(rt) }",
+     "#[test] fn f() { let run = |rt: HostRuntime| -> R { g(rt) }; run(HostRuntime).passes(); }"),
+    ("fn main(rt: HostRuntime) -> R { g(rt) }", "pub(crate) fn main(rt: HostRuntime) -> R { g(rt) }"),
+    # A destructor that changes other values alone.
+    ("struct S<'a> { a: &'a u8, b: u64 } impl Drop for S<'_> { fn drop(self) { g(self.a); } }",
+     "struct S<'a> { a: &'a u8, b: u64 } impl Drop for S<'_> { fn drop(&mut self) {"
+     " unsafe { ::core::ptr::read(self) }.take_apart(); } } impl S<'_> { fn take_apart(self) { g(self.a); } }"),
 ]
 
 # What no rule knows.
 REFUSED = [
     "fn f() requires { ",
     "struct S<T> { a: T, b: u8 }\nimpl<T> Drop for S<T> { fn drop(self) { g(); } }",
+    "struct S<'a> { a: &'a u8, b: String }\nimpl Drop for S { fn drop(self) { g(); } }",
     "#[a] ghost m = { x };",
     "impl Model for S { fn f() {} }",
     "impl Clone for S { fn clone(&self) -> Option<S> { None } }",

@@ -7,7 +7,7 @@ use core::hash::BuildHasher;
 /// Builds the default hasher of a map from its seeds.
 ///
 /// Its algorithm is not that of `schnellru`. Proved: equal seeds and equal bytes give equal hashes.
-#[derive(Clone, Debug)]
+#[derive(Clone, Copy, Debug)]
 pub struct RandomState(lru_limits::RandomState);
 
 impl RandomState {

@@ -31,12 +31,15 @@
 compile_error!("the sources are proved for a `usize` of 64 bits");
 
 extern crate alloc;
+#[cfg(feature = "std")]
+extern crate std;
 
 mod rattle_std;
 
 #[allow(missing_docs)]
 mod erased;
 
+pub mod caches;
 mod fallible;
 mod hasher;
 mod iter;
@@ -44,6 +47,10 @@ mod keys;
 mod limiter;
 mod map;
 mod more;
+#[cfg(feature = "std")]
+pub mod tenants;
+#[cfg(feature = "std")]
+pub mod trace;
 
 pub use erased::lru_limits::{
     ByCost, ByLength, ByMemoryUsage, ByWeight, Costed, DefaultHasher, Unlimited, UnlimitedCompact,

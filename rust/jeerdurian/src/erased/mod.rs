@@ -1,12 +1,24 @@
 //! The crates of the workspace, erased: written by `python3 rust/erase`.
 
-#[allow(dead_code, unused_imports, unused_labels, unused_macros, unused_parens, unused_variables, clippy::all)]
+#[allow(dropping_copy_types, unused, clippy::all)]
+pub(crate) mod block_device;
+#[allow(dropping_copy_types, unused, clippy::all)]
 pub(crate) mod group_table;
-#[allow(dead_code, unused_imports, unused_labels, unused_macros, unused_parens, unused_variables, clippy::all)]
+#[allow(dropping_copy_types, unused, clippy::all)]
+pub(crate) mod lru_caches;
+#[allow(dropping_copy_types, unused, clippy::all)]
 pub(crate) mod lru_limits;
-#[allow(dead_code, unused_imports, unused_labels, unused_macros, unused_parens, unused_variables, clippy::all)]
+#[allow(dropping_copy_types, unused, clippy::all)]
 pub(crate) mod lru_model;
-#[allow(dead_code, unused_imports, unused_labels, unused_macros, unused_parens, unused_variables, clippy::all)]
+#[cfg(feature = "std")]
+#[allow(dropping_copy_types, unused, clippy::all)]
+pub(crate) mod lru_tenants;
+#[cfg(feature = "std")]
+#[allow(dropping_copy_types, unused, clippy::all)]
+pub(crate) mod lru_trace;
+#[allow(dropping_copy_types, unused, clippy::all)]
 pub(crate) mod ordered_table;
-#[allow(dead_code, unused_imports, unused_labels, unused_macros, unused_parens, unused_variables, clippy::all)]
+#[allow(dropping_copy_types, unused, clippy::all)]
+pub(crate) mod recency;
+#[allow(dropping_copy_types, unused, clippy::all)]
 pub(crate) mod schnellru;

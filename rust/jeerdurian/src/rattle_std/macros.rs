@@ -8,6 +8,13 @@ macro_rules! vec {
     };
 }
 
+/// `format!(in alloc; ..)`, which may fail.
+macro_rules! format {
+    (in $alloc:expr; $($text:tt)*) => {
+        $crate::rattle_std::string::made($alloc, ::core::format_args!($($text)*))
+    };
+}
+
 /// The item at an index that is proved to be within, or a part of a slice.
 macro_rules! at {
     ($items:expr, $index:expr) => {
@@ -36,7 +43,7 @@ macro_rules! at_mut {
 macro_rules! full {
     ($byte:expr) => {
         if cfg!(any(debug_assertions, feature = "checked")) {
-            assert!($byte < 0x80, "a bucket that is not full");
+            ::core::assert!($byte < 0x80, "a bucket that is not full");
         }
     };
 }
@@ -45,7 +52,7 @@ macro_rules! full {
 macro_rules! prove {
     ($($condition:tt)*) => {
         if cfg!(any(debug_assertions, feature = "checked")) {
-            assert!($($condition)*);
+            ::core::assert!($($condition)*);
         }
     };
 }
@@ -62,4 +69,4 @@ macro_rules! nowhere {
     };
 }
 
-pub(crate) use {at, at_mut, full, nowhere, prove, vec};
+pub(crate) use {at, at_mut, format, full, nowhere, prove, vec};

@@ -5,7 +5,12 @@
 
 pub mod alloc;
 pub mod clone;
+#[cfg(feature = "std")]
+pub mod collections;
+#[cfg(feature = "std")]
+pub mod io;
 pub mod simd;
+pub mod string;
 pub mod unwinding;
 pub mod vec;
 
@@ -24,17 +29,26 @@ pub mod hash {
     pub use core::hash::*;
 
     /// Hashes as Rattle's `hash_one` does. An impl of Rust's `BuildHasher` may override `hash_one`, even by type.
-    #[allow(clippy::manual_hash_one)]
-    #[inline]
-    pub fn hash_by<S: BuildHasher + ?Sized, T: Hash + ?Sized>(state: &S, item: &T) -> u64 {
-        let mut hasher = state.build_hasher();
-        item.hash(&mut hasher);
-        hasher.finish()
+    pub trait HashBy: BuildHasher {
+        #[allow(clippy::manual_hash_one)]
+        #[inline]
+        fn hash_by<T: Hash>(&self, item: T) -> u64 {
+            let mut hasher = self.build_hasher();
+            item.hash(&mut hasher);
+            hasher.finish()
+        }
     }
+
+    impl<S: BuildHasher + ?Sized> HashBy for S {}
 }
 
 pub mod fmt {
     pub use core::fmt::*;
+}
+
+#[cfg(feature = "std")]
+pub mod fs {
+    pub use std::fs::*;
 }
 
 pub mod iter {
@@ -49,12 +63,18 @@ pub mod mem {
     pub use core::mem::*;
 }
 
+pub mod str {
+    pub use core::str::*;
+}
+
 /// What Rattle's prelude has and Rust's has not.
 pub mod prelude {
     pub use super::clone::{TryClone, never_fails};
     pub use super::cmp::Eq;
+    pub use super::hash::HashBy;
+    pub use super::string::MadeByAlloc;
     pub use super::unwinding::{if_unwound, leak};
     pub use super::vec::Vec;
     pub use ::alloc::string::String;
-    pub(crate) use {at, at_mut, full, nowhere, prove, vec};
+    pub(crate) use {at, at_mut, format, full, nowhere, prove, vec};
 }

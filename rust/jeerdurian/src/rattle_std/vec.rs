@@ -37,6 +37,13 @@ impl<T> Vec<T> {
         Ok(copy)
     }
 
+    /// Adds an item.
+    pub fn push(&mut self, item: T) -> Result<(), AllocError> {
+        self.0.try_reserve(1).map_err(|_| AllocError)?;
+        self.0.push(item);
+        Ok(())
+    }
+
     /// Adds an item, for which there is memory.
     #[inline]
     pub fn push_reserved(&mut self, item: T) {
@@ -48,6 +55,10 @@ impl<T> Vec<T> {
         self.0.pop()
     }
 
+    pub fn clear(&mut self) {
+        self.0.clear();
+    }
+
     pub fn capacity(&self) -> usize {
         self.0.capacity()
     }
@@ -57,6 +68,11 @@ impl<T> Vec<T> {
     }
 
     pub fn as_mut_slice(&mut self) -> &mut [T] {
+        &mut self.0
+    }
+
+    /// Rust's vector inside.
+    pub fn as_std_mut(&mut self) -> &mut ::alloc::vec::Vec<T> {
         &mut self.0
     }
 
@@ -79,5 +95,23 @@ impl<T> DerefMut for Vec<T> {
     #[inline]
     fn deref_mut(&mut self) -> &mut [T] {
         &mut self.0
+    }
+}
+
+impl<T> IntoIterator for Vec<T> {
+    type Item = T;
+    type IntoIter = ::alloc::vec::IntoIter<T>;
+
+    fn into_iter(self) -> Self::IntoIter {
+        self.0.into_iter()
+    }
+}
+
+impl<'a, T> IntoIterator for &'a Vec<T> {
+    type Item = &'a T;
+    type IntoIter = core::slice::Iter<'a, T>;
+
+    fn into_iter(self) -> Self::IntoIter {
+        self.0.iter()
     }
 }

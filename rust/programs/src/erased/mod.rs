@@ -1,1 +1,54 @@
 //! The crates of the workspace, erased: written by `python3 rust/erase`.
+
+#[cfg(test)]
+#[allow(dropping_copy_types, unused, clippy::all)]
+pub(crate) mod block_device_tests;
+#[cfg(test)]
+#[allow(dropping_copy_types, unused, clippy::all)]
+pub(crate) mod group_table_tests;
+#[cfg(test)]
+#[allow(dropping_copy_types, unused, clippy::all)]
+pub(crate) mod lru_caches_tests;
+#[cfg(test)]
+#[allow(dropping_copy_types, unused, clippy::all)]
+pub(crate) mod lru_limits_tests;
+#[allow(dropping_copy_types, unused, clippy::all)]
+pub(crate) mod lru_replay;
+#[cfg(test)]
+#[allow(dropping_copy_types, unused, clippy::all)]
+pub(crate) mod lru_replay_tests;
+#[cfg(test)]
+#[allow(dropping_copy_types, unused, clippy::all)]
+pub(crate) mod lru_tenants_tests;
+#[allow(dropping_copy_types, unused, clippy::all)]
+pub(crate) mod lru_theory;
+#[cfg(test)]
+#[allow(dropping_copy_types, unused, clippy::all)]
+pub(crate) mod lru_trace_tests;
+#[allow(dropping_copy_types, unused, clippy::all)]
+pub(crate) mod map_helpers;
+#[cfg(test)]
+#[allow(dropping_copy_types, unused, clippy::all)]
+pub(crate) mod ordered_table_tests;
+#[allow(dropping_copy_types, unused, clippy::all)]
+pub(crate) mod pages;
+#[allow(dropping_copy_types, unused, clippy::all)]
+pub(crate) mod replay;
+#[allow(dropping_copy_types, unused, clippy::all)]
+pub(crate) mod replay_model;
+#[allow(dropping_copy_types, unused, clippy::all)]
+pub(crate) mod responses;
+#[allow(dropping_copy_types, unused, clippy::all)]
+pub(crate) mod row_model;
+#[allow(dropping_copy_types, unused, clippy::all)]
+pub(crate) mod rows;
+#[cfg(test)]
+#[allow(dropping_copy_types, unused, clippy::all)]
+pub(crate) mod schnellru_memory_tests;
+#[cfg(test)]
+#[allow(dropping_copy_types, unused, clippy::all)]
+pub(crate) mod schnellru_tests;
+#[allow(dropping_copy_types, unused, clippy::all)]
+pub(crate) mod test_helpers;
+#[allow(dropping_copy_types, unused, clippy::all)]
+pub(crate) mod trace;

@@ -54,6 +54,6 @@ pub trait KeyHasher<K: Eq + Hash>: BuildHasher {
 impl<K: Eq + Hash, S: BuildHasher> KeyHasher<K> for S {
     #[inline]
     fn hash_named<Q: LookupKey<K>>(&self, key: &Q) -> u64 {
-        crate::rattle_std::hash::hash_by(self, key)
+        self.hash_by(key)
     }
 }

@@ -20,8 +20,8 @@ impl<K, V, N: LinkType> LinkedTable<K, V, N> {
     // Out of memory; never for no buckets.
     pub(crate) fn copy(&self) -> Result<Self, AllocError>
     where
-        K: Clone,
-        V: Clone,
+        K: TryClone,
+        V: TryClone,
     {
         let table = self.chain.table.clone_with(|entry| -> Result<Entry<K, V, N>, AllocError> {
             Ok(Entry {

@@ -35,8 +35,8 @@ fn renumber_entries<K: Eq + Hash, V, N: LinkType, S: BuildHasher>(
     hasher: &S,
 ) -> Result<Vec<N>, AllocError> {
     if buckets == table.buckets() {
-        table.rehash(|entry| crate::rattle_std::hash::hash_by(hasher, &entry.pair.key))
+        table.rehash(|entry| hasher.hash_by(&entry.pair.key))
     } else {
-        table.relocate(buckets, |entry| crate::rattle_std::hash::hash_by(hasher, &entry.pair.key))
+        table.relocate(buckets, |entry| hasher.hash_by(&entry.pair.key))
     }
 }

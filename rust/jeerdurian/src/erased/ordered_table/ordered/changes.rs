@@ -113,8 +113,8 @@ impl<K, V, N: LinkType> OrderedTable<K, V, N> {
     /// Out of memory; never for no buckets.
     pub fn copy(&self) -> Result<Self, AllocError>
     where
-        K: Clone,
-        V: Clone,
+        K: TryClone,
+        V: TryClone,
     {
         Ok(OrderedTable { linked: self.linked.copy()?, promoted: self.promoted })
     }

@@ -9,7 +9,7 @@ use crate::erased::schnellru::map::LruMap;
 use crate::rattle_std::alloc::AllocError;
 use crate::rattle_std::hash::Hash;
 
-impl<K: Clone, V: Clone, L: Limiter<K, V> + Clone, S: Clone> LruMap<K, V, L, S> {
+impl<K: TryClone, V: TryClone, L: Limiter<K, V> + TryClone, S: TryClone> LruMap<K, V, L, S> {
     /// Clones the entries in order, the limiter and the hasher, into a table of the same buckets and counts.
     ///
     /// ```text

@@ -28,7 +28,7 @@ pub struct Drain<'a, K: Eq + Hash, V, L: Limiter<K, V>, S: KeyHasher<K>> {
 
 impl<'a, K: Eq + Hash, V, L: Limiter<K, V>, S: KeyHasher<K>> Drop for Drain<'a, K, V, L, S> {
     fn drop(&mut self) {
-        // SAFETY: the field, a reference, is not dropped after this.
+        // SAFETY: each field is a reference or a number, which has nothing to drop.
         unsafe { ::core::ptr::read(self) }.take_apart();
     }
 }

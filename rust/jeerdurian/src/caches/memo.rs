@@ -1,0 +1,211 @@
+//! Functions that remember their newest results.
+
+use crate::erased::lru_caches as proved;
+use crate::erased::ordered_table::OrderedTable;
+use crate::limiter::{Admission, Calls};
+use crate::rattle_std::alloc::Global;
+use crate::{ByLength, RandomState};
+use core::hash::{BuildHasher, Hash};
+
+/// A function that remembers its newest results, up to a limit.
+///
+/// Proved: each answer is a result of the function at an equal key, if the limiter stores values as they are, as all
+/// limiters of this crate do.
+///
+/// ```
+/// use jeerdurian::{ByLength, caches::Memo};
+///
+/// let mut squares = Memo::new(ByLength::new(9), |n: u64| n * n);
+/// assert_eq!((squares.answer(3), squares.len()), (9, 1));
+/// ```
+pub struct Memo<K, V, F, L = ByLength, S = RandomState>
+where
+    K: Copy + Eq + Hash,
+    L: Admission<K, V>,
+    S: BuildHasher,
+{
+    memo: proved::Memo<K, V, F, Calls<L>, S>,
+}
+
+#[cfg(feature = "runtime-rng")]
+impl<K: Copy + Eq + Hash, V, F: Fn(K) -> V, L: Admission<K, V>> Memo<K, V, F, L> {
+    /// Makes a memo of a function without results, with a hasher with random seeds. It takes no memory.
+    ///
+    /// ```
+    /// # use jeerdurian::{ByLength, caches::Memo};
+    /// let squares = Memo::new(ByLength::new(9), |n: u64| n * n);
+    /// assert!(squares.is_empty());
+    /// ```
+    pub fn new(limiter: L, function: F) -> Self {
+        Self::with_hasher(limiter, RandomState::default(), function)
+    }
+}
+
+impl<K: Copy + Eq + Hash, V, F: Fn(K) -> V, L: Admission<K, V>, S: BuildHasher> Memo<K, V, F, L, S> {
+    /// Makes a memo of a function without results, with this hasher of keys. It takes no memory.
+    ///
+    /// ```
+    /// # use jeerdurian::{ByLength, RandomState, caches::Memo};
+    /// let cubes = Memo::with_hasher(ByLength::new(9), RandomState::default(), |n: u64| n * n * n);
+    /// assert!(cubes.is_empty());
+    /// ```
+    pub fn with_hasher(limiter: L, hasher: S, function: F) -> Self {
+        let entry_bytes = OrderedTable::<K, V, L::LinkType>::entry_bytes();
+        Memo { memo: proved::Memo::with_hasher(Global, Calls(limiter), hasher, entry_bytes, function) }
+    }
+
+    /// Returns the number of stored results.
+    ///
+    /// ```
+    /// # use jeerdurian::{ByLength, caches::Memo};
+    /// let mut squares = Memo::new(ByLength::new(9), |n: u64| n * n);
+    /// assert_eq!((squares.answer(3), squares.len()), (9, 1));
+    /// ```
+    pub fn len(&self) -> usize {
+        self.memo.len()
+    }
+
+    /// Returns whether no result is stored.
+    ///
+    /// ```
+    /// # use jeerdurian::{ByLength, caches::Memo};
+    /// assert!(Memo::new(ByLength::new(9), |n: u64| n * n).is_empty());
+    /// ```
+    pub fn is_empty(&self) -> bool {
+        self.memo.is_empty()
+    }
+
+    /// Returns what the function returns at a key: the stored result, or else the result of a call, which is stored.
+    ///
+    /// If the memo runs out of memory or its limiter rejects the result, the result is returned without being stored.
+    ///
+    /// Cost: a get, and if no result is stored, a call of the function and an insert.
+    ///
+    /// ```
+    /// # use jeerdurian::{ByLength, caches::Memo};
+    /// let calls = std::cell::Cell::new(0);
+    /// let mut squares = Memo::new(ByLength::new(9), |n: u64| {
+    ///     calls.set(calls.get() + 1);
+    ///     n * n
+    /// });
+    /// assert_eq!((squares.answer(3), squares.answer(3)), (9, 9));
+    /// assert_eq!(calls.get(), 1);
+    /// ```
+    pub fn answer(&mut self, key: K) -> V
+    where
+        V: Copy,
+    {
+        self.memo.answer(key)
+    }
+
+    /// Lends a closure what [`answer`](Self::answer) would return, and returns what the closure returns. The values need
+    /// not be `Copy`.
+    ///
+    /// ```
+    /// # use jeerdurian::{ByLength, caches::Memo};
+    /// let mut names = Memo::new(ByLength::new(9), |n: u64| n.to_string());
+    /// assert_eq!(names.answer_with(123, |name| name.len()), 3);
+    /// ```
+    pub fn answer_with<R>(&mut self, key: K, read: impl FnOnce(&V) -> R) -> R {
+        self.memo.answer_with(key, read)
+    }
+}
+
+/// A memo of a function that may fail, such as a read of a file. It stores no failure.
+///
+/// Proved: each value is a result of the function at an equal key, and a failure stores nothing, if the limiter stores
+/// values as they are, as all limiters of this crate do.
+///
+/// ```
+/// use jeerdurian::{ByLength, caches::Loader};
+///
+/// let disk = [10, 11, 12];
+/// let mut blocks = Loader::new(ByLength::new(9), |n: usize| disk.get(n).copied().ok_or(n));
+/// assert_eq!((blocks.load(1), blocks.len()), (Ok(11), 1));
+/// assert_eq!((blocks.load(3), blocks.len()), (Err(3), 1));
+/// ```
+pub struct Loader<K, V, F, L = ByLength, S = RandomState>
+where
+    K: Copy + Eq + Hash,
+    V: Copy,
+    L: Admission<K, V>,
+    S: BuildHasher,
+{
+    loader: proved::Loader<K, V, F, Calls<L>, S>,
+}
+
+#[cfg(feature = "runtime-rng")]
+impl<K: Copy + Eq + Hash, V: Copy, E, F: Fn(K) -> Result<V, E>, L: Admission<K, V>> Loader<K, V, F, L> {
+    /// Makes a loader by a function without values, with a hasher with random seeds. It takes no memory.
+    ///
+    /// ```
+    /// # use jeerdurian::{ByLength, caches::Loader};
+    /// let next = Loader::new(ByLength::new(9), |n: u64| n.checked_add(1).ok_or(n));
+    /// assert!(next.is_empty());
+    /// ```
+    pub fn new(limiter: L, function: F) -> Self {
+        Self::with_hasher(limiter, RandomState::default(), function)
+    }
+}
+
+impl<K, V, E, F, L, S> Loader<K, V, F, L, S>
+where
+    K: Copy + Eq + Hash,
+    V: Copy,
+    F: Fn(K) -> Result<V, E>,
+    L: Admission<K, V>,
+    S: BuildHasher,
+{
+    /// Makes a loader by a function without values, with this hasher of keys. It takes no memory.
+    ///
+    /// ```
+    /// # use jeerdurian::{ByLength, RandomState, caches::Loader};
+    /// let hasher = RandomState::default();
+    /// let next = Loader::with_hasher(ByLength::new(9), hasher, |n: u64| n.checked_add(1).ok_or(n));
+    /// assert!(next.is_empty());
+    /// ```
+    pub fn with_hasher(limiter: L, hasher: S, function: F) -> Self {
+        let entry_bytes = OrderedTable::<K, V, L::LinkType>::entry_bytes();
+        Loader { loader: proved::Loader::with_hasher(Global, Calls(limiter), hasher, entry_bytes, function) }
+    }
+
+    /// Returns the number of stored values.
+    ///
+    /// ```
+    /// # use jeerdurian::{ByLength, caches::Loader};
+    /// let mut next = Loader::new(ByLength::new(9), |n: u64| n.checked_add(1).ok_or(n));
+    /// assert_eq!((next.load(1), next.len()), (Ok(2), 1));
+    /// ```
+    pub fn len(&self) -> usize {
+        self.loader.len()
+    }
+
+    /// Returns whether no value is stored.
+    ///
+    /// ```
+    /// # use jeerdurian::{ByLength, caches::Loader};
+    /// assert!(Loader::new(ByLength::new(9), |n: u64| n.checked_add(1).ok_or(n)).is_empty());
+    /// ```
+    pub fn is_empty(&self) -> bool {
+        self.loader.is_empty()
+    }
+
+    /// Returns the stored value of a key, or else the result of a call of the function. A value is stored then.
+    ///
+    /// If the loader runs out of memory or its limiter rejects the value, the value is returned without being stored.
+    ///
+    /// Cost: a get, and if no value is stored, a call of the function and an insert.
+    ///
+    /// # Errors
+    ///
+    /// The function failed, with this error. The stored values stay.
+    ///
+    /// ```
+    /// # use jeerdurian::{ByLength, caches::Loader};
+    /// let mut next = Loader::new(ByLength::new(9), |n: u64| n.checked_add(1).ok_or(n));
+    /// assert_eq!((next.load(1), next.load(u64::MAX)), (Ok(2), Err(u64::MAX)));
+    /// ```
+    pub fn load(&mut self, key: K) -> Result<V, E> {
+        self.loader.load(key)
+    }
+}

@@ -1,0 +1,318 @@
+//! A write-back cache of the blocks of a device.
+
+use crate::RandomState;
+use crate::erased::block_device;
+use crate::erased::lru_caches as proved;
+use crate::rattle_std::alloc::Global;
+use core::hash::BuildHasher;
+
+/// Why a call on a page cache failed. A call that fails changes no block that the cache shows.
+///
+/// ```
+/// use jeerdurian::caches::PageError;
+///
+/// let error: PageError<&str> = PageError::Device("unplugged");
+/// assert_eq!(error.to_string(), "the device failed: unplugged");
+/// ```
+pub use crate::erased::lru_caches::PageError;
+
+impl<E: core::error::Error> core::error::Error for PageError<E> {}
+
+/// A device of numbered blocks, such as a disk or a file. Any call may fail.
+///
+/// What a [`PageCache`] promises is proved for devices that do as the docs of the calls say.
+///
+/// ```
+/// use jeerdurian::caches::BlockDevice;
+///
+/// struct Disk([u64; 4]);
+///
+/// impl BlockDevice<u64> for Disk {
+///     type Error = &'static str;
+///
+///     fn read(&mut self, n: u64) -> Result<u64, &'static str> {
+///         self.0.get(n as usize).copied().ok_or("no such block")
+///     }
+///     fn write(&mut self, n: u64, block: &u64) -> Result<(), &'static str> {
+///         *self.0.get_mut(n as usize).ok_or("no such block")? = *block;
+///         Ok(())
+///     }
+///     fn sync(&mut self) -> Result<(), &'static str> {
+///         Ok(())
+///     }
+/// }
+///
+/// assert_eq!(Disk([10, 11, 12, 13]).read(1), Ok(11));
+/// ```
+pub trait BlockDevice<B> {
+    /// Why a call fails.
+    type Error;
+
+    /// Returns a block: the one that was written last.
+    ///
+    /// # Errors
+    ///
+    /// The device failed. No block has changed.
+    fn read(&mut self, n: u64) -> Result<B, Self::Error>;
+
+    /// Replaces a block.
+    ///
+    /// # Errors
+    ///
+    /// The device failed. That block may be anything then, and no other block has changed.
+    fn write(&mut self, n: u64, block: &B) -> Result<(), Self::Error>;
+
+    /// Makes the blocks durable: returns `Ok` once a crash loses none of the blocks that were written before.
+    ///
+    /// # Errors
+    ///
+    /// The device failed. A crash may lose what was written since the last `sync` that returned `Ok`. No block has
+    /// changed.
+    fn sync(&mut self) -> Result<(), Self::Error>;
+}
+
+/// A device as the proved cache calls it.
+struct Called<D>(D);
+
+impl<B, D: BlockDevice<B>> block_device::BlockDevice<B> for Called<D> {
+    type Error = D::Error;
+    type Seen = B;
+
+    fn read(&mut self, n: u64) -> Result<B, D::Error> {
+        self.0.read(n)
+    }
+
+    fn write(&mut self, n: u64, block: &B) -> Result<(), D::Error> {
+        self.0.write(n, block)
+    }
+
+    fn sync(&mut self) -> Result<(), D::Error> {
+        self.0.sync()
+    }
+}
+
+/// A write-back cache of the blocks of a device.
+///
+/// It keeps the pages that were used last, up to its capacity. A write changes the cached page alone: the page is dirty
+/// then, and goes to the device when it is evicted or flushed.
+///
+/// Proved: whichever call of the device fails, the cache shows the same blocks as before, and a flush that returns `Ok`
+/// leaves no page dirty. After a `sync` that failed, a crash may lose pages that were evicted before, and no later flush
+/// writes them again.
+///
+/// A cache that is dropped loses its dirty pages without a word, so call [`close`](Self::close).
+///
+/// ```
+/// use jeerdurian::caches::{FileDevice, PageCache};
+///
+/// # fn main() -> Result<(), Box<dyn std::error::Error>> {
+/// let file = std::io::Cursor::new(*b"zeroone.two."); // or a `File`
+/// let mut cache = PageCache::new(FileDevice::<_, 4>::new(file, 3)?, 2);
+/// cache.write(1, *b"uno.")?;
+/// assert_eq!(cache.read(1)?, *b"uno.");
+/// let device = cache.close().map_err(|unclosed| unclosed.error)?;
+/// assert_eq!(device.into_file().into_inner(), *b"zerouno.two.");
+/// # Ok(())
+/// # }
+/// ```
+///
+/// In the examples of the calls, `cache` has room for two pages of a device of three blocks of 4 bytes.
+#[must_use = "a cache that is dropped loses its dirty pages"]
+pub struct PageCache<B: Copy, D: BlockDevice<B>, S = RandomState> {
+    cache: proved::PageCache<B, Called<D>, S>,
+}
+
+#[cfg(feature = "runtime-rng")]
+impl<B: Copy, D: BlockDevice<B>> PageCache<B, D> {
+    /// Makes an empty cache of a device, for at most `capacity` pages, or for one page if that is 0. Its hasher of block
+    /// numbers has random seeds. It takes no memory.
+    ///
+    /// ```
+    /// # use jeerdurian::caches::{FileDevice, PageCache};
+    /// # let file = std::io::Cursor::new(*b"zeroone.two.");
+    /// # let mut cache = PageCache::new(FileDevice::<_, 4>::new(file, 3).unwrap(), 2);
+    /// assert!(cache.is_empty());
+    /// ```
+    pub fn new(device: D, capacity: usize) -> Self {
+        Self::with_hasher(device, capacity, RandomState::default())
+    }
+}
+
+impl<B: Copy, D: BlockDevice<B>, S: BuildHasher> PageCache<B, D, S> {
+    /// Makes an empty cache as `new` does, with this hasher of block numbers.
+    ///
+    /// ```
+    /// # use jeerdurian::caches::{FileDevice, PageCache};
+    /// # let file = std::io::Cursor::new(*b"zeroone.two.");
+    /// # let mut cache = PageCache::new(FileDevice::<_, 4>::new(file, 3).unwrap(), 2);
+    /// let cache = PageCache::with_hasher(cache.discard(), 2, std::hash::RandomState::new());
+    /// assert!(cache.is_empty());
+    /// ```
+    pub fn with_hasher(device: D, capacity: usize, hasher: S) -> Self {
+        PageCache { cache: proved::PageCache::with_hasher(Global, Called(device), capacity, hasher) }
+    }
+
+    /// Returns the number of cached pages.
+    ///
+    /// ```
+    /// # use jeerdurian::caches::{FileDevice, PageCache};
+    /// # let file = std::io::Cursor::new(*b"zeroone.two.");
+    /// # let mut cache = PageCache::new(FileDevice::<_, 4>::new(file, 3).unwrap(), 2);
+    /// assert_eq!((cache.read(1), cache.len()), (Ok(*b"one."), 1));
+    /// ```
+    pub fn len(&self) -> usize {
+        self.cache.len()
+    }
+
+    /// Returns whether no page is cached.
+    ///
+    /// ```
+    /// # use jeerdurian::caches::{FileDevice, PageCache};
+    /// # let file = std::io::Cursor::new(*b"zeroone.two.");
+    /// # let mut cache = PageCache::new(FileDevice::<_, 4>::new(file, 3).unwrap(), 2);
+    /// assert!(cache.is_empty());
+    /// ```
+    pub fn is_empty(&self) -> bool {
+        self.cache.is_empty()
+    }
+
+    /// Returns whether a page is cached. The order of use stays.
+    ///
+    /// ```
+    /// # use jeerdurian::caches::{FileDevice, PageCache};
+    /// # let file = std::io::Cursor::new(*b"zeroone.two.");
+    /// # let mut cache = PageCache::new(FileDevice::<_, 4>::new(file, 3).unwrap(), 2);
+    /// assert_eq!(cache.read(1), Ok(*b"one."));
+    /// assert!(cache.contains(1) && !cache.contains(2));
+    /// ```
+    pub fn contains(&self, n: u64) -> bool {
+        self.cache.contains(n)
+    }
+
+    /// Returns the device. It lacks the writes that are in dirty pages alone.
+    ///
+    /// ```
+    /// # use jeerdurian::caches::{FileDevice, PageCache};
+    /// # let file = std::io::Cursor::new(*b"zeroone.two.");
+    /// # let mut cache = PageCache::new(FileDevice::<_, 4>::new(file, 3).unwrap(), 2);
+    /// assert_eq!(cache.write(1, *b"uno."), Ok(()));
+    /// assert_eq!(cache.device().file().get_ref(), b"zeroone.two.");
+    /// ```
+    pub fn device(&self) -> &D {
+        &self.cache.device().0
+    }
+
+    /// Returns a block, and makes its page the newest.
+    ///
+    /// A cached page is returned without the device. Otherwise the block is read from the device and cached. If the
+    /// cache is full, the oldest page is evicted for it, after that page was written to the device if it is dirty.
+    ///
+    /// Cost: `O(1)` expected, amortised over the growth of the table, and at most one read and one write of the device.
+    ///
+    /// # Errors
+    ///
+    /// `Device`: the read failed, or the oldest page could not be written back. `Memory`: out of memory for one page
+    /// more. There is no error if the page is cached.
+    ///
+    /// ```
+    /// # use jeerdurian::caches::{FileDevice, PageCache};
+    /// # let file = std::io::Cursor::new(*b"zeroone.two.");
+    /// # let mut cache = PageCache::new(FileDevice::<_, 4>::new(file, 3).unwrap(), 2);
+    /// assert_eq!((cache.read(0), cache.read(1), cache.read(2)), (Ok(*b"zero"), Ok(*b"one."), Ok(*b"two.")));
+    /// assert!(!cache.contains(0));
+    /// ```
+    pub fn read(&mut self, n: u64) -> Result<B, PageError<D::Error>> {
+        self.cache.read(n)
+    }
+
+    /// Replaces a block in the cache, and makes its page the newest. The device gets the block later.
+    ///
+    /// The cache accepts every number. If the device rejects the number, the page can never be written back, and each
+    /// later `flush` and `close` fails. Check a number that comes from outside before you write there.
+    ///
+    /// Cost: `O(1)` expected, amortised over the growth of the table, and at most one write of the device.
+    ///
+    /// # Errors
+    ///
+    /// As of `read`. The block is not replaced then.
+    ///
+    /// ```
+    /// # use jeerdurian::caches::{FileDevice, PageCache};
+    /// # let file = std::io::Cursor::new(*b"zeroone.two.");
+    /// # let mut cache = PageCache::new(FileDevice::<_, 4>::new(file, 3).unwrap(), 2);
+    /// assert_eq!((cache.write(1, *b"uno."), cache.read(1)), (Ok(()), Ok(*b"uno.")));
+    /// ```
+    pub fn write(&mut self, n: u64, block: B) -> Result<(), PageError<D::Error>> {
+        self.cache.write(n, block)
+    }
+
+    /// Writes all dirty pages to the device, and then calls its `sync`. The pages stay cached.
+    ///
+    /// # Errors
+    ///
+    /// `Device`: a write or the `sync` failed. All pages stay as dirty as before, so the next flush writes them again.
+    ///
+    /// ```
+    /// # use jeerdurian::caches::{FileDevice, PageCache};
+    /// # let file = std::io::Cursor::new(*b"zeroone.two.");
+    /// # let mut cache = PageCache::new(FileDevice::<_, 4>::new(file, 3).unwrap(), 2);
+    /// assert_eq!((cache.write(1, *b"uno."), cache.flush()), (Ok(()), Ok(())));
+    /// assert_eq!(cache.device().file().get_ref(), b"zerouno.two.");
+    /// ```
+    pub fn flush(&mut self) -> Result<(), PageError<D::Error>> {
+        self.cache.flush()
+    }
+
+    /// Flushes the cache, and returns the device.
+    ///
+    /// # Errors
+    ///
+    /// The flush failed. The error contains the cache, with the same pages.
+    ///
+    /// ```
+    /// # use jeerdurian::caches::{FileDevice, PageCache};
+    /// # let file = std::io::Cursor::new(*b"zeroone.two.");
+    /// # let mut cache = PageCache::new(FileDevice::<_, 4>::new(file, 3).unwrap(), 2);
+    /// assert_eq!(cache.write(1, *b"uno."), Ok(()));
+    /// let device = cache.close().ok().unwrap();
+    /// assert_eq!(device.file().get_ref(), b"zerouno.two.");
+    /// ```
+    #[allow(clippy::result_large_err)]
+    pub fn close(self) -> Result<D, Unclosed<B, D, S>> {
+        match self.cache.close() {
+            Ok(device) => Ok(device.0),
+            Err(proved::Unclosed { cache, error }) => Err(Unclosed { cache: PageCache { cache }, error }),
+        }
+    }
+
+    /// Drops the cached pages and returns the device. Writes since the last flush may be lost.
+    ///
+    /// ```
+    /// # use jeerdurian::caches::{FileDevice, PageCache};
+    /// # let file = std::io::Cursor::new(*b"zeroone.two.");
+    /// # let mut cache = PageCache::new(FileDevice::<_, 4>::new(file, 3).unwrap(), 2);
+    /// assert_eq!(cache.write(1, *b"uno."), Ok(()));
+    /// assert_eq!(cache.discard().file().get_ref(), b"zeroone.two.");
+    /// ```
+    pub fn discard(self) -> D {
+        self.cache.discard().0
+    }
+}
+
+/// A cache that was not closed, because its flush failed.
+///
+/// ```
+/// # use jeerdurian::caches::{FileDevice, PageCache};
+/// # let file = std::io::Cursor::new(*b"zeroone.two.");
+/// # let mut cache = PageCache::new(FileDevice::<_, 4>::new(file, 3).unwrap(), 2);
+/// assert_eq!(cache.write(9, *b"nine"), Ok(())); // the device has no such block
+/// let Err(unclosed) = cache.close() else { panic!() };
+/// assert_eq!(unclosed.error.to_string(), "the device failed: no such block");
+/// assert_eq!(unclosed.cache.len(), 1);
+/// ```
+pub struct Unclosed<B: Copy, D: BlockDevice<B>, S = RandomState> {
+    /// The cache, with the same pages.
+    pub cache: PageCache<B, D, S>,
+    /// Why the flush failed.
+    pub error: PageError<D::Error>,
+}

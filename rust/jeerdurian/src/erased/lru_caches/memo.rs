@@ -1,0 +1,154 @@
+// Erased from crates/lru_caches/src/memo.rt: do not edit.
+//! `Memo`. A contract sees a memo as its stored answers and its function.
+
+#[allow(unused_imports)]
+use crate::rattle_std::prelude::*;
+
+use crate::erased::schnellru::{Insertion, KeyHasher, LruMap, RandomState, laws};
+use crate::rattle_std::alloc::Global;
+use crate::rattle_std::hash::Hash;
+
+pub(crate) mod loader;
+pub(crate) mod table;
+
+/// A function with its newest results, up to a limit, so that it is not called again at the same key.
+///
+/// It is proved that each result is right. That a result is remembered, and the limit kept, is only tested.
+///
+/// ```text
+/// let mut squares = Memo::new(alloc, ByLength::new(9), |n: u64| n.wrapping_mul(n));
+/// assert_eq!(rt; (squares.answer(3), squares.len()), (9, 1));
+/// ```
+
+pub struct Memo<K: Copy + Eq + Hash, V, F, L: Insertion<K, V, K>, S: KeyHasher<K> = RandomState> {
+    map: LruMap<K, V, L, S>,
+    function: F,
+}
+
+impl<K: Copy + Eq + Hash, V, F: Fn(K) -> V, L: Insertion<K, V, K>> Memo<K, V, F, L, RandomState> {
+    /// Makes a memo of a function, with no results yet.
+    ///
+    /// The limiter has to store values as they come, as all limiters of `schnellru` do. Everyone knows the seeds of the
+    /// default hasher: if strangers choose the keys, call `with_hasher`. Cost: `O(1)`, and no memory.
+    ///
+    /// ```text
+    /// let mut squares = Memo::new(alloc, ByLength::new(9), |n: u64| n.wrapping_mul(n));
+    /// ```
+    pub fn new(alloc: Global, limiter: L, function: F) -> Self {
+        Memo { map: LruMap::with_limiter(alloc, limiter), function }
+    }
+}
+
+impl<K: Copy + Eq + Hash, V, F: Fn(K) -> V, L: Insertion<K, V, K>, S: KeyHasher<K>> Memo<K, V, F, L, S> {
+    /// Makes a memo of a function as `new` does, with this hasher of keys. `entry_bytes` is as for
+    /// `LruMap::with_hasher`: only a limiter by memory looks at it.
+    ///
+    /// ```text
+    /// let seeded = RandomState::with_seeds([5, 6, 7, 8]);
+    /// let cubes = Memo::with_hasher(alloc, ByLength::new(9), seeded, 24, |n: u64| n.wrapping_pow(3));
+    /// assert!(rt; cubes.is_empty());
+    /// ```
+    ///
+    /// Cost: `O(1)`, and no memory.
+    pub fn with_hasher(alloc: Global, limiter: L, hasher: S, entry_bytes: usize, function: F) -> Self {
+        Memo { map: LruMap::with_hasher(alloc, limiter, hasher, entry_bytes), function }
+    }
+
+    /// Returns how many results are stored.
+    ///
+    /// Cost: `O(1)`.
+    ///
+    /// ```text
+    /// assert_eq!(rt; (squares.answer(3), squares.len()), (9, 1));
+    /// ```
+    pub fn len(&self) -> usize {
+        self.map.len()
+    }
+
+    /// Returns whether no result is stored.
+    ///
+    /// Cost: `O(1)`.
+    ///
+    /// ```text
+    /// let seeded = RandomState::with_seeds([5, 6, 7, 8]);
+    /// let cubes = Memo::with_hasher(alloc, ByLength::new(9), seeded, 24, |n: u64| n.wrapping_pow(3));
+    /// assert!(rt; cubes.is_empty());
+    /// ```
+    pub fn is_empty(&self) -> bool {
+        self.map.is_empty()
+    }
+}
+
+impl<K: Copy + Eq + Hash, V: Copy, F: Fn(K) -> V, L: Insertion<K, V, K>, S: KeyHasher<K>> Memo<K, V, F, L, S> {
+    /// Returns what the function returns at a key: the stored result, or else the result of a call, which is stored.
+    ///
+    /// If the memo runs out of memory or its limiter rejects the result, the result is returned without being stored.
+    /// If the function returns different results at equal keys, each key may get the result of another.
+    ///
+    /// A caller proves the clauses `callable` and `known` from what `new`, or the call before, ensures.
+    ///
+    /// ```text
+    /// assert_eq!(rt; (squares.answer(3), squares.len()), (9, 1));
+    /// ```
+    ///
+    /// Cost: a get, and if no result is stored, a call of the function and an insert.
+    pub fn answer(&mut self, key: K) -> V {
+        remembered(&mut self.map, &self.function, key)
+    }
+}
+
+impl<K: Copy + Eq + Hash, V, F: Fn(K) -> V, L: Insertion<K, V, K>, S: KeyHasher<K>> Memo<K, V, F, L, S> {
+    /// Lends a closure what `answer` would return, and returns what the closure returns. The values need not be `Copy`.
+    ///
+    /// The closure is called once. It is lent a result also if that is not stored.
+    ///
+    /// ```text
+    /// let mut blocks = Memo::new(alloc, ByLength::new(9), |n: usize| vec![in alloc; 7u8; n].ok());
+    /// assert_eq!(rt; (blocks.answer_with(3, |block| block.is_some()), blocks.len()), (true, 1));
+    /// ```
+    ///
+    /// Cost: as `answer`, and a call of the closure.
+    pub fn answer_with<R, U: FnOnce(&V) -> R>(&mut self, key: K, read: U) -> R {
+        read_remembered(&mut self.map, &self.function, key, read)
+    }
+}
+
+// Returns the stored answer at a key, or else stores what the function returns.
+fn remembered<K: Copy + Eq + Hash, V: Copy, F: Fn(K) -> V, L: Insertion<K, V, K>, S: KeyHasher<K>>(
+    map: &mut LruMap<K, V, L, S>,
+    function: &F,
+    key: K,
+) -> V {
+    laws::inserts_evict_the_oldest::<K, V, K, L, S>();
+    if let Some(value) = map.get(&key) {
+        return *value;
+    }
+    let value = function(key);
+    let _ = map.insert(key, value);
+    value
+}
+
+// Lends the stored answer at a key to the closure, or else what the function returns, which is stored.
+fn read_remembered<
+    K: Copy + Eq + Hash,
+    V,
+    F: Fn(K) -> V,
+    L: Insertion<K, V, K>,
+    S: KeyHasher<K>,
+    R,
+    U: FnOnce(&V) -> R,
+>(
+    map: &mut LruMap<K, V, L, S>,
+    function: &F,
+    key: K,
+    read: U,
+) -> R {
+    laws::inserts_evict_the_oldest::<K, V, K, L, S>();
+    if let Some(value) = map.get(&key) {
+        return read(&*value);
+    }
+    let value = function(key);
+    let result = read(&value);
+    let _ = map.insert(key, value);
+    result
+}

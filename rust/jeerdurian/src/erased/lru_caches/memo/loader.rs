@@ -1,0 +1,124 @@
+// Erased from crates/lru_caches/src/memo/loader.rt: do not edit.
+//! `Loader`. A contract sees a loader as its stored values and its function.
+
+#[allow(unused_imports)]
+use crate::rattle_std::prelude::*;
+
+use crate::erased::schnellru::{Insertion, KeyHasher, LruMap, RandomState, laws};
+use crate::rattle_std::alloc::Global;
+use crate::rattle_std::hash::Hash;
+
+/// A memo of a function that may fail, such as a read of a file. It stores the newest values that were loaded, up to a
+/// limit, and no failure.
+///
+/// It is proved that each value is right, and that a failure stores nothing. That a value is remembered, and the limit
+/// kept, is only tested.
+///
+/// The function may borrow what it reads by `&`.
+///
+/// ```text
+/// let disk = [10, 11, 12];
+/// let mut blocks = Loader::new(alloc, ByLength::new(9), |n: usize| disk.get(n).copied().ok_or(n));
+/// assert_eq!(rt; (blocks.load(1), blocks.len()), (Ok(11), 1));
+/// assert_eq!(rt; (blocks.load(3), blocks.len()), (Err(3), 1));
+/// ```
+
+pub struct Loader<K: Copy + Eq + Hash, V: Copy, F, L: Insertion<K, V, K>, S: KeyHasher<K> = RandomState> {
+    map: LruMap<K, V, L, S>,
+    function: F,
+}
+
+impl<K: Copy + Eq + Hash, V: Copy, E, F: Fn(K) -> Result<V, E>, L: Insertion<K, V, K>> Loader<K, V, F, L, RandomState> {
+    /// Makes a loader by a function, with no values yet.
+    ///
+    /// The limiter has to store values as they come, as all limiters of `schnellru` do. Everyone knows the seeds of the
+    /// default hasher: if strangers choose the keys, call `with_hasher`. Cost: `O(1)`, and no memory.
+    ///
+    /// ```text
+    /// let mut blocks = Loader::new(alloc, ByLength::new(9), |n: usize| disk.get(n).copied().ok_or(n));
+    /// ```
+    pub fn new(alloc: Global, limiter: L, function: F) -> Self {
+        Loader { map: LruMap::with_limiter(alloc, limiter), function }
+    }
+}
+
+impl<K: Copy + Eq + Hash, V: Copy, E, F: Fn(K) -> Result<V, E>, L: Insertion<K, V, K>, S: KeyHasher<K>>
+    Loader<K, V, F, L, S>
+{
+    /// Makes a loader by a function as `new` does, with this hasher of keys. `entry_bytes` is as for
+    /// `LruMap::with_hasher`: only a limiter by memory looks at it.
+    ///
+    /// ```text
+    /// let seeded = RandomState::with_seeds([5, 6, 7, 8]);
+    /// let empty = Loader::with_hasher(alloc, ByLength::new(9), seeded, 24, |n: u64| n.checked_add(1).ok_or(n));
+    /// assert!(rt; empty.is_empty());
+    /// ```
+    ///
+    /// Cost: `O(1)`, and no memory.
+    pub fn with_hasher(alloc: Global, limiter: L, hasher: S, entry_bytes: usize, function: F) -> Self {
+        Loader { map: LruMap::with_hasher(alloc, limiter, hasher, entry_bytes), function }
+    }
+
+    /// Returns the stored value of a key, or else the result of a call of the function. A value that was loaded is
+    /// stored.
+    ///
+    /// If the loader runs out of memory or its limiter rejects the value, the value is returned without being stored.
+    ///
+    /// A caller proves the clauses `callable` and `known` from what `new`, or the call before, ensures.
+    ///
+    /// ```text
+    /// assert_eq!(rt; (blocks.load(1), blocks.len()), (Ok(11), 1));
+    /// ```
+    ///
+    /// Cost: a get, and if no value is stored, a call of the function and an insert.
+    ///
+    /// # Errors
+    ///
+    /// The function failed, with this error. The stored values stay. There is no error if a value is stored.
+    pub fn load(&mut self, key: K) -> Result<V, E> {
+        loaded(&mut self.map, &self.function, key)
+    }
+
+    /// Returns how many values are stored.
+    ///
+    /// Cost: `O(1)`.
+    ///
+    /// ```text
+    /// assert_eq!(rt; (blocks.load(3), blocks.len()), (Err(3), 1));
+    /// ```
+    pub fn len(&self) -> usize {
+        self.map.len()
+    }
+
+    /// Returns whether no value is stored.
+    ///
+    /// Cost: `O(1)`.
+    ///
+    /// ```text
+    /// let seeded = RandomState::with_seeds([5, 6, 7, 8]);
+    /// let empty = Loader::with_hasher(alloc, ByLength::new(9), seeded, 24, |n: u64| n.checked_add(1).ok_or(n));
+    /// assert!(rt; empty.is_empty());
+    /// ```
+    pub fn is_empty(&self) -> bool {
+        self.map.is_empty()
+    }
+}
+
+// Returns the stored value of a key, or else stores what the function returns.
+fn loaded<K: Copy + Eq + Hash, V: Copy, E, F: Fn(K) -> Result<V, E>, L: Insertion<K, V, K>, S: KeyHasher<K>>(
+    map: &mut LruMap<K, V, L, S>,
+    function: &F,
+    key: K,
+) -> Result<V, E> {
+    laws::inserts_evict_the_oldest::<K, V, K, L, S>();
+    if let Some(value) = map.get(&key) {
+        return Ok(*value);
+    }
+    match function(key) {
+        Ok(value) => {
+            let _ = map.insert(key, value);
+            Ok(value)
+        }
+        Err(error) => Err(error),
+    }
+}

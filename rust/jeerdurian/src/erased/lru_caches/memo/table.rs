@@ -1,0 +1,135 @@
+// Erased from crates/lru_caches/src/memo/table.rt: do not edit.
+//! `MemoTable`. A contract sees a table as its stored answers, newest first.
+
+#[allow(unused_imports)]
+use crate::rattle_std::prelude::*;
+
+use crate::erased::schnellru::{Insertion, KeyHasher, LruMap, RandomState, laws};
+use crate::rattle_std::alloc::Global;
+use crate::rattle_std::hash::Hash;
+
+/// Says which values answer a key, for a [`MemoTable`].
+///
+/// ```text
+/// impl Question<u64, u64> for Squares {
+///     ghost answers = { λ n value. value ≡ n * n };
+/// }
+/// ```
+pub trait Question<K, V> {}
+
+/// A table of the newest answers to a question, up to a limit, for a function that calls itself.
+///
+/// [`Memo`](crate::Memo) calls its function, so that function cannot use the memo. A recursion uses a table: it gets
+/// the answer at its key, or else computes and stores it. Whatever a `get` returns is an answer. A caller proves that
+/// what it stores is one.
+///
+/// ```text
+/// let mut squares = MemoTable::new(alloc, ByLength::new(9), Squares);
+/// squares.store(3, 9);
+/// assert_eq!(rt; (squares.get(3), squares.get(4), squares.len()), (Some(9), None, 1));
+/// ```
+
+pub struct MemoTable<K: Copy + Eq + Hash, V, Q: Question<K, V>, L: Insertion<K, V, K>, S: KeyHasher<K> = RandomState> {
+    map: LruMap<K, V, L, S>,
+    question: Q,
+}
+
+impl<K: Copy + Eq + Hash, V, Q: Question<K, V>, L: Insertion<K, V, K>> MemoTable<K, V, Q, L, RandomState> {
+    /// Makes an empty table.
+    ///
+    /// The limiter has to store values as they come, as all limiters of `schnellru` do. Everyone knows the seeds of the
+    /// default hasher: if strangers choose the keys, call `with_hasher`. Cost: `O(1)`, and no memory.
+    ///
+    /// ```text
+    /// let mut squares = MemoTable::new(alloc, ByLength::new(9), Squares);
+    /// ```
+    pub fn new(alloc: Global, limiter: L, question: Q) -> Self {
+        MemoTable { map: LruMap::with_limiter(alloc, limiter), question }
+    }
+}
+
+impl<K: Copy + Eq + Hash, V, Q: Question<K, V>, L: Insertion<K, V, K>, S: KeyHasher<K>> MemoTable<K, V, Q, L, S> {
+    /// Makes an empty table as `new` does, with this hasher of keys. `entry_bytes` is as for `LruMap::with_hasher`:
+    /// only a limiter by memory looks at it.
+    ///
+    /// ```text
+    /// let seeded = RandomState::with_seeds([5, 6, 7, 8]);
+    /// let empty = MemoTable::with_hasher(alloc, ByLength::new(9), seeded, 24, Squares);
+    /// assert!(rt; empty.is_empty());
+    /// ```
+    ///
+    /// Cost: `O(1)`, and no memory.
+    pub fn with_hasher(alloc: Global, limiter: L, hasher: S, entry_bytes: usize, question: Q) -> Self {
+        MemoTable { map: LruMap::with_hasher(alloc, limiter, hasher, entry_bytes), question }
+    }
+
+    /// Returns how many answers are stored.
+    ///
+    /// Cost: `O(1)`.
+    ///
+    /// ```text
+    /// assert_eq!(rt; (squares.get(3), squares.get(4), squares.len()), (Some(9), None, 1));
+    /// ```
+    pub fn len(&self) -> usize {
+        self.map.len()
+    }
+
+    /// Returns whether no answer is stored.
+    ///
+    /// Cost: `O(1)`.
+    ///
+    /// ```text
+    /// let seeded = RandomState::with_seeds([5, 6, 7, 8]);
+    /// let empty = MemoTable::with_hasher(alloc, ByLength::new(9), seeded, 24, Squares);
+    /// assert!(rt; empty.is_empty());
+    /// ```
+    pub fn is_empty(&self) -> bool {
+        self.map.is_empty()
+    }
+}
+
+impl<K: Copy + Eq + Hash, V: Copy, Q: Question<K, V>, L: Insertion<K, V, K>, S: KeyHasher<K>> MemoTable<K, V, Q, L, S> {
+    /// Returns the stored answer at a key, or at a key that equals it, and makes it the newest.
+    ///
+    /// ```text
+    /// assert_eq!(rt; (squares.get(3), squares.get(4), squares.len()), (Some(9), None, 1));
+    /// ```
+    ///
+    /// Cost: `O(1)` expected.
+    pub fn get(&mut self, key: K) -> Option<V> {
+        stored::<K, V, Q, L, S>(&mut self.map, key)
+    }
+
+    /// Stores an answer at a key, as the newest. If the table runs out of memory or its limiter rejects the answer, it
+    /// is not stored. No clause says what is stored: that is tested.
+    ///
+    /// ```text
+    /// squares.store(3, 9);
+    /// ```
+    ///
+    /// Cost: an insert.
+    pub fn store(&mut self, key: K, value: V) {
+        keep::<K, V, Q, L, S>(&mut self.map, key, value);
+    }
+}
+
+// Returns the stored answer at a key.
+fn stored<K: Copy + Eq + Hash, V: Copy, Q: Question<K, V>, L: Insertion<K, V, K>, S: KeyHasher<K>>(
+    map: &mut LruMap<K, V, L, S>,
+    key: K,
+) -> Option<V> {
+    match map.get(&key) {
+        Some(value) => Some(*value),
+        None => None,
+    }
+}
+
+// Stores an answer at a key.
+fn keep<K: Copy + Eq + Hash, V: Copy, Q: Question<K, V>, L: Insertion<K, V, K>, S: KeyHasher<K>>(
+    map: &mut LruMap<K, V, L, S>,
+    key: K,
+    value: V,
+) {
+    laws::inserts_evict_the_oldest::<K, V, K, L, S>();
+    let _ = map.insert(key, value);
+}

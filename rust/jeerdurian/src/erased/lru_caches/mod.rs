@@ -1,0 +1,26 @@
+// Erased from crates/lru_caches/src/lib.rt: do not edit.
+//! Caches above the verified LRU map.
+//!
+//! [`PageCache`] keeps the blocks of a [`BlockDevice`] that were used last, and writes them back when they are evicted
+//! or flushed. A call that fails changes no block that it shows. [`FileDevice`] and [`HashedFileDevice`] are devices
+//! over a file. [`Memo`] stores the newest results of a function, [`Loader`] of one that may fail, and [`MemoTable`] of
+//! one that calls itself. [`OrderedMap`] is a hash map in the order of insertion.
+
+#[allow(unused_imports)]
+use crate::rattle_std::prelude::*;
+
+mod memo;
+mod ordered_map;
+mod page_cache;
+
+pub use crate::erased::block_device::BlockDevice;
+#[cfg(feature = "std")]
+pub use crate::erased::block_device::{Durable, FileDevice, FileError, HashedFileDevice};
+pub use memo::Memo;
+pub use memo::loader::Loader;
+pub use memo::table::{MemoTable, Question};
+pub use ordered_map::OrderedMap;
+pub use ordered_map::entries::Entries;
+pub use ordered_map::into_entries::IntoEntries;
+pub use ordered_map::keys::{Keys, Values};
+pub use page_cache::{PageCache, PageError, Unclosed};

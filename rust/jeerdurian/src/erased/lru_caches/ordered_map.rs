@@ -1,0 +1,321 @@
+// Erased from crates/lru_caches/src/ordered_map.rt: do not edit.
+//! `OrderedMap`. A contract sees a map as the list of its entries, oldest first.
+
+#[allow(unused_imports)]
+use crate::rattle_std::prelude::*;
+
+use crate::erased::lru_caches::ordered_map::entries::Entries;
+use crate::erased::lru_caches::ordered_map::keys::{Keys, Values};
+use crate::erased::schnellru::{KeyHasher, LookupKey, LruMap, RandomState, Unlimited};
+use crate::rattle_std::alloc::{AllocError, Global};
+use crate::rattle_std::hash::Hash;
+use crate::rattle_std::mem;
+
+mod compared;
+pub(crate) mod entries;
+pub(crate) mod into_entries;
+pub(crate) mod keys;
+mod more;
+
+/// A hash map whose entries are in the order of insertion, oldest first.
+///
+/// An insert of a key that is there keeps the key's place. A removal keeps the order of the other entries, and takes
+/// `O(1)`. The map evicts nothing: if its table cannot grow, an insert fails and changes nothing.
+///
+/// In the examples of the calls, `map` contains (1, 11) and (2, 20), of which the last is the newest, unless the
+/// example makes another map.
+///
+/// ```text
+/// let mut map: OrderedMap<u64, u64> = OrderedMap::new(alloc);
+/// assert_eq!(rt; (map.insert(1, 10)?, map.insert(2, 20)?), (None, None));
+/// assert_eq!(rt; map.insert(1, 11)?, Some(10));
+/// assert!(rt; map.first() == Some((&1, &11)) && map.last() == Some((&2, &20)));
+/// ```
+
+pub struct OrderedMap<K, V, S = RandomState> {
+    map: LruMap<K, V, Unlimited, S>,
+}
+
+impl<K: Eq + Hash, V> OrderedMap<K, V, RandomState> {
+    /// Makes an empty map with the default hasher.
+    ///
+    /// The seeds of that hasher are 1, 2, 3 and 4, so everyone knows its hashes. If strangers choose the keys, call
+    /// `with_hasher` with seeds that nobody can guess. Cost: `O(1)`, and no memory.
+    ///
+    /// ```text
+    /// let mut map: OrderedMap<u64, u64> = OrderedMap::new(alloc);
+    /// ```
+    ///
+    /// After std's `HashMap::new`.
+    pub fn new(alloc: Global) -> Self {
+        OrderedMap::with_hasher(alloc, RandomState::default())
+    }
+}
+
+impl<K: Eq + Hash, V, S: KeyHasher<K>> OrderedMap<K, V, S> {
+    /// Makes an empty map with this hasher. Cost: `O(1)`, and no memory.
+    ///
+    /// ```text
+    /// let seeded = RandomState::with_seeds([5, 6, 7, 8]);
+    /// let map: OrderedMap<u64, u64> = OrderedMap::with_hasher(alloc, seeded);
+    /// assert!(rt; map.is_empty());
+    /// ```
+    ///
+    /// After std's `HashMap::with_hasher`.
+    pub fn with_hasher(alloc: Global, hasher: S) -> Self {
+        OrderedMap { map: LruMap::with_limiter_and_hasher(alloc, Unlimited, hasher) }
+    }
+
+    /// Returns the number of entries. No two keys are equal. Cost: `O(1)`.
+    ///
+    /// ```text
+    /// assert_eq!(rt; map.len(), 2);
+    /// ```
+    pub fn len(&self) -> usize {
+        self.map.len()
+    }
+
+    /// Returns whether there are no entries. Cost: `O(1)`.
+    ///
+    /// ```text
+    /// assert!(rt; !map.is_empty());
+    /// ```
+    pub fn is_empty(&self) -> bool {
+        self.map.is_empty()
+    }
+
+    /// Returns whether a key is in the map.
+    ///
+    /// `String` keys are looked up by a `&str`, as `map.contains_key(&"a")`. Cost: `O(1)` expected.
+    ///
+    /// ```text
+    /// assert!(rt; map.contains_key(&1) && !map.contains_key(&9));
+    /// ```
+    ///
+    /// After std's `HashMap::contains_key`.
+    pub fn contains_key<Q: LookupKey<K>>(&self, key: &Q) -> bool {
+        distinct(&self.map);
+        self.map.contains(key)
+    }
+
+    /// Returns the value of a key.
+    ///
+    /// ```text
+    /// assert_eq!(rt; (map.get(&1), map.get(&9)), (Some(&11), None));
+    /// ```
+    ///
+    /// Cost: `O(1)` expected.
+    ///
+    /// After indexmap's `IndexMap::get`.
+    pub fn get<Q: LookupKey<K>>(&self, key: &Q) -> Option<&V> {
+        distinct(&self.map);
+        self.map.peek(key)
+    }
+
+    /// Lends the value of a key for writing. The order stays.
+    ///
+    /// ```text
+    /// if let Some(value) = map.get_mut(&2) {
+    ///     *value = 22;
+    /// }
+    /// assert_eq!(rt; map.get(&2), Some(&22));
+    /// ```
+    ///
+    /// Cost: `O(1)` expected.
+    ///
+    /// After indexmap's `IndexMap::get_mut`.
+    pub fn get_mut<Q: LookupKey<K>>(&mut self, key: &Q) -> Option<&mut V> {
+        distinct(&self.map);
+        self.map.peek_mut(key)
+    }
+
+    /// Returns the oldest entry.
+    ///
+    /// ```text
+    /// assert!(rt; map.first() == Some((&1, &11)) && map.last() == Some((&2, &20)));
+    /// ```
+    ///
+    /// Cost: `O(1)`.
+    ///
+    /// After indexmap's `IndexMap::first`.
+    pub fn first(&self) -> Option<(&K, &V)> {
+        self.map.peek_oldest()
+    }
+
+    /// Returns the newest entry.
+    ///
+    /// ```text
+    /// assert!(rt; map.first() == Some((&1, &11)) && map.last() == Some((&2, &20)));
+    /// ```
+    ///
+    /// Cost: `O(1)`.
+    ///
+    /// After indexmap's `IndexMap::last`.
+    pub fn last(&self) -> Option<(&K, &V)> {
+        self.map.peek_newest()
+    }
+
+    /// Removes and returns the oldest entry, if there is one.
+    ///
+    /// ```text
+    /// assert_eq!(rt; map.pop_first(), Some((1, 11)));
+    /// ```
+    ///
+    /// Cost: `O(1)`.
+    ///
+    /// After std's `BTreeMap::pop_first`.
+    pub fn pop_first(&mut self) -> Option<(K, V)> {
+        self.map.pop_oldest()
+    }
+
+    /// Removes and returns the newest entry, if there is one.
+    ///
+    /// ```text
+    /// assert_eq!(rt; map.pop_last(), Some((2, 20)));
+    /// ```
+    ///
+    /// Cost: `O(1)`.
+    ///
+    /// After std's `BTreeMap::pop_last`.
+    pub fn pop_last(&mut self) -> Option<(K, V)> {
+        self.map.pop_newest()
+    }
+
+    /// Removes a key, and returns the stored key and its value. The other entries keep their order.
+    ///
+    /// ```text
+    /// assert_eq!(rt; (map.remove_entry(&2), map.remove_entry(&2)), (Some((2, 20)), None));
+    /// ```
+    ///
+    /// Cost: `O(1)` expected.
+    ///
+    /// After std's `HashMap::remove_entry`.
+    pub fn remove_entry<Q: LookupKey<K>>(&mut self, key: &Q) -> Option<(K, V)> {
+        distinct(&self.map);
+        self.map.remove_entry(key)
+    }
+
+    /// Returns an iterator over the keys, oldest first.
+    ///
+    /// ```text
+    /// assert!(rt; map.keys().next() == Some(&1) && map.values().next_back() == Some(&20));
+    /// ```
+    ///
+    /// Cost: `O(1)`, and so is each step from either end.
+    ///
+    /// After std's `HashMap::keys`.
+    pub fn keys(&self) -> Keys<'_, K, V> {
+        Keys::new(self.iter())
+    }
+
+    /// Returns an iterator over the values, in the order of the entries, oldest first.
+    ///
+    /// ```text
+    /// assert!(rt; map.keys().next() == Some(&1) && map.values().next_back() == Some(&20));
+    /// ```
+    ///
+    /// Cost: `O(1)`, and so is each step from either end.
+    ///
+    /// After std's `HashMap::values`.
+    pub fn values(&self) -> Values<'_, K, V> {
+        Values::new(self.iter())
+    }
+
+    /// Returns an iterator over the entries, oldest first.
+    ///
+    /// ```text
+    /// let mut total = 0u64;
+    /// for (key, value) in map.iter() {
+    ///     total = total.wrapping_add(key.wrapping_mul(*value));
+    /// }
+    /// assert_eq!(rt; total, 51);
+    /// ```
+    ///
+    /// Cost: `O(1)`, and so is each step from either end.
+    ///
+    /// After indexmap's `IndexMap::iter`.
+    pub fn iter(&self) -> Entries<'_, K, V> {
+        Entries::new(self.map.iter())
+    }
+}
+
+impl<K: Eq + Hash, V, S: KeyHasher<K>> OrderedMap<K, V, S> {
+    /// Removes a key, and returns its value. The other entries keep their order.
+    ///
+    /// ```text
+    /// assert_eq!(rt; (map.remove(&2), map.remove(&2)), (Some(20), None));
+    /// ```
+    ///
+    /// Cost: `O(1)` expected.
+    ///
+    /// After indexmap's `IndexMap::shift_remove`, which takes `O(len)`.
+    pub fn remove<Q: LookupKey<K>>(&mut self, key: &Q) -> Option<V> {
+        distinct(&self.map);
+        self.map.remove(key)
+    }
+}
+
+impl<K: Eq + Hash, V, S: KeyHasher<K>> OrderedMap<K, V, S> {
+    /// Inserts a key with a value as the newest entry. If the key is there, its entry keeps its key and its place, and
+    /// the old value is returned.
+    ///
+    /// ```text
+    /// let mut map: OrderedMap<u64, u64> = OrderedMap::new(alloc);
+    /// assert_eq!(rt; (map.insert(1, 10)?, map.insert(2, 20)?), (None, None));
+    /// assert_eq!(rt; map.insert(1, 11)?, Some(10));
+    /// ```
+    ///
+    /// Cost: `O(1)` expected, amortised over the inserts. An insert that grows the table moves all entries.
+    ///
+    /// # Errors
+    ///
+    /// An `Err` says that the map ran out of memory for a new key, or that no larger table can be numbered. Nothing has
+    /// changed.
+    ///
+    /// After indexmap's `IndexMap::insert`.
+    pub fn insert(&mut self, key: K, value: V) -> Result<Option<V>, AllocError> {
+        distinct(&self.map);
+        // One search for a new key.
+        let Err((key, value)) = self.map.try_insert(key, value) else {
+            return Ok(None);
+        };
+        if let Some(place) = self.map.peek_mut(&key) {
+            return Ok(Some(mem::replace(place, value)));
+        }
+        Err(AllocError)
+    }
+
+    /// Removes the entries for which the closure returns false. The others keep their order.
+    ///
+    /// The closure is called with each entry, oldest first.
+    ///
+    /// ```text
+    /// map.retain(|key, value| *key == 1 || *value > 30);
+    /// assert_eq!(rt; (map.len(), map.contains_key(&1)), (1, true));
+    /// ```
+    ///
+    /// Cost: `O(len)`.
+    ///
+    /// After std's `HashMap::retain`, whose closure may write the value.
+    pub fn retain<F: FnMut(&K, &V) -> bool>(&mut self, keep: F) {
+        self.map.retain(keep);
+    }
+
+    /// Drops all entries. The table keeps its memory. Cost: as `LruMap::clear`.
+    ///
+    /// ```text
+    /// map.clear();
+    /// assert!(rt; map.is_empty());
+    /// ```
+    ///
+    /// After std's `HashMap::clear`.
+    pub fn clear(&mut self) {
+        self.map.clear();
+    }
+}
+
+// Nothing at run time: it shows a proof that no two keys are equal.
+#[inline]
+fn distinct<K: Eq + Hash, V, S: KeyHasher<K>>(map: &LruMap<K, V, Unlimited, S>) {
+    let _ = map.len();
+}

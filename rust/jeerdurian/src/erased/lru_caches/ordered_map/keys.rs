@@ -1,0 +1,106 @@
+// Erased from crates/lru_caches/src/ordered_map/keys.rt: do not edit.
+//! Walking the keys or the values of an ordered map.
+
+#[allow(unused_imports)]
+use crate::rattle_std::prelude::*;
+
+use crate::erased::lru_caches::ordered_map::entries::Entries;
+use crate::rattle_std::iter::FusedIterator;
+
+/// An iterator over the keys of an ordered map, oldest first, from both ends.
+///
+/// ```text
+/// assert!(rt; map.keys().next() == Some(&1) && map.values().next_back() == Some(&20));
+/// ```
+
+pub struct Keys<'a, K, V> {
+    entries: Entries<'a, K, V>,
+}
+
+impl<'a, K, V> Keys<'a, K, V> {
+    pub(super) fn new(entries: Entries<'a, K, V>) -> Keys<'a, K, V> {
+        Keys { entries }
+    }
+}
+
+impl<'a, K, V> Iterator for Keys<'a, K, V> {
+    type Item = &'a K;
+
+    fn next(&mut self) -> Option<&'a K> {
+        match self.entries.next() {
+            Some((key, _)) => Some(key),
+            None => None,
+        }
+    }
+
+    /// Returns exactly how many keys are left, as `len` does.
+    fn size_hint(&self) -> (usize, Option<usize>) {
+        self.entries.size_hint()
+    }
+}
+
+impl<'a, K, V> DoubleEndedIterator for Keys<'a, K, V> {
+    fn next_back(&mut self) -> Option<&'a K> {
+        match self.entries.next_back() {
+            Some((key, _)) => Some(key),
+            None => None,
+        }
+    }
+}
+
+impl<'a, K, V> ExactSizeIterator for Keys<'a, K, V> {
+    fn len(&self) -> usize {
+        self.entries.len()
+    }
+}
+
+impl<'a, K, V> FusedIterator for Keys<'a, K, V> {}
+
+/// An iterator over the values of an ordered map, oldest first, from both ends.
+///
+/// ```text
+/// assert!(rt; map.keys().next() == Some(&1) && map.values().next_back() == Some(&20));
+/// ```
+
+pub struct Values<'a, K, V> {
+    entries: Entries<'a, K, V>,
+}
+
+impl<'a, K, V> Values<'a, K, V> {
+    pub(super) fn new(entries: Entries<'a, K, V>) -> Values<'a, K, V> {
+        Values { entries }
+    }
+}
+
+impl<'a, K, V> Iterator for Values<'a, K, V> {
+    type Item = &'a V;
+
+    fn next(&mut self) -> Option<&'a V> {
+        match self.entries.next() {
+            Some((_, value)) => Some(value),
+            None => None,
+        }
+    }
+
+    /// Returns exactly how many values are left, as `len` does.
+    fn size_hint(&self) -> (usize, Option<usize>) {
+        self.entries.size_hint()
+    }
+}
+
+impl<'a, K, V> DoubleEndedIterator for Values<'a, K, V> {
+    fn next_back(&mut self) -> Option<&'a V> {
+        match self.entries.next_back() {
+            Some((_, value)) => Some(value),
+            None => None,
+        }
+    }
+}
+
+impl<'a, K, V> ExactSizeIterator for Values<'a, K, V> {
+    fn len(&self) -> usize {
+        self.entries.len()
+    }
+}
+
+impl<'a, K, V> FusedIterator for Values<'a, K, V> {}

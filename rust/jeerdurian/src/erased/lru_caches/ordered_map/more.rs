@@ -1,0 +1,79 @@
+// Erased from crates/lru_caches/src/ordered_map/more.rt: do not edit.
+//! The stored key of an entry, moves to the end of the order, and the memory of an ordered map.
+
+#[allow(unused_imports)]
+use crate::rattle_std::prelude::*;
+
+use crate::erased::lru_caches::ordered_map::{OrderedMap, distinct};
+use crate::erased::schnellru::{KeyHasher, LookupKey, ReserveError};
+use crate::rattle_std::alloc::AllocError;
+use crate::rattle_std::hash::Hash;
+
+impl<K: Eq + Hash, V, S: KeyHasher<K>> OrderedMap<K, V, S> {
+    /// Returns the entry of a key.
+    ///
+    /// The returned key is the stored one, which may differ from the equal one that is looked up.
+    ///
+    /// ```text
+    /// assert!(rt; map.get_key_value(&1) == Some((&1, &11)) && map.get_key_value(&9).is_none());
+    /// ```
+    ///
+    /// Cost: `O(1)` expected.
+    ///
+    /// After std's `HashMap::get_key_value`.
+    pub fn get_key_value<Q: LookupKey<K>>(&self, key: &Q) -> Option<(&K, &V)> {
+        distinct(&self.map);
+        self.map.peek_key_value(key)
+    }
+
+    /// Makes the entry of a key the newest, and returns whether the key is there. The other entries keep their order.
+    ///
+    /// ```text
+    /// assert!(rt; map.move_to_back(&1) && !map.move_to_back(&9));
+    /// assert!(rt; map.last() == Some((&1, &11)));
+    /// ```
+    ///
+    /// Cost: `O(1)` expected.
+    ///
+    /// After linked_hash_map's `LinkedHashMap::get_refresh`, which also lends the value.
+    pub fn move_to_back<Q: LookupKey<K>>(&mut self, key: &Q) -> bool {
+        distinct(&self.map);
+        self.map.promote(key)
+    }
+
+    /// Reserves memory for n more entries. The entries stay; no clause says that the memory is there.
+    ///
+    /// ```text
+    /// assert_eq!(rt; map.try_reserve(100), Ok(()));
+    /// ```
+    ///
+    /// Cost: `O(1)` if there is enough growth left, else `O(buckets)` of both tables.
+    ///
+    /// # Errors
+    ///
+    /// As schnellru's `LruMap::try_reserve`. The entries stay then, too.
+    ///
+    /// After indexmap's `IndexMap::try_reserve`.
+    pub fn try_reserve(&mut self, n: usize) -> Result<(), ReserveError> {
+        self.map.try_reserve(n)
+    }
+
+    /// Shrinks the table to as few buckets as hold the entries, and returns whether it had more. The entries stay; no
+    /// clause speaks of the table.
+    ///
+    /// ```text
+    /// assert_eq!(rt; map.try_reserve(100), Ok(()));
+    /// assert_eq!(rt; (map.shrink_to_fit(), map.shrink_to_fit()), (Ok(true), Ok(false)));
+    /// ```
+    ///
+    /// Cost: `O(1)` if the table stays, else `O(buckets)`.
+    ///
+    /// # Errors
+    ///
+    /// An `Err` says that the map ran out of memory.
+    ///
+    /// After indexmap's `IndexMap::shrink_to_fit`.
+    pub fn shrink_to_fit(&mut self) -> Result<bool, AllocError> {
+        self.map.shrink_to_fit()
+    }
+}

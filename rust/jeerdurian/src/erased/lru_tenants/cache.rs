@@ -1,0 +1,244 @@
+// Erased from crates/lru_tenants/src/cache.rt: do not edit.
+//! `TenantCache`. A contract sees a cache as its open tenants, each with its map.
+
+#[allow(unused_imports)]
+use crate::rattle_std::prelude::*;
+
+use crate::erased::lru_limits::Budgeted;
+use crate::erased::lru_tenants::error::TenantError;
+use crate::erased::lru_tenants::tenant::{clear, remove};
+use crate::erased::schnellru::{ByCost, Costed, KeyHasher, LookupKey, LruMap, RandomState, laws};
+use crate::rattle_std::alloc::Global;
+use crate::rattle_std::collections::HashMap;
+use crate::rattle_std::hash::Hash;
+
+mod get_or_put;
+mod passing;
+mod reading;
+mod totals;
+
+use totals::is_above;
+
+/// A cache for many tenants, each with a name. Each tenant has a map, limited by a budget of its own.
+///
+/// The limiter `L` says what an entry costs: with `ByCost` its value alone, with `ByWeight<OVERHEAD>` its key and its
+/// value, and `OVERHEAD` for the entry itself. `S` hashes names and keys. The budgets of all tenants add up to at most
+/// the total limit, if `set_total_limit` set one.
+///
+/// In the examples of the calls, `cache` has one open tenant, 1, with a budget of 3 and the entry (7, 2), unless the
+/// example makes another cache.
+///
+/// ```text
+/// let mut cache: TenantCache<u64, u64, u64> = TenantCache::new(alloc, [1, 2, 3, 4], 32);
+/// assert_eq!(rt; cache.open(1, 3), Ok(()));
+/// assert_eq!(rt; cache.put(&1, 7, 2), Ok(true));
+/// assert_eq!(rt; cache.cost(&1), Ok(2));
+/// ```
+pub struct TenantCache<N: Eq + Hash, K: Eq + Hash, V, L: Budgeted<K, V> = ByCost, S: KeyHasher<K> + Copy = RandomState>
+{
+    tenants: HashMap<N, LruMap<K, V, L, S>, S, Global>,
+    hasher: S,
+    entry_bytes: usize,
+    // The sum of the budgets of all tenants, and what it is at most.
+    budgets: u128,
+    total_limit: Option<u64>,
+    alloc: Global,
+}
+
+impl<N: Eq + Hash, K: Eq + Hash, V: Costed> TenantCache<N, K, V> {
+    /// Makes a cache without tenants and without a total limit, whose entries cost what their values cost.
+    ///
+    /// The hashers of names and of all maps have these seeds, and each map counts `entry_bytes` bytes an entry, as
+    /// `LruMap::new` does. If strangers choose names or keys, take seeds that nobody can guess. Cost: `O(1)`, and no
+    /// memory.
+    ///
+    /// ```text
+    /// let mut cache: TenantCache<u64, u64, u64> = TenantCache::new(alloc, [1, 2, 3, 4], 32);
+    /// assert!(rt; cache.is_empty());
+    /// ```
+    pub fn new(alloc: Global, seeds: [u64; 4], entry_bytes: usize) -> Self {
+        TenantCache::with_hasher(alloc, RandomState::with_seeds(seeds), entry_bytes)
+    }
+}
+
+impl<N: Eq + Hash, K: Eq + Hash, V, L: Budgeted<K, V>, S: KeyHasher<K> + Copy> TenantCache<N, K, V, L, S> {
+    /// Makes a cache without tenants and without a total limit, under any limiter with a budget, with this hasher of
+    /// names and keys.
+    ///
+    /// If strangers choose names or keys, take std's `RandomState::new(&rt)?`, whose hashes nobody can guess. Each map
+    /// counts `entry_bytes` bytes an entry, as `LruMap::with_hasher` does. Cost: `O(1)`, and no memory.
+    ///
+    /// ```text
+    /// let mut weighed: TenantCache<u64, u64, u64, ByWeight<16>, _> =
+    ///     TenantCache::with_hasher(alloc, std::collections::hash_map::RandomState::new(&rt)?, 32);
+    /// assert_eq!(rt; (weighed.open(1, 40), weighed.put(&1, 7, 2)), (Ok(()), Ok(true)));
+    /// assert_eq!(rt; weighed.cost(&1), Ok(25));
+    /// ```
+    pub fn with_hasher(alloc: Global, hasher: S, entry_bytes: usize) -> Self {
+        TenantCache {
+            tenants: HashMap::with_hasher(alloc, hasher),
+            hasher,
+            entry_bytes,
+            budgets: 0,
+            total_limit: None,
+            alloc,
+        }
+    }
+
+    /// Returns how many tenants are open.
+    ///
+    /// ```text
+    /// assert_eq!(rt; (cache.len(), cache.close(&1), cache.len()), (1, Ok(1), 0));
+    /// ```
+    ///
+    /// Cost: `O(1)`.
+    pub fn len(&self) -> usize {
+        self.tenants.len()
+    }
+
+    /// Returns whether no tenant is open.
+    ///
+    /// ```text
+    /// assert!(rt; !cache.is_empty());
+    /// ```
+    ///
+    /// Cost: `O(1)`.
+    pub fn is_empty(&self) -> bool {
+        self.tenants.is_empty()
+    }
+}
+
+impl<N: Eq + Hash, K: Eq + Hash, V, L: Budgeted<K, V>, S: KeyHasher<K> + Copy> TenantCache<N, K, V, L, S> {
+    /// Opens a tenant with an empty map and a budget: the greatest sum of the costs of its entries.
+    ///
+    /// ```text
+    /// assert_eq!(rt; cache.open(2, 3), Ok(()));
+    /// assert_eq!(rt; cache.open(1, 5), Err(TenantError::AlreadyOpen));
+    /// ```
+    ///
+    /// Cost: `O(1)` expected, amortised over the tenants.
+    ///
+    /// # Errors
+    ///
+    /// `AlreadyOpen`; `OverTotal`: the sum of all budgets would be above the total limit; or `Memory`: out of
+    /// memory for one tenant more. An error changes nothing.
+    pub fn open(&mut self, name: N, budget: u64) -> Result<(), TenantError> {
+        if self.tenants.contains_key(&name) {
+            return Err(TenantError::AlreadyOpen);
+        }
+        // Fewer than 2^63 budgets of a u64 add up to less than 2^127.
+        let _len = self.tenants.len();
+        let sum = self.budgets + budget as u128;
+        if is_above(self.total_limit, sum) {
+            return Err(TenantError::OverTotal);
+        }
+        let map = self.fresh(budget);
+        match self.tenants.insert(name, map) {
+            Ok(_) => {
+                self.budgets = sum;
+                Ok(())
+            }
+            Err(_) => Err(TenantError::Memory),
+        }
+    }
+
+    // The map with which a tenant opens.
+    fn fresh(&self, budget: u64) -> LruMap<K, V, L, S> {
+        laws::runs_begin_with_maps::<K, V, L, S>();
+        let limiter = L::with_budget(budget);
+        LruMap::with_hasher(self.alloc, limiter, self.hasher, self.entry_bytes)
+    }
+
+    /// Inserts a key with a value, as the newest entry of the tenant. Returns whether the key is there then.
+    ///
+    /// It is an `insert` into the map of the tenant. `ByCost` and `ByWeight` reject an entry that alone costs more than
+    /// the budget, or that would take the tenant's total past `u64::MAX`. Otherwise the tenant's oldest entries are
+    /// evicted until the total is within the budget. If the key is there and the new value is rejected, its entry is
+    /// removed.
+    ///
+    /// ```text
+    /// assert_eq!(rt; cache.put(&1, 8, 1), Ok(true));
+    /// assert_eq!(rt; cache.put(&1, 9, 4), Ok(false));
+    /// ```
+    ///
+    /// Cost: as `LruMap::insert`.
+    ///
+    /// # Errors
+    ///
+    /// `NotOpen`: nothing has changed. `Memory`: out of memory for the entry. The newest of the tenant's entries are
+    /// left, as after an `Err` of `LruMap::insert`.
+    pub fn put(&mut self, name: &N, key: K, value: V) -> Result<bool, TenantError> {
+        self.put_with(name, key, value, &mut |_, _| {})
+    }
+
+    /// Removes a key of a tenant. Returns its value. The tenant's other entries keep their order.
+    ///
+    /// ```text
+    /// assert_eq!(rt; (cache.remove(&1, &7), cache.remove(&1, &7)), (Ok(Some(2)), Ok(None)));
+    /// ```
+    ///
+    /// Cost: `O(1)` expected.
+    ///
+    /// # Errors
+    ///
+    /// `NotOpen`: nothing has changed.
+    pub fn remove<Q: LookupKey<K>>(&mut self, name: &N, key: &Q) -> Result<Option<V>, TenantError> {
+        let Some(own) = self.tenants.get_mut(name) else {
+            return Err(TenantError::NotOpen);
+        };
+        Ok(remove(own, key))
+    }
+
+    /// Drops the entries of a tenant, which stays open.
+    ///
+    /// ```text
+    /// assert_eq!(rt; (cache.clear(&1), cache.entries(&1), cache.cost(&1)), (Ok(()), Ok(0), Ok(0)));
+    /// ```
+    ///
+    /// Cost: as `LruMap::clear`.
+    ///
+    /// # Errors
+    ///
+    /// `NotOpen`: nothing has changed.
+    pub fn clear(&mut self, name: &N) -> Result<(), TenantError> {
+        let Some(own) = self.tenants.get_mut(name) else {
+            return Err(TenantError::NotOpen);
+        };
+        clear(own);
+        Ok(())
+    }
+
+    /// Sets the budget of a tenant. If its cost is above the budget, its oldest entries are evicted until it is not.
+    ///
+    /// ```text
+    /// assert_eq!(rt; (cache.set_budget(&1, 1), cache.cost(&1)), (Ok(()), Ok(0)));
+    /// ```
+    ///
+    /// Cost: `O(1)` expected, and `O(1)` for each entry that is evicted.
+    ///
+    /// # Errors
+    ///
+    /// `NotOpen`, or `OverTotal`: the sum of all budgets would be above the total limit. Both change nothing.
+    pub fn set_budget(&mut self, name: &N, budget: u64) -> Result<(), TenantError> {
+        self.set_budget_with(name, budget, &mut |_, _| {})
+    }
+
+    /// Closes a tenant and drops its entries. Returns how many these were.
+    ///
+    /// ```text
+    /// assert_eq!(rt; (cache.len(), cache.close(&1), cache.len()), (1, Ok(1), 0));
+    /// ```
+    ///
+    /// Cost: `O(buckets)` of its table.
+    ///
+    /// # Errors
+    ///
+    /// `NotOpen`: nothing has changed.
+    pub fn close(&mut self, name: &N) -> Result<usize, TenantError> {
+        let Some(map) = self.tenants.remove(name) else {
+            return Err(TenantError::NotOpen);
+        };
+        self.budgets -= map.limiter().budget() as u128;
+        Ok(map.len())
+    }
+}

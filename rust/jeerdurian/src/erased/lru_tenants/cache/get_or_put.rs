@@ -1,0 +1,42 @@
+// Erased from crates/lru_tenants/src/cache/get_or_put.rt: do not edit.
+//! Getting a value, which is put if its key is not there.
+
+#[allow(unused_imports)]
+use crate::rattle_std::prelude::*;
+
+use crate::erased::lru_limits::Budgeted;
+use crate::erased::lru_tenants::cache::TenantCache;
+use crate::erased::lru_tenants::error::TenantError;
+use crate::erased::lru_tenants::tenant::{get_or_insert, newest};
+use crate::erased::schnellru::KeyHasher;
+use crate::rattle_std::hash::Hash;
+
+impl<N: Eq + Hash, K: Eq + Hash, V, L: Budgeted<K, V>, S: KeyHasher<K> + Copy> TenantCache<N, K, V, L, S> {
+    /// Returns a tenant's value of a key. If the key is not there, puts it with the value that the closure returns.
+    ///
+    /// If the key is there, the closure is not called, and its entry becomes the tenant's newest. The tenant and the
+    /// key are looked up once. `None` says that the new entry is not there, as `false` says it of `put`.
+    ///
+    /// ```text
+    /// assert_eq!(rt; cache.get_or_put(&1, 7, || 3), Ok(Some(&2)));
+    /// assert_eq!(rt; cache.get_or_put(&1, 8, || 1), Ok(Some(&1)));
+    /// ```
+    ///
+    /// Cost: as `get` if the key is there, else as `put`.
+    ///
+    /// # Errors
+    ///
+    /// As `put`. If the error is `Memory`, the closure was called.
+    pub fn get_or_put<F: FnOnce() -> V>(&mut self, name: &N, key: K, make: F) -> Result<Option<&V>, TenantError> {
+        let Some(own) = self.tenants.get_mut(name) else {
+            return Err(TenantError::NotOpen);
+        };
+        let Ok(there) = get_or_insert(own, key, make) else {
+            return Err(TenantError::Memory);
+        };
+        if !there {
+            return Ok(None);
+        }
+        Ok(newest(own))
+    }
+}

@@ -1,0 +1,133 @@
+// Erased from crates/lru_tenants/src/cache/passing.rt: do not edit.
+//! Calls that pass the entries that are evicted or removed to a callback.
+
+#[allow(unused_imports)]
+use crate::rattle_std::prelude::*;
+
+use crate::erased::lru_limits::Budgeted;
+use crate::erased::lru_tenants::cache::TenantCache;
+use crate::erased::lru_tenants::cache::totals::is_above;
+use crate::erased::lru_tenants::error::TenantError;
+use crate::erased::lru_tenants::tenant::{empty, insert, insert_full, set_budget};
+use crate::erased::schnellru::{Inserted, KeyHasher};
+use crate::rattle_std::alloc::AllocError;
+use crate::rattle_std::hash::Hash;
+
+impl<N: Eq + Hash, K: Eq + Hash, V, L: Budgeted<K, V>, S: KeyHasher<K> + Copy> TenantCache<N, K, V, L, S> {
+    /// The same as `put`, and passes to the callback the entries that are evicted, oldest first, the entry that is
+    /// removed because its new value is rejected, and the new entry if it could not be stored. A value that is
+    /// replaced is not passed on, nor is the entry of a new key that the limiter rejects.
+    ///
+    /// ```text
+    /// let mut left = 0u64;
+    /// assert_eq!(rt; cache.put_with(&1, 8, 3, &mut |key, _| left = key), Ok(true));
+    /// assert_eq!(rt; left, 7);
+    /// ```
+    ///
+    /// Cost: as `put`, with one call of the callback for each entry that it gets.
+    ///
+    /// # Errors
+    ///
+    /// As `put`.
+    pub fn put_with<F: FnMut(K, V)>(&mut self, name: &N, key: K, value: V, sink: &mut F) -> Result<bool, TenantError> {
+        let Some(own) = self.tenants.get_mut(name) else {
+            return Err(TenantError::NotOpen);
+        };
+        put_answer(insert(own, key, value, sink))
+    }
+
+    /// The same as `put_with`, and returns the value that the tenant does not keep, as `LruMap::insert_full` does, but
+    /// also the rejected value of a new key.
+    ///
+    /// - The key was not there, and the limiter rejects its entry: `kept` is false, and `unkept` is the new value. The
+    ///   tenant stays as it is, the callback gets nothing, and the key is dropped.
+    /// - The key was not there, and the limiter accepts its entry: `unkept` is `None`, and `kept` says whether the
+    ///   entry is there.
+    /// - The key was there, and the limiter accepts the new value: `unkept` is the old value. `kept` is false if the
+    ///   entry was evicted then; the callback got it with the new value.
+    /// - The key was there, and the limiter rejects the new value: `kept` is false, and `unkept` is the new value. The
+    ///   entry was removed; the callback got it with the old value.
+    ///
+    /// ```text
+    /// let replaced = cache.put_full(&1, 7, 3, &mut |_, _| {})?;
+    /// assert_eq!(rt; (replaced.kept, replaced.unkept), (true, Some(2)));
+    /// let rejected = cache.put_full(&1, 8, 9, &mut |_, _| {})?;
+    /// assert_eq!(rt; (rejected.kept, rejected.unkept), (false, Some(9)));
+    /// ```
+    ///
+    /// Cost: as `put_with`. If the key is there and the limiter would reject its entry as a new one, the key is looked
+    /// up twice.
+    ///
+    /// # Errors
+    ///
+    /// As `put`. After `NotOpen` key and value are dropped; after `Memory` the callback got both.
+    pub fn put_full<F: FnMut(K, V)>(
+        &mut self,
+        name: &N,
+        key: K,
+        value: V,
+        sink: &mut F,
+    ) -> Result<Inserted<V>, TenantError> {
+        let Some(own) = self.tenants.get_mut(name) else {
+            return Err(TenantError::NotOpen);
+        };
+        put_answer(insert_full(own, key, value, sink))
+    }
+
+    /// The same as `set_budget`, and passes each evicted entry to the callback, oldest first.
+    ///
+    /// ```text
+    /// let mut evicted = 0u64;
+    /// assert_eq!(rt; cache.set_budget_with(&1, 1, &mut |key, _| evicted = key), Ok(()));
+    /// assert_eq!(rt; evicted, 7);
+    /// ```
+    ///
+    /// Cost: as `set_budget`, with one call of the callback for each evicted entry.
+    ///
+    /// # Errors
+    ///
+    /// As `set_budget`.
+    pub fn set_budget_with<F: FnMut(K, V)>(&mut self, name: &N, budget: u64, sink: &mut F) -> Result<(), TenantError> {
+        // Fewer than 2^63 budgets of a u64 add up to less than 2^127.
+        let _len = self.tenants.len();
+        let Some(own) = self.tenants.get_mut(name) else {
+            return Err(TenantError::NotOpen);
+        };
+        let sum = self.budgets - own.limiter().budget() as u128 + budget as u128;
+        if is_above(self.total_limit, sum) {
+            return Err(TenantError::OverTotal);
+        }
+        self.budgets = sum;
+        set_budget(own, budget, sink);
+        Ok(())
+    }
+
+    /// The same as `close`, and passes each entry to the callback, oldest first.
+    ///
+    /// ```text
+    /// let mut last = 0u64;
+    /// assert_eq!(rt; cache.close_with(&1, &mut |key, _| last = key), Ok(1));
+    /// assert_eq!(rt; last, 7);
+    /// ```
+    ///
+    /// Cost: `O(1)` for each entry, with one call of the callback.
+    ///
+    /// # Errors
+    ///
+    /// `NotOpen`: nothing has changed.
+    pub fn close_with<F: FnMut(K, V)>(&mut self, name: &N, sink: &mut F) -> Result<usize, TenantError> {
+        let Some(mut map) = self.tenants.remove(name) else {
+            return Err(TenantError::NotOpen);
+        };
+        self.budgets -= map.limiter().budget() as u128;
+        Ok(empty(&mut map, sink))
+    }
+}
+
+// What a put returns if the insert into the map of its tenant returns this.
+fn put_answer<R>(inserted: Result<R, AllocError>) -> Result<R, TenantError> {
+    match inserted {
+        Ok(inserted) => Ok(inserted),
+        Err(_) => Err(TenantError::Memory),
+    }
+}

@@ -1,0 +1,139 @@
+// Erased from crates/lru_tenants/src/cache/reading.rt: do not edit.
+//! Calls that read a tenant's map.
+
+#[allow(unused_imports)]
+use crate::rattle_std::prelude::*;
+
+use crate::erased::lru_limits::Budgeted;
+use crate::erased::lru_tenants::cache::TenantCache;
+use crate::erased::lru_tenants::error::TenantError;
+use crate::erased::schnellru::{KeyHasher, LookupKey, LruMap};
+use crate::rattle_std::collections::hash_map::Keys;
+use crate::rattle_std::hash::Hash;
+
+impl<N: Eq + Hash, K: Eq + Hash, V, L: Budgeted<K, V>, S: KeyHasher<K> + Copy> TenantCache<N, K, V, L, S> {
+    /// Returns a tenant's value of a key, and makes its entry the tenant's newest.
+    ///
+    /// `String` keys are looked up by a `&str`, as `cache.get(&1, &"a")`. The value is lent for reading alone, so its
+    /// cost stays.
+    ///
+    /// ```text
+    /// assert_eq!(rt; cache.get(&1, &7), Ok(Some(&2)));
+    /// ```
+    ///
+    /// Cost: `O(1)` expected.
+    ///
+    /// # Errors
+    ///
+    /// `NotOpen`: nothing has changed.
+    pub fn get<Q: LookupKey<K>>(&mut self, name: &N, key: &Q) -> Result<Option<&V>, TenantError> {
+        let Some(map) = self.tenants.get_mut(name) else {
+            return Err(TenantError::NotOpen);
+        };
+        match map.get(key) {
+            Some(value) => Ok(Some(&*value)),
+            None => Ok(None),
+        }
+    }
+
+    /// Returns a tenant's value of a key. The order stays.
+    ///
+    /// ```text
+    /// assert_eq!(rt; cache.peek(&1, &7), Ok(Some(&2)));
+    /// ```
+    ///
+    /// Cost: `O(1)` expected.
+    ///
+    /// # Errors
+    ///
+    /// `NotOpen`.
+    pub fn peek<Q: LookupKey<K>>(&self, name: &N, key: &Q) -> Result<Option<&V>, TenantError> {
+        let Some(map) = self.tenants.get(name) else {
+            return Err(TenantError::NotOpen);
+        };
+        Ok(map.peek(key))
+    }
+
+    /// Returns whether a tenant has an entry of a key. The order stays.
+    ///
+    /// ```text
+    /// assert_eq!(rt; cache.contains(&1, &7), Ok(true));
+    /// ```
+    ///
+    /// Cost: `O(1)` expected.
+    ///
+    /// # Errors
+    ///
+    /// `NotOpen`.
+    pub fn contains<Q: LookupKey<K>>(&self, name: &N, key: &Q) -> Result<bool, TenantError> {
+        let Some(map) = self.tenants.get(name) else {
+            return Err(TenantError::NotOpen);
+        };
+        Ok(map.contains(key))
+    }
+
+    /// Returns how many entries a tenant has.
+    ///
+    /// ```text
+    /// assert_eq!(rt; cache.entries(&1), Ok(1));
+    /// ```
+    ///
+    /// Cost: `O(1)` expected.
+    ///
+    /// # Errors
+    ///
+    /// `NotOpen`.
+    pub fn entries(&self, name: &N) -> Result<usize, TenantError> {
+        let Some(map) = self.tenants.get(name) else {
+            return Err(TenantError::NotOpen);
+        };
+        Ok(map.len())
+    }
+
+    /// Returns the budget of a tenant.
+    ///
+    /// ```text
+    /// assert_eq!(rt; cache.budget(&1), Ok(3));
+    /// ```
+    ///
+    /// Cost: `O(1)` expected.
+    ///
+    /// # Errors
+    ///
+    /// `NotOpen`.
+    pub fn budget(&self, name: &N) -> Result<u64, TenantError> {
+        let Some(map) = self.tenants.get(name) else {
+            return Err(TenantError::NotOpen);
+        };
+        Ok(map.limiter().budget())
+    }
+
+    /// Returns the sum of the costs of a tenant's entries.
+    ///
+    /// ```text
+    /// assert_eq!(rt; cache.cost(&1), Ok(2));
+    /// ```
+    ///
+    /// Cost: `O(1)` expected.
+    ///
+    /// # Errors
+    ///
+    /// `NotOpen`.
+    pub fn cost(&self, name: &N) -> Result<u64, TenantError> {
+        let Some(map) = self.tenants.get(name) else {
+            return Err(TenantError::NotOpen);
+        };
+        Ok(map.limiter().account())
+    }
+
+    /// Returns the names of the open tenants, in an order that means nothing.
+    ///
+    /// ```text
+    /// assert_eq!(rt; cache.names().next(), Some(&1));
+    /// ```
+    ///
+    /// Cost: `O(1)`, and `O(1)` for each name.
+    pub fn names(&self) -> Keys<'_, N, LruMap<K, V, L, S>> {
+        self.tenants.keys()
+    }
+}

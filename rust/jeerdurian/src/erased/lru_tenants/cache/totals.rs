@@ -1,0 +1,82 @@
+// Erased from crates/lru_tenants/src/cache/totals.rt: do not edit.
+//! The total limit, and the sums over all tenants.
+
+#[allow(unused_imports)]
+use crate::rattle_std::prelude::*;
+
+use crate::erased::lru_limits::Budgeted;
+use crate::erased::lru_tenants::cache::TenantCache;
+use crate::erased::lru_tenants::error::TenantError;
+use crate::erased::schnellru::KeyHasher;
+use crate::rattle_std::hash::Hash;
+
+impl<N: Eq + Hash, K: Eq + Hash, V, L: Budgeted<K, V>, S: KeyHasher<K> + Copy> TenantCache<N, K, V, L, S> {
+    /// Sets what the budgets of all tenants add up to at most, or that nothing limits their sum.
+    ///
+    /// `open` and `set_budget` return `OverTotal` if the sum would be above the limit. A cache begins without a limit.
+    ///
+    /// ```text
+    /// assert_eq!(rt; cache.set_total_limit(Some(5)), Ok(()));
+    /// assert_eq!(rt; cache.open(2, 3), Err(TenantError::OverTotal));
+    /// ```
+    ///
+    /// Cost: `O(1)`.
+    ///
+    /// # Errors
+    ///
+    /// `OverTotal`: the sum is above the limit. Nothing has changed, so the old limit stays.
+    pub fn set_total_limit(&mut self, limit: Option<u64>) -> Result<(), TenantError> {
+        if is_above(limit, self.budgets) {
+            return Err(TenantError::OverTotal);
+        }
+        self.total_limit = limit;
+        Ok(())
+    }
+
+    /// Returns what the budgets of all tenants add up to at most, if there is a limit.
+    ///
+    /// ```text
+    /// assert_eq!(rt; cache.set_total_limit(Some(5)), Ok(()));
+    /// assert_eq!(rt; cache.total_limit(), Some(5));
+    /// ```
+    ///
+    /// Cost: `O(1)`.
+    pub fn total_limit(&self) -> Option<u64> {
+        self.total_limit
+    }
+
+    /// Returns the sum of the budgets of all tenants. It is at most the total limit, if there is one.
+    ///
+    /// ```text
+    /// assert_eq!(rt; (cache.total_cost(), cache.total_budget()), (2, 3));
+    /// ```
+    ///
+    /// Cost: `O(1)`.
+    pub fn total_budget(&self) -> u128 {
+        self.budgets
+    }
+
+    /// Returns the sum of the costs of the entries of all tenants. It is at most the sum of their budgets, and so at
+    /// most the total limit, if there is one.
+    ///
+    /// ```text
+    /// assert_eq!(rt; (cache.total_cost(), cache.total_budget()), (2, 3));
+    /// ```
+    ///
+    /// Cost: `O(1)` for each tenant.
+    pub fn total_cost(&self) -> u128 {
+        let mut sum = 0u128;
+        for map in self.tenants.values() {
+            sum += map.limiter().account() as u128;
+        }
+        sum
+    }
+}
+
+// Whether a sum is above the limit, if there is one.
+pub(super) fn is_above(limit: Option<u64>, sum: u128) -> bool {
+    match limit {
+        Some(most) => sum > most as u128,
+        None => false,
+    }
+}

@@ -1,0 +1,33 @@
+// Erased from crates/lru_tenants/src/error.rt: do not edit.
+//! Why a call on a tenant failed.
+
+#[allow(unused_imports)]
+use crate::rattle_std::prelude::*;
+
+/// Why a call on a tenant failed.
+///
+/// ```text
+/// assert_eq!(rt; cache.open(1, 5), Err(TenantError::AlreadyOpen));
+/// ```
+#[derive(Clone, Copy, Debug, PartialEq, Eq)]
+pub enum TenantError {
+    /// The tenant is open already.
+    AlreadyOpen = 1,
+    /// The tenant is not open.
+    NotOpen = 2,
+    /// Out of memory.
+    Memory = 3,
+    /// The sum of all budgets would be above the total limit.
+    OverTotal = 4,
+}
+
+impl ::core::fmt::Display for TenantError {
+    fn fmt(&self, f: &mut ::core::fmt::Formatter<'_>) -> ::core::fmt::Result {
+        match self {
+            TenantError::AlreadyOpen => write!(f, "already open"),
+            TenantError::NotOpen => write!(f, "not open"),
+            TenantError::Memory => write!(f, "out of memory"),
+            TenantError::OverTotal => write!(f, "over the total limit"),
+        }
+    }
+}

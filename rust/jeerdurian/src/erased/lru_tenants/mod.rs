@@ -1,0 +1,25 @@
+// Erased from crates/lru_tenants/src/lib.rt: do not edit.
+//! A cache for many tenants: each has a map of its own, limited by a budget of its own.
+//!
+//! [`TenantCache`] is the cache, and [`run_tenants`] carries out a list of calls on it. `docs/TENANTS.md` shows how to
+//! use it, and what is proved of it: a tenant's calls return what a map returns that nobody else uses, or that there
+//! was no memory, or that the budgets are over the total limit.
+
+#[allow(unused_imports)]
+use crate::rattle_std::prelude::*;
+
+mod cache;
+mod call;
+mod error;
+mod laws;
+mod runs;
+mod tenant;
+
+pub use crate::erased::lru_limits::{Budgeted, ByCost, ByWeight, Costed};
+pub use crate::erased::schnellru::Inserted;
+pub use crate::erased::schnellru::laws::calls_keep_the_budget;
+pub use cache::TenantCache;
+pub use call::{TenantAnswer, TenantCall};
+pub use error::TenantError;
+pub use laws::{costs_are_within_the_total_limit, each_tenant_has_its_own_run};
+pub use runs::run_tenants;

@@ -1,0 +1,85 @@
+// Erased from crates/lru_tenants/src/runs.rt: do not edit.
+//! Lists of calls on a cache.
+
+#[allow(unused_imports)]
+use crate::rattle_std::prelude::*;
+
+use crate::erased::lru_limits::Budgeted;
+use crate::erased::lru_tenants::cache::TenantCache;
+use crate::erased::lru_tenants::call::{TenantAnswer, TenantCall};
+use crate::erased::lru_tenants::error::TenantError;
+use crate::erased::lru_tenants::laws::{costs_are_within_the_total_limit, each_tenant_has_its_own_run};
+use crate::erased::schnellru::KeyHasher;
+use crate::rattle_std::alloc::{AllocError, Global};
+use crate::rattle_std::hash::Hash;
+
+/// Carries out the calls on the cache, one after another, and returns one answer for each.
+///
+/// The answers to a tenant depend on its own calls alone, except that `open` may return `OverTotal` if the cache has a
+/// total limit, and that memory may run out.
+///
+/// ```text
+/// let mut cache: TenantCache<u64, u64, u64> = TenantCache::new(alloc, [1, 2, 3, 4], 32);
+/// let calls = vec![in alloc; TenantCall::Open(1, 3), TenantCall::Put(1, 7, 1), TenantCall::Get(2, 7)]?;
+/// let answers = run_tenants(alloc, &mut cache, calls)?;
+/// assert!(rt; answers.get(1) == Some(&TenantAnswer::Put(Ok(true))));
+/// assert!(rt; answers.get(2) == Some(&TenantAnswer::Got(Err(TenantError::NotOpen))));
+/// ```
+///
+/// Cost: as the calls, and one request for memory for the answers.
+///
+/// # Errors
+///
+/// `Err` says that there was no memory for the answers. No call was made then.
+pub fn run_tenants<N: Copy + Eq + Hash, K: Copy + Eq + Hash, V: Copy, L: Budgeted<K, V>, S: KeyHasher<K> + Copy>(
+    alloc: Global,
+    cache: &mut TenantCache<N, K, V, L, S>,
+    calls: Vec<TenantCall<N, K, V>>,
+) -> Result<Vec<TenantAnswer<V>>, AllocError> {
+    each_tenant_has_its_own_run::<N, K, V, L, S>();
+    // Nothing at run time: it shows the proof what holds of the tenants.
+    let _len = cache.len();
+    let mut answers = Vec::with_capacity(alloc, calls.len())?;
+    for call in calls {
+        answers.push_reserved(make_tenant_call(cache, call));
+    }
+    costs_are_within_the_total_limit(cache);
+    Ok(answers)
+}
+
+/// Carries out a call.
+fn make_tenant_call<N: Copy + Eq + Hash, K: Copy + Eq + Hash, V: Copy, L: Budgeted<K, V>, S: KeyHasher<K> + Copy>(
+    cache: &mut TenantCache<N, K, V, L, S>,
+    call: TenantCall<N, K, V>,
+) -> TenantAnswer<V> {
+    let answer = answer_to(cache, call);
+    // Nothing at run time: it shows the proof what holds of the tenants.
+    let _len = cache.len();
+    answer
+}
+
+/// Returns the answer to a call.
+fn answer_to<N: Copy + Eq + Hash, K: Copy + Eq + Hash, V: Copy, L: Budgeted<K, V>, S: KeyHasher<K> + Copy>(
+    cache: &mut TenantCache<N, K, V, L, S>,
+    call: TenantCall<N, K, V>,
+) -> TenantAnswer<V> {
+    match call {
+        TenantCall::Open(name, budget) => TenantAnswer::Opened(cache.open(name, budget)),
+        TenantCall::Put(name, key, value) => TenantAnswer::Put(cache.put(&name, key, value)),
+        TenantCall::Get(name, key) => TenantAnswer::Got(get(cache, &name, &key)),
+        TenantCall::Cost(name) => TenantAnswer::Cost(cache.cost(&name)),
+        TenantCall::Close(name) => TenantAnswer::Closed(cache.close(&name)),
+    }
+}
+
+/// Returns a tenant's value of a key, and makes its entry the newest.
+fn get<N: Eq + Hash, K: Eq + Hash, V: Copy, L: Budgeted<K, V>, S: KeyHasher<K> + Copy>(
+    cache: &mut TenantCache<N, K, V, L, S>,
+    name: &N,
+    key: &K,
+) -> Result<Option<V>, TenantError> {
+    match cache.get(name, key) {
+        Ok(value) => Ok(value.copied()),
+        Err(error) => Err(error),
+    }
+}

@@ -1,0 +1,114 @@
+// Erased from crates/lru_trace/src/curve.rt: do not edit.
+//! The misses of a trace in LRU caches of every size.
+
+#[allow(unused_imports)]
+use crate::rattle_std::prelude::*;
+
+use crate::erased::lru_trace::distances::Distances;
+use crate::rattle_std::alloc::{AllocError, Global};
+use crate::rattle_std::collections::HashMap;
+
+/// The misses of a trace in LRU caches of every size, counted in one pass.
+///
+/// A reference misses in a cache of n places if its reuse distance is at least n, or if it is the first to its key. So
+/// the curve counts how many references had each reuse distance. Its memory is in proportion to the number of keys.
+///
+/// ```text
+/// let mut curve = Curve::new(alloc)?;
+/// for key in ["a", "b", "a", "c", "a"] {
+///     curve.refer(key)?;
+/// }
+/// assert_eq!(rt; (curve.misses(0), curve.misses(1), curve.misses(2)), (5, 5, 3));
+/// ```
+
+pub struct Curve {
+    /// The number of each key.
+    numbers: HashMap<String, usize>,
+    distances: Distances,
+    /// How many references had each reuse distance.
+    counts: Vec<u64>,
+    /// How many references were the first to their key.
+    firsts: usize,
+    references: u64,
+    alloc: Global,
+}
+
+impl Curve {
+    /// Makes the curve of a trace without references.
+    pub fn new(alloc: Global) -> Result<Self, AllocError> {
+        Ok(Curve {
+            numbers: HashMap::new(alloc),
+            distances: Distances::new(alloc)?,
+            counts: Vec::new(alloc),
+            firsts: 0,
+            references: 0,
+            alloc,
+        })
+    }
+
+    /// Returns the number of a key, which is added if it is not there.
+    fn number_of(&mut self, key: &str) -> Result<usize, AllocError> {
+        if let Some(number) = self.numbers.get(key) {
+            return Ok(*number);
+        }
+        let name = String::from_str(self.alloc, key)?;
+        let number = self.distances.add_key()?;
+        let Ok(_) = self.numbers.insert(name, number) else {
+            return Err(AllocError);
+        };
+        Ok(number)
+    }
+
+    /// Makes a count for one reuse distance more, unless there is one to spare.
+    fn make_count(&mut self) -> Result<(), AllocError> {
+        if self.counts.len() == self.firsts {
+            self.counts.push(0)?;
+        }
+        Ok(())
+    }
+
+    /// Counts a reference to the key of this number.
+    fn count(&mut self, key: &str, number: usize) -> Result<(), AllocError> {
+        match self.distances.refer(number)? {
+            Some(distance) => (*at_mut!(self.counts, distance)) += 1,
+            None => self.firsts += 1,
+        }
+        self.references += 1;
+        Ok(())
+    }
+
+    /// References a key.
+    ///
+    /// Cost: `O(log n)` expected for n keys, amortised over the references.
+    ///
+    /// # Errors
+    ///
+    /// `Err`: out of memory. The reference is not counted.
+    pub fn refer(&mut self, key: &str) -> Result<(), AllocError> {
+        let number = self.number_of(key)?;
+        self.make_count()?;
+        self.count(key, number)
+    }
+
+    /// Returns how many references there were.
+    pub fn references(&self) -> u64 {
+        self.references
+    }
+
+    /// Returns how many keys were referenced.
+    pub fn keys(&self) -> usize {
+        self.firsts
+    }
+
+    /// Returns how many references miss in an LRU cache of this many places.
+    ///
+    /// Cost: `O(places)`, and at most in proportion to the number of keys.
+    pub fn misses(&self, places: usize) -> u64 {
+        let mut misses = self.references;
+        let places = places.min(self.counts.len());
+        for count in &(*at!(self.counts, ..places)) {
+            misses -= *count;
+        }
+        misses
+    }
+}

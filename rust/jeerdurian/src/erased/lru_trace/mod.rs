@@ -1,0 +1,24 @@
+// Erased from crates/lru_trace/src/lib.rt: do not edit.
+//! Miss-ratio curves: how often LRU caches of every size miss at a trace of keys, counted in one pass.
+//!
+//! [`Curve`] counts the references of a trace and returns the misses for each size. [`trace`] reads a trace from lines
+//! and writes a report; `docs/TRACE.md` shows it.
+
+#[allow(unused_imports)]
+use crate::rattle_std::prelude::*;
+
+mod curve;
+mod distances;
+mod lines;
+mod outcome;
+mod progress;
+mod report;
+mod traces;
+mod tree;
+
+pub use curve::Curve;
+pub use distances::Distances;
+pub use lines::read_keys;
+pub use outcome::{TraceEnd, TraceError, status};
+pub use progress::Progress;
+pub use traces::trace;

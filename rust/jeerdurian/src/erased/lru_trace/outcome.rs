@@ -1,0 +1,54 @@
+// Erased from crates/lru_trace/src/outcome.rt: do not edit.
+//! How a trace ends, and the exit status of each end.
+
+#[allow(unused_imports)]
+use crate::rattle_std::prelude::*;
+
+use crate::rattle_std::alloc::AllocError;
+
+/// How a trace ends if no read and no write fails.
+#[derive(Clone, Copy, Debug, PartialEq, Eq)]
+pub enum TraceEnd {
+    /// All lines were read, and the report was written.
+    Done,
+    /// The first line names no sizes, or there is no line.
+    NoSizes,
+}
+
+/// What cuts a trace off.
+#[derive(Clone, Copy, Debug, PartialEq, Eq)]
+pub enum TraceError {
+    /// A read failed.
+    Read = 1,
+    /// A write or the flush failed.
+    Write = 2,
+    /// Out of memory.
+    Memory = 3,
+}
+
+impl ::core::fmt::Display for TraceError {
+    fn fmt(&self, f: &mut ::core::fmt::Formatter<'_>) -> ::core::fmt::Result {
+        match self {
+            TraceError::Read => write!(f, "read failed"),
+            TraceError::Write => write!(f, "write failed"),
+            TraceError::Memory => write!(f, "out of memory"),
+        }
+    }
+}
+
+impl From<AllocError> for TraceError {
+    fn from(_: AllocError) -> Self {
+        TraceError::Memory
+    }
+}
+
+/// Returns the exit status: 0 if the report was written, 1 if the first line names no sizes, 2 if a read or a write
+/// failed, and 3 if the program ran out of memory.
+pub fn status(end: &Result<TraceEnd, TraceError>) -> u8 {
+    match end {
+        Ok(TraceEnd::Done) => 0,
+        Ok(TraceEnd::NoSizes) => 1,
+        Err(TraceError::Read | TraceError::Write) => 2,
+        Err(TraceError::Memory) => 3,
+    }
+}

@@ -1,0 +1,37 @@
+// Erased from crates/lru_trace/src/progress.rt: do not edit.
+//! The progress of a long read, for a person who waits.
+#[allow(unused_imports)]
+use crate::rattle_std::prelude::*;
+
+use crate::rattle_std::alloc::Global;
+use crate::rattle_std::io::Write;
+
+/// After each of how many lines progress is written.
+const STEP: u64 = 1_000_000;
+
+/// Where progress is written, if anywhere.
+
+pub struct Progress<P> {
+    alloc: Global,
+    writer: Option<P>,
+}
+
+impl<P: Write> Progress<P> {
+    /// Makes progress that is written to this writer, if there is one.
+    pub fn new(alloc: Global, writer: Option<P>) -> Self {
+        Progress { alloc, writer }
+    }
+
+    /// Writes how many lines were read, after each million. A write that fails, or memory that runs out, changes
+    /// nothing else.
+    pub fn note(&mut self, lines: u64) {
+        if lines == 0 || lines % STEP != 0 {
+            return;
+        }
+        if let Some(writer) = &mut self.writer {
+            if let Ok(text) = format!(in self.alloc; "{lines} lines\n") {
+                let _ = writer.write_all(text.as_bytes());
+            }
+        }
+    }
+}

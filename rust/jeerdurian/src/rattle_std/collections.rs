@@ -1,0 +1,122 @@
+//! Hash maps whose growth may fail, over Rust's.
+
+use super::alloc::{AllocError, Global};
+use core::borrow::Borrow;
+use core::hash::{BuildHasher, Hash};
+use core::marker::PhantomData;
+use std::collections::hash_map as rust;
+
+/// Rust's `HashMap`. Its keys need an `==` alone.
+pub struct HashMap<K, V, S = rust::RandomState, A = Global>(rust::HashMap<Key<K>, V, S>, PhantomData<A>);
+
+/// A key. Rust's map wants an `Eq`; if the `==` of a key is no equality, the map gives other answers, and no more.
+#[derive(Hash, PartialEq)]
+#[repr(transparent)]
+struct Key<K: ?Sized>(K);
+
+impl<K: PartialEq + ?Sized> Eq for Key<K> {}
+
+/// What a key is looked up by.
+#[derive(Hash, PartialEq)]
+#[repr(transparent)]
+struct Named<Q: ?Sized>(Q);
+
+impl<Q: PartialEq + ?Sized> Eq for Named<Q> {}
+
+impl<Q: ?Sized> Named<Q> {
+    fn of(name: &Q) -> &Named<Q> {
+        // SAFETY: `Named` has the layout of its field.
+        unsafe { &*(name as *const Q as *const Named<Q>) }
+    }
+}
+
+impl<K: Borrow<Q>, Q: ?Sized> Borrow<Named<Q>> for Key<K> {
+    fn borrow(&self) -> &Named<Q> {
+        Named::of(self.0.borrow())
+    }
+}
+
+impl<K, V> HashMap<K, V> {
+    /// An empty map. Its hashes are random, where Rattle's are known.
+    pub fn new(_: Global) -> Self {
+        HashMap(rust::HashMap::default(), PhantomData)
+    }
+}
+
+impl<K, V, S, A> HashMap<K, V, S, A> {
+    pub fn with_hasher(_: Global, hasher: S) -> Self {
+        HashMap(rust::HashMap::with_hasher(hasher), PhantomData)
+    }
+
+    pub fn len(&self) -> usize {
+        self.0.len()
+    }
+
+    pub fn is_empty(&self) -> bool {
+        self.0.is_empty()
+    }
+
+    pub fn keys(&self) -> hash_map::Keys<'_, K, V> {
+        hash_map::Keys(self.0.keys())
+    }
+
+    pub fn values(&self) -> rust::Values<'_, impl Sized + use<K, V, S, A>, V> {
+        self.0.values()
+    }
+}
+
+impl<K: PartialEq + Hash, V, S: BuildHasher, A> HashMap<K, V, S, A> {
+    pub fn contains_key<Q: PartialEq + Hash + ?Sized>(&self, name: &Q) -> bool
+    where
+        K: Borrow<Q>,
+    {
+        self.0.contains_key(Named::of(name))
+    }
+
+    pub fn get<Q: PartialEq + Hash + ?Sized>(&self, name: &Q) -> Option<&V>
+    where
+        K: Borrow<Q>,
+    {
+        self.0.get(Named::of(name))
+    }
+
+    pub fn get_mut<Q: PartialEq + Hash + ?Sized>(&mut self, name: &Q) -> Option<&mut V>
+    where
+        K: Borrow<Q>,
+    {
+        self.0.get_mut(Named::of(name))
+    }
+
+    pub fn insert(&mut self, key: K, value: V) -> Result<Option<V>, AllocError> {
+        self.0.try_reserve(1).map_err(|_| AllocError)?;
+        Ok(self.0.insert(Key(key), value))
+    }
+
+    pub fn remove<Q: PartialEq + Hash + ?Sized>(&mut self, name: &Q) -> Option<V>
+    where
+        K: Borrow<Q>,
+    {
+        self.0.remove(Named::of(name))
+    }
+}
+
+pub mod hash_map {
+    use super::{Key, rust};
+
+    /// The keys of a map, in any order.
+    pub struct Keys<'a, K, V>(pub(super) rust::Keys<'a, Key<K>, V>);
+
+    impl<'a, K, V> Iterator for Keys<'a, K, V> {
+        type Item = &'a K;
+
+        fn next(&mut self) -> Option<&'a K> {
+            self.0.next().map(|key| &key.0)
+        }
+
+        fn size_hint(&self) -> (usize, Option<usize>) {
+            self.0.size_hint()
+        }
+    }
+
+    impl<K, V> ExactSizeIterator for Keys<'_, K, V> {}
+}

@@ -1,0 +1,566 @@
+//! A cache for many tenants, each with a budget of its own.
+//!
+//! ```
+//! use jeerdurian::tenants::{TenantCache, TenantError};
+//!
+//! # fn main() -> Result<(), TenantError> {
+//! let mut cache: TenantCache<&str, u64, String> = TenantCache::new();
+//! cache.open("a.example", 10)?;
+//! cache.put(&"a.example", 1, "seven b".to_string())?;
+//! cache.put(&"a.example", 2, "four".to_string())?; // 7 and 4 bytes are above the budget: entry 1 is evicted
+//! assert_eq!(cache.get(&"a.example", &1), Ok(None));
+//! assert_eq!(cache.cost(&"a.example"), Ok(4));
+//! # Ok(())
+//! # }
+//! ```
+
+use crate::erased::lru_limits::{self, Budgeted};
+use crate::erased::lru_tenants as proved;
+use crate::erased::ordered_table::OrderedTable;
+use crate::keys::Borrowed;
+use crate::rattle_std::alloc::Global;
+use crate::{ByCost, ByWeight, Costed, Inserted, RandomState};
+use core::borrow::Borrow;
+use core::hash::{BuildHasher, Hash};
+
+/// Why a call on a tenant failed.
+///
+/// ```
+/// use jeerdurian::tenants::{TenantCache, TenantError};
+///
+/// let mut cache: TenantCache<u64, u64, u64> = TenantCache::new();
+/// assert_eq!(cache.put(&1, 7, 2), Err(TenantError::NotOpen));
+/// ```
+pub use crate::erased::lru_tenants::TenantError;
+
+impl core::error::Error for TenantError {}
+
+/// A limiter of a tenant: [`ByCost`], by which an entry costs what its value costs, or [`ByWeight`], by which it costs
+/// what its key and its value cost, and a constant for the entry itself.
+///
+/// ```
+/// use jeerdurian::ByWeight;
+/// use jeerdurian::tenants::TenantCache;
+///
+/// let mut weighed: TenantCache<u64, u64, u64, ByWeight<16>> = TenantCache::new();
+/// assert_eq!((weighed.open(1, 40), weighed.put(&1, 7, 2)), (Ok(()), Ok(true)));
+/// assert_eq!(weighed.cost(&1), Ok(25));
+/// ```
+pub trait Budget<K: Eq + Hash, V>: Budgeted<K, V> {}
+
+impl<K: Eq + Hash, V: Costed> Budget<K, V> for ByCost {}
+
+impl<K: Eq + Hash + Costed, V: Costed, const OVERHEAD: u64> Budget<K, V> for ByWeight<OVERHEAD> {}
+
+/// A cache for many tenants, each with a name. Each tenant has an LRU map, limited by a budget of its own.
+///
+/// The limiter `L` says what an entry costs (see [`Budget`]). The budgets of all tenants add up to at most the total
+/// limit, if [`set_total_limit`](Self::set_total_limit) set one.
+///
+/// Proved: the cost of a tenant stays within its budget, the sum of all costs stays within the total limit, and what a
+/// call returns depends on the calls of its own tenant alone, except that memory may run out and that `open` and
+/// `set_budget` look at the total limit. The proofs assume that a cost never changes while its entry is stored.
+///
+/// In the examples of the calls, `cache` has one open tenant, 1, with a budget of 3 and the entry (7, 2).
+pub struct TenantCache<N, K, V, L = ByCost, S = RandomState>
+where
+    N: Eq + Hash,
+    K: Eq + Hash,
+    L: Budget<K, V>,
+    S: BuildHasher + Copy,
+{
+    cache: proved::TenantCache<N, K, V, L, S>,
+}
+
+impl<N, K, V, L, S> core::fmt::Debug for TenantCache<N, K, V, L, S>
+where
+    N: Eq + Hash,
+    K: Eq + Hash,
+    L: Budget<K, V>,
+    S: BuildHasher + Copy,
+{
+    fn fmt(&self, f: &mut core::fmt::Formatter<'_>) -> core::fmt::Result {
+        f.debug_struct("TenantCache").field("len", &self.len()).finish_non_exhaustive()
+    }
+}
+
+#[cfg(feature = "runtime-rng")]
+impl<N: Eq + Hash, K: Eq + Hash, V, L: Budget<K, V>> Default for TenantCache<N, K, V, L> {
+    fn default() -> Self {
+        Self::new()
+    }
+}
+
+impl<N: Eq + Hash, K: Eq + Hash, V, L: Budget<K, V>> TenantCache<N, K, V, L> {
+    /// Makes a cache without tenants and without a total limit, whose hashers have random seeds. It takes no memory.
+    ///
+    /// ```
+    /// # use jeerdurian::tenants::TenantCache;
+    /// let cache: TenantCache<String, u64, u64> = TenantCache::new();
+    /// assert!(cache.is_empty());
+    /// ```
+    #[cfg(feature = "runtime-rng")]
+    pub fn new() -> Self {
+        Self::with_hasher(RandomState::default())
+    }
+
+    /// Makes such a cache, whose hashers have these seeds. Equal seeds give equal hashes.
+    ///
+    /// ```
+    /// # use jeerdurian::tenants::TenantCache;
+    /// let cache: TenantCache<String, u64, u64> = TenantCache::with_seed([1, 2, 3, 4]);
+    /// assert!(cache.is_empty());
+    /// ```
+    pub fn with_seed(seed: [u64; 4]) -> Self {
+        Self::with_hasher(RandomState::with_seeds(seed))
+    }
+}
+
+impl<N, K, V, L, S> TenantCache<N, K, V, L, S>
+where
+    N: Eq + Hash,
+    K: Eq + Hash,
+    L: Budget<K, V>,
+    S: BuildHasher + Copy,
+{
+    /// Makes a cache without tenants and without a total limit, with this hasher of names and keys. It takes no memory.
+    ///
+    /// ```
+    /// # use jeerdurian::{ByCost, RandomState, tenants::TenantCache};
+    /// let hasher = RandomState::default();
+    /// let cache: TenantCache<u64, u64, u64, ByCost, _> = TenantCache::with_hasher(hasher);
+    /// assert!(cache.is_empty());
+    /// ```
+    pub fn with_hasher(hasher: S) -> Self {
+        let entry_bytes = OrderedTable::<K, V, <L as lru_limits::Limiter<K, V>>::LinkType>::entry_bytes();
+        TenantCache { cache: proved::TenantCache::with_hasher(Global, hasher, entry_bytes) }
+    }
+
+    /// Returns the number of open tenants.
+    ///
+    /// ```
+    /// # let mut cache = jeerdurian::tenants::TenantCache::<u64, u64, u64>::new();
+    /// # cache.open(1, 3).unwrap();
+    /// # cache.put(&1, 7, 2).unwrap();
+    /// assert_eq!((cache.len(), cache.close(&1), cache.len()), (1, Ok(1), 0));
+    /// ```
+    pub fn len(&self) -> usize {
+        self.cache.len()
+    }
+
+    /// Returns whether no tenant is open.
+    ///
+    /// ```
+    /// # let mut cache = jeerdurian::tenants::TenantCache::<u64, u64, u64>::new();
+    /// # cache.open(1, 3).unwrap();
+    /// # cache.put(&1, 7, 2).unwrap();
+    /// assert!(!cache.is_empty());
+    /// ```
+    pub fn is_empty(&self) -> bool {
+        self.cache.is_empty()
+    }
+
+    /// Opens a tenant with an empty map and a budget: the greatest sum of the costs of its entries.
+    ///
+    /// Cost: `O(1)` expected, amortised over the tenants.
+    ///
+    /// # Errors
+    ///
+    /// `AlreadyOpen`; `OverTotal`: the sum of all budgets would be above the total limit; `Memory`: out of memory for one
+    /// tenant more. An error changes nothing.
+    ///
+    /// ```
+    /// # let mut cache = jeerdurian::tenants::TenantCache::<u64, u64, u64>::new();
+    /// # cache.open(1, 3).unwrap();
+    /// # cache.put(&1, 7, 2).unwrap();
+    /// use jeerdurian::tenants::TenantError;
+    ///
+    /// assert_eq!(cache.open(2, 3), Ok(()));
+    /// assert_eq!(cache.open(1, 5), Err(TenantError::AlreadyOpen));
+    /// ```
+    pub fn open(&mut self, name: N, budget: u64) -> Result<(), TenantError> {
+        self.cache.open(name, budget)
+    }
+
+    /// Inserts a key with a value, as the newest entry of the tenant. Returns whether the key is there then.
+    ///
+    /// An entry that alone costs more than the budget, or that would take the tenant's total past `u64::MAX`, is rejected.
+    /// Otherwise the tenant's oldest entries are evicted until the total is within the budget. If the key is there and the
+    /// new value is rejected, its entry is removed.
+    ///
+    /// Cost: `O(1)` expected, amortised over the inserts.
+    ///
+    /// # Errors
+    ///
+    /// `NotOpen`: nothing has changed. `Memory`: out of memory for the entry, which is not there then.
+    ///
+    /// ```
+    /// # let mut cache = jeerdurian::tenants::TenantCache::<u64, u64, u64>::new();
+    /// # cache.open(1, 3).unwrap();
+    /// # cache.put(&1, 7, 2).unwrap();
+    /// assert_eq!(cache.put(&1, 8, 1), Ok(true));
+    /// assert_eq!(cache.put(&1, 9, 4), Ok(false));
+    /// ```
+    pub fn put(&mut self, name: &N, key: K, value: V) -> Result<bool, TenantError> {
+        self.cache.put(name, key, value)
+    }
+
+    /// Inserts as [`put`](Self::put) does, and passes the evicted entries to the callback, oldest first. The callback also
+    /// gets the entry that is removed because its new value is rejected, and the new entry if it could not be stored.
+    ///
+    /// # Errors
+    ///
+    /// As of `put`.
+    ///
+    /// ```
+    /// # let mut cache = jeerdurian::tenants::TenantCache::<u64, u64, u64>::new();
+    /// # cache.open(1, 3).unwrap();
+    /// # cache.put(&1, 7, 2).unwrap();
+    /// let mut left = 0;
+    /// assert_eq!(cache.put_with(&1, 8, 3, |key, _| left = key), Ok(true));
+    /// assert_eq!(left, 7);
+    /// ```
+    pub fn put_with(&mut self, name: &N, key: K, value: V, mut lost: impl FnMut(K, V)) -> Result<bool, TenantError> {
+        self.cache.put_with(name, key, value, &mut lost)
+    }
+
+    /// Inserts as [`put_with`](Self::put_with) does, and returns the value that the tenant does not keep: the replaced one,
+    /// or the new one if it is rejected.
+    ///
+    /// # Errors
+    ///
+    /// As of `put`. After `Memory` the callback got the key and the value.
+    ///
+    /// ```
+    /// # let mut cache = jeerdurian::tenants::TenantCache::<u64, u64, u64>::new();
+    /// # cache.open(1, 3).unwrap();
+    /// # cache.put(&1, 7, 2).unwrap();
+    /// let replaced = cache.put_full(&1, 7, 3, |_, _| {}).unwrap();
+    /// assert_eq!((replaced.kept, replaced.unkept), (true, Some(2)));
+    /// ```
+    pub fn put_full(
+        &mut self,
+        name: &N,
+        key: K,
+        value: V,
+        mut lost: impl FnMut(K, V),
+    ) -> Result<Inserted<V>, TenantError> {
+        self.cache.put_full(name, key, value, &mut lost)
+    }
+
+    /// Returns a tenant's value of a key, and makes its entry the tenant's newest.
+    ///
+    /// Cost: `O(1)` expected.
+    ///
+    /// # Errors
+    ///
+    /// `NotOpen`: nothing has changed.
+    ///
+    /// ```
+    /// # let mut cache = jeerdurian::tenants::TenantCache::<u64, u64, u64>::new();
+    /// # cache.open(1, 3).unwrap();
+    /// # cache.put(&1, 7, 2).unwrap();
+    /// assert_eq!(cache.get(&1, &7), Ok(Some(&2)));
+    /// ```
+    pub fn get<Q>(&mut self, name: &N, key: &Q) -> Result<Option<&V>, TenantError>
+    where
+        K: Borrow<Q>,
+        Q: Eq + Hash + ?Sized,
+    {
+        self.cache.get(name, &Borrowed(key))
+    }
+
+    /// Returns a tenant's value of a key. If the key is not there, inserts it with the value that the closure returns.
+    ///
+    /// `None` says that the new entry is not there, as `false` says it of `put`.
+    ///
+    /// # Errors
+    ///
+    /// As of `put`. If the error is `Memory`, the closure was called.
+    ///
+    /// ```
+    /// # let mut cache = jeerdurian::tenants::TenantCache::<u64, u64, u64>::new();
+    /// # cache.open(1, 3).unwrap();
+    /// # cache.put(&1, 7, 2).unwrap();
+    /// assert_eq!(cache.get_or_put(&1, 7, || 3), Ok(Some(&2)));
+    /// assert_eq!(cache.get_or_put(&1, 8, || 1), Ok(Some(&1)));
+    /// ```
+    pub fn get_or_put(&mut self, name: &N, key: K, make: impl FnOnce() -> V) -> Result<Option<&V>, TenantError> {
+        self.cache.get_or_put(name, key, make)
+    }
+
+    /// Returns a tenant's value of a key. The order of use stays.
+    ///
+    /// Cost: `O(1)` expected.
+    ///
+    /// # Errors
+    ///
+    /// `NotOpen`.
+    ///
+    /// ```
+    /// # let mut cache = jeerdurian::tenants::TenantCache::<u64, u64, u64>::new();
+    /// # cache.open(1, 3).unwrap();
+    /// # cache.put(&1, 7, 2).unwrap();
+    /// assert_eq!(cache.peek(&1, &7), Ok(Some(&2)));
+    /// ```
+    pub fn peek<Q>(&self, name: &N, key: &Q) -> Result<Option<&V>, TenantError>
+    where
+        K: Borrow<Q>,
+        Q: Eq + Hash + ?Sized,
+    {
+        self.cache.peek(name, &Borrowed(key))
+    }
+
+    /// Returns whether a tenant has an entry of a key. The order of use stays.
+    ///
+    /// Cost: `O(1)` expected.
+    ///
+    /// # Errors
+    ///
+    /// `NotOpen`.
+    ///
+    /// ```
+    /// # let mut cache = jeerdurian::tenants::TenantCache::<u64, u64, u64>::new();
+    /// # cache.open(1, 3).unwrap();
+    /// # cache.put(&1, 7, 2).unwrap();
+    /// assert_eq!(cache.contains(&1, &7), Ok(true));
+    /// ```
+    pub fn contains<Q>(&self, name: &N, key: &Q) -> Result<bool, TenantError>
+    where
+        K: Borrow<Q>,
+        Q: Eq + Hash + ?Sized,
+    {
+        self.cache.contains(name, &Borrowed(key))
+    }
+
+    /// Removes a key of a tenant, and returns its value. The tenant's other entries keep their order.
+    ///
+    /// Cost: `O(1)` expected.
+    ///
+    /// # Errors
+    ///
+    /// `NotOpen`: nothing has changed.
+    ///
+    /// ```
+    /// # let mut cache = jeerdurian::tenants::TenantCache::<u64, u64, u64>::new();
+    /// # cache.open(1, 3).unwrap();
+    /// # cache.put(&1, 7, 2).unwrap();
+    /// assert_eq!((cache.remove(&1, &7), cache.remove(&1, &7)), (Ok(Some(2)), Ok(None)));
+    /// ```
+    pub fn remove<Q>(&mut self, name: &N, key: &Q) -> Result<Option<V>, TenantError>
+    where
+        K: Borrow<Q>,
+        Q: Eq + Hash + ?Sized,
+    {
+        self.cache.remove(name, &Borrowed(key))
+    }
+
+    /// Drops the entries of a tenant, which stays open.
+    ///
+    /// # Errors
+    ///
+    /// `NotOpen`: nothing has changed.
+    ///
+    /// ```
+    /// # let mut cache = jeerdurian::tenants::TenantCache::<u64, u64, u64>::new();
+    /// # cache.open(1, 3).unwrap();
+    /// # cache.put(&1, 7, 2).unwrap();
+    /// assert_eq!((cache.clear(&1), cache.entries(&1), cache.cost(&1)), (Ok(()), Ok(0), Ok(0)));
+    /// ```
+    pub fn clear(&mut self, name: &N) -> Result<(), TenantError> {
+        self.cache.clear(name)
+    }
+
+    /// Returns the number of a tenant's entries.
+    ///
+    /// Cost: `O(1)` expected.
+    ///
+    /// # Errors
+    ///
+    /// `NotOpen`.
+    ///
+    /// ```
+    /// # let mut cache = jeerdurian::tenants::TenantCache::<u64, u64, u64>::new();
+    /// # cache.open(1, 3).unwrap();
+    /// # cache.put(&1, 7, 2).unwrap();
+    /// assert_eq!(cache.entries(&1), Ok(1));
+    /// ```
+    pub fn entries(&self, name: &N) -> Result<usize, TenantError> {
+        self.cache.entries(name)
+    }
+
+    /// Returns the budget of a tenant.
+    ///
+    /// Cost: `O(1)` expected.
+    ///
+    /// # Errors
+    ///
+    /// `NotOpen`.
+    ///
+    /// ```
+    /// # let mut cache = jeerdurian::tenants::TenantCache::<u64, u64, u64>::new();
+    /// # cache.open(1, 3).unwrap();
+    /// # cache.put(&1, 7, 2).unwrap();
+    /// assert_eq!(cache.budget(&1), Ok(3));
+    /// ```
+    pub fn budget(&self, name: &N) -> Result<u64, TenantError> {
+        self.cache.budget(name)
+    }
+
+    /// Returns the sum of the costs of a tenant's entries.
+    ///
+    /// Cost: `O(1)` expected.
+    ///
+    /// # Errors
+    ///
+    /// `NotOpen`.
+    ///
+    /// ```
+    /// # let mut cache = jeerdurian::tenants::TenantCache::<u64, u64, u64>::new();
+    /// # cache.open(1, 3).unwrap();
+    /// # cache.put(&1, 7, 2).unwrap();
+    /// assert_eq!(cache.cost(&1), Ok(2));
+    /// ```
+    pub fn cost(&self, name: &N) -> Result<u64, TenantError> {
+        self.cache.cost(name)
+    }
+
+    /// Returns the names of the open tenants, in any order.
+    ///
+    /// ```
+    /// # let mut cache = jeerdurian::tenants::TenantCache::<u64, u64, u64>::new();
+    /// # cache.open(1, 3).unwrap();
+    /// # cache.put(&1, 7, 2).unwrap();
+    /// assert!(cache.names().eq([&1]));
+    /// ```
+    pub fn names(&self) -> impl ExactSizeIterator<Item = &N> {
+        self.cache.names()
+    }
+
+    /// Sets the budget of a tenant. If its cost is above the budget, its oldest entries are evicted until it is not.
+    ///
+    /// Cost: `O(1)` expected, and `O(1)` for each entry that is evicted.
+    ///
+    /// # Errors
+    ///
+    /// `NotOpen`; `OverTotal`: the sum of all budgets would be above the total limit. An error changes nothing.
+    ///
+    /// ```
+    /// # let mut cache = jeerdurian::tenants::TenantCache::<u64, u64, u64>::new();
+    /// # cache.open(1, 3).unwrap();
+    /// # cache.put(&1, 7, 2).unwrap();
+    /// assert_eq!((cache.set_budget(&1, 1), cache.cost(&1)), (Ok(()), Ok(0)));
+    /// ```
+    pub fn set_budget(&mut self, name: &N, budget: u64) -> Result<(), TenantError> {
+        self.cache.set_budget(name, budget)
+    }
+
+    /// Sets the budget as [`set_budget`](Self::set_budget) does, and passes each evicted entry to the callback, oldest first.
+    ///
+    /// # Errors
+    ///
+    /// As of `set_budget`.
+    ///
+    /// ```
+    /// # let mut cache = jeerdurian::tenants::TenantCache::<u64, u64, u64>::new();
+    /// # cache.open(1, 3).unwrap();
+    /// # cache.put(&1, 7, 2).unwrap();
+    /// let mut evicted = 0;
+    /// assert_eq!(cache.set_budget_with(&1, 1, |key, _| evicted = key), Ok(()));
+    /// assert_eq!(evicted, 7);
+    /// ```
+    pub fn set_budget_with(&mut self, name: &N, budget: u64, mut lost: impl FnMut(K, V)) -> Result<(), TenantError> {
+        self.cache.set_budget_with(name, budget, &mut lost)
+    }
+
+    /// Closes a tenant and drops its entries. Returns the number of these entries.
+    ///
+    /// # Errors
+    ///
+    /// `NotOpen`: nothing has changed.
+    ///
+    /// ```
+    /// # let mut cache = jeerdurian::tenants::TenantCache::<u64, u64, u64>::new();
+    /// # cache.open(1, 3).unwrap();
+    /// # cache.put(&1, 7, 2).unwrap();
+    /// assert_eq!((cache.close(&1), cache.len()), (Ok(1), 0));
+    /// ```
+    pub fn close(&mut self, name: &N) -> Result<usize, TenantError> {
+        self.cache.close(name)
+    }
+
+    /// Closes a tenant as [`close`](Self::close) does, and passes each entry to the callback, oldest first.
+    ///
+    /// # Errors
+    ///
+    /// `NotOpen`: nothing has changed.
+    ///
+    /// ```
+    /// # let mut cache = jeerdurian::tenants::TenantCache::<u64, u64, u64>::new();
+    /// # cache.open(1, 3).unwrap();
+    /// # cache.put(&1, 7, 2).unwrap();
+    /// let mut last = 0;
+    /// assert_eq!(cache.close_with(&1, |key, _| last = key), Ok(1));
+    /// assert_eq!(last, 7);
+    /// ```
+    pub fn close_with(&mut self, name: &N, mut lost: impl FnMut(K, V)) -> Result<usize, TenantError> {
+        self.cache.close_with(name, &mut lost)
+    }
+
+    /// Sets what the budgets of all tenants add up to at most, or that nothing limits their sum.
+    ///
+    /// # Errors
+    ///
+    /// `OverTotal`: the sum is above the limit now. The old limit stays.
+    ///
+    /// ```
+    /// # let mut cache = jeerdurian::tenants::TenantCache::<u64, u64, u64>::new();
+    /// # cache.open(1, 3).unwrap();
+    /// # cache.put(&1, 7, 2).unwrap();
+    /// use jeerdurian::tenants::TenantError;
+    ///
+    /// assert_eq!(cache.set_total_limit(Some(5)), Ok(()));
+    /// assert_eq!(cache.open(2, 3), Err(TenantError::OverTotal));
+    /// ```
+    pub fn set_total_limit(&mut self, limit: Option<u64>) -> Result<(), TenantError> {
+        self.cache.set_total_limit(limit)
+    }
+
+    /// Returns what the budgets of all tenants add up to at most, if there is a limit.
+    ///
+    /// ```
+    /// # let mut cache = jeerdurian::tenants::TenantCache::<u64, u64, u64>::new();
+    /// # cache.open(1, 3).unwrap();
+    /// # cache.put(&1, 7, 2).unwrap();
+    /// assert_eq!(cache.total_limit(), None);
+    /// ```
+    pub fn total_limit(&self) -> Option<u64> {
+        self.cache.total_limit()
+    }
+
+    /// Returns the sum of the budgets of all tenants. It is at most the total limit, if there is one.
+    ///
+    /// ```
+    /// # let mut cache = jeerdurian::tenants::TenantCache::<u64, u64, u64>::new();
+    /// # cache.open(1, 3).unwrap();
+    /// # cache.put(&1, 7, 2).unwrap();
+    /// assert_eq!((cache.total_cost(), cache.total_budget()), (2, 3));
+    /// ```
+    pub fn total_budget(&self) -> u128 {
+        self.cache.total_budget()
+    }
+
+    /// Returns the sum of the costs of the entries of all tenants. It is at most the sum of their budgets.
+    ///
+    /// Cost: `O(1)` for each tenant.
+    ///
+    /// ```
+    /// # let mut cache = jeerdurian::tenants::TenantCache::<u64, u64, u64>::new();
+    /// # cache.open(1, 3).unwrap();
+    /// # cache.put(&1, 7, 2).unwrap();
+    /// assert_eq!((cache.total_cost(), cache.total_budget()), (2, 3));
+    /// ```
+    pub fn total_cost(&self) -> u128 {
+        self.cache.total_cost()
+    }
+}

@@ -1,0 +1,176 @@
+//! Miss-ratio curves: how often LRU caches of every size miss at a trace of keys, counted in one pass.
+//!
+//! ```
+//! use jeerdurian::trace::Curve;
+//!
+//! # fn main() -> Result<(), jeerdurian::AllocError> {
+//! let mut curve = Curve::new()?;
+//! for key in ["a", "b", "a", "c", "a"] {
+//!     curve.refer(key)?;
+//! }
+//! assert_eq!((curve.misses(1), curve.misses(2), curve.references()), (5, 3, 5));
+//! # Ok(())
+//! # }
+//! ```
+
+use crate::erased::lru_trace as proved;
+use crate::rattle_std::alloc::{AllocError, Global};
+use crate::rattle_std::vec::Vec;
+use std::io::{BufRead, Sink, Write};
+
+/// How a trace ended if no read and no write failed.
+///
+/// ```
+/// use jeerdurian::trace::{TraceEnd, report};
+///
+/// assert_eq!(report(b"no sizes".as_slice(), std::io::sink()), Ok(TraceEnd::NoSizes));
+/// ```
+pub use crate::erased::lru_trace::TraceEnd;
+
+/// Why a trace was cut off.
+///
+/// ```
+/// use jeerdurian::trace::TraceError;
+///
+/// assert_eq!(TraceError::Write.to_string(), "write failed");
+/// ```
+pub use crate::erased::lru_trace::TraceError;
+
+impl core::error::Error for TraceError {}
+
+/// The misses of a trace in LRU caches of every size, counted in one pass.
+///
+/// Its memory is in proportion to the number of keys, however long the trace is.
+///
+/// Proved: `misses` returns how often a cache of that many places misses, for traces of at most 2^64 - 1 references.
+///
+/// ```
+/// use jeerdurian::trace::Curve;
+///
+/// # fn main() -> Result<(), jeerdurian::AllocError> {
+/// let mut curve = Curve::new()?;
+/// for key in ["a", "b", "a", "c", "a"] {
+///     curve.refer(key)?;
+/// }
+/// assert_eq!((curve.misses(0), curve.misses(1), curve.misses(2)), (5, 5, 3));
+/// # Ok(())
+/// # }
+/// ```
+pub struct Curve(proved::Curve);
+
+impl Curve {
+    /// Makes the curve of a trace without references.
+    ///
+    /// # Errors
+    ///
+    /// Out of memory.
+    ///
+    /// ```
+    /// # use jeerdurian::trace::Curve;
+    /// assert_eq!(Curve::new()?.references(), 0);
+    /// # Ok::<(), jeerdurian::AllocError>(())
+    /// ```
+    pub fn new() -> Result<Self, AllocError> {
+        Ok(Curve(proved::Curve::new(Global)?))
+    }
+
+    /// Makes the curve of the keys of a reader, one in each line. Returns it with the number of lines that are no key: a
+    /// key is text of 1 to 64 bytes.
+    ///
+    /// # Errors
+    ///
+    /// `Read`: a read failed. `Memory`: out of memory.
+    ///
+    /// ```
+    /// # use jeerdurian::trace::Curve;
+    /// let (curve, malformed) = Curve::from_lines(b"a\nb\n\na\n".as_slice())?;
+    /// assert_eq!((curve.references(), curve.keys(), malformed), (3, 2, 1));
+    /// # Ok::<(), jeerdurian::trace::TraceError>(())
+    /// ```
+    pub fn from_lines(mut reader: impl BufRead) -> Result<(Self, u64), TraceError> {
+        let mut curve = proved::Curve::new(Global)?;
+        let malformed = proved::read_keys(&mut reader, &mut Vec::new(Global), &mut curve, &mut no_progress())?;
+        Ok((Curve(curve), malformed))
+    }
+
+    /// References a key.
+    ///
+    /// Cost: `O(log n)` expected for n keys, amortised over the references.
+    ///
+    /// # Errors
+    ///
+    /// Out of memory. The reference is not counted then.
+    ///
+    /// ```
+    /// # use jeerdurian::trace::Curve;
+    /// let mut curve = Curve::new()?;
+    /// curve.refer("a")?;
+    /// assert_eq!(curve.references(), 1);
+    /// # Ok::<(), jeerdurian::AllocError>(())
+    /// ```
+    pub fn refer(&mut self, key: &str) -> Result<(), AllocError> {
+        self.0.refer(key)
+    }
+
+    /// Returns the number of references.
+    ///
+    /// ```
+    /// # use jeerdurian::trace::Curve;
+    /// let (curve, _) = Curve::from_lines(b"a\nb\na\n".as_slice())?;
+    /// assert_eq!(curve.references(), 3);
+    /// # Ok::<(), jeerdurian::trace::TraceError>(())
+    /// ```
+    pub fn references(&self) -> u64 {
+        self.0.references()
+    }
+
+    /// Returns the number of keys that were referenced.
+    ///
+    /// ```
+    /// # use jeerdurian::trace::Curve;
+    /// let (curve, _) = Curve::from_lines(b"a\nb\na\n".as_slice())?;
+    /// assert_eq!(curve.keys(), 2);
+    /// # Ok::<(), jeerdurian::trace::TraceError>(())
+    /// ```
+    pub fn keys(&self) -> usize {
+        self.0.keys()
+    }
+
+    /// Returns the number of references that miss in an LRU cache of this many places.
+    ///
+    /// Cost: `O(places)`, and at most in proportion to the number of keys.
+    ///
+    /// ```
+    /// # use jeerdurian::trace::Curve;
+    /// let (curve, _) = Curve::from_lines(b"a\nb\na\n".as_slice())?;
+    /// assert_eq!((curve.misses(1), curve.misses(2)), (3, 2));
+    /// # Ok::<(), jeerdurian::trace::TraceError>(())
+    /// ```
+    pub fn misses(&self, places: usize) -> u64 {
+        self.0.misses(places)
+    }
+}
+
+/// Reads a trace, and writes how often LRU caches of each size miss at it, with a chart.
+///
+/// The first line names sizes, and each other line is a key that is referenced: text of 1 to 64 bytes. Other lines are
+/// counted as malformed.
+///
+/// # Errors
+///
+/// `Read`: a read failed. `Write`: a write or the flush failed. `Memory`: out of memory.
+///
+/// ```
+/// use jeerdurian::trace::{TraceEnd, report};
+///
+/// let mut text = Vec::new();
+/// assert_eq!(report(b"2\na\nb\na\n".as_slice(), &mut text), Ok(TraceEnd::Done));
+/// assert!(text.starts_with(b"references 3 keys 2 malformed 0\nplaces 2 hits 1 misses 2 ratio 0.6666\n"));
+/// ```
+pub fn report(mut reader: impl BufRead, mut writer: impl Write) -> Result<TraceEnd, TraceError> {
+    proved::trace(Global, &mut reader, &mut writer, &mut no_progress())
+}
+
+fn no_progress() -> proved::Progress<Sink> {
+    proved::Progress::new(Global, None)
+}

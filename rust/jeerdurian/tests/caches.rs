@@ -1,0 +1,211 @@
+//! The tenants and the ordered map, compared with plain lists, and with keys whose `==` and `Hash` say anything and panic:
+//! nothing is dropped twice or used after its drop.
+
+use jeerdurian::caches::OrderedMap;
+use jeerdurian::tenants::TenantCache;
+use jeerdurian::{ByCost, RandomState};
+use std::cell::Cell;
+use std::collections::BTreeMap;
+use std::hash::{Hash, Hasher};
+use std::panic::{AssertUnwindSafe, catch_unwind};
+
+thread_local! {
+    /// How many keys live.
+    static LIVE: Cell<i64> = const { Cell::new(0) };
+    /// The state of a generator: keys lie if it is not zero.
+    static LIES: Cell<u64> = const { Cell::new(0) };
+}
+
+/// The next random number below `n` of a generator.
+fn next(state: &mut u64, n: u64) -> u64 {
+    *state = state.wrapping_mul(6364136223846793005).wrapping_add(1442695040888963407);
+    (*state >> 33) % n
+}
+
+/// A random number below `n`, or zero if no key lies.
+fn any(n: u64) -> u64 {
+    let mut state = LIES.get();
+    if state == 0 {
+        return 0;
+    }
+    let number = next(&mut state, n);
+    LIES.set(state);
+    number
+}
+
+/// A key that owns memory, and knows whether it lives.
+#[derive(Debug)]
+struct Key(Box<u64>);
+
+impl Key {
+    fn new(number: u64) -> Self {
+        LIVE.set(LIVE.get() + 1);
+        Key(Box::new(number))
+    }
+}
+
+impl Drop for Key {
+    fn drop(&mut self) {
+        LIVE.set(LIVE.get() - 1);
+    }
+}
+
+impl PartialEq for Key {
+    fn eq(&self, other: &Self) -> bool {
+        assert!(any(100) != 99, "the `==` panics");
+        if any(4) == 3 { any(2) == 1 } else { self.0 == other.0 }
+    }
+}
+
+impl Eq for Key {}
+
+impl Hash for Key {
+    fn hash<H: Hasher>(&self, hasher: &mut H) {
+        assert!(any(100) != 99, "the `Hash` panics");
+        (*self.0 + any(3)).hash(hasher);
+    }
+}
+
+/// Makes a call, which may panic while keys lie.
+fn lying(seed: u64, f: impl FnOnce()) {
+    LIES.set(seed | 1);
+    _ = catch_unwind(AssertUnwindSafe(f));
+    LIES.set(0);
+}
+
+fn change(map: &mut OrderedMap<Key, Key>, kind: u64, n: u64) {
+    match kind {
+        0..=9 => _ = map.insert(Key::new(n), Key::new(n)),
+        10..=12 => _ = map.remove(&Key::new(n)),
+        13 => _ = map.pop_first(),
+        14 => _ = map.pop_last(),
+        15 => _ = map.move_to_back(&Key::new(n)),
+        16 => _ = map.get_mut(&Key::new(n)).map(|value| *value = Key::new(n)),
+        17 => map.retain(|key, _| *key.0 % 3 != 1),
+        18 => _ = (map.try_reserve(n as usize), map.shrink_to_fit()),
+        _ => _ = std::mem::take(map).into_iter().nth(n as usize),
+    }
+}
+
+#[test]
+fn ordered_maps_of_keys_that_lie() {
+    std::panic::set_hook(Box::new(|_| {}));
+    for seed in 1..300u64 {
+        let (mut state, mut map) = (seed, OrderedMap::new());
+        for _ in 0..200 {
+            let (kind, n) = (next(&mut state, 20), next(&mut state, 40));
+            lying(state, || change(&mut map, kind, n));
+            assert_eq!(map.iter().count(), map.len());
+            assert!(map.keys().rev().all(|key| *key.0 < 40));
+        }
+    }
+}
+
+#[test]
+fn ordered_maps_are_lists() {
+    for seed in 1..100u64 {
+        let (mut state, mut map, mut list) = (seed, OrderedMap::new(), Vec::<u64>::new());
+        for _ in 0..300 {
+            let (kind, n) = (next(&mut state, 19), next(&mut state, 40));
+            change(&mut map, kind, n);
+            let place = list.iter().position(|key| *key == n);
+            match kind {
+                0..=9 if place.is_none() => list.push(n),
+                10..=12 => _ = place.map(|place| list.remove(place)),
+                13 if !list.is_empty() => _ = list.remove(0),
+                14 => _ = list.pop(),
+                15 => _ = place.map(|place| list[place..].rotate_left(1)),
+                17 => list.retain(|key| key % 3 != 1),
+                _ => {}
+            }
+            assert!(map.keys().map(|key| *key.0).eq(list.iter().copied()), "seed {seed}");
+        }
+        drop(map);
+        assert_eq!(LIVE.get(), 0, "seed {seed}");
+    }
+}
+
+type Tenants = TenantCache<Key, Key, u64, ByCost, RandomState>;
+
+fn serve(cache: &mut Tenants, kind: u64, name: u64, n: u64) {
+    let name = Key::new(name);
+    match kind {
+        0..=2 => _ = cache.open(name, n),
+        3 => _ = cache.close(&name),
+        4 => _ = cache.close_with(&name, |_, _| assert!(any(9) != 8)),
+        5..=14 => _ = cache.put(&name, Key::new(n), n / 3),
+        15 => _ = cache.put_full(&name, Key::new(n), n / 3, |_, _| assert!(any(9) != 8)),
+        16 => _ = cache.get_or_put(&name, Key::new(n), || n / 3),
+        17 => _ = cache.remove(&name, &Key::new(n)),
+        18 => _ = cache.set_budget_with(&name, n, |_, _| assert!(any(9) != 8)),
+        19 => _ = cache.clear(&name),
+        20 => _ = cache.set_total_limit((n > 5).then_some(n * 3)),
+        _ => _ = cache.get(&name, &Key::new(n)),
+    }
+}
+
+#[test]
+fn tenants_with_names_and_keys_that_lie() {
+    std::panic::set_hook(Box::new(|_| {}));
+    for seed in 1..300u64 {
+        let (mut state, mut cache) = (seed, Tenants::new());
+        for _ in 0..300 {
+            let (kind, name, n) = (next(&mut state, 25), next(&mut state, 5), next(&mut state, 40));
+            lying(state, || serve(&mut cache, kind, name, n));
+            assert_eq!(cache.names().count(), cache.len());
+        }
+    }
+}
+
+/// Inserts into the list of a tenant, newest first, whose values are a third of their keys.
+fn put(list: &mut Vec<u64>, budget: u64, n: u64) {
+    list.retain(|key| *key != n);
+    if n / 3 <= budget {
+        list.insert(0, n);
+    }
+    trim(list, budget);
+}
+
+fn trim(list: &mut Vec<u64>, budget: u64) {
+    while list.iter().map(|key| key / 3).sum::<u64>() > budget {
+        list.pop();
+    }
+}
+
+#[test]
+fn tenants_are_lists() {
+    for seed in 1..100u64 {
+        let (mut state, mut cache) = (seed, Tenants::new());
+        let mut lists = BTreeMap::<u64, (u64, Vec<u64>)>::new();
+        for _ in 0..500 {
+            let (kind, name, n) = (next(&mut state, 20), next(&mut state, 5), next(&mut state, 40));
+            serve(&mut cache, kind, name, n);
+            match (kind, lists.get_mut(&name)) {
+                (0..=2, None) => _ = lists.insert(name, (n, Vec::new())),
+                (3..=4, _) => _ = lists.remove(&name),
+                (16, Some((_, list))) if list.contains(&n) => {
+                    list.retain(|key| *key != n);
+                    list.insert(0, n);
+                }
+                (5..=16, Some((budget, list))) => put(list, *budget, n),
+                (17, Some((_, list))) => list.retain(|key| *key != n),
+                (18, Some((budget, list))) => {
+                    *budget = n;
+                    trim(list, n);
+                }
+                (19, Some((_, list))) => list.clear(),
+                _ => {}
+            }
+            for (name, (budget, list)) in &lists {
+                let name = Key::new(*name);
+                let cost = list.iter().map(|key| key / 3).sum();
+                assert_eq!((cache.budget(&name), cache.cost(&name)), (Ok(*budget), Ok(cost)), "seed {seed}");
+                assert_eq!(cache.entries(&name), Ok(list.len()));
+                assert!(list.iter().all(|key| cache.peek(&name, &Key::new(*key)) == Ok(Some(&(key / 3)))));
+            }
+            assert_eq!(cache.len(), lists.len());
+        }
+        drop(cache);
+        assert_eq!(LIVE.get(), 0, "seed {seed}");
+    }
+}

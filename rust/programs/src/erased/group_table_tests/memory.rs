@@ -1,0 +1,50 @@
+// Erased from crates/group_table_tests/src/memory.rt: do not edit.
+//! Memory that tables give back, which no clause says. All other memory is taken, so calls that lose a block run out of
+//! memory before long.
+#[allow(unused_imports)]
+use crate::rattle_std::prelude::*;
+
+use super::tables::{fill, is_copied, move_once, table_of};
+use crate::programs::test_helpers::{Hog, check};
+use crate::rattle_std::alloc::{AllocError, Global};
+use crate::rattle_std::test::Fail;
+
+// The only memory that is left. A cycle of calls that loses 16 bytes uses it up within the cycles.
+const SPARE: usize = 1 << 16;
+
+const CYCLES: u32 = 5000;
+
+// Copies a full table of 8 buckets, also with the copy of its last entry refused, moves it up, within its buckets and
+// down, and gives its buckets back when it is cleared. Another table is dropped with its entries. Returns whether the
+// copies were made and refused.
+fn cycle(alloc: Global) -> Result<bool, AllocError> {
+    let mut table = table_of(alloc, 8)?;
+    fill(&mut table, 1, 0);
+    let are_copied = is_copied(&table, 7) && !is_copied(&table, 6);
+    for buckets in [16, 16, 8] {
+        move_once(&mut table, buckets)?;
+    }
+    let mut other = table_of(alloc, 8)?;
+    fill(&mut other, 1, 0);
+    table.clear();
+    for buckets in [16, 0] {
+        move_once(&mut table, buckets)?;
+    }
+    Ok(are_copied)
+}
+
+#[test]
+fn memory_is_given_back() {
+    let run = |rt: HostRuntime| -> Result<(), Fail> {
+        let mut hog = Hog::new(rt.alloc(), &[SPARE])?;
+        hog.release();
+        let mut made = 0u32;
+        for _ in 0..CYCLES {
+            made = made.wrapping_add((cycle(rt.alloc()) == Ok(true)) as u32);
+        }
+        drop(hog);
+        check!(rt; made == CYCLES);
+        Ok(())
+    };
+    run(HostRuntime).passes();
+}

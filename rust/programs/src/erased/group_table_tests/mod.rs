@@ -1,0 +1,16 @@
+// Erased from crates/group_table_tests/src/lib.rt: do not edit.
+//! Tests of what no clause of `group_table` says, through its public calls.
+
+#[allow(unused_imports)]
+use crate::rattle_std::prelude::*;
+
+#[cfg(test)]
+mod drops;
+#[cfg(test)]
+mod examples;
+#[cfg(test)]
+mod memory;
+#[cfg(test)]
+mod relocations;
+#[cfg(test)]
+mod tables;

@@ -1,0 +1,108 @@
+// Erased from crates/group_table_tests/src/relocations.rt: do not edit.
+//! Relocations and rehashes, compared with the rules of docs/TABLE.md, and how many requests they make.
+#[allow(unused_imports)]
+use crate::rattle_std::prelude::*;
+
+use super::tables::{SCATTERED, fill, is_copied, keys_after, keys_of, move_once, moved, table_of, thin};
+use crate::erased::group_table::{Table, full_capacity};
+use crate::programs::test_helpers::{Hog, check};
+use crate::rattle_std::alloc::{AllocError, Global};
+use crate::rattle_std::cell::Cell;
+use crate::rattle_std::test::Fail;
+
+// Moves all entries into `buckets` buckets. Whether the keys are where the rules have them, and the hash of each entry
+// was asked for once.
+fn moves(alloc: Global, table: &mut Table<u64>, buckets: usize, factor: u64) -> Result<bool, AllocError> {
+    let expected = keys_after(alloc, &keys_of(alloc, table)?, buckets, factor)?;
+    let asked = Cell::new(0usize);
+    moved(table, buckets, factor, &asked)?;
+    Ok(asked.get() == table.len() && keys_of(alloc, table)? == expected)
+}
+
+const SIZES: [usize; 11] = [4, 8, 16, 32, 64, 128, 256, 512, 1024, 2048, 4096];
+
+// Moves the entries of a table into each size and back, and rehashes each size. The table is filled before each move,
+// and then every third bucket is taken. Whether all moves follow the rules.
+fn moves_up_and_down(alloc: Global, table: &mut Table<u64>, factor: u64) -> Result<bool, AllocError> {
+    let mut next = 0;
+    for buckets in SIZES.iter().chain(SIZES.iter().rev()) {
+        for _ in 0..2u32 {
+            next = fill(table, factor, next);
+            thin(table, 3, 0);
+            thin(table, 1, full_capacity(*buckets));
+            if !moves(alloc, table, *buckets, factor)? {
+                return Ok(false);
+            }
+        }
+    }
+    Ok(true)
+}
+
+#[test]
+fn up_and_down() {
+    let run = |rt: HostRuntime| -> Result<(), Fail> {
+        for factor in [0, 1, SCATTERED] {
+            let mut table = table_of(rt.alloc(), 4)?;
+            check!(rt; moves_up_and_down(rt.alloc(), &mut table, factor) == Ok(true));
+        }
+        Ok(())
+    };
+    run(HostRuntime).passes();
+}
+
+// Rehashes, copies and relocates a table of 2^20 buckets. Whether the moves follow the rules.
+fn moves_many(alloc: Global, table: &mut Table<u64>) -> Result<bool, AllocError> {
+    let next = fill(table, SCATTERED, 0);
+    thin(table, 3, 0);
+    fill(table, SCATTERED, next);
+    let is_rehashed = moves(alloc, table, 1 << 20, SCATTERED)? && table.len() == 917_504;
+    let is_copied = is_copied(table, u64::MAX);
+    thin(table, 2, 458_752);
+    let is_relocated = moves(alloc, table, 1 << 19, SCATTERED)? && table.len() == 458_752;
+    Ok(is_rehashed && is_copied && is_relocated)
+}
+
+// A call may run out of memory, so a body that returns an error above some size is proved.
+#[test]
+fn many_buckets() {
+    let run = |rt: HostRuntime| -> Result<(), Fail> {
+        let mut table = table_of(rt.alloc(), 1 << 20)?;
+        check!(rt; moves_many(rt.alloc(), &mut table) == Ok(true));
+        Ok(())
+    };
+    run(HostRuntime).passes();
+}
+
+// Tries a move, with one more request met each time, until it succeeds. Returns how often it was refused.
+fn refusals(alloc: Global, table: &mut Table<u64>, buckets: usize, requests: &[usize]) -> Result<usize, AllocError> {
+    let mut refused = 0usize;
+    let mut hog = Hog::new(alloc, requests)?;
+    for _ in 0..=requests.len() {
+        if move_once(table, buckets).is_ok() {
+            break;
+        }
+        refused = refused.wrapping_add(1);
+        hog.release();
+    }
+    // If memory has no end, nothing is refused.
+    Ok(if hog.took_all() { refused } else { requests.len() })
+}
+
+#[test]
+fn each_request_is_refused() {
+    let run = |rt: HostRuntime| -> Result<(), Fail> {
+        // The buckets, the entries that are left of a full table, the buckets to which they are moved, and the requests:
+        // entries and control bytes of 16 buckets, and links if there are entries; for a rehash links and control bytes.
+        let rows: [(usize, usize, usize, &[usize]); 4] =
+            [(8, 7, 16, &[128, 32, 32]), (8, 0, 16, &[128, 32]), (8, 7, 8, &[32, 24]), (32, 14, 32, &[128, 48])];
+        for (buckets, left, to, requests) in rows {
+            let mut table = table_of(rt.alloc(), buckets)?;
+            fill(&mut table, 0, 0);
+            thin(&mut table, 1, left);
+            check!(rt; refusals(rt.alloc(), &mut table, to, requests) == Ok(requests.len()));
+            check!(rt; (table.buckets(), table.len()) == (to, left));
+        }
+        Ok(())
+    };
+    run(HostRuntime).passes();
+}

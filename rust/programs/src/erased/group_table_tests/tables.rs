@@ -1,0 +1,147 @@
+// Erased from crates/group_table_tests/src/tables.rt: do not edit.
+//! Tables to be tested, and the rules of docs/TABLE.md over a list with the key of each bucket.
+#[allow(unused_imports)]
+use crate::rattle_std::prelude::*;
+
+use crate::erased::group_table::{Table, buckets_for_capacity, full_capacity};
+use crate::rattle_std::alloc::{AllocError, Global};
+use crate::rattle_std::cell::Cell;
+use crate::rattle_std::mem;
+
+// More buckets than a test uses.
+const MOST: usize = 1 << 21;
+
+/// A factor for scattered hashes. The hashes of factor 0 are all equal, and those of factor 1 count up.
+pub(super) const SCATTERED: u64 = 0x9e37_79b9_7f4a_7c15;
+
+pub(super) fn hash_of(factor: u64, key: u64) -> u64 {
+    key.wrapping_mul(factor).wrapping_add(0x1234_5678_9abc_def0)
+}
+
+/// Returns an empty table of 0 buckets, or of a power of two from 4 on.
+pub(super) fn table_of<T>(alloc: Global, buckets: usize) -> Result<Table<T>, AllocError> {
+    match buckets_for_capacity(full_capacity(buckets), MOST) {
+        Some(count) => Table::with_buckets(alloc, count),
+        None => Ok(Table::new(alloc)),
+    }
+}
+
+/// Inserts the keys from `next` on until the table rejects one, which it returns.
+pub(super) fn fill(table: &mut Table<u64>, factor: u64, next: u64) -> u64 {
+    for key in next..u64::MAX {
+        if table.try_place(hash_of(factor, key), key).is_err() {
+            return key;
+        }
+    }
+    u64::MAX
+}
+
+/// Takes the entry of each bucket whose number is a multiple of `step`, until `left` entries are left.
+pub(super) fn thin(table: &mut Table<u64>, step: usize, left: usize) {
+    for b in 0..table.buckets() {
+        if b % step.max(1) == 0 && table.len() > left && table.is_full(b) {
+            table.take(b);
+        }
+    }
+}
+
+/// Moves all entries into `buckets` buckets, or rehashes the table if it has as many. Counts the hashes that are asked
+/// for.
+pub(super) fn moved(
+    table: &mut Table<u64>,
+    buckets: usize,
+    factor: u64,
+    asked: &Cell<usize>,
+) -> Result<Vec<u32>, AllocError> {
+    let hash = |key: &u64| {
+        asked.set(asked.get().wrapping_add(1));
+        hash_of(factor, *key)
+    };
+    let count = buckets_for_capacity(full_capacity(buckets), MOST).unwrap_or(0);
+    if count == table.buckets() && count < MOST {
+        return table.rehash(hash);
+    }
+    if count < MOST && table.len() <= full_capacity(count) {
+        return table.relocate(count, hash);
+    }
+    Err(AllocError)
+}
+
+/// Moves all entries as `moved` does.
+pub(super) fn move_once(table: &mut Table<u64>, buckets: usize) -> Result<(), AllocError> {
+    drop(moved(table, buckets, 1, &Cell::new(0))?);
+    Ok(())
+}
+
+/// Returns whether the table is copied, if the copy of this key is refused.
+pub(super) fn is_copied(table: &Table<u64>, refused: u64) -> bool {
+    let copy = table.clone_with(|key| if *key == refused { Err(AllocError) } else { Ok(*key) });
+    copy.is_ok()
+}
+
+pub(super) fn keys_of(alloc: Global, table: &Table<u64>) -> Result<Vec<Option<u64>>, AllocError> {
+    let mut keys = Vec::new(alloc);
+    for b in 0..table.buckets() {
+        let is_full = table.is_full(b);
+        keys.push(if is_full { Some(*table.get(b)) } else { None })?;
+    }
+    Ok(keys)
+}
+
+/// Returns the first free bucket in the order of a search for this hash.
+pub(super) fn first_free(keys: &[Option<u64>], hash: u64) -> Option<usize> {
+    let mask = keys.len().wrapping_sub(1);
+    let mut start = hash as usize;
+    for group in 1..=keys.len() {
+        for lane in 0..16usize {
+            let b = start.wrapping_add(lane) & mask;
+            if keys.get(b) == Some(&None) {
+                return Some(b);
+            }
+        }
+        start = start.wrapping_add(group.wrapping_mul(16));
+    }
+    None
+}
+
+/// Writes the key of a bucket, and returns the key before.
+pub(super) fn exchange(keys: &mut [Option<u64>], b: usize, key: Option<u64>) -> Option<u64> {
+    match keys.get_mut(b) {
+        Some(place) => mem::replace(place, key),
+        None => None,
+    }
+}
+
+/// Returns the keys after a relocation into `buckets` buckets, or after a rehash if there are as many now.
+///
+/// The old buckets are gone through in their order, and each key goes into the first free bucket. In a rehash a key
+/// stays if its search reads its bucket among the first 16, and a bucket whose key waits counts as free: that key comes
+/// next.
+pub(super) fn keys_after(
+    alloc: Global,
+    old: &[Option<u64>],
+    buckets: usize,
+    factor: u64,
+) -> Result<Vec<Option<u64>>, AllocError> {
+    let is_rehash = old.len() == buckets;
+    let mut waiting = Vec::from_slice(alloc, old)?;
+    let mut keys = vec![in alloc; None; buckets]?;
+    for b in 0..old.len() {
+        let mut next = exchange(&mut waiting, b, None);
+        for turn in 0..old.len() {
+            let Some(key) = next else {
+                break;
+            };
+            let hash = hash_of(factor, key);
+            let from_start = b.wrapping_sub(hash as usize) & buckets.wrapping_sub(1);
+            let mut to = first_free(&keys, hash).unwrap_or(buckets);
+            if is_rehash && turn == 0 && from_start < 16 {
+                to = b;
+            }
+            exchange(&mut keys, to, next);
+            let waits_at = if is_rehash { to } else { usize::MAX };
+            next = exchange(&mut waiting, waits_at, None);
+        }
+    }
+    Ok(keys)
+}

@@ -1,0 +1,28 @@
+// Erased from crates/lru_caches_tests/src/callers.rt: do not edit.
+//! Callers whose own contracts rest on those of a page cache and of an ordered map.
+
+#[allow(unused_imports)]
+use crate::rattle_std::prelude::*;
+
+use crate::erased::lru_caches::{BlockDevice, OrderedMap, PageCache, PageError};
+
+/// Copies a block to another number. If it fails, no block has changed.
+pub fn copy_block<D: BlockDevice<u64>>(
+    cache: &mut PageCache<u64, D>,
+    from: u64,
+    to: u64,
+) -> Result<(), PageError<D::Error>> {
+    let block = cache.read(from)?;
+    cache.write(to, block)
+}
+
+/// Writes a value under a key that is there, and returns whether it is. The order stays.
+pub fn overwrite(map: &mut OrderedMap<u64, u64>, key: u64, value: u64) -> bool {
+    match map.get_mut(&key) {
+        Some(place) => {
+            *place = value;
+            true
+        }
+        None => false,
+    }
+}

@@ -1,0 +1,14 @@
+// Erased from crates/lru_caches_tests/src/lib.rt: do not edit.
+//! Tests of what no clause of `lru_caches` says, through its public calls.
+
+#[allow(unused_imports)]
+use crate::rattle_std::prelude::*;
+
+#[cfg(test)]
+mod callers;
+#[cfg(test)]
+mod disk;
+#[cfg(test)]
+mod examples;
+#[cfg(test)]
+mod trials;

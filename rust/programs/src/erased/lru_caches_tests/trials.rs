@@ -1,0 +1,67 @@
+// Erased from crates/lru_caches_tests/src/trials.rt: do not edit.
+//! What no contract says: how often functions and devices are called, that calls find memory unless a request for it is
+//! refused, and that caches give their memory back.
+#[allow(unused_imports)]
+use crate::rattle_std::prelude::*;
+
+mod memory;
+mod memos;
+mod pages;
+mod recursion;
+
+use crate::erased::lru_caches::OrderedMap;
+use crate::programs::test_helpers::check;
+
+#[test]
+fn functions_are_called_if_a_result_is_not_stored() {
+    let run = |rt: HostRuntime| -> () {
+        check!(rt; memos::calls_that_agree(rt.alloc()) == memos::CALLS);
+        check!(rt; recursion::answers(rt.alloc()) == 1);
+    };
+    run(HostRuntime).passes();
+}
+
+/// No insert into an ordered map fails above some number of keys.
+#[test]
+fn an_ordered_map_of_many_keys() {
+    let run = |rt: HostRuntime| -> () {
+        let mut map = OrderedMap::new(rt.alloc());
+        for key in 0..100_000u64 {
+            check!(rt; map.insert(key, key) == Ok(None));
+        }
+    };
+    run(HostRuntime).passes();
+}
+
+/// A page cache and an ordered map run out of memory exactly if a request of a growth is refused: the first, the second,
+/// the third, or none.
+#[test]
+fn growths_without_memory() {
+    let run = |rt: HostRuntime| -> () {
+        for met in 0..=3usize {
+            check!(rt; memory::grows_if_met(rt.alloc(), met));
+        }
+    };
+    run(HostRuntime).passes();
+}
+
+#[test]
+fn nothing_leaks() {
+    let run = |rt: HostRuntime| -> () {
+        check!(rt; memory::references(rt.alloc()) == [1, 3, 3, 3, 1]);
+        check!(rt; memory::caches_that_find_memory(rt.alloc()) == 1000);
+    };
+    run(HostRuntime).passes();
+}
+
+/// A disk that fails at each call that the lists need, and again after as many more, and a disk that stays broken.
+#[test]
+fn a_disk_that_fails_loses_no_write() {
+    let run = |rt: HostRuntime| -> () {
+        for stays_broken in [false, true] {
+            let (tried, kept) = pages::runs_that_lose_nothing(rt.alloc(), stays_broken);
+            check!(rt; (tried, kept) == (pages::NEEDED, pages::NEEDED));
+        }
+    };
+    run(HostRuntime).passes();
+}

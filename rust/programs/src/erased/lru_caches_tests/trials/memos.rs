@@ -1,0 +1,86 @@
+// Erased from crates/lru_caches_tests/src/trials/memos.rt: do not edit.
+//! A memo and a loader, compared with a list of the keys whose results they remember.
+
+#[allow(unused_imports)]
+use crate::rattle_std::prelude::*;
+
+use crate::erased::lru_caches::{Loader, Memo};
+use crate::erased::schnellru::ByLength;
+use crate::programs::test_helpers::{Hog, Random};
+use crate::rattle_std::alloc::Global;
+use crate::rattle_std::cell::Cell;
+
+/// How many calls are compared.
+pub const CALLS: u64 = 100_000;
+
+/// How many results the memos and the loaders remember.
+const LENGTHS: [u32; 10] = [0, 1, 2, 3, 5, 8, 19, 60, 99, 100];
+
+/// The last key whose result can be loaded.
+const KEYS: u64 = 150;
+
+// Moves a key to the front of the places that are used, and returns whether it was there. Unused places have a key that
+// no call has.
+fn use_key(keys: &mut [u64; 100], length: u32, key: u64) -> bool {
+    let mut carried = key;
+    for place in keys.iter_mut().take(length as usize) {
+        let old = *place;
+        *place = carried;
+        carried = old;
+        if old == key {
+            return true;
+        }
+    }
+    false
+}
+
+// Asks the memo and the loader for random keys, and the loader also for keys whose results it cannot load. Returns how
+// often the number of calls is right: one for the failure, and one more for each result that is not stored.
+fn count<F: Fn(u64) -> u64, G: Fn(u64) -> Result<u64, u64>>(
+    mut memo: Memo<u64, u64, F, ByLength>,
+    mut loader: Loader<u64, u64, G, ByLength>,
+    calls: &Cell<u64>,
+    length: u32,
+) -> u64 {
+    let (mut keys, mut random, mut count) = ([u64::MAX; 100], Random::new(3), 0u64);
+    for _ in 0..CALLS / LENGTHS.len() as u64 {
+        let key = random.below(KEYS).wrapping_add(1);
+        calls.set(0);
+        memo.answer(key);
+        let _ = loader.load(key);
+        let _ = loader.load(key.wrapping_add(KEYS));
+        let is_stored = use_key(&mut keys, length, key);
+        let expected = (!is_stored as u64).wrapping_mul(2).wrapping_add(1);
+        count = count.saturating_add((calls.get() == expected) as u64);
+    }
+    count
+}
+
+/// Returns how many random calls agree. Before these, each memo and loader is asked for a key that no other call has,
+/// without memory, and stores nothing. If memory has no end, they may store the result.
+pub fn calls_that_agree(alloc: Global) -> u64 {
+    let mut sum = 0u64;
+    for length in LENGTHS {
+        let calls = Cell::new(0u64);
+        let mut memo = Memo::new(alloc, ByLength::new(length), |n: u64| {
+            calls.set(calls.get().saturating_add(1));
+            n
+        });
+        let mut loader = Loader::new(alloc, ByLength::new(length), |n: u64| {
+            calls.set(calls.get().saturating_add(1));
+            if n <= KEYS { Ok(n) } else { Err(n) }
+        });
+        let hog = Hog::new(alloc, &[]);
+        let (answer, loaded) = (memo.answer(0), loader.load(0));
+        let is_empty = memo.len() == 0 && loader.len() == 0;
+        let took_all = match &hog {
+            Ok(hog) => hog.took_all(),
+            Err(_) => true,
+        };
+        drop(hog);
+        if answer == 0 && loaded == Ok(0) && (is_empty || !took_all) {
+            sum = sum.saturating_add(count(memo, loader, &calls, length));
+        }
+    }
+    sum
+}

@@ -1,0 +1,100 @@
+// Erased from crates/lru_caches_tests/src/trials/pages.rt: do not edit.
+//! A page cache whose disk fails at each of its calls in turn, compared with an array of blocks.
+#[allow(unused_imports)]
+use crate::rattle_std::prelude::*;
+
+use crate::erased::lru_caches::{PageCache, Unclosed};
+use crate::programs::lru_caches_tests::disk::Disk;
+use crate::programs::test_helpers::Random;
+use crate::rattle_std::alloc::Global;
+use crate::rattle_std::cell::Cell;
+
+/// The number of calls of a list.
+const LENGTH: u64 = 100;
+
+/// The caches have fewer pages than this.
+const CAPACITIES: usize = 6;
+
+/// A list needs fewer calls of the disk than this.
+const MOST: u64 = 80;
+
+/// How many calls of the disk the lists need together, from another program.
+pub const NEEDED: u64 = 310;
+
+/// A number of calls that is left of a disk that works. No test makes this number of calls.
+const WORKS: u64 = 1 << 60;
+
+type Cache<'a> = PageCache<u64, Disk<'a>>;
+
+type Blocks = [u64; 4];
+
+// Makes a random call on both: a read, also of a block that the disk lacks, a write, or a flush. Returns whether they
+// agree: the call fails exactly if the disk fails or lacks the block, and changes no block then.
+fn agree(cache: &mut Cache, model: &mut Blocks, random: &mut Random) -> bool {
+    let (kind, n) = (random.below(8), random.below(5));
+    if kind < 3 {
+        let shown = cache.read(n).ok();
+        let failed = cache.device().calls_left.get() > WORKS;
+        return shown == if failed { None } else { model.get(n as usize).copied() };
+    }
+    if kind < 7 {
+        let (n, block) = (n % 4, random.below(1000));
+        let is_written = cache.write(n, block).is_ok();
+        if is_written {
+            (*at_mut!(model, n as usize)) = block;
+        }
+        return is_written == (cache.device().calls_left.get() <= WORKS);
+    }
+    let is_flushed = cache.flush().is_ok();
+    let failed = cache.device().calls_left.get() > WORKS;
+    is_flushed != failed && (failed || cache.device().blocks == *model)
+}
+
+// Whether a cache whose disk works shows these blocks.
+fn shows(cache: &mut Cache, model: &Blocks) -> bool {
+    let mut right = true;
+    for n in 0..4usize {
+        right = cache.read(n as u64).ok() == Some((*at!(model, n))) && right;
+    }
+    right
+}
+
+// Makes a list of calls on a cache whose disk fails after k calls. If it stays broken, it also fails at all calls that
+// follow, and else after k more. Returns whether the disk failed, and whether no result is wrong and no write is lost.
+fn run(alloc: Global, capacity: usize, k: u64, stays_broken: bool) -> (bool, bool) {
+    let (calls_left, mut model) = (Cell::new(k), [10, 11, 12, 13]);
+    let disk = Disk { blocks: model, calls_left: &calls_left };
+    let mut cache = PageCache::new(alloc, disk, capacity);
+    let (mut random, mut failed, mut right) = (Random::new(7), false, true);
+    for _ in 0..LENGTH {
+        right = agree(&mut cache, &mut model, &mut random) && right;
+        if calls_left.get() > WORKS {
+            failed = true;
+            calls_left.set(WORKS);
+            right = (stays_broken || shows(&mut cache, &model)) && right;
+            calls_left.set(if stays_broken { 0 } else { k });
+        }
+    }
+    // If the disk is broken, a close fails and returns the cache.
+    let mut cache = match cache.close() {
+        Ok(disk) => PageCache::new(alloc, disk, capacity),
+        Err(Unclosed { cache, error: _ }) => cache,
+    };
+    failed = failed || calls_left.get() > WORKS;
+    calls_left.set(WORKS);
+    right = shows(&mut cache, &model) && cache.flush().is_ok() && right;
+    (failed, cache.discard().blocks == model && right)
+}
+
+/// Returns at how many calls of the disk a failure was tried, and how many of these runs lost nothing.
+pub fn runs_that_lose_nothing(alloc: Global, stays_broken: bool) -> (u64, u64) {
+    let (mut tried, mut kept) = (0u64, 0u64);
+    for capacity in 0..CAPACITIES {
+        for k in 0..MOST {
+            let (failed, is_right) = run(alloc, capacity, k, stays_broken);
+            tried = tried.saturating_add(failed as u64);
+            kept = kept.saturating_add((failed && is_right) as u64);
+        }
+    }
+    (tried, kept)
+}

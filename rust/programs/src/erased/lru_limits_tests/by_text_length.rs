@@ -1,0 +1,90 @@
+// Erased from crates/lru_limits_tests/src/by_text_length.rt: do not edit.
+//! A limiter of your own with a running total: by the length of the texts that are the values of a map.
+//! `docs/LIMITERS.md` explains it.
+
+#[allow(unused_imports)]
+use crate::rattle_std::prelude::*;
+
+use crate::erased::lru_limits::{Insertion, Limiter, LookupKey, Summing};
+use crate::rattle_std::alloc::{AllocError, Global};
+use crate::rattle_std::hash::Hash;
+
+/// Limits the bytes of all texts together. It rejects a text that is longer than the limit by itself.
+#[derive(Clone, Copy, Debug)]
+pub struct ByTextLength {
+    pub limit: u64,
+    pub total: u64,
+}
+
+impl ByTextLength {
+    /// Returns the total with a text of `bytes` bytes, if the text is within the limit and the total fits.
+    fn total_with(&self, total: u64, bytes: u64) -> Option<u64> {
+        if bytes <= self.limit { total.checked_add(bytes) } else { None }
+    }
+}
+
+impl<K> Limiter<K, String> for ByTextLength {
+    type LinkType = u32;
+
+    fn is_over_the_limit(&self, _length: usize) -> bool {
+        self.total > self.limit
+    }
+
+    fn on_removed(&mut self, _key: &mut K, value: &mut String) {
+        self.total = self.total.saturating_sub(value.len() as u64);
+    }
+
+    fn on_cleared(&mut self) {
+        self.total = 0;
+    }
+
+    fn on_grow(&mut self, _new_memory_usage: usize) -> bool {
+        true
+    }
+}
+
+impl<K: Eq + Hash> Insertion<K, String, K> for ByTextLength {
+    fn on_insert(
+        &mut self,
+        _alloc: Global,
+        _length: usize,
+        key: K,
+        value: String,
+    ) -> Result<Option<(K, String)>, AllocError> {
+        match self.total_with(self.total, value.len() as u64) {
+            Some(total) => {
+                self.total = total;
+                Ok(Some((key, value)))
+            }
+            None => Ok(None),
+        }
+    }
+
+    fn on_replace(
+        &mut self,
+        _length: usize,
+        _old_key: &mut K,
+        _new_key: K,
+        old_value: &mut String,
+        new_value: &mut String,
+    ) -> bool {
+        let without_old = self.total.saturating_sub(old_value.len() as u64);
+        match self.total_with(without_old, new_value.len() as u64) {
+            Some(total) => {
+                self.total = total;
+                true
+            }
+            None => false,
+        }
+    }
+}
+
+impl<K: Eq + Hash> Summing<K, String, K> for ByTextLength {
+    fn cost_of(_key: &K, value: &String) -> u64 {
+        value.len() as u64
+    }
+
+    fn account(&self) -> u64 {
+        self.total
+    }
+}

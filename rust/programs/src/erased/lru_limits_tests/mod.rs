@@ -1,0 +1,24 @@
+// Erased from crates/lru_limits_tests/src/lib.rt: do not edit.
+//! Tests of what no clause of `lru_limits` says, through its public calls.
+
+#[allow(unused_imports)]
+use crate::rattle_std::prelude::*;
+
+#[cfg(test)]
+mod both;
+#[cfg(test)]
+mod bounds;
+#[cfg(test)]
+mod by_text_length;
+#[cfg(test)]
+mod examples;
+#[cfg(test)]
+mod few;
+#[cfg(test)]
+mod limiters;
+#[cfg(test)]
+mod removed_keys;
+#[cfg(test)]
+mod spread;
+#[cfg(test)]
+mod two_fields;

@@ -1,0 +1,83 @@
+// Erased from crates/lru_replay/src/calls/pairs.rt: do not edit.
+//! The calls of a run that return pairs. The memory for these is taken before the map changes.
+
+#[allow(unused_imports)]
+use crate::rattle_std::prelude::*;
+
+use crate::erased::schnellru::{Insertion, KeyHasher, Limiter, LruMap};
+use crate::programs::replay_model::Answer;
+use crate::rattle_std::alloc::Global;
+use crate::rattle_std::hash::Hash;
+
+/// Returns all pairs, newest first.
+pub fn list<K: Copy + Eq + Hash, V: Copy, L: Insertion<K, V, K>, S: KeyHasher<K>>(
+    alloc: Global,
+    map: &LruMap<K, V, L, S>,
+) -> Answer<K, V> {
+    let Ok(mut pairs) = Vec::with_capacity(alloc, map.len()) else {
+        return Answer::Memory;
+    };
+    for (key, value) in map.iter() {
+        pairs.push_reserved((*key, *value));
+    }
+    Answer::Pairs(pairs)
+}
+
+/// Returns the answer to an insert, with the pairs that the map loses.
+pub fn insert_with<K: Eq + Hash, V, L: Insertion<K, V, K>, S: KeyHasher<K>>(
+    map: &mut LruMap<K, V, L, S>,
+    key: K,
+    value: V,
+) -> Answer<K, V> {
+    match map.insert_and_keep(key, value) {
+        Ok((done, out)) => Answer::Given { done, out },
+        Err(_) => Answer::Memory,
+    }
+}
+
+/// Takes out `front` of the newest pairs, then `back` of the oldest. The others are dropped.
+pub fn drain_pairs<K: Eq + Hash, V, L: Insertion<K, V, K>, S: KeyHasher<K>>(
+    alloc: Global,
+    map: &mut LruMap<K, V, L, S>,
+    front: usize,
+    back: usize,
+) -> Answer<K, V> {
+    let newest = front.min(map.len());
+    let oldest = back.min(map.len() - newest);
+    let Ok(mut pairs) = Vec::with_capacity(alloc, newest + oldest) else {
+        return Answer::Memory;
+    };
+    take_newest(map, newest, &mut pairs);
+    take_oldest(map, oldest, &mut pairs);
+    map.clear();
+    Answer::Pairs(pairs)
+}
+
+/// Takes out the `count` newest pairs, one after another.
+fn take_newest<K: Eq + Hash, V, L: Limiter<K, V>, S: KeyHasher<K>>(
+    map: &mut LruMap<K, V, L, S>,
+    count: usize,
+    pairs: &mut Vec<(K, V)>,
+) {
+    for _ in 0..count {
+        add(pairs, map.pop_newest());
+    }
+}
+
+/// Takes out the `count` oldest pairs, one after another.
+fn take_oldest<K: Eq + Hash, V, L: Limiter<K, V>, S: KeyHasher<K>>(
+    map: &mut LruMap<K, V, L, S>,
+    count: usize,
+    pairs: &mut Vec<(K, V)>,
+) {
+    for _ in 0..count {
+        add(pairs, map.pop_oldest());
+    }
+}
+
+/// Adds the pair, if there is one.
+fn add<K, V>(pairs: &mut Vec<(K, V)>, pair: Option<(K, V)>) {
+    if let Some(pair) = pair {
+        pairs.push_reserved(pair);
+    }
+}

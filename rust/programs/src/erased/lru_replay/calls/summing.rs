@@ -1,0 +1,81 @@
+// Erased from crates/lru_replay/src/calls/summing.rt: do not edit.
+//! Lists of calls under a limiter with a running total.
+
+#[allow(unused_imports)]
+use crate::rattle_std::prelude::*;
+
+use crate::erased::schnellru::laws::runs_keep_sums;
+use crate::erased::schnellru::{KeyHasher, LruMap, Summing};
+use crate::programs::lru_replay::calls::runs::make_call;
+use crate::programs::replay_model::{Answer, Call};
+use crate::rattle_std::alloc::{AllocError, Global};
+use crate::rattle_std::hash::Hash;
+
+/// Carries out the calls on the map as `run_calls` does, except for those that would make the limiter's total wrong.
+///
+/// A write that would change the cost of its pair, and a setting of a limiter with another total, are answered
+/// `CostDiffers`, and change nothing. So a total that is the sum of the costs is their sum after every call.
+///
+/// ```text
+/// let calls = vec![in alloc; Call::Insert(1, 2), Call::Write(1, 3), Call::Peek(1)]?;
+/// let answers = run_summing(alloc, &mut costs, calls)?;
+/// let refuses = answers.get(1) == Some(&Answer::CostDiffers);
+/// assert!(rt; refuses && answers.get(2) == Some(&Answer::Value(Some(2))));
+/// ```
+///
+/// Cost: as `run_calls`, and one look-up more for each `Write`.
+///
+/// # Errors
+///
+/// `Err` says that there was no memory for the answers. No call was made then.
+pub fn run_summing<K, V, L, S>(
+    alloc: Global,
+    map: &mut LruMap<K, V, L, S>,
+    calls: Vec<Call<K, V, L>>,
+) -> Result<Vec<Answer<K, V>>, AllocError>
+where
+    K: Copy + Eq + Hash,
+    V: Copy,
+    L: Summing<K, V, K>,
+    S: KeyHasher<K>,
+{
+    let mut answers = Vec::with_capacity(alloc, calls.len())?;
+    for call in calls {
+        answers.push_reserved(make_summing_call(alloc, map, call));
+    }
+    Ok(answers)
+}
+
+/// Carries out a call, unless the total would be wrong after it.
+fn make_summing_call<K, V, L, S>(alloc: Global, map: &mut LruMap<K, V, L, S>, call: Call<K, V, L>) -> Answer<K, V>
+where
+    K: Copy + Eq + Hash,
+    V: Copy,
+    L: Summing<K, V, K>,
+    S: KeyHasher<K>,
+{
+    runs_keep_sums::<K, V, K, L, S>();
+    if !keeps_cost(map, &call) {
+        return Answer::CostDiffers;
+    }
+    make_call(alloc, map, call)
+}
+
+/// Returns whether the total is right after the call.
+fn keeps_cost<K, V, L, S>(map: &LruMap<K, V, L, S>, call: &Call<K, V, L>) -> bool
+where
+    K: Eq + Hash,
+    L: Summing<K, V, K>,
+    S: KeyHasher<K>,
+{
+    // Nothing at run time: it shows the proof that what holds of every map holds.
+    let _len = map.len();
+    match call {
+        Call::Write(key, value) => match map.peek_key_value(key) {
+            Some((stored, old)) => L::cost_of(stored, value) == L::cost_of(stored, old),
+            None => true,
+        },
+        Call::SetLimiter(limiter) => limiter.account() == map.limiter().account(),
+        _ => true,
+    }
+}

@@ -1,0 +1,29 @@
+// Erased from crates/lru_replay/src/lines/drain.rt: do not edit.
+//! The line `drain`: pairs are taken out, and written as they go.
+
+#[allow(unused_imports)]
+use crate::rattle_std::prelude::*;
+
+use crate::erased::schnellru::{Insertion, LruMap};
+use crate::programs::replay_model::ReplayError;
+use crate::programs::replay_model::lines::taken::{end_of_pairs, write_taken};
+use crate::rattle_std::io::Write;
+
+/// Takes out at most `most` of the newest pairs, and writes each. Then it drops the others. If a write fails, nothing
+/// more is written, and the map ends as it would have.
+pub fn write_drain<L: Insertion<u64, u64, u64>, W: Write>(
+    writer: &mut W,
+    map: &mut LruMap<u64, u64, L>,
+    most: u64,
+) -> Result<(), ReplayError> {
+    let count = most.min(map.len() as u64);
+    let mut any = false;
+    let mut written = Ok(());
+    for _ in 0..count {
+        let taken = map.pop_newest();
+        written = write_taken(writer, written, any, taken);
+        any = any | taken.is_some();
+    }
+    map.clear();
+    end_of_pairs(writer, written, any)
+}

@@ -1,0 +1,62 @@
+// Erased from crates/lru_replay_tests/src/examples.rt: do not edit.
+//! The examples of the documents of `lru_replay`, and the texts and numbers of its errors.
+#[allow(unused_imports)]
+use crate::rattle_std::prelude::*;
+
+use crate::erased::schnellru::{ByCost, ByLength, LruMap};
+use crate::programs::lru_replay::{Answer, Call, ReplayEnd, ReplayError, replay, run_calls, run_summing, status};
+use crate::programs::test_helpers::check;
+use crate::rattle_std::test::Fail;
+
+#[test]
+fn of_lists_of_calls() {
+    let run = |rt: HostRuntime| -> Result<(), Fail> {
+        let alloc = rt.alloc();
+        let mut map: LruMap<u64, u64> = LruMap::new(alloc, ByLength::new(3), [1, 2, 3, 4], 16);
+        let calls = vec![in alloc; Call::Insert(1, 10), Call::Get(1), Call::Peek(2)]?;
+        let answers = run_calls(alloc, &mut map, calls)?;
+        let gives = answers.get(1) == Some(&Answer::Value(Some(10)));
+        check!(rt; gives && answers.get(2) == Some(&Answer::Value(None)));
+        Ok(())
+    };
+    run(HostRuntime).passes();
+}
+
+#[test]
+fn of_summing_lists() {
+    let run = |rt: HostRuntime| -> Result<(), Fail> {
+        let alloc = rt.alloc();
+        let mut costs: LruMap<u64, u64, ByCost> = LruMap::new(alloc, ByCost::new(10), [1, 2, 3, 4], 16);
+        let calls = vec![in alloc; Call::Insert(1, 2), Call::Write(1, 3), Call::Peek(1)]?;
+        let answers = run_summing(alloc, &mut costs, calls)?;
+        let refuses = answers.get(1) == Some(&Answer::CostDiffers);
+        check!(rt; refuses && answers.get(2) == Some(&Answer::Value(Some(2))));
+        Ok(())
+    };
+    run(HostRuntime).passes();
+}
+
+#[test]
+fn of_errors() {
+    let run = |rt: HostRuntime| -> Result<(), Fail> {
+        let (read, write) = (ReplayError::Read, ReplayError::Write);
+        let text = format!(in rt.alloc(); "{read}, {write}")?;
+        check!(rt; text.as_str() == "read failed, write failed");
+        check!(rt; status(&Ok(ReplayEnd::NoLimiter)) == 1);
+        check!(rt; (read as u8, write as u8) == (1, 2));
+        Ok(())
+    };
+    run(HostRuntime).passes();
+}
+
+#[test]
+fn of_a_replay() {
+    let run = |rt: HostRuntime| -> Result<(), Fail> {
+        let mut reader = b"length 1\ninsert 1 10\n".as_slice();
+        let mut writer = Vec::new(rt.alloc());
+        check!(rt; replay(rt.alloc(), &mut reader, &mut writer) == Ok(ReplayEnd::Done));
+        check!(rt; writer.as_slice() == b"true\n".as_slice());
+        Ok(())
+    };
+    run(HostRuntime).passes();
+}

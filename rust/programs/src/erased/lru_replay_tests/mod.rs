@@ -1,0 +1,17 @@
+// Erased from crates/lru_replay_tests/src/lib.rt: do not edit.
+//! Tests of `lru_replay` through its public calls: what no contract says, which is what a run does when it runs out of
+//! memory, and the printed texts. The examples of the documents are tested here too.
+//!
+//! The program `rows` has the worked rows as data, with readers and writers that fail, and random calls.
+
+#[allow(unused_imports)]
+use crate::rattle_std::prelude::*;
+
+#[cfg(test)]
+mod callers;
+#[cfg(test)]
+mod examples;
+#[cfg(test)]
+mod misses;
+#[cfg(test)]
+mod refused;

@@ -1,0 +1,12 @@
+// Erased from crates/lru_tenants_tests/src/callers.rt: do not edit.
+//! A function that calls the cache, with a contract of its own, as docs/TENANTS.md shows it.
+
+#[allow(unused_imports)]
+use crate::rattle_std::prelude::*;
+
+use crate::erased::lru_tenants::{TenantCache, TenantError};
+
+/// Puts a value for one tenant. Every other tenant's map stays as it is.
+fn put_beside(cache: &mut TenantCache<u64, u64, u64>, name: &u64, key: u64, value: u64) -> Result<bool, TenantError> {
+    cache.put(name, key, value)
+}

@@ -1,0 +1,14 @@
+// Erased from crates/lru_tenants_tests/src/lib.rt: do not edit.
+//! Tests of what no clause of `lru_tenants` says, through its public calls.
+
+#[allow(unused_imports)]
+use crate::rattle_std::prelude::*;
+
+#[cfg(test)]
+mod callers;
+#[cfg(test)]
+mod examples;
+#[cfg(test)]
+mod memory;
+#[cfg(test)]
+mod trials;

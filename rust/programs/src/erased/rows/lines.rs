@@ -1,0 +1,109 @@
+// Erased from crates/rows/src/lines.rt: do not edit.
+//! Rows of program lines: each is replayed in one piece, in single bytes, and with each read and each write failing.
+#[allow(unused_imports)]
+use crate::rattle_std::prelude::*;
+
+use crate::programs::lru_replay::{ReplayEnd, ReplayError, replay, status};
+use crate::programs::row_model::{Failure, Narrow, Row, Slow, count_lines, error_at, front_lines};
+use crate::rattle_std::alloc::Global;
+use crate::rattle_std::io::{BufReader, ErrorKind};
+
+/// The longest input whose reads and writes fail in turn.
+const LONGEST_CUT: usize = 2000;
+
+/// How a replay ends.
+type End = Result<ReplayEnd, ReplayError>;
+
+/// Returns the answers to the lines.
+pub fn answers_of(alloc: Global, input: &[u8]) -> Vec<u8> {
+    let mut reader = input;
+    let mut text = Vec::new(alloc);
+    let _ = replay(alloc, &mut reader, &mut text);
+    text
+}
+
+/// Replays the lines of a slice.
+fn replay_all(alloc: Global, reader: &mut &[u8], writer: &mut Narrow) -> End {
+    replay(alloc, reader, writer)
+}
+
+/// Replays the lines of a reader. Returns none if there is no memory for its buffer.
+fn replay_slowly(alloc: Global, slow: Slow, writer: &mut Narrow) -> Option<End> {
+    match BufReader::new(alloc, slow) {
+        Ok(mut reader) => Some(replay(alloc, &mut reader, writer)),
+        Err(_) => None,
+    }
+}
+
+/// The first manner in which a replay of the row does not end as it should, with the number of the read or write.
+pub fn first_fault(alloc: Global, row: &Row) -> Option<(&'static str, usize)> {
+    if !in_pieces(alloc, row) {
+        return Some(("single bytes, or by its status", 0));
+    }
+    let longest = row.input.len().max(row.text.len());
+    // The last read that can fail is the one that meets the end of the input.
+    let tried = if row.input.len() > LONGEST_CUT { 2 } else { longest };
+    for at in 0..=tried {
+        if !with_failing_flush(alloc, row, at) {
+            return Some(("a failing flush", at));
+        }
+        if at <= row.input.len() && !with_failing_read(alloc, row, at) {
+            return Some(("a failing read", at));
+        }
+        if at < row.text.len() && !with_failing_write(alloc, row, at) {
+            return Some(("a failing write", at));
+        }
+    }
+    None
+}
+
+/// Whether the replay ends with the status and the text of the row, however the input is cut, and flushes once. One
+/// read is interrupted, and a thousand writes are, one after another.
+fn in_pieces(alloc: Global, row: &Row) -> bool {
+    let slow = Slow::new(row.input.as_slice(), 1).failing(3, ErrorKind::Interrupted);
+    let interrupted = Failure::Error(ErrorKind::Interrupted);
+    let mut writer = Narrow::new(alloc, 1).failing(3, 1000, interrupted);
+    let Some(end) = replay_slowly(alloc, slow, &mut writer) else {
+        return false;
+    };
+    status(&end) == row.status && writer.has(row.text.as_slice(), 1)
+}
+
+/// Whether a flush that fails is reported after the whole text.
+fn with_failing_flush(alloc: Global, row: &Row, at: usize) -> bool {
+    let mut reader = row.input.as_slice();
+    let mut writer = Narrow::new(alloc, 100);
+    writer.flush_fails = Some(error_at(at));
+    let end = replay_all(alloc, &mut reader, &mut writer);
+    end == Err(ReplayError::Write) && writer.has(row.text.as_slice(), 1)
+}
+
+/// Whether the lines that were read whole are answered, if a read of single bytes fails. If the first of them names no
+/// limiter, no later read is made.
+fn with_failing_read(alloc: Global, row: &Row, at: usize) -> bool {
+    let input = row.input.as_slice();
+    let slow = Slow::new(input, 1).failing(at, error_at(at));
+    let mut writer = Narrow::new(alloc, 100);
+    let end = replay_slowly(alloc, slow, &mut writer);
+    let lines = count_lines(&(*at!(input, ..at.min(input.len()))));
+    if lines > 0 && row.status == 1 {
+        return end == Some(Ok(ReplayEnd::NoLimiter)) && writer.has(row.text.as_slice(), 1);
+    }
+    let text = front_lines(row.text.as_slice(), lines.saturating_sub(1));
+    end == Some(Err(ReplayError::Read)) && writer.has(text, 1)
+}
+
+/// Whether the front of the text is written, no line is read after the one that is answered, and nothing is flushed, if
+/// a write fails, of a writer that takes single bytes. One write in four takes no bytes, and the others fail with an
+/// error.
+fn with_failing_write(alloc: Global, row: &Row, at: usize) -> bool {
+    let failure = if at % 4 == 0 { Failure::NoBytes } else { Failure::Error(error_at(at)) };
+    let mut reader = row.input.as_slice();
+    let mut writer = Narrow::new(alloc, 1).failing(at, 1, failure);
+    let end = replay_all(alloc, &mut reader, &mut writer);
+    let text = &(*at!(row.text.as_slice(), ..at.min(row.text.len())));
+    let first = if row.status == 1 { 1 } else { 2 };
+    let lines = front_lines(row.input.as_slice(), count_lines(text).saturating_add(first));
+    let is_read = lines.len().saturating_add(reader.len()) == row.input.len();
+    end == Err(ReplayError::Write) && writer.has(text, 0) && is_read
+}

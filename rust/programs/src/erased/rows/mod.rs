@@ -1,0 +1,102 @@
+// Erased from crates/rows/src/main.rt: do not edit.
+//! Runs the rows of data files, and rows of random calls. `docs/ROWS.md` has their form.
+
+#[allow(unused_imports)]
+use crate::rattle_std::prelude::*;
+
+mod lines;
+mod maps;
+
+use crate::programs::row_model::{Bounds, Limit, Row, Trial, agrees};
+use crate::rattle_std::alloc::Global;
+use crate::rattle_std::{env, fs, io};
+
+/// How many random calls are tried under each limit.
+const CALLS: u64 = 400_000;
+
+/// The first lines of the rows of random calls.
+const FIRST_LINES: [&str; 8] = [
+    "length 150",
+    "memory 288 16",
+    "cost 4000",
+    "compact",
+    "map length 150 hash sum",
+    "map memory 288 hash sum",
+    "map summing cost 4000 hash sum",
+    "map compact hash sum",
+];
+
+/// How random calls are chosen, in the order of these lines.
+const BOUNDS: [Bounds; 4] = [
+    Bounds { limit: Limit::Length(150), keys: 400, values: 1000 },
+    Bounds { limit: Limit::Memory(288, 16), keys: 40, values: 1000 },
+    Bounds { limit: Limit::Cost(4000), keys: 300, values: 60 },
+    Bounds { limit: Limit::Unlimited, keys: 4000, values: 1000 },
+];
+
+/// The answers to a row, whose first line may name a map.
+fn answers_of(alloc: Global, input: &[u8]) -> Vec<u8> {
+    if input.starts_with(b"map ") {
+        maps::answers_of(alloc, str::from_utf8(input).unwrap_or("")).into_vec()
+    } else {
+        lines::answers_of(alloc, input)
+    }
+}
+
+/// Checks the row, prints the first difference, and returns whether there is none.
+fn holds(rt: &HostRuntime, row: &Row) -> io::Result<bool> {
+    let text = answers_of(rt.alloc(), row.input.as_slice());
+    if !agrees(rt, row.name, text.as_slice(), row.text.as_slice())? {
+        return Ok(false);
+    }
+    if row.input.starts_with(b"map ") {
+        return Ok(true);
+    }
+    let Some((manner, at)) = lines::first_fault(rt.alloc(), row) else {
+        return Ok(true);
+    };
+    println!(rt; "row {}: differs with {manner}, at {at}", row.name)?;
+    Ok(false)
+}
+
+/// Checks the rows of a file, and returns how many hold and how many fail. A blank line ends a row.
+fn check_file(rt: &HostRuntime, file: &str) -> io::Result<(u64, u64)> {
+    let text = fs::read_to_string(rt, file)?;
+    let (mut hold, mut fail) = (0u64, 0u64);
+    for lines in text.split("\n\n") {
+        let row = Row::of(rt.alloc(), lines);
+        if row.name.is_empty() && row.text.is_empty() {
+            // Comments alone.
+        } else if holds(rt, &row)? {
+            hold = hold.saturating_add(1);
+        } else {
+            fail = fail.saturating_add(1);
+        }
+    }
+    Ok((hold, fail))
+}
+
+/// Checks a row of random calls, whose answers a plain list gives.
+fn try_calls(rt: &HostRuntime, first: &str, bounds: Bounds) -> io::Result<bool> {
+    let trial = Trial::new(rt.alloc(), first, bounds, CALLS);
+    let answers = answers_of(rt.alloc(), trial.input.as_str().as_bytes());
+    let answers = str::from_utf8(answers.as_slice()).unwrap_or("");
+    let answers = answers.replace_in(rt.alloc(), "kept\n", "ok\n")?;
+    agrees(rt, first, answers.as_str().as_bytes(), trial.text.as_str().as_bytes())
+}
+
+pub(crate) fn main(rt: HostRuntime) -> io::Result<()> {
+    let (mut hold, mut fail) = (0u64, 0u64);
+    for file in env::args(&rt)?.skip(1) {
+        let (good, bad) = check_file(&rt, file.as_str())?;
+        hold = hold.saturating_add(good);
+        fail = fail.saturating_add(bad);
+    }
+    let mut agree = 0u64;
+    for (i, first) in FIRST_LINES.iter().enumerate() {
+        agree = agree.saturating_add(try_calls(&rt, *first, (*at!(BOUNDS, i % 4)))? as u64);
+    }
+    println!(rt;
+        "{hold} rows hold, {fail} fail; {agree} of 8 lists of {CALLS} random calls agree with a plain list"
+    )
+}

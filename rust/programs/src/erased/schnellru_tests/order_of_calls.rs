@@ -1,0 +1,188 @@
+// Erased from crates/schnellru_tests/src/order_of_calls.rt: do not edit.
+//! How often and in which order calls call their limiter and their sink. A contract says what each callback is given, and
+//! not what is called in between: each pair is passed to the sink right after the limiter was notified that it left, and
+//! before the limiter is called again.
+
+#[allow(unused_imports)]
+use crate::rattle_std::prelude::*;
+
+use crate::erased::schnellru::{Insertion, Limiter, LruMap, Storing};
+use crate::programs::map_helpers::{insert_all, map_of};
+use crate::programs::test_helpers::{Counted, Hog, check};
+use crate::rattle_std::alloc::{AllocError, Global};
+use crate::rattle_std::cell::Cell;
+
+/// The calls that are noted, each as a digit.
+const IS_OVER: u64 = 1;
+
+const REMOVED: u64 = 2;
+
+const SINK: u64 = 3;
+
+const INSERT: u64 = 4;
+
+const GROW: u64 = 5;
+
+const REPLACE: u64 = 6;
+
+const CLEARED: u64 = 0;
+
+/// Notes a call after those before it.
+fn note(trace: &Cell<u64>, call: u64) {
+    trace.set(trace.get().wrapping_mul(10).wrapping_add(call));
+}
+
+/// Limits the length, the bytes and each value, and notes how it is called.
+
+struct Noting<'a> {
+    most: usize,
+    bytes: usize,
+    trace: &'a Cell<u64>,
+}
+
+impl<'a> Noting<'a> {
+    fn new(most: u64, bytes: u64, trace: &'a Cell<u64>) -> Noting<'a> {
+        Noting { most: most as usize, bytes: bytes as usize, trace }
+    }
+}
+
+/// The greatest value that replaces another one.
+const GREATEST: u64 = 100;
+
+impl<V> Limiter<u64, V> for Noting<'_> {
+    type LinkType = u32;
+
+    fn is_over_the_limit(&self, length: usize) -> bool {
+        note(self.trace, IS_OVER);
+        length > self.most
+    }
+
+    fn on_removed(&mut self, _key: &mut u64, _value: &mut V) {
+        note(self.trace, REMOVED);
+    }
+
+    fn on_cleared(&mut self) {
+        note(self.trace, CLEARED);
+    }
+
+    fn on_grow(&mut self, new_memory_usage: usize) -> bool {
+        note(self.trace, GROW);
+        new_memory_usage <= self.bytes
+    }
+}
+
+impl Insertion<u64, u64, u64> for Noting<'_> {
+    fn on_insert(
+        &mut self,
+        _alloc: Global,
+        _length: usize,
+        key: u64,
+        value: u64,
+    ) -> Result<Option<(u64, u64)>, AllocError> {
+        note(self.trace, INSERT);
+        Ok(Some((key, value)))
+    }
+
+    fn on_replace(
+        &mut self,
+        _length: usize,
+        _old_key: &mut u64,
+        _new_key: u64,
+        _old_value: &mut u64,
+        new_value: &mut u64,
+    ) -> bool {
+        note(self.trace, REPLACE);
+        *new_value <= GREATEST
+    }
+}
+
+/// Inserts a pair into a map of the numbers from `first` to `last`, each with ten times the number, under limits that are
+/// then set, while only this number of requests for memory is met. Returns whether the calls are those of `expected`, or
+/// memory has no end.
+fn is_traced(alloc: Global, [first, last, most, bytes, blocks, key, value, expected]: [u64; 8]) -> bool {
+    let trace = Cell::new(0u64);
+    let mut map = map_of(alloc, Noting::new(99, 1000, &trace));
+    let _ = insert_all(&mut map, first..=last);
+    *map.limiter_mut() = Noting::new(most, bytes, &trace);
+    trace.set(0);
+    match Hog::but(alloc, blocks as usize) {
+        Ok(hog) => {
+            let _ = map.insert_with(key, value, &mut |_, _| note(&trace, SINK));
+            (trace.get() == expected) | !hog.took_all()
+        }
+        Err(_) => false,
+    }
+}
+
+#[test]
+fn each_pair_is_passed_on_before_the_next_callback() {
+    let run = |rt: HostRuntime| -> () {
+        for case in [
+            // Three pairs over a limit that was lowered.
+            [1, 3, 1, 1000, 9, 4, 40, 41_231_231_231],
+            // The oldest, after a growth was refused.
+            [1, 3, 9, 84, 9, 4, 40, 415_231],
+            // The three oldest, after a growth was refused to a table of 32 buckets: the buckets of two of them do not
+            // serve.
+            [3, 30, 99, 1000, 9, 202, 40, 4_152_323_231],
+            // The pair whose replacement is refused.
+            [1, 3, 9, 84, 9, 2, 101, 623],
+            // The new pair, if the first table is refused.
+            [1, 0, 9, 83, 9, 4, 40, 4523],
+            // The new pair, if there is no memory for the first table, and if there is none for a growth.
+            [1, 0, 9, 84, 0, 4, 40, 4523],
+            [1, 3, 9, 1000, 0, 4, 40, 41_523],
+            // None, after a growth, and if the value is replaced.
+            [1, 3, 9, 1000, 9, 4, 40, 4151],
+            [1, 3, 9, 84, 9, 2, 21, 61],
+        ] {
+            check!(rt; is_traced(rt.alloc(), case));
+        }
+    };
+    run(HostRuntime).passes();
+}
+
+/// Makes calls on a map of three pairs, and at last on an empty one.
+fn call(map: &mut LruMap<u64, u64, Noting>) {
+    let _ = map.insert(2, 20);
+    map.update(2, 21);
+    let _ = map.ensure_newest(1, || 0);
+    map.remove(&2);
+    map.trim();
+    map.clear();
+    map.trim();
+}
+
+/// An insert of a new key queries the limiter once after it stored the pair, and once before if there are pairs. An
+/// insert of a key that is there queries once, and so does an update, and a trim if there are pairs.
+#[test]
+fn the_limiter_is_asked_once() {
+    let run = |rt: HostRuntime| -> () {
+        let trace = Cell::new(0u64);
+        let mut map = map_of(rt.alloc(), Noting::new(99, 1000, &trace));
+        let _ = insert_all(&mut map, 1..=3);
+        call(&mut map);
+        check!(rt; trace.get() == 4_514_114_116_161_210);
+    };
+    run(HostRuntime).passes();
+}
+
+/// Inserts three entries of 48 bytes, which are inserted in line, into a map of at most two. Returns the calls of the
+/// limiter, and how many hashers were built.
+fn large_inserts(alloc: Global) -> (u64, u64) {
+    let trace = Cell::new(0u64);
+    let limiter = Storing(Noting::new(2, 1000, &trace));
+    let mut map = LruMap::with_hasher(alloc, limiter, Counted(Cell::new(0)), 48);
+    for key in 0..3u64 {
+        let _ = map.insert(key, [key; 4]);
+    }
+    (trace.get(), map.hasher().0.get())
+}
+
+#[test]
+fn a_large_entry_is_inserted_once() {
+    let run = |rt: HostRuntime| -> () {
+        check!(rt; large_inserts(rt.alloc()) == (5_111_121, 3));
+    };
+    run(HostRuntime).passes();
+}

@@ -1,0 +1,69 @@
+// Erased from crates/test_helpers/src/hog.rt: do not edit.
+//! Memory that a test takes for itself, so that `Global` refuses the requests of others.
+//!
+//! No contract can say what memory is left, so these calls are proved safe, and promise no more.
+#[allow(unused_imports)]
+use crate::rattle_std::prelude::*;
+
+use crate::rattle_std::alloc::{AllocError, Global};
+
+// The sizes that are tried: halves of the largest one, and from SMALL down each multiple of STEP.
+const LARGEST: usize = 1 << 46;
+
+const SMALL: usize = 2048;
+
+const STEP: usize = 8;
+
+const MOST: usize = 1 << 17;
+
+/// Blocks that are only held, and some spare ones, which are given back one at a time.
+pub struct Hog {
+    held: Vec<Vec<u8>>,
+    spare: Vec<Vec<u8>>,
+}
+
+fn smaller(size: usize) -> usize {
+    if size > SMALL { size / 2 } else { size.saturating_sub(STEP) }
+}
+
+impl Hog {
+    /// Takes a block for each request that is to be met later, in their order, and then all memory that is left.
+    pub fn new(alloc: Global, requests: &[usize]) -> Result<Hog, AllocError> {
+        let mut spare = Vec::with_capacity(alloc, requests.len())?;
+        for size in requests.iter().rev() {
+            spare.push(Vec::with_capacity(alloc, *size)?)?;
+        }
+        let mut held = Vec::with_capacity(alloc, MOST)?;
+        let mut size = LARGEST;
+        for _ in 0..1_000_000u32 {
+            if size == 0 || held.len() == MOST {
+                break;
+            }
+            match Vec::with_capacity(alloc, size) {
+                Ok(block) => held.push(block)?,
+                Err(_) => size = smaller(size),
+            }
+        }
+        Ok(Hog { held, spare })
+    }
+
+    /// Takes all memory but `blocks` blocks of 8,192 bytes, so that this number of small requests is met.
+    pub fn but(alloc: Global, blocks: usize) -> Result<Hog, AllocError> {
+        let sizes = vec![in alloc; 8192; blocks]?;
+        let mut hog = Hog::new(alloc, sizes.as_slice())?;
+        for _ in 0..blocks {
+            hog.release();
+        }
+        Ok(hog)
+    }
+
+    /// Gives the next spare block back, so that one more request is met.
+    pub fn release(&mut self) {
+        drop(self.spare.pop());
+    }
+
+    /// Whether no memory is left, which an allocator with checks of its own may never come to.
+    pub fn took_all(&self) -> bool {
+        self.held.len() < MOST
+    }
+}

@@ -1,0 +1,107 @@
+// Erased from crates/test_helpers/src/limiters.rt: do not edit.
+//! Limiters of maps from numbers to numbers, which count how they are called. Put each into a map as `Storing(..)`.
+
+#[allow(unused_imports)]
+use crate::rattle_std::prelude::*;
+
+use crate::erased::lru_limits::{Limiter, LinkType};
+use crate::rattle_std::marker::PhantomData;
+
+/// Limits nothing, with links of this type.
+#[derive(Clone, Copy, Debug)]
+pub struct LinkedBy<N>(pub PhantomData<N>);
+
+impl<N: LinkType> Limiter<u64, u64> for LinkedBy<N> {
+    type LinkType = N;
+
+    fn is_over_the_limit(&self, _length: usize) -> bool {
+        false
+    }
+
+    fn on_removed(&mut self, _key: &mut u64, _value: &mut u64) {}
+
+    fn on_cleared(&mut self) {}
+
+    fn on_grow(&mut self, _new_memory_usage: usize) -> bool {
+        true
+    }
+}
+
+/// Is over the limit at every length or at none, permits every second growth, and keeps what it was called with.
+#[derive(Clone, Copy, Debug)]
+pub struct Alternating {
+    /// Whether it is over the limit, at every length.
+    pub over: bool,
+    /// Whether it permits the next growth.
+    pub permits: bool,
+    /// How many pairs were removed.
+    pub removed: u32,
+    /// The key of the last one.
+    pub last: u64,
+    /// How often it was asked whether the table may grow.
+    pub asked: u32,
+    /// The bytes of the last table that it was asked for.
+    pub bytes: usize,
+}
+
+impl Alternating {
+    /// Whether it is over the limit, and whether it permits the first growth.
+    pub fn new(over: bool, permits: bool) -> Alternating {
+        Alternating { over, permits, removed: 0, last: 0, asked: 0, bytes: 0 }
+    }
+}
+
+impl Limiter<u64, u64> for Alternating {
+    type LinkType = u32;
+
+    fn is_over_the_limit(&self, _length: usize) -> bool {
+        self.over
+    }
+
+    fn on_removed(&mut self, key: &mut u64, _value: &mut u64) {
+        self.removed = self.removed.saturating_add(1);
+        self.last = *key;
+    }
+
+    fn on_cleared(&mut self) {}
+
+    fn on_grow(&mut self, new_memory_usage: usize) -> bool {
+        let permits = self.permits;
+        self.permits = !permits;
+        self.asked = self.asked.saturating_add(1);
+        self.bytes = new_memory_usage;
+        permits
+    }
+}
+
+/// Limits nothing, writes 0 into each value that is removed, and into its key if a flag says so, and keeps the last
+/// pair as it was.
+#[derive(Clone, Copy, Debug, Default)]
+pub struct Blanking {
+    /// Whether it writes into keys too.
+    pub keys: bool,
+    /// The last pair that was removed.
+    pub last: (u64, u64),
+}
+
+impl Limiter<u64, u64> for Blanking {
+    type LinkType = u32;
+
+    fn is_over_the_limit(&self, _length: usize) -> bool {
+        false
+    }
+
+    fn on_removed(&mut self, key: &mut u64, value: &mut u64) {
+        self.last = (*key, *value);
+        if self.keys {
+            *key = 0;
+        }
+        *value = 0;
+    }
+
+    fn on_cleared(&mut self) {}
+
+    fn on_grow(&mut self, _new_memory_usage: usize) -> bool {
+        true
+    }
+}

@@ -1,0 +1,45 @@
+// Erased from crates/test_helpers/src/lib.rt: do not edit.
+//! What tests share.
+//!
+//! - [`check`], [`all`]: ends a test that does not hold, and joins conditions.
+//! - [`Hog`]: takes all memory, so that the requests of others are refused.
+//! - [`LinkedBy`], [`Alternating`], [`Blanking`]: limiters of maps from numbers to numbers.
+//! - [`InsertKey`] and [`Counting`]: texts that become a `String` when they are stored, and a limiter for them.
+//! - [`Random`]: random numbers, the same in each run.
+//! - [`LastByte`] with [`OF_HASH_28`], [`Sum`], [`Counted`]: hashers.
+
+#[allow(unused_imports)]
+use crate::rattle_std::prelude::*;
+
+mod hashers;
+mod hog;
+mod insert_key;
+mod limiters;
+mod random;
+
+pub use hashers::{Counted, LastByte, OF_HASH_28, Sum};
+pub use hog::Hog;
+pub use insert_key::{Counting, InsertKey};
+pub use limiters::{Alternating, Blanking, LinkedBy};
+pub use random::Random;
+
+/// Ends a test if the condition is false. The output names only the line, so the prover takes a third of the time of an
+/// `assert!`, and a seventh of the time of an `assert_eq!`.
+macro_rules! check {
+    ($rt:expr; $holds:expr) => {
+        if !$holds {
+            crate::rattle_std::process::Abort::abort(&$rt);
+        }
+    };
+}
+
+/// Whether all conditions hold. It stands for an assertion of each condition, if a test checks its result. Each
+/// condition is evaluated, whatever the others are: the proof of a test takes the longer the more branches the test
+/// has.
+macro_rules! all {
+    ($($holds:expr),+) => {
+        $(($holds))&+
+    };
+}
+pub(crate) use all;
+pub(crate) use check;

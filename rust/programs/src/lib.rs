@@ -1,0 +1,48 @@
+//! The programs of the workspace and its proved tests, erased as `jeerdurian` is.
+//!
+//! The erased modules of `jeerdurian` are private, so this crate compiles them again.
+#![cfg(feature = "std")]
+
+extern crate alloc;
+
+#[path = "../../jeerdurian/src/rattle_std/mod.rs"]
+mod library;
+#[cfg(test)]
+mod memory;
+mod rattle_std;
+#[macro_use]
+#[path = "rattle_std/macros.rs"]
+mod macros;
+
+#[path = "../../jeerdurian/src/erased/mod.rs"]
+mod erased;
+#[path = "erased/mod.rs"]
+mod programs;
+
+use rattle_std::runtime::HostRuntime;
+use std::process::Termination;
+
+/// Replays lines of calls on a map.
+pub fn replay() -> impl Termination {
+    programs::replay::main(HostRuntime)
+}
+
+/// Prints how often LRU caches of each size miss at a trace.
+pub fn trace() -> impl Termination {
+    programs::trace::main(HostRuntime)
+}
+
+/// Reads and writes the blocks of a file through a page cache.
+pub fn pages() -> impl Termination {
+    programs::pages::main(HostRuntime)
+}
+
+/// Keeps responses of many hosts in a cache.
+pub fn responses() -> impl Termination {
+    programs::responses::main(HostRuntime)
+}
+
+/// Checks the rows of data files, and random calls.
+pub fn rows() -> impl Termination {
+    programs::rows::main(HostRuntime)
+}

@@ -1,0 +1,49 @@
+//! Each program writes what its crate's `stdout` contains, for the input, the arguments and the files of the crate.
+
+use std::fs::{self, File};
+use std::path::Path;
+use std::process::{Command, Stdio};
+
+/// Runs a program in a folder that contains the crate's data, and compares its output and its status.
+fn writes_its_output(program: &str, binary: &str) {
+    let crate_folder = Path::new(env!("CARGO_MANIFEST_DIR")).join("../../crates").join(program);
+    let folder = Path::new(env!("CARGO_TARGET_TMPDIR")).join(program);
+    fs::create_dir_all(&folder).unwrap();
+    if let Ok(data) = fs::read_dir(crate_folder.join("data")) {
+        for file in data.map(Result::unwrap) {
+            fs::copy(file.path(), folder.join(file.file_name())).unwrap();
+        }
+    }
+    let arguments = fs::read_to_string(crate_folder.join("args")).unwrap_or_default();
+    let input = File::open(crate_folder.join("stdin")).map_or_else(|_| Stdio::null(), Stdio::from);
+    let run = Command::new(binary).args(arguments.lines()).current_dir(&folder).stdin(input).output().unwrap();
+    let expected = fs::read(crate_folder.join("stdout")).unwrap();
+    assert!(run.stdout == expected, "{}", String::from_utf8_lossy(&run.stdout));
+    assert!(run.status.success(), "{}", run.status);
+    assert!(run.stderr.is_empty(), "{}", String::from_utf8_lossy(&run.stderr));
+}
+
+#[test]
+fn replay() {
+    writes_its_output("replay", env!("CARGO_BIN_EXE_replay"));
+}
+
+#[test]
+fn trace() {
+    writes_its_output("trace", env!("CARGO_BIN_EXE_trace"));
+}
+
+#[test]
+fn responses() {
+    writes_its_output("responses", env!("CARGO_BIN_EXE_responses"));
+}
+
+#[test]
+fn pages() {
+    writes_its_output("pages", env!("CARGO_BIN_EXE_pages"));
+}
+
+#[test]
+fn rows() {
+    writes_its_output("rows", env!("CARGO_BIN_EXE_rows"));
+}
