@@ -1,47 +1,9 @@
 //! Each request for memory is refused in turn: the entries and their order stay, and all memory comes back.
 
+mod refusing;
+
 use jeerdurian::{ByMemoryUsage, LruMap, More, ReserveError, UnlimitedCompact};
-use std::alloc::{GlobalAlloc, Layout, System};
-use std::cell::Cell;
-
-thread_local! {
-    static REFUSED: Cell<u64> = const { Cell::new(0) };
-    static HELD: Cell<i64> = const { Cell::new(0) };
-}
-
-/// The system's allocator, which refuses one request of a thread if it is told to, and counts the bytes that it holds.
-struct Refusing;
-
-// SAFETY: it allocates by the system's allocator, or returns null.
-unsafe impl GlobalAlloc for Refusing {
-    unsafe fn alloc(&self, layout: Layout) -> *mut u8 {
-        let left = REFUSED.get();
-        REFUSED.set(left.saturating_sub(1));
-        if left == 1 {
-            return core::ptr::null_mut();
-        }
-        HELD.set(HELD.get() + layout.size() as i64);
-        // SAFETY: as the caller says.
-        unsafe { System.alloc(layout) }
-    }
-
-    unsafe fn dealloc(&self, start: *mut u8, layout: Layout) {
-        HELD.set(HELD.get() - layout.size() as i64);
-        // SAFETY: as the caller says.
-        unsafe { System.dealloc(start, layout) }
-    }
-}
-
-#[global_allocator]
-static ALLOCATOR: Refusing = Refusing;
-
-/// Calls `f` with the n-th request refused. Returns its result, and whether that request was made.
-fn refused<R>(n: u64, f: impl FnOnce() -> R) -> (R, bool) {
-    REFUSED.set(n);
-    let result = f();
-    let was_made = REFUSED.replace(0) == 0;
-    (result, was_made)
-}
+use refusing::{held, refused};
 
 type Map = LruMap<u64, [u64; 2], UnlimitedCompact>;
 
@@ -60,7 +22,7 @@ fn entries(map: &Map) -> Vec<(u64, [u64; 2])> {
 /// Refuses each request of a call in turn. `call` returns whether it succeeded; then one entry more may be there.
 fn refuse_each(full: u64, holes: u64, requests: u64, call: impl Fn(&mut Map) -> bool) {
     for n in 1.. {
-        let held = HELD.get();
+        let bytes = held();
         let mut map = filled(full, holes);
         let before = entries(&map);
         let (done, was_refused) = refused(n, || call(&mut map));
@@ -69,7 +31,7 @@ fn refuse_each(full: u64, holes: u64, requests: u64, call: impl Fn(&mut Map) -> 
         assert_eq!(after[after.len() - before.len()..], before, "request {n}");
         assert!(map.insert(1000, [1; 2]) && map.peek(&1000) == Some(&[1; 2]));
         drop((map, before, after));
-        assert_eq!(HELD.get(), held, "request {n}");
+        assert_eq!(held(), bytes, "request {n}");
         if !was_refused {
             assert_eq!(n, requests + 1, "requests");
             return;
@@ -114,11 +76,11 @@ fn a_copy_out_of_memory_is_an_error() {
 
 #[test]
 fn what_a_map_holds_is_its_memory_usage() {
-    let held = HELD.get();
+    let bytes = held();
     let mut map: LruMap<u64, u64, ByMemoryUsage> = LruMap::with_memory_budget(100_000);
     for n in 0..10_000 {
         map.insert(n, n);
-        assert_eq!(HELD.get() - held, map.memory_usage() as i64);
+        assert_eq!(held() - bytes, map.memory_usage() as i64);
     }
     assert!(map.memory_usage() <= 100_000 && map.len() > 1_000);
 }

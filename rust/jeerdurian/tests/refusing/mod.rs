@@ -1,0 +1,48 @@
+//! The system's allocator, which refuses one request of a thread if it is told to, and counts the bytes that it holds.
+
+use std::alloc::{GlobalAlloc, Layout, System};
+use std::cell::Cell;
+
+thread_local! {
+    static REFUSED: Cell<u64> = const { Cell::new(0) };
+    static HELD: Cell<i64> = const { Cell::new(0) };
+}
+
+struct Refusing;
+
+// SAFETY: it allocates by the system's allocator, or returns null.
+unsafe impl GlobalAlloc for Refusing {
+    unsafe fn alloc(&self, layout: Layout) -> *mut u8 {
+        let left = REFUSED.get();
+        REFUSED.set(left.saturating_sub(1));
+        if left == 1 {
+            return core::ptr::null_mut();
+        }
+        HELD.set(HELD.get() + layout.size() as i64);
+        // SAFETY: as the caller says.
+        unsafe { System.alloc(layout) }
+    }
+
+    unsafe fn dealloc(&self, start: *mut u8, layout: Layout) {
+        HELD.set(HELD.get() - layout.size() as i64);
+        // SAFETY: as the caller says.
+        unsafe { System.dealloc(start, layout) }
+    }
+}
+
+#[global_allocator]
+static ALLOCATOR: Refusing = Refusing;
+
+/// Calls `f` with the n-th request refused. Returns its result, and whether that request was made.
+pub fn refused<R>(n: u64, f: impl FnOnce() -> R) -> (R, bool) {
+    REFUSED.set(n);
+    let result = f();
+    let was_made = REFUSED.replace(0) == 0;
+    (result, was_made)
+}
+
+/// Returns how many bytes the thread holds.
+#[allow(dead_code)]
+pub fn held() -> i64 {
+    HELD.get()
+}

@@ -1,0 +1,485 @@
+//! Worked examples that no line of a program and no list of calls spells: iterators from both ends, copies, closures,
+//! texts as keys, limiters that log, and requests for memory that are refused.
+//!
+//! The expected values follow from the rules of schnellru and of `docs/TABLE.md`.
+
+mod refusing;
+
+use jeerdurian::{
+    ByCost, ByLength, ByMemoryUsage, GetOrInsertError, Limiter, LruMap, More, MoveReport, ReserveError,
+    UnlimitedCompact,
+};
+use refusing::refused;
+use std::cell::Cell;
+use std::hash::{BuildHasher, Hash, Hasher};
+
+/// Hashes a number to its quotient by `BY`.
+#[derive(Clone, Copy, Default)]
+struct Quotient<const BY: u64>(u64);
+
+impl<const BY: u64> Hasher for Quotient<BY> {
+    fn write(&mut self, bytes: &[u8]) {
+        let mut number = [0; 8];
+        number[..bytes.len()].copy_from_slice(bytes);
+        self.0 = u64::from_le_bytes(number) / BY;
+    }
+
+    fn finish(&self) -> u64 {
+        self.0
+    }
+}
+
+impl<const BY: u64> BuildHasher for Quotient<BY> {
+    type Hasher = Self;
+
+    fn build_hasher(&self) -> Self {
+        *self
+    }
+}
+
+/// The hash of a number is the number.
+type Itself = Quotient<1>;
+
+/// The hash of a number below 1,000 is 0.
+type Thousands = Quotient<1000>;
+
+/// A key whose hash is 28 by `Thousands`.
+const OF_HASH_28: u32 = 28_000;
+
+const SEED: [u64; 4] = [1, 2, 3, 4];
+
+/// Inserts each key, with ten times the key as its value. With links of 32 bits an entry has 16 bytes.
+fn fill<L, S>(mut map: LruMap<u32, u32, L, S>, keys: impl IntoIterator<Item = u32>) -> LruMap<u32, u32, L, S>
+where
+    L: for<'a> Limiter<u32, u32, KeyToInsert<'a> = u32>,
+    S: BuildHasher,
+{
+    for key in keys {
+        assert!(map.insert(key, 10 * key));
+    }
+    map
+}
+
+/// Returns the entries, the newest first.
+fn entries<K: Copy + Hash + Eq, V: Copy, L: Limiter<K, V>, S: BuildHasher>(map: &LruMap<K, V, L, S>) -> Vec<(K, V)> {
+    map.iter().map(|(key, value)| (*key, *value)).collect()
+}
+
+/// Returns the entries of these keys.
+fn tens(keys: impl IntoIterator<Item = u32>) -> Vec<(u32, u32)> {
+    keys.into_iter().map(|key| (key, 10 * key)).collect()
+}
+
+fn report(moved: u64, placed: u64) -> MoveReport {
+    MoveReport { moved, placed, shrunk: 0 }
+}
+
+/// A map under a limit of 10 by cost, with the entries (3, 3), (2, 2), (1, 1).
+fn costs() -> LruMap<u32, u32, Logging<ByCost>> {
+    let mut map = LruMap::with_seed(Logging::new(ByCost::new(10)), SEED);
+    (1..=3).for_each(|n| assert!(map.insert(n, n)));
+    map
+}
+
+/// A callback with its arguments.
+#[derive(Clone, Copy, Debug, PartialEq)]
+enum Event {
+    Removed(u32, u32),
+    Cleared,
+    Grow(usize),
+}
+
+use Event::{Cleared, Grow, Removed};
+
+/// Limits as `L` does, and logs some callbacks, in memory that it takes at first.
+struct Logging<L> {
+    limiter: L,
+    log: Vec<Event>,
+}
+
+impl<L> Logging<L> {
+    fn new(limiter: L) -> Self {
+        Logging { limiter, log: Vec::with_capacity(100) }
+    }
+}
+
+impl<L: for<'a> Limiter<u32, u32, KeyToInsert<'a> = u32>> Limiter<u32, u32> for Logging<L> {
+    type KeyToInsert<'a> = u32;
+    type LinkType = L::LinkType;
+
+    fn is_over_the_limit(&self, length: usize) -> bool {
+        self.limiter.is_over_the_limit(length)
+    }
+
+    fn on_insert(&mut self, length: usize, key: u32, value: u32) -> Option<(u32, u32)> {
+        self.limiter.on_insert(length, key, value)
+    }
+
+    fn on_replace(&mut self, length: usize, old_key: &mut u32, key: u32, old: &mut u32, new: &mut u32) -> bool {
+        self.limiter.on_replace(length, old_key, key, old, new)
+    }
+
+    fn on_removed(&mut self, key: &mut u32, value: &mut u32) {
+        self.log.push(Removed(*key, *value));
+        self.limiter.on_removed(key, value);
+    }
+
+    fn on_cleared(&mut self) {
+        self.log.push(Cleared);
+        self.limiter.on_cleared();
+    }
+
+    fn on_grow(&mut self, bytes: usize) -> bool {
+        self.log.push(Grow(bytes));
+        self.limiter.on_grow(bytes)
+    }
+}
+
+#[test]
+fn closures_that_may_fail() {
+    let mut map = LruMap::with_seed(ByLength::new(2), SEED);
+    for n in 1..=3u32 {
+        assert_eq!(map.get_or_insert_fallible(n, || Ok::<u32, ()>(10 * n)), Ok(Some(&mut (10 * n))));
+    }
+    assert_eq!(entries(&map), [(3, 30), (2, 20)]);
+    assert_eq!(map.get_or_insert_fallible(4, || Err("no")), Err("no"));
+    assert_eq!(entries(&map), [(3, 30), (2, 20)]);
+
+    let mut map = LruMap::with_seed(ByLength::new(2), SEED);
+    for n in 1..=3u32 {
+        assert_eq!(map.fallible().get_or_insert(n, || Ok::<u32, ()>(10 * n)), Ok(Some(&mut (10 * n))));
+    }
+    assert_eq!(map.fallible().get_or_insert(4, || Err("no")), Err(GetOrInsertError::Caller("no")));
+    assert_eq!(entries(&map), [(3, 30), (2, 20)]);
+}
+
+#[test]
+fn each_form_of_get_or_insert_grows_the_table() {
+    let new = || LruMap::with_seed(UnlimitedCompact, SEED);
+    let (mut plain, mut fallible, mut with_error) = (new(), new(), new());
+    for n in 1..=4u32 {
+        assert_eq!(plain.get_or_insert(n, || 10 * n), Some(&mut (10 * n)));
+        assert_eq!(fallible.get_or_insert_fallible(n, || Ok::<u32, ()>(10 * n)), Ok(Some(&mut (10 * n))));
+        assert_eq!(with_error.fallible().get_or_insert(n, || Ok::<u32, ()>(10 * n)), Ok(Some(&mut (10 * n))));
+    }
+    for map in [plain, fallible, with_error] {
+        assert_eq!(map.guaranteed_capacity(), 7);
+    }
+}
+
+/// Limits nothing, with links of 8 bits.
+struct ShortLinks;
+
+impl Limiter<u32, u32> for ShortLinks {
+    type KeyToInsert<'a> = u32;
+    type LinkType = u8;
+
+    fn is_over_the_limit(&self, _: usize) -> bool {
+        false
+    }
+
+    fn on_insert(&mut self, _: usize, key: u32, value: u32) -> Option<(u32, u32)> {
+        Some((key, value))
+    }
+
+    fn on_replace(&mut self, _: usize, _: &mut u32, _: u32, _: &mut u32, _: &mut u32) -> bool {
+        true
+    }
+
+    fn on_removed(&mut self, _: &mut u32, _: &mut u32) {}
+
+    fn on_cleared(&mut self) {}
+
+    fn on_grow(&mut self, _: usize) -> bool {
+        true
+    }
+}
+
+#[test]
+fn links_of_8_bits_end_at_112_entries() {
+    let new = |seed| LruMap::with_seed(ShortLinks, [seed; 4]);
+    for seed in 0..100 {
+        let mut map = new(seed);
+        for key in 0..112 {
+            assert!(map.insert(key, 10 * key));
+            assert_eq!(map.peek_oldest(), Some((&0, &0)));
+        }
+        assert!(map.insert(112, 1120));
+        assert_eq!(map.peek_newest(), Some((&112, &1120)));
+        assert!(map.peek_oldest() != Some((&0, &0)));
+        assert!((56..=112).contains(&map.len()));
+    }
+    let mut map = new(1);
+    assert_eq!((map.try_reserve(0), map.memory_usage()), (Ok(()), 0));
+    assert_eq!((map.try_reserve(112), map.guaranteed_capacity()), (Ok(()), 112));
+    assert_eq!(map.try_reserve(113), Err(ReserveError::TooLarge));
+    let mut map = fill(new(1), [1]);
+    assert_eq!(map.try_reserve(usize::MAX), Err(ReserveError::TooLarge));
+}
+
+#[test]
+fn a_drain_is_dropped_or_forgotten() {
+    let mut map = costs();
+    let mut drain = map.drain();
+    assert_eq!(drain.next(), Some((3, 3)));
+    drop(drain);
+    assert_eq!((map.len(), map.limiter().limiter.cost()), (0, 0));
+
+    let mut map = costs();
+    assert!(map.drain().rev().eq([(1, 1), (2, 2), (3, 3)]));
+    assert_eq!((map.len(), map.limiter().limiter.cost()), (0, 0));
+
+    let mut map = costs();
+    let mut drain = map.drain();
+    assert_eq!(drain.next(), Some((3, 3)));
+    std::mem::forget(drain);
+    assert_eq!((entries(&map), map.limiter().limiter.cost()), (vec![(2, 2), (1, 1)], 3));
+    assert!(!map.limiter().log.contains(&Cleared));
+}
+
+#[test]
+fn the_greatest_usage_within_a_budget() {
+    let usage = LruMap::<u32, u32, ByMemoryUsage>::memory_usage_for_memory_budget;
+    assert_eq!([512, 84, 83].map(usage), [288, 84, 0]);
+}
+
+#[test]
+fn one_iterator_from_both_ends() {
+    let map = fill(LruMap::with_seed(UnlimitedCompact, SEED), 1..=4);
+    let mut walk = map.iter();
+    assert_eq!(walk.next(), Some((&4, &40)));
+    assert_eq!(walk.next_back(), Some((&1, &10)));
+    assert_eq!(walk.len(), 2);
+    assert_eq!(walk.next_back(), Some((&2, &20)));
+    assert_eq!(walk.next(), Some((&3, &30)));
+    assert_eq!((walk.next(), walk.next_back()), (None, None));
+}
+
+#[test]
+fn an_iterator_that_lends_is_dropped_after_one_write() {
+    let mut map = fill(LruMap::with_seed(UnlimitedCompact, SEED), 1..=3);
+    *map.iter_mut().next().unwrap().1 = 31;
+    assert_eq!(entries(&map), [(3, 31), (2, 20), (1, 10)]);
+}
+
+/// An iterator that lends doubles the values of even keys, in the order of use.
+#[test]
+fn values_are_doubled_in_order() {
+    let mut map = LruMap::with_seed(UnlimitedCompact, SEED);
+    (0..3u32).for_each(|n| assert!(map.insert(n, n + 1)));
+    for (key, value) in &mut map {
+        *value *= 1 + u32::from(key % 2 == 0);
+    }
+    assert_eq!(map.get(&2), Some(&mut 6));
+    assert!(map.iter_mut().map(|(key, _)| *key).eq([2, 1, 0]));
+    assert_eq!(map.iter_mut().next_back().map(|(key, _)| *key), Some(0));
+    assert!(map.get(&0).is_some());
+    assert!(map.iter_mut().map(|(key, _)| *key).eq([0, 2, 1]));
+    assert_eq!(map.iter_mut().next_back().map(|(key, _)| *key), Some(1));
+}
+
+/// Limits nothing, makes a `String` of a text that it stores, and counts inserts and replacements.
+#[derive(Default)]
+struct Texts {
+    inserted: u32,
+    replaced: u32,
+}
+
+impl Limiter<String, u32> for Texts {
+    type KeyToInsert<'a> = &'a str;
+    type LinkType = u32;
+
+    fn is_over_the_limit(&self, _: usize) -> bool {
+        false
+    }
+
+    fn on_insert(&mut self, _: usize, key: &str, value: u32) -> Option<(String, u32)> {
+        self.inserted += 1;
+        Some((key.into(), value))
+    }
+
+    fn on_replace(&mut self, _: usize, _: &mut String, _: &str, _: &mut u32, _: &mut u32) -> bool {
+        self.replaced += 1;
+        true
+    }
+
+    fn on_removed(&mut self, _: &mut String, _: &mut u32) {}
+
+    fn on_cleared(&mut self) {}
+
+    fn on_grow(&mut self, _: usize) -> bool {
+        true
+    }
+}
+
+#[test]
+fn a_text_becomes_a_key_only_if_it_is_stored() {
+    let mut map = LruMap::with_seed(Texts::default(), SEED);
+    for text in ["1", "2", "1"] {
+        assert!(map.insert(text, 1));
+    }
+    assert!(map.keys().eq(["1", "2"]));
+    assert_eq!((map.limiter().inserted, map.limiter().replaced), (2, 1));
+}
+
+#[test]
+fn texts_as_keys() {
+    let mut owned: LruMap<String, u32, UnlimitedCompact> = LruMap::with_seed(UnlimitedCompact, SEED);
+    let mut made = LruMap::with_seed(Texts::default(), SEED);
+    for (text, value) in [("1", 1), ("2", 2), ("3", 3)] {
+        assert!(owned.insert(text.to_string(), value) && made.insert(text, value));
+    }
+    assert_eq!(owned.peek("2"), Some(&2));
+    assert_eq!(owned.get("2"), Some(&mut 2));
+    assert_eq!(made.peek("2"), Some(&2));
+    assert_eq!(made.get("2"), Some(&mut 2));
+    assert_eq!(owned.get_or_insert("2".to_string(), || 20), Some(&mut 2));
+    assert_eq!(owned.get_or_insert("4".to_string(), || 40), Some(&mut 40));
+    assert_eq!(made.get_or_insert("2", || 200), Some(&mut 2));
+    assert_eq!(made.get_or_insert("6", || 6), Some(&mut 6));
+}
+
+#[test]
+fn a_copy_has_the_counts_of_its_source() {
+    let mut map = fill(LruMap::with_seed(UnlimitedCompact, SEED), 1..=15);
+    assert_eq!(map.move_report(), report(24, 15));
+    assert_eq!((map.try_reserve(100), map.guaranteed_capacity()), (Ok(()), 224));
+    assert_eq!(map.move_report(), report(24, 15));
+    let copy = map.clone();
+    assert_eq!((copy.move_report(), copy.guaranteed_capacity()), (report(24, 15), 224));
+    assert_eq!(entries(&copy), tens((1..=15).rev()));
+}
+
+/// Calls `f` on a map of its own with each request for memory refused in turn, until none is. `f` returns whether it
+/// failed, and `check` looks at the map after a failure, and makes the call again. Returns how many were refused.
+fn refuse_each<M>(new: impl Fn() -> M, f: impl Fn(&mut M) -> bool, check: impl Fn(&mut M)) -> u64 {
+    for n in 1.. {
+        let mut map = new();
+        let (failed, was_refused) = refused(n, || f(&mut map));
+        assert_eq!(failed, was_refused, "request {n}");
+        if !was_refused {
+            return n - 1;
+        }
+        check(&mut map);
+    }
+    unreachable!()
+}
+
+#[test]
+fn a_growth_out_of_memory() {
+    let count = refuse_each(
+        || fill(LruMap::with_seed(UnlimitedCompact, SEED), 1..=7),
+        |map| map.fallible().insert(8, 80).is_err(),
+        |map| {
+            assert_eq!(entries(map), tens((1..=7).rev()));
+            assert_eq!((map.guaranteed_capacity(), map.move_report()), (7, report(3, 7)));
+            assert!(map.insert(8, 80));
+            assert_eq!(map.move_report(), report(10, 8));
+        },
+    );
+    assert_eq!(count, 3);
+}
+
+#[test]
+fn a_running_total_out_of_memory() {
+    let count = refuse_each(
+        || {
+            let mut map = LruMap::with_seed(Logging::new(ByCost::new(100)), SEED);
+            (1..=3).for_each(|n| assert!(map.insert(n, n)));
+            map.limiter_mut().log.clear();
+            map
+        },
+        |map| map.fallible().insert(4, 4).is_err(),
+        |map| {
+            assert_eq!((entries(map), map.limiter().limiter.cost()), (vec![(3, 3), (2, 2), (1, 1)], 6));
+            assert!(matches!(map.limiter().log[..], [Grow(_), Removed(4, 4)]));
+        },
+    );
+    assert_eq!(count, 3);
+}
+
+/// The growth is refused first, and 15 entries are evicted for a rehash, which runs out of memory.
+#[test]
+fn a_rehash_after_a_refused_growth_out_of_memory() {
+    let count = refuse_each(
+        || {
+            let map = LruMap::with_hasher(Logging::new(ByMemoryUsage::new(560)), Thousands::default());
+            let mut map = fill(map, 1..=28);
+            map.limiter_mut().log.clear();
+            map
+        },
+        |map| map.fallible().insert(OF_HASH_28, 0).is_err(),
+        |map| {
+            assert_eq!(entries(map), tens((16..=28).rev()));
+            assert_eq!((map.guaranteed_capacity(), map.memory_usage()), (13, 560));
+            assert_eq!(map.move_report(), report(24, 28));
+            assert_eq!(map.limiter().log[..2], [Grow(1104), Removed(1, 10)]);
+            map.limiter_mut().log.clear();
+            assert!(map.insert(OF_HASH_28, 0));
+            assert_eq!((map.len(), map.guaranteed_capacity()), (14, 28));
+            assert_eq!(map.move_report(), report(37, 29));
+            assert!(map.limiter().log.is_empty());
+        },
+    );
+    assert_eq!(count, 2);
+}
+
+#[test]
+fn a_reservation_in_an_emptied_table_takes_no_memory() {
+    let mut map = fill(LruMap::with_hasher(UnlimitedCompact, Thousands::default()), 1..=27);
+    (1..=27).for_each(|n| assert_eq!(map.remove(&n), Some(10 * n)));
+    assert_eq!(map.guaranteed_capacity(), 1);
+    assert_eq!(refused(1, || map.try_reserve(2)), (Ok(()), false));
+    assert_eq!(map.guaranteed_capacity(), 28);
+}
+
+#[test]
+fn a_copy_out_of_memory_leaves_its_source() {
+    let count = refuse_each(
+        || fill(LruMap::with_seed(UnlimitedCompact, SEED), 1..=7),
+        |map| map.fallible().clone().is_err(),
+        |map| {
+            assert_eq!(entries(map), tens((1..=7).rev()));
+            assert_eq!((map.guaranteed_capacity(), map.move_report()), (7, report(3, 7)));
+        },
+    );
+    assert_eq!(count, 2);
+}
+
+/// Returns a closure that counts how often it is asked, and says yes at the n-th time.
+fn at_the<K, V>(n: u32, asked: &Cell<u32>) -> impl FnMut(&K, &V) -> bool {
+    move |_, _| {
+        asked.set(asked.get() + 1);
+        asked.get() == n
+    }
+}
+
+#[test]
+fn searches_by_hash() {
+    let asked = Cell::new(0);
+    let mut map = fill(LruMap::with_hasher(UnlimitedCompact, Thousands::default()), 1..=3);
+    assert_eq!(map.get_by_hash(0, at_the(2, &asked)), Some(&mut 20));
+    assert_eq!((asked.take(), entries(&map)), (2, tens([2, 3, 1])));
+    assert_eq!((map.peek_by_hash(0, at_the(9, &asked)), asked.take()), (None, 3));
+
+    let map = fill(LruMap::with_hasher(UnlimitedCompact, Itself::default()), 1..=3);
+    assert_eq!((map.peek_by_hash(7, at_the(1, &asked)), asked.take()), (Some(&30), 1));
+    assert_eq!((map.peek_by_hash(1 << 57, at_the(1, &asked)), asked.take()), (None, 0));
+}
+
+#[test]
+fn random_inserts_and_removals_within_512_bytes() {
+    let mut map: LruMap<u32, u32, _> = LruMap::with_memory_budget(512);
+    let mut state = 1u32;
+    let mut key = || {
+        state = state.wrapping_mul(1_664_525).wrapping_add(1_013_904_223);
+        (state >> 16) % 255
+    };
+    for n in 0..4096 {
+        assert!(map.insert(key(), n % 256));
+        assert!(map.memory_usage() <= 288);
+        map.remove(&key());
+        assert!(map.memory_usage() <= 288);
+    }
+    assert_eq!(map.memory_usage(), 288);
+}

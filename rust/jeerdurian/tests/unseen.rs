@@ -1,0 +1,146 @@
+//! What no clause of a contract says: that rehashes of large tables find memory, and what a `try_insert` of a table without
+//! growth left takes.
+
+mod refusing;
+
+use jeerdurian::{LruMap, More, UnlimitedCompact};
+use refusing::refused;
+use std::hash::{BuildHasher, Hasher};
+
+/// Hashes a number to its quotient by 1,000.
+#[derive(Clone, Copy, Default)]
+struct Thousands(u64);
+
+impl Hasher for Thousands {
+    fn write(&mut self, bytes: &[u8]) {
+        let mut number = [0; 8];
+        number[..bytes.len()].copy_from_slice(bytes);
+        self.0 = u64::from_le_bytes(number) / 1000;
+    }
+
+    fn finish(&self) -> u64 {
+        self.0
+    }
+}
+
+impl BuildHasher for Thousands {
+    type Hasher = Self;
+
+    fn build_hasher(&self) -> Self {
+        *self
+    }
+}
+
+/// A key whose hash is 28.
+const OF_HASH_28: u64 = 28_000;
+
+/// Fills 32 buckets with keys of hash 0, of which `left` stay: the other buckets are deleted, and no growth is left.
+fn full_of_deleted_buckets(left: u64) -> LruMap<u64, u64, UnlimitedCompact, Thousands> {
+    let mut map = LruMap::with_hasher(UnlimitedCompact, Thousands::default());
+    (0..28).for_each(|n| assert!(map.insert(n, n)));
+    (0..28 - left).for_each(|n| assert_eq!(map.remove(&n), Some(n)));
+    assert_eq!(map.guaranteed_capacity(), map.len());
+    map
+}
+
+/// At most half full, such a table is rehashed, which takes links and control bytes. Else it grows.
+#[test]
+fn a_try_insert_without_growth_left() {
+    for (left, requests) in [(0, 0), (1, 2), (13, 2), (14, 3), (27, 3)] {
+        for n in 1..=requests + 1 {
+            let mut map = full_of_deleted_buckets(left);
+            let (bytes, report) = (map.memory_usage(), map.move_report());
+            let (result, was_refused) = refused(n, || map.try_insert(OF_HASH_28, 5));
+            assert_eq!(was_refused, n <= requests, "{left} entries, request {n}");
+            if was_refused {
+                assert_eq!(result, Err((OF_HASH_28, 5)));
+                assert_eq!((map.guaranteed_capacity(), map.memory_usage()), (left as usize, bytes));
+                assert_eq!(map.move_report(), report);
+                assert_eq!(map.try_insert(OF_HASH_28, 5), Ok(()));
+            } else {
+                assert_eq!(result, Ok(()));
+            }
+            assert!(map.keys().copied().eq([OF_HASH_28].into_iter().chain((28 - left..28).rev())));
+            assert_eq!(map.guaranteed_capacity(), if left <= 13 { 28 } else { 56 });
+        }
+    }
+}
+
+struct Large {
+    map: LruMap<u64, u64, UnlimitedCompact>,
+    next: u64,
+}
+
+impl Large {
+    /// A map of keys in a row, whose table has no growth left, and is then less than half full.
+    fn new(buckets: u64) -> Self {
+        let full = buckets / 8 * 7;
+        let mut map = LruMap::with_seed(UnlimitedCompact, [1, 2, 3, 4]);
+        (0..full).for_each(|n| assert!(map.insert(n, n)));
+        (0..full / 2 + full / 50).for_each(|_| assert!(map.pop_oldest().is_some()));
+        Large { map, next: full }
+    }
+
+    fn growth_left(&self) -> usize {
+        self.map.guaranteed_capacity() - self.map.len()
+    }
+
+    /// Inserts and pops until at most `left` growth is left.
+    fn use_up(&mut self, left: usize) {
+        while self.growth_left() > left {
+            assert!(self.map.insert(self.next, self.next));
+            assert!(self.map.pop_oldest().is_some());
+            self.next += 1;
+        }
+    }
+
+    /// Inserts and pops until `insert` has the table rehashed, which leaves much growth.
+    fn is_rehashed(&mut self, insert: impl Fn(&mut Self, u64)) {
+        let (bytes, len) = (self.map.memory_usage(), self.map.len());
+        self.use_up(0);
+        for _ in 0..1000 {
+            insert(self, self.next);
+            self.next += 1;
+            if self.growth_left() > len / 2 {
+                break;
+            }
+            assert!(self.map.pop_oldest().is_some());
+        }
+        assert!(self.growth_left() > len / 2);
+        assert_eq!((self.map.memory_usage(), self.map.len()), (bytes, len + 1));
+        assert!(self.map.pop_oldest().is_some());
+        self.check();
+    }
+
+    /// Fails unless the entries are the last keys that were inserted, and each is found.
+    fn check(&self) {
+        let len = self.map.len() as u64;
+        assert!(
+            self.map.iter().map(|(key, value)| (*key, *value)).eq((self.next - len..self.next).rev().map(|n| (n, n)))
+        );
+        assert!((self.next - len..self.next).all(|n| self.map.peek(&n) == Some(&n)));
+        assert_eq!(self.map.peek(&(self.next - len - 1)), None);
+    }
+}
+
+#[test]
+fn large_tables_are_rehashed() {
+    for buckets in [1 << 15, 1 << 17] {
+        let mut large = Large::new(buckets);
+        let (len, capacity) = (large.map.len() as u64, buckets as usize / 8 * 7);
+
+        let moved = large.map.move_report().moved;
+        large.is_rehashed(|it, n| assert!(it.map.insert(n, n)));
+        assert_eq!(large.map.move_report().moved, moved + len);
+
+        // A reservation rehashes, and its moves are not counted.
+        large.is_rehashed(|it, n| assert_eq!(it.map.try_insert(n, n), Ok(())));
+        assert_eq!(large.map.move_report().moved, moved + len);
+
+        large.use_up(100);
+        let bytes = large.map.memory_usage();
+        assert_eq!(large.map.try_reserve(101), Ok(()));
+        assert_eq!((large.map.guaranteed_capacity(), large.map.memory_usage()), (capacity, bytes));
+        large.check();
+    }
+}
