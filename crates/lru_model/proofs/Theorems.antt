@@ -4,6 +4,7 @@ pub mod Potential
 pub mod TableGrowth
 pub mod Ways
 pub mod PaidMoves
+pub mod PaidPlacings
 pub mod CountedPlacings
 pub mod Fronts
 pub mod InsertAnswers

@@ -22,4 +22,5 @@ pub mod Runs
 pub mod Written
 pub mod Retains
 pub mod TryInserts
+pub mod PaidPlacings
 pub mod Updates
