@@ -26,6 +26,7 @@ pub mod Runs
 pub mod AddedPairs
 pub mod AdmittedPairs
 pub mod OtherPairs
+pub mod RunEvictions
 pub mod StepTotals
 pub mod RunLimits
 pub mod SmallTables

@@ -19,6 +19,7 @@ pub mod ByHash
 pub mod Clones
 pub mod Drains
 pub mod Runs
+pub mod RunEvictions
 pub mod Written
 pub mod Retains
 pub mod TryInserts

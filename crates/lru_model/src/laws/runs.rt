@@ -4,6 +4,7 @@ ghost use Rattle.std.specs.Prelude.{◌≡◌, ℕ, ◌≤◌, Bool, length};
 ghost use Rattle.lru_model.specs.Lists.{IsFront};
 ghost use Rattle.lru_model.specs.State.{State, IsSized, IsMap, empty_map};
 ghost use Rattle.lru_model.specs.Runs.{StepOrWrite, StepOrKeptWrite, AnyStep, StepAmong, Run};
+ghost use Rattle.lru_model.specs.RunEvictions.{EachStep, InsertEvictsOldest};
 ghost use Rattle.lru_model.specs.Theorems.{PaysForMoves, UsesAtMost, IsSummed, others};
 
 use lru_limits::{
@@ -55,6 +56,20 @@ pub fn runs_evict_the_oldest<
     ensures oldest { (test : K → Bool) (old new : State K V L S) →
         Run (StepAmong L.rules L.offers I.names S.hash_of test) new old →
         IsFront (others test new.pairs) (others test old.pairs) }
+{}
+
+/// Each insert of a run evicts from the old end alone, whatever the other calls of the run are, `pop_newest` too. The
+/// one other entry that it may remove is the entry whose replacement is rejected. The same holds of each get that
+/// inserts.
+pub fn each_insert_of_a_run_evicts_the_oldest<
+    K: Eq + Hash,
+    V,
+    I: LookupKey<K>,
+    L: Insertion<K, V, I>,
+    S: KeyHasher<K>,
+>()
+    ensures { (old new : State K V L S) (run : Run (AnyStep L.rules L.offers I.names S.hash_of) new old) →
+        EachStep (InsertEvictsOldest L.rules L.offers I.names S.hash_of) run }
 {}
 
 /// With `ByLength` there are at most `max_length` entries after any calls and writes of values, if there were no more
