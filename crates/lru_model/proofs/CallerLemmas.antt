@@ -31,6 +31,8 @@
 --     usage_bytes          the bytes of a table that has a usage
 --     value_removed        of an entry that is removed, the value may be returned alone
 --     nothing_written      a run of calls is one of calls and writes
+--     no_cost_written      and one of calls and writes that keep the cost
+--     kept_written         a run of calls and writes that keep the cost is one of calls and writes
 --     any_step_same        no call changes what builds the hashers, how far links reach, and what a bucket takes
 --     lookup-entry, no_pair      a look-up returns the value of the pair that is found, and none if no pair is
 --     without_none         if no pair is named, the others are all
@@ -50,7 +52,7 @@ pub use Rattle.lru_model.proofs.Theorems.Limits.{length-without}
 pub use Rattle.lru_model.proofs.States.RemovedPairs.{value_removed}
 pub use Rattle.lru_model.proofs.TableSizes.ReachedTables.{has_tables}
 pub use Rattle.lru_model.proofs.TableSizes.Growth.{usage_bytes}
-pub use Rattle.lru_model.proofs.Theorems.RunLimits.{nothing_written}
+pub use Rattle.lru_model.proofs.Theorems.RunLimits.{nothing_written, no_cost_written, kept_written}
 pub use Rattle.lru_model.proofs.Theorems.Runs.{any_step_same}
 pub use Rattle.lru_model.proofs.Theorems.StoringLimiters.{plain-changes_none, by_weight-changes_none}
 pub use Rattle.lru_model.proofs.Theorems.StoringLimiters.{by_cost-changes_none, offers_if-accepts, weighs-accepts}

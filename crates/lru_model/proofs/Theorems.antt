@@ -4,6 +4,7 @@ pub mod Potential
 pub mod TableGrowth
 pub mod Ways
 pub mod PaidMoves
+pub mod PaidPlacings
 pub mod CountedPlacings
 pub mod Fronts
 pub mod InsertAnswers
@@ -25,6 +26,7 @@ pub mod Runs
 pub mod AddedPairs
 pub mod AdmittedPairs
 pub mod OtherPairs
+pub mod RunEvictions
 pub mod StepTotals
 pub mod RunLimits
 pub mod SmallTables
