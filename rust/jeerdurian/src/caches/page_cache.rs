@@ -116,7 +116,7 @@ impl<B, D: BlockDevice<B>> block_device::BlockDevice<B> for Called<D> {
 /// # }
 /// ```
 ///
-/// In the examples of the calls, `cache` has room for two pages of a device of three blocks of 4 bytes.
+/// In the examples of the calls, `cache` keeps at most two pages of a device of three blocks of 4 bytes.
 #[must_use = "a cache that is dropped loses its dirty pages"]
 pub struct PageCache<B: Copy, D: BlockDevice<B>, S = RandomState> {
     cache: proved::PageCache<B, Called<D>, S>,

@@ -11,12 +11,11 @@ pub struct HashMap<K, V, S = rust::RandomState, A = Global>(rust::HashMap<Key<K>
 
 /// A key. Rust's map wants an `Eq`; if the `==` of a key is no equality, the map gives other answers, and no more.
 #[derive(Hash, PartialEq)]
-#[repr(transparent)]
-struct Key<K: ?Sized>(K);
+struct Key<K>(K);
 
-impl<K: PartialEq + ?Sized> Eq for Key<K> {}
+impl<K: PartialEq> Eq for Key<K> {}
 
-/// What a key is looked up by.
+/// What a key is looked up by. Each value can be borrowed as itself, so this is another type than `Key`.
 #[derive(Hash, PartialEq)]
 #[repr(transparent)]
 struct Named<Q: ?Sized>(Q);
@@ -60,7 +59,7 @@ impl<K, V, S, A> HashMap<K, V, S, A> {
         hash_map::Keys(self.0.keys())
     }
 
-    pub fn values(&self) -> rust::Values<'_, impl Sized + use<K, V, S, A>, V> {
+    pub fn values(&self) -> impl Iterator<Item = &V> {
         self.0.values()
     }
 }
