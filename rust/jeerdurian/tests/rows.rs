@@ -5,6 +5,7 @@
 
 mod refusing;
 
+use jeerdurian::tenants::{TenantCache, TenantError};
 use jeerdurian::{
     ByCost, ByLength, ByMemoryUsage, GetOrInsertError, Limiter, LruMap, More, MoveReport, ReserveError,
     UnlimitedCompact,
@@ -482,4 +483,23 @@ fn random_inserts_and_removals_within_512_bytes() {
         assert!(map.memory_usage() <= 288);
     }
     assert_eq!(map.memory_usage(), 288);
+}
+
+/// Two tenants, whose entries are evicted and rejected apart. The first is closed, and opened again with a budget of 0.
+#[test]
+fn calls_on_two_tenants() {
+    use TenantError::{AlreadyOpen, NotOpen};
+    let mut cache: TenantCache<u64, u64, u64> = TenantCache::with_seed(SEED);
+    assert_eq!([cache.open(1, 3), cache.open(2, 1), cache.open(1, 5)], [Ok(()), Ok(()), Err(AlreadyOpen)]);
+    assert_eq!([cache.put(&1, 7, 1), cache.put(&2, 7, 2), cache.put(&2, 7, 1)], [true, false, true].map(Ok));
+    assert_eq!(cache.put(&1, 8, 3), Ok(true));
+    assert_eq!(cache.get(&1, &7), Ok(None));
+    assert_eq!(cache.get(&2, &7), Ok(Some(&1)));
+    assert_eq!([1, 2, 3].map(|name| cache.cost(&name)), [Ok(3), Ok(1), Err(NotOpen)]);
+    assert_eq!(cache.close(&1), Ok(1));
+    assert_eq!(cache.get(&1, &8), Err(NotOpen));
+    assert_eq!(cache.close(&1), Err(NotOpen));
+    assert_eq!(cache.open(1, 0), Ok(()));
+    assert_eq!([cache.put(&1, 9, 0), cache.put(&1, 9, 1)], [true, false].map(Ok));
+    assert_eq!(cache.cost(&1), Ok(0));
 }

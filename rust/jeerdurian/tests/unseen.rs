@@ -1,8 +1,9 @@
-//! What no clause of a contract says: that rehashes of large tables find memory, and what a `try_insert` of a table without
-//! growth left takes.
+//! What no clause of a contract says: that rehashes of large tables find memory, and what a `try_insert` into a table
+//! without growth left takes.
 
 mod refusing;
 
+use jeerdurian::caches::OrderedMap;
 use jeerdurian::{LruMap, More, UnlimitedCompact};
 use refusing::refused;
 use std::hash::{BuildHasher, Hasher};
@@ -64,6 +65,40 @@ fn a_try_insert_without_growth_left() {
             assert_eq!(map.guaranteed_capacity(), if left <= 13 { 28 } else { 56 });
         }
     }
+}
+
+/// The same of an ordered map, which inserts by `try_insert`.
+#[test]
+fn an_insert_into_an_ordered_map_without_growth_left() {
+    for (left, requests) in [(0, 0), (1, 2), (13, 2), (14, 3), (27, 3)] {
+        for n in 1..=requests + 1 {
+            let mut map = OrderedMap::with_hasher(Thousands::default());
+            (0..28).for_each(|n| assert_eq!(map.insert(n, n), Ok(None)));
+            (0..28 - left).for_each(|n| assert_eq!(map.remove(&n), Some(n)));
+            let (result, was_refused) = refused(n, || map.insert(OF_HASH_28, 5));
+            assert_eq!(was_refused, n <= requests, "{left} entries, request {n}");
+            assert_eq!(result.is_err(), was_refused);
+            if was_refused {
+                assert!(map.keys().copied().eq(28 - left..28));
+                assert_eq!(map.insert(OF_HASH_28, 5), Ok(None));
+            }
+            assert!(map.keys().copied().eq((28 - left..28).chain([OF_HASH_28])));
+            assert_eq!(map.insert(OF_HASH_28, 6), Ok(Some(5)));
+        }
+    }
+}
+
+/// An ordered map of at most 300 entries, most of which are removed again, for long enough that its table is rehashed.
+#[test]
+fn an_ordered_map_in_which_keys_come_and_go() {
+    let mut map = OrderedMap::new();
+    for n in 0..100_000u64 {
+        assert_eq!(map.insert(n, n), Ok(None));
+        if n >= 300 {
+            assert_eq!(map.pop_first(), Some((n - 300, n - 300)));
+        }
+    }
+    assert!(map.keys().copied().eq(99_700..100_000));
 }
 
 struct Large {

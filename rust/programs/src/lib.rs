@@ -10,6 +10,10 @@ mod library;
 #[cfg(test)]
 mod memory;
 mod rattle_std;
+#[cfg(test)]
+mod unseen;
+#[cfg(test)]
+mod worked;
 #[macro_use]
 #[path = "rattle_std/macros.rs"]
 mod macros;
