@@ -11,6 +11,7 @@ use crate::rattle_std::hash::Hash;
 
 mod calls;
 mod kept;
+mod placings;
 mod runs;
 mod shrinks;
 
@@ -19,9 +20,10 @@ pub use calls::{
     calls_keep_the_length, calls_keep_the_memory_usage, calls_pay_for_moves,
 };
 pub use kept::{inserts_leave_the_newest, inserts_with_room_are_exact, maps_keep_to_their_length, nothing_is_lost};
+pub use placings::try_inserts_pay_for_moves;
 pub use runs::{
-    runs_begin_with_maps, runs_evict_the_oldest, runs_keep_maps, runs_keep_sums, runs_keep_the_budget,
-    runs_keep_the_length, runs_keep_the_memory_usage, runs_pay_for_moves,
+    each_insert_of_a_run_evicts_the_oldest, runs_begin_with_maps, runs_evict_the_oldest, runs_keep_maps,
+    runs_keep_sums, runs_keep_the_budget, runs_keep_the_length, runs_keep_the_memory_usage, runs_pay_for_moves,
 };
 pub use shrinks::{shrinks_keep_the_list, shrinks_leave_a_tight_table, shrinks_pay_for_moves};
 
