@@ -14,6 +14,7 @@ pub mod PassedPairs
 pub mod NothingLost
 pub mod OutOfMemory
 pub mod Exactness
+pub mod AskedInserts
 pub mod GrantedGrowth
 pub mod RoomyInserts
 pub mod Sums
