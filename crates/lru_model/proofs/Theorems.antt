@@ -33,6 +33,7 @@ pub mod RunLimits
 pub mod SmallTables
 pub mod SmallCalls
 pub mod Reservations
+pub mod NextTables
 pub mod GetOrInserts
 pub mod KeySearches
 pub mod BudgetLimits
