@@ -24,6 +24,7 @@
 --     sum-set              a write that keeps the cost of its pair keeps the sum of the costs
 --     empty_is_sound       a map without pairs and buckets has a sound table
 --     has_tables           there are tables for the pairs of a map, if links and bytes reach one for many more
+--     tables_of_next       or if there is one for one pair more, and an entry takes a byte or more
 --     Shape, shape         a map, except which of its buckets are full; `same_shape` and `look_alike` say so
 --     left_shape, cleared_shape, reserve_is      what calls make of it in tables of up to 16 buckets
 --     shrinks_look_alike   two shrinks of maps of one shape return the same, and leave such maps
@@ -51,6 +52,7 @@ pub use Rattle.lru_model.proofs.PairLists.NamedPairs.{lookup-entry, no_pair}
 pub use Rattle.lru_model.proofs.Theorems.Limits.{length-without}
 pub use Rattle.lru_model.proofs.States.RemovedPairs.{value_removed}
 pub use Rattle.lru_model.proofs.TableSizes.ReachedTables.{has_tables}
+pub use Rattle.lru_model.proofs.Theorems.NextTables.{tables_of_next}
 pub use Rattle.lru_model.proofs.TableSizes.Growth.{usage_bytes}
 pub use Rattle.lru_model.proofs.Theorems.RunLimits.{nothing_written, no_cost_written, kept_written}
 pub use Rattle.lru_model.proofs.Theorems.Runs.{any_step_same}

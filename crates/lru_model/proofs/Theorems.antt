@@ -14,6 +14,7 @@ pub mod PassedPairs
 pub mod NothingLost
 pub mod OutOfMemory
 pub mod Exactness
+pub mod AskedInserts
 pub mod GrantedGrowth
 pub mod RoomyInserts
 pub mod Sums
@@ -32,6 +33,7 @@ pub mod RunLimits
 pub mod SmallTables
 pub mod SmallCalls
 pub mod Reservations
+pub mod NextTables
 pub mod GetOrInserts
 pub mod KeySearches
 pub mod BudgetLimits
