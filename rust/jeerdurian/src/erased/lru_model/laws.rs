@@ -58,6 +58,12 @@ pub fn small_inserts_are_exact<K: Eq + Hash, V, I: LookupKey<K>, L: Insertion<K,
 /// memory; and both inserts find memory or neither does.
 pub fn small_inserts_look_alike<K: Eq + Hash, V, I: LookupKey<K>, L: Insertion<K, V, I>, S: KeyHasher<K>>() {}
 
+/// An insert that returns `Ok` is one into a plain list, unless growth is refused: its entry is stored with all the
+/// others, after the limiter was queried for a table of some bytes, or not at all (`exact`). If the limiter's offers are
+/// determined, what an insert returns, the entries and the limiter follow from the entries and the limiter before, and
+/// from that query (`alike`).
+pub fn inserts_are_exact_unless_refused<K: Eq + Hash, V, I: LookupKey<K>, L: Insertion<K, V, I>, S: KeyHasher<K>>() {}
+
 /// If the limiter permits every growth, as `ByLength` and the unlimited ones do, and the tables that an insert may need
 /// are within the reach of links and bytes, the insert does what it would do to a list of entries without a table. Only
 /// whether memory is there stays open.
