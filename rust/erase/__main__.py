@@ -44,8 +44,8 @@ PACKAGES = {
         "lru_trace_tests",
     ],
 }
-# Those that need std. Of the others, places.txt names the items that need it.
-OF_STD = ("lru_tenants", "lru_trace")
+# Those that need std.
+OF_STD = ("block_device", "lru_tenants", "lru_caches", "lru_trace")
 MODULES = {name: ("crate::erased::" if package == "jeerdurian" else "crate::programs::") + name
            for package, names in PACKAGES.items() for name in names}
 ALLOW = "#[allow(dropping_copy_types, unused, clippy::all)]"

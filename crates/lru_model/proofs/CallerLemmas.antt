@@ -24,6 +24,7 @@
 --     sum-set              a write that keeps the cost of its pair keeps the sum of the costs
 --     empty_is_sound       a map without pairs and buckets has a sound table
 --     has_tables           there are tables for the pairs of a map, if links and bytes reach one for many more
+--     tables_of_next       or if there is one for one pair more, and an entry takes a byte or more
 --     Shape, shape         a map, except which of its buckets are full; `same_shape` and `look_alike` say so
 --     left_shape, cleared_shape, reserve_is      what calls make of it in tables of up to 16 buckets
 --     shrinks_look_alike   two shrinks of maps of one shape return the same, and leave such maps
@@ -31,6 +32,8 @@
 --     usage_bytes          the bytes of a table that has a usage
 --     value_removed        of an entry that is removed, the value may be returned alone
 --     nothing_written      a run of calls is one of calls and writes
+--     no_cost_written      and one of calls and writes that keep the cost
+--     kept_written         a run of calls and writes that keep the cost is one of calls and writes
 --     any_step_same        no call changes what builds the hashers, how far links reach, and what a bucket takes
 --     lookup-entry, no_pair      a look-up returns the value of the pair that is found, and none if no pair is
 --     without_none         if no pair is named, the others are all
@@ -49,8 +52,9 @@ pub use Rattle.lru_model.proofs.PairLists.NamedPairs.{lookup-entry, no_pair}
 pub use Rattle.lru_model.proofs.Theorems.Limits.{length-without}
 pub use Rattle.lru_model.proofs.States.RemovedPairs.{value_removed}
 pub use Rattle.lru_model.proofs.TableSizes.ReachedTables.{has_tables}
+pub use Rattle.lru_model.proofs.Theorems.NextTables.{tables_of_next}
 pub use Rattle.lru_model.proofs.TableSizes.Growth.{usage_bytes}
-pub use Rattle.lru_model.proofs.Theorems.RunLimits.{nothing_written}
+pub use Rattle.lru_model.proofs.Theorems.RunLimits.{nothing_written, no_cost_written, kept_written}
 pub use Rattle.lru_model.proofs.Theorems.Runs.{any_step_same}
 pub use Rattle.lru_model.proofs.Theorems.StoringLimiters.{plain-changes_none, by_weight-changes_none}
 pub use Rattle.lru_model.proofs.Theorems.StoringLimiters.{by_cost-changes_none, offers_if-accepts, weighs-accepts}

@@ -4,6 +4,7 @@ pub mod Potential
 pub mod TableGrowth
 pub mod Ways
 pub mod PaidMoves
+pub mod PaidPlacings
 pub mod CountedPlacings
 pub mod Fronts
 pub mod InsertAnswers
@@ -13,6 +14,7 @@ pub mod PassedPairs
 pub mod NothingLost
 pub mod OutOfMemory
 pub mod Exactness
+pub mod AskedInserts
 pub mod GrantedGrowth
 pub mod RoomyInserts
 pub mod Sums
@@ -25,11 +27,13 @@ pub mod Runs
 pub mod AddedPairs
 pub mod AdmittedPairs
 pub mod OtherPairs
+pub mod RunEvictions
 pub mod StepTotals
 pub mod RunLimits
 pub mod SmallTables
 pub mod SmallCalls
 pub mod Reservations
+pub mod NextTables
 pub mod GetOrInserts
 pub mod KeySearches
 pub mod BudgetLimits

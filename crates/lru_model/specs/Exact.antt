@@ -1,14 +1,15 @@
 -- When the pairs and the limiter determine what an insert does, unless it runs out of memory: in a table of up to 16
--- buckets, or under a limiter that permits every growth.
+-- buckets, under a limiter that permits every growth, and, given whether it was queried for growth, where none is
+-- refused.
 use Rattle.std.specs.Prelude.{◌≡◌, ◌≢◌, ℕ, ◌+◌, ◌-◌, ◌/◌, ◌<◌, ◌≤◌, nat_lt, nat_le, Bool, true, false, not}
-use Rattle.std.specs.Prelude.{if◌then◌else◌, ◌∷◌, length, Option, Some, None, Result, Ok, IsErr}
+use Rattle.std.specs.Prelude.{if◌then◌else◌, ◌∷◌, length, Option, Some, None, IfSome, Result, Ok, IsErr}
 use Rattle.std.specs.declared.alloc.AllocError.{AllocError}
 use Rattle.lru_limits.specs.Rules.{Rules, Offers}
 use Rattle.group_table.specs.Sizes.{IsPowerFromFour, full_capacity}
 use Rattle.lru_model.specs.Sizes.{usage, Target, target, no_table, same_table, new_table}
 use Rattle.lru_model.specs.Lists.{is_empty, lookup_entry}
-use Rattle.lru_model.specs.State.{State, buckets, room, Contents, contents, pops, trim}
-use Rattle.lru_model.specs.Place.{table_for}
+use Rattle.lru_model.specs.State.{State, buckets, room, Contents, contents, Leaves, pops, trim}
+use Rattle.lru_model.specs.Place.{table_for, IsOutgrown, CannotGrow}
 use Rattle.lru_model.specs.Inserts.{make_room, replacement, with_replaced, with_removed, MayGive}
 
 -- how an insert ends, or its insertion into the table: whether the pair is in the map, and the pairs and the limiter
@@ -120,6 +121,39 @@ module _ {K V S I : Type 0} (rules : Rules K V S) (offers : Offers K V S I) (nam
         IsErr result →
         new ≡ (not_landed rules pair (make_room rules (record { pairs = old.pairs; limiter = s }))).left →
         InsertsInList old result new
+
+module _ {K V S : Type 0} (rules : Rules K V S) where
+  -- The pair is stored as the newest, and the limiter was queried for a table of this number of bytes before, or not at
+  -- all.
+  abbrev pub lands_after : Option ℕ → K × V → Contents K V S → Ending K V S
+  lands_after None pair c = lands rules pair c
+  lands_after (Some bytes) pair c = lands rules pair (asks rules pair bytes c)
+
+module _ {K V S I : Type 0} (rules : Rules K V S) (offers : Offers K V S I) (names : I → K → Bool) (i : I) (v : V) where
+  -- The insert returns `Ok`, and the pairs, the limiter, and whether the limiter was queried for growth determine how it
+  -- ends.
+  pub record EndsAsAsked (old : Contents K V S) (result : Result Bool AllocError) (new : Contents K V S) : Type 0 where
+    -- for a table of how many bytes the limiter was queried, if it was
+    pub asked : Option ℕ
+    pub ends : EndsIfLanded rules offers names (lands_after rules asked) i v old result new
+    -- it permitted that table, after it returned a pair and `make_room` followed
+    pub granted : IfSome asked (λ bytes. (s : S) × (pair : K × V) × MayGive rules offers names i v old s (Some pair)
+        × ((rules.on_grow (make_room rules (record { pairs = old.pairs; limiter = s })).limiter bytes).allowed ≡ true))
+
+  -- Growth is refused: the key is new, no bucket takes the pair that the limiter returned, a rehash is no remedy, and the
+  -- table cannot grow, because the limiter refuses or there is no larger table.
+  pub record WasRefused {H : Type 0} (hash_of : H → K → ℕ) (old : State K V S H) : Type 0 where
+    pub absent : lookup_entry (names i) old.pairs ≡ None
+    pub s : S
+    pub pair : K × V
+    pub given : MayGive rules offers names i v (contents old) s (Some pair)
+    -- the map after `make_room`
+    pub ready : State K V S H
+    pub way : Leaves (record old { limiter = s }) (make_room rules (record { pairs = old.pairs; limiter = s })) ready
+    pub outgrown : IsOutgrown (hash_of ready.hasher pair.0) ready
+    -- and after the limiter was queried, if it was
+    pub mid : State K V S H
+    pub refused : CannotGrow rules ready mid
 
 -- two inserts return the same, and leave the same contents
 pub record EndsAlike {K V S : Type 0} (result other : Result Bool AllocError)

@@ -19,7 +19,9 @@ pub mod ByHash
 pub mod Clones
 pub mod Drains
 pub mod Runs
+pub mod RunEvictions
 pub mod Written
 pub mod Retains
 pub mod TryInserts
+pub mod PaidPlacings
 pub mod Updates

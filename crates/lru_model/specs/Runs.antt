@@ -2,9 +2,10 @@
 --     rules, offers       what the limiter does (`Rules`, `Offers` of `lru_limits`)
 --     names i k           the key i, as a call gets it, names the key k
 --     hash_of h k         the hash of the key k, by the hasher h
-use Rattle.std.specs.Prelude.{◌≡◌, ◌⊎◌, ℕ, Bool, true, false, List, Option, Result, Contains, map}
+use Rattle.std.specs.Prelude.{◌≡◌, ◌⊎◌, ℕ, Bool, true, false, List, Option, IfSome, Result, Contains, map}
 use Rattle.std.specs.declared.alloc.AllocError.{AllocError}
 use Rattle.lru_limits.specs.Rules.{Rules, Offers}
+use Rattle.lru_model.specs.Lists.{lookup_entry}
 use Rattle.lru_model.specs.State.{State, IsSized, Leaves, Trims}
 use Rattle.lru_model.specs.Calls.{promoted, demoted, written, Remove, PopOldest, PopNewest, cleared}
 use Rattle.lru_model.specs.Drains.{Drained}
@@ -55,6 +56,12 @@ module _ {K V S H I : Type 0} (rules : Rules K V S) (offers : Offers K V S I) (n
   -- a call, or a write of a value through a reference
   abbrev pub StepOrWrite : State K V S H → State K V S H → Type 0
   StepOrWrite old new = Step old new ⊎ ((test : K → Bool) × (value : V) × (new ≡ written test value old))
+
+  -- a call, or a write of a value that costs what the value before it costs
+  abbrev pub StepOrKeptWrite : (cost : K → V → ℕ) → State K V S H → State K V S H → Type 0
+  StepOrKeptWrite cost old new = Step old new ⊎ ((test : K → Bool) × (value : V)
+      × IfSome (lookup_entry test old.pairs) (λ there. cost there.0 value ≡ cost there.0 there.1)
+      × (new ≡ written test value old))
 
   -- The call names only keys that pass the test, and does not pop the newest pair. A retain names the keys that it
   -- rejects.

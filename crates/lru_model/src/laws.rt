@@ -19,6 +19,7 @@ ghost use Rattle.lru_model.specs.declared.results.ReserveError.{ReserveError};
 ghost use Rattle.lru_model.specs.Callbacks.{InsertPasses};
 ghost use Rattle.lru_model.specs.Inserts.{Insert, replacement, IsOutOfMemory};
 ghost use Rattle.lru_model.specs.Exact.{IsDetermined, NeverRunsOut, EndsExactly, EndsIfLanded, InsertsInList};
+ghost use Rattle.lru_model.specs.Exact.{EndsAsAsked, WasRefused};
 ghost use Rattle.lru_model.specs.Exact.{Ending, EndsAlike, LookAlike, AlwaysGrants, HasTables};
 ghost use Rattle.lru_model.specs.Theorems.{PaysByStoring, CountsPlacings, Stores, KeepsValues, IsRefusedGrowth};
 ghost use Rattle.lru_model.specs.Theorems.{EvictsOldest, SaysWhether};
@@ -28,6 +29,7 @@ use std::hash::Hash;
 
 mod calls;
 mod kept;
+mod placings;
 mod runs;
 mod shrinks;
 
@@ -39,9 +41,11 @@ pub use kept::{
     inserts_leave_the_newest, inserts_with_room_are_exact, maps_keep_to_their_length,
     nothing_is_lost,
 };
+pub use placings::try_inserts_pay_for_moves;
 pub use runs::{
-    runs_begin_with_maps, runs_evict_the_oldest, runs_keep_maps, runs_keep_sums,
-    runs_keep_the_budget, runs_keep_the_length, runs_keep_the_memory_usage, runs_pay_for_moves,
+    each_insert_of_a_run_evicts_the_oldest, runs_begin_with_maps, runs_evict_the_oldest,
+    runs_keep_maps, runs_keep_sums, runs_keep_the_budget, runs_keep_the_length,
+    runs_keep_the_memory_usage, runs_pay_for_moves,
 };
 pub use shrinks::{shrinks_keep_the_list, shrinks_leave_a_tight_table, shrinks_pay_for_moves};
 
@@ -169,6 +173,30 @@ pub fn small_inserts_look_alike<
         Insert L.rules L.offers I.names S.hash_of key value old result new →
         Insert L.rules L.offers I.names S.hash_of key value other answer last →
         (result ≡ answer) × LookAlike new last }
+{}
+
+/// An insert that returns `Ok` is one into a plain list, unless growth is refused: its entry is stored with all the
+/// others, after the limiter was queried for a table of some bytes, or not at all (`exact`). If the limiter's offers are
+/// determined, what an insert returns, the entries and the limiter follow from the entries and the limiter before, and
+/// from that query (`alike`).
+pub fn inserts_are_exact_unless_refused<
+    K: Eq + Hash,
+    V,
+    I: LookupKey<K>,
+    L: Insertion<K, V, I>,
+    S: KeyHasher<K>,
+>()
+    ensures exact { (key : I) (value : V) (old : State K V L S) (result : Result Bool AllocError)
+        (new : State K V L S) →
+        IsOk result →
+        Insert L.rules L.offers I.names S.hash_of key value old result new →
+        EndsAsAsked L.rules L.offers I.names key value (contents old) result (contents new)
+        ⊎ WasRefused L.rules L.offers I.names key value S.hash_of old }
+    ensures alike { (key : I) (value : V) (old : Contents K V L) (result other : Result Bool AllocError)
+        (new others : Contents K V L) → IsDetermined L.offers →
+        (one : EndsAsAsked L.rules L.offers I.names key value old result new) →
+        (two : EndsAsAsked L.rules L.offers I.names key value old other others) → one.asked ≡ two.asked →
+        EndsAlike result other new others }
 {}
 
 /// If the limiter permits every growth, as `ByLength` and the unlimited ones do, and the tables that an insert may need

@@ -1,8 +1,7 @@
 -- Calls that keep the cost keep the running total the sum of the costs.
-use Rattle.std.proofs.Common.{ℕ, Bool, sym, ◌∙◌, subst}
+use Rattle.std.proofs.Common.{ℕ, Bool, inl, inr, sym, ◌∙◌, subst}
 use Rattle.lru_limits.specs.Rules.{Rules, Offers}
-use Rattle.lru_model.proofs.CallerLemmas.{sum-set}
-use Rattle.lru_model.specs.Runs.{Step, Run, ends, goes_on}
+use Rattle.lru_model.specs.Runs.{StepOrKeptWrite, Run, ends, goes_on}
 use Rattle.lru_model.specs.State.{State, contents, IsSized}
 use Rattle.lru_model.specs.Theorems.{IsSummed}
 use Rattle.replay_model.specs.CallRuns.{CallStep, KeepsCost}
@@ -12,19 +11,19 @@ use Rattle.replay_model.proofs.CallKinds.{Kind, calls_map, stays, writes_value, 
 
 module _ {K V S H : Type 0} (rules : Rules K V S) (offers : Offers K V S K) (eq : K → K → Bool)
     (hash_of : H → K → ℕ) (cost : K → V → ℕ) (account : S → ℕ) where
-  -- what is proved of all runs of calls through which nothing is written
+  -- what is proved of all runs of calls and of writes that keep the cost
   abbrev pub RunsKeepSums : Type 0
-  RunsKeepSums = (old new : State K V S H) → Run (Step rules offers eq hash_of) new old
+  RunsKeepSums = (old new : State K V S H) → Run (StepOrKeptWrite rules offers eq hash_of cost) new old
       → IsSummed cost account old → IsSummed cost account new
 
   module _ (law : RunsKeepSums) (old new : State K V S H) (sized : IsSized new) where
     kind_summed : (call : Call K V S) → KeepsCost eq cost account (contents old) call
         → Kind rules offers eq hash_of old new call → IsSummed cost account old → IsSummed cost account new
-    kind_summed call keeps (calls_map step names) = law old new (goes_on new step sized ends)
+    kind_summed call keeps (calls_map step names) = law old new (goes_on new (inl step) sized ends)
     kind_summed call keeps (stays e) = λ h. subst (IsSummed cost account) (sym e) h
     kind_summed call keeps (writes_value k v is e) =
         let kept = subst (KeepsCost eq cost account (contents old)) is keeps in
-        λ h. subst (IsSummed cost account) (sym e) (h ∙ sym (sum-set (λ p. cost p.0 p.1) (eq k) v old.pairs kept))
+        law old new (goes_on new (inr (eq k, v, kept, e)) sized ends)
     kind_summed call keeps (sets_limiter s is e) =
         let kept = subst (KeepsCost eq cost account (contents old)) is keeps in
         λ h. subst (IsSummed cost account) (sym e) (kept ∙ h)

@@ -1,13 +1,11 @@
 //! Caches above the LRU map: functions that remember their results, a hash map in the order of insertion, and a
 //! write-back cache of the blocks of a device.
 
-#[cfg(feature = "std")]
 mod devices;
 mod memo;
 mod ordered_map;
 mod page_cache;
 
-#[cfg(feature = "std")]
 pub use devices::{Durable, FileDevice, FileError, HashedFileDevice};
 pub use memo::{Loader, Memo};
 pub use ordered_map::{Entries, IntoEntries, Keys, OrderedMap, Values};

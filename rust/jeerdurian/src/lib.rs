@@ -39,6 +39,7 @@ mod rattle_std;
 #[allow(missing_docs)]
 mod erased;
 
+#[cfg(feature = "std")]
 pub mod caches;
 mod fallible;
 mod hasher;

@@ -5,7 +5,7 @@ use native.Mathlib.Decide.{dec_lt}
 use Rattle.std.specs.Prelude.{nat_lt, nat_le, ◌==◌, None}
 use Rattle.std.proofs.lemmas.Bool.Decides.{nat_tests}
 use Rattle.std.proofs.lemmas.Bool.{eq-eqb, ne_eqb, le-leb}
-use Rattle.group_table.specs.Sizes.{IsBucketCount, full_capacity, buckets_for, below, least_power}
+use Rattle.group_table.specs.Sizes.{IsBucketCount, IsPowerFromFour, full_capacity, buckets_for, below, least_power}
 use Rattle.group_table.proofs.PowerLemmas.{power_gap}
 use Rattle.group_table.proofs.SizeLemmas.{full_capacity-large, power_pos}
 use Rattle.lru_model.specs.Exact.{HasTables, HasTableFor}
@@ -63,65 +63,62 @@ twice_within j k b count power size fewer =
     let gap : 2 * 2 ^ (j + 2) ≤ 2 ^ (k + 2) = power_gap (j + 2) (k + 2) (omega (arith, p, q, more)) in
     omega (arith, gap, p, q)
 
--- the pairs that fill a table need no larger one, if eight times as many do not overflow
-full_needs : (k max b : ℕ) → b ≡ 4 * 2 ^ k → b < max → 7 * b < 2 ^ 64 → (need : ℕ)
-    × (buckets_for max (full_capacity b) ≡ Some need) × (need ≤ b)
+-- the pairs that a table takes need no larger one, if eight times as many do not overflow
+fit_needs : (k max b c : ℕ) → b ≡ 4 * 2 ^ k → b < max → 7 * b < 2 ^ 64 → c ≤ full_capacity b → (need : ℕ)
+    × (buckets_for max c ≡ Some need) × (need ≤ b)
 unfolding buckets_for
-full_needs k max b size reached notified =
-    pick (full_capacity b == 0) (nat_lt (full_capacity b) 4) (nat_lt (full_capacity b) 8)
-    (nat_lt (8 * full_capacity b) (2 ^ 64)) (λ e. grind (arith, nat_tests)) (λ e. grind (arith, nat_tests))
-    (λ e. grind (arith, nat_tests))
+fit_needs k max b c size reached notified fits =
+    pick (c == 0) (nat_lt c 4) (nat_lt c 8) (nat_lt (8 * c) (2 ^ 64)) (λ e. grind (arith, nat_tests))
+    (λ e. grind (arith, nat_tests)) (λ e. grind (arith, nat_tests))
   where
     within : (m : ℕ) → m ≤ b → below max m ≡ Some m
     within m h = let l : m < max = omega arith in grind (arith, nat_tests)
 
-    eight : 4 ≤ full_capacity b → 8 ≤ b
+    eight : 4 ≤ c → 8 ≤ b
     eight h = go (sizes_of k b size)
       where
         go : (b ≡ 4) ⊎ ((b ≡ 8) ⊎ (16 ≤ b)) → 8 ≤ b
-        go (inl e) = absurd (omega (arith, h, ap full_capacity e, full_capacity-4))
+        go (inl e) = absurd (omega (arith, h, fits, ap full_capacity e, full_capacity-4))
         go (inr (inl e)) = omega (arith, e)
         go (inr (inr l)) = omega (arith, l)
 
     power : b ≡ 2 ^ (k + 2)
     power = omega (arith, size, pow-add 2 k 2)
 
-    eighths : 8 ≤ full_capacity b → (8 < b) × (b / 8 * 8 ≡ b)
+    eighths : 8 ≤ c → (8 < b) × (b / 8 * 8 ≡ b)
     eighths h = go k size (sizes_of k b size)
       where
         go : (k : ℕ) → b ≡ 4 * 2 ^ k → (b ≡ 4) ⊎ ((b ≡ 8) ⊎ (16 ≤ b)) → (8 < b) × (b / 8 * 8 ≡ b)
-        go k size (inl e) = absurd (omega (arith, h, e, full_capacity-at_most b))
-        go k size (inr (inl e)) = absurd (omega (arith, h, ap full_capacity e, full_capacity-8))
+        go k size (inl e) = absurd (omega (arith, h, fits, e, full_capacity-at_most b))
+        go k size (inr (inl e)) = absurd (omega (arith, h, fits, ap full_capacity e, full_capacity-8))
         go zero size (inr (inr l)) = absurd (omega (arith, size, l))
         go (suc k) size (inr (inr l)) =
             let p : b ≡ 8 * 2 ^ k = omega (arith, size, pow-add 2 k 1) in (omega (arith, l), omega arith)
 
-    least : 0 < b → least_power b ≤ b
-    least some = go (least_power_shape b) (least_power_upper b some)
+    least : (m : ℕ) → 0 < m → m ≤ b → least_power m ≤ b
+    least m some few = go (least_power_shape m) (least_power_upper m some)
       where
-        go : (j : ℕ) × (least_power b ≡ 2 ^ j) → least_power b < 2 * b → least_power b ≤ b
-        go (j, shape) upper = elim (dec_lt b (least_power b)) [
+        go : (j : ℕ) × (least_power m ≡ 2 ^ j) → least_power m < 2 * m → least_power m ≤ b
+        go (j, shape) upper = elim (dec_lt b (least_power m)) [
           | yes more ↦ absurd
               (let gap : 2 * 2 ^ (k + 2) ≤ 2 ^ j = power_gap (k + 2) j (omega (arith, power, shape, more)) in
-              omega (arith, gap, power, shape, upper))
+              omega (arith, gap, power, shape, upper, few))
           | no few ↦ omega (arith, few)
         ]
 
-    pick : (a d e f : Bool) → (d ≡ false → 4 ≤ full_capacity b) → (e ≡ false → 8 ≤ full_capacity b)
-        → (f ≡ false → 2 ^ 64 ≤ 8 * full_capacity b)
+    pick : (a d e f : Bool) → (d ≡ false → 4 ≤ c) → (e ≡ false → 8 ≤ c) → (f ≡ false → 2 ^ 64 ≤ 8 * c)
         → (need : ℕ) × (cond a (Some 0)
-        (cond d (below max 4) (cond e (below max 8) (cond f (below max (least_power (8 * full_capacity b / 7))) None)))
+        (cond d (below max 4) (cond e (below max 8) (cond f (below max (least_power (8 * c / 7))) None)))
         ≡ Some need) × (need ≤ b)
     pick true d e f p q r = (0, refl, omega arith)
     pick false true e f p q r = (4, within 4 (power_pos b (k, size)), power_pos b (k, size))
     pick false false true f p q r = let l = eight (p refl) in (8, within 8 l, l)
     pick false false false true p q r =
         let s = eighths (q refl) in
-        let same : 8 * full_capacity b / 7 ≡ b = omega (arith, full_capacity-large b s.0, s.1) in
-        let few = least (omega (arith, s.0)) in
-        rw same (least_power b, within (least_power b) few, few)
+        let few = least (8 * c / 7) (omega (arith, q refl)) (omega (arith, fits, full_capacity-large b s.0, s.1)) in
+        (least_power (8 * c / 7), within (least_power (8 * c / 7)) few, few)
     pick false false false false p q r =
-        let s = eighths (q refl) in absurd (omega (arith, r refl, full_capacity-large b s.0, s.1, notified))
+        let s = eighths (q refl) in absurd (omega (arith, r refl, fits, full_capacity-large b s.0, s.1, notified))
 
 module _ (k max e count bytes : ℕ) (size : count ≡ 4 * 2 ^ k) (reached : count < max)
     (usable : usage e count ≡ Some bytes) where
@@ -170,8 +167,9 @@ module _ (k max e count bytes : ℕ) (size : count ≡ 4 * 2 ^ k) (reached : cou
           (omega (arith, none, full_capacity-at_most (2 * b))) h
       doubles more (inr (j, power)) h =
           let twice : 2 * b ≤ count = twice_within j k b count power size (omega (arith, more, many)) in
-          let (need, is, small) = full_needs (suc j) max (2 * b) (omega (arith, power, pow-add 2 j 1))
-          (omega (arith, twice, reached)) (omega (arith, twice, notified)) in
+          let (need, is, small) = fit_needs (suc j) max (2 * b) (full_capacity (2 * b))
+          (omega (arith, power, pow-add 2 j 1))
+          (omega (arith, twice, reached)) (omega (arith, twice, notified)) (omega arith) in
           some_table need (omega (arith, small, twice)) (rw is at h)
 
       split : (need : ℕ) → need ≤ count → (t u : Bool) → (u ≡ false → full_capacity b / 2 < c)
@@ -180,6 +178,30 @@ module _ (k max e count bytes : ℕ) (size : count ≡ 4 * 2 ^ k) (reached : cou
       split need small true u f h = some_table need small h
       split need small false true f h = absurd (grind (arith, h))
       split need small false false f h = doubles (f refl) sized h
+
+  -- so does a table that takes the pairs and has twice the buckets
+  pub has_target_of_fit : 7 * count < 2 ^ 64 → (b c : ℕ) → IsBucketCount b → (IsPowerFromFour b → 2 * b ≤ count)
+      → c ≤ full_capacity count → target max e b c ≢ no_table
+  unfolding target
+  has_target_of_fit notified b c sized twice fits =
+      let (need, is, small) = fit_needs k max count c size reached notified fits in
+      λ h. split need small (nat_lt b need) (nat_le c (full_capacity b / 2)) (rw is at h)
+    where
+      doubles : IsBucketCount b → table_with e (buckets_for max (full_capacity (2 * b))) ≢ no_table
+      doubles (inl none) h = need_within (full_capacity (2 * b))
+          (omega (arith, none, full_capacity-at_most (2 * b))) h
+      doubles (inr (j, power)) h =
+          let large : 2 * b ≤ count = twice (j, power) in
+          let (need, is, small) = fit_needs (suc j) max (2 * b) (full_capacity (2 * b))
+          (omega (arith, power, pow-add 2 j 1))
+          (omega (arith, large, reached)) (omega (arith, large, notified)) (omega arith) in
+          some_table need (omega (arith, small, large)) (rw is at h)
+
+      split : (need : ℕ) → need ≤ count → (t u : Bool) → cond t (table_with e (Some need))
+          (cond u same_table (table_with e (buckets_for max (full_capacity (2 * b))))) ≡ no_table → ⊥
+      split need small true u h = some_table need small h
+      split need small false true h = absurd (grind (arith, h))
+      split need small false false h = doubles sized h
 
 -- so there are tables for the pairs of a map, and one more
 pub has_tables : {K V S H : Type 0} (n : ℕ) (st : State K V S H) → HasTableFor n st → 8 * (length st.pairs + 1) ≤ n

@@ -1,6 +1,6 @@
 -- A limit by a budget, as `ByCost` and `ByWeight` have: each call of a map keeps it, and so does a run of calls.
 use Rattle.std.proofs.Common.{◌≡◌, ℕ, ◌≤◌, Bool, false, Option, Some, None, Result, refl, sym}
-use Rattle.std.proofs.Common.{ap, ◌∙◌, arith, ◌⊎◌, inl, inr}
+use Rattle.std.proofs.Common.{ap, ◌∙◌, subst, arith, ◌⊎◌, inl, inr}
 use Rattle.std.proofs.lemmas.Bool.Decides.{nat_tests}
 use Rattle.std.specs.Prelude.{nat_lt}
 use Rattle.std.specs.declared.alloc.AllocError.{AllocError}
@@ -11,10 +11,10 @@ use Rattle.lru_model.specs.GetOrInserts.{MakesNewest, got, inserted}
 use Rattle.lru_model.specs.Lists.{last, lookup_entry}
 use Rattle.lru_model.specs.State.{State, contents, IsWithin, notified_of}
 use Rattle.lru_model.specs.Runs.{Step, makes_newest}
-use Rattle.lru_model.specs.Runs.{Run, ends, goes_on}
+use Rattle.lru_model.specs.Runs.{StepOrWrite, StepOrKeptWrite, Run, ends, goes_on}
 use Rattle.lru_model.specs.Theorems.{IsSummed}
 use Rattle.lru_model.proofs.Theorems.Moves.{KeepsOffers}
-use Rattle.lru_model.proofs.Theorems.Runs.{step_changes, step_summed}
+use Rattle.lru_model.proofs.Theorems.Runs.{step_changes, step_summed, kept_summed}
 use Rattle.lru_model.proofs.Theorems.StepTotals.{step_total}
 use Rattle.lru_model.proofs.Theorems.Sums.{total, total-is}
 
@@ -83,12 +83,27 @@ module _ {K V S : Type 0} {rules : Rules K V S} {offers : Offers K V S K} {accou
     step_keeps_total old new s was within =
         ended old new was (step_summed sums old new s was) (step_budget old new s) within (step_total pair_cost s)
 
-    pub run_keeps_total : (new old : State K V S H) → Run (Step rules offers names hash_of) new old
+    -- a write changes no limiter
+    kept_total : (old new : State K V S H) → StepOrKeptWrite rules offers names hash_of cost old new
+        → IsSummed cost account old → account old.limiter ≤ budget old.limiter
+        → account new.limiter ≤ budget new.limiter
+    kept_total old new (inl s) = step_keeps_total old new s
+    kept_total old new (inr (test, value, same, e)) = λ was within. subst (λ st. account st.limiter ≤ budget st.limiter)
+        (sym e) within
+
+    pub run_keeps_total : (new old : State K V S H) → Run (StepOrKeptWrite rules offers names hash_of cost) new old
         → IsSummed cost account old → account old.limiter ≤ budget old.limiter
         → account new.limiter ≤ budget new.limiter
     run_keeps_total new old ends was within = within
     run_keeps_total new old (goes_on mid s sized r) was within =
-        run_keeps_total new mid r (step_summed sums old mid s was) (step_keeps_total old mid s was within)
+        run_keeps_total new mid r (kept_summed sums old mid s was) (kept_total old mid s was within)
+
+  pub run_budget : {H : Type 0} {names : K → K → Bool} {hash_of : H → K → ℕ} (new old : State K V S H)
+      → Run (StepOrWrite rules offers names hash_of) new old → budget new.limiter ≡ budget old.limiter
+  run_budget new old ends = refl
+  run_budget new old (goes_on mid (inl s) sized r) = run_budget new mid r ∙ (step_changes keeps_budget old mid s).3.moves
+  run_budget new old (goes_on mid (inr (test, value, e)) sized r) =
+      run_budget new mid r ∙ ap (λ st. budget st.limiter) e
 
 -- a get that inserts is a step
 pub made-step : {K V S H : Type 0} {rules : Rules K V S} {offers : Offers K V S K} {names : K → K → Bool}

@@ -55,7 +55,7 @@ room_within marks = omega arith
 
 module _ {K V S H : Type 0} (rules : Rules K V S) (old : State K V S H) where
   -- other pairs, no more than before
-  pairs_calm : (pairs : List (K × V)) (places : List ℕ) → length pairs ≡ length old.pairs
+  pub pairs_calm : (pairs : List (K × V)) (places : List ℕ) → length pairs ≡ length old.pairs
       → Calm old (record old { pairs = pairs; table = record old.table { places = places } })
   pairs_calm pairs places same = record {
     hasher = refl;

@@ -128,7 +128,7 @@ module _ {K V S H : Type 0} (rules : Rules K V S) where
     left_are mid (trim rules c) new l,
   )
 
-  settled_ends : (l : Ending K V S) (pair : K × V) (outcome : Outcome) (landed : State K V S H)
+  pub settled_ends : (l : Ending K V S) (pair : K × V) (outcome : Outcome) (landed : State K V S H)
       (result : Result Bool AllocError) (new : State K V S H) → IsOk result → LandsAs rules pair l outcome landed
       → Settles rules outcome landed result new → IsEnding (settled rules l) result (contents new)
   settled_ends l pair placed landed result new ok h s = rw h (trimmed_ends landed (contents landed) result new s.0 s.1)

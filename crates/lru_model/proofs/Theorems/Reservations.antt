@@ -45,7 +45,7 @@ unfolding full_capacity
 full_capacity-mono a b h = grind (arith, nat_tests)
 
 -- and so does a new table
-target_takes : (max e b c n bytes : ℕ) → full_capacity b ≤ full_capacity n → target max e b c ≡ new_table n bytes → c
+pub target_takes : (max e b c n bytes : ℕ) → full_capacity b ≤ full_capacity n → target max e b c ≡ new_table n bytes → c
     ≤ full_capacity n
 unfolding target
 target_takes max e b c n bytes larger = from (buckets_for max c) refl

@@ -6,7 +6,7 @@ use Rattle.lru_limits.specs.Rules.{Rules, Offers}
 use Rattle.lru_limits.specs.Limiters.{length_rules, length_offers, memory_rules, all_offers}
 use Rattle.lru_model.specs.State.{State}
 use Rattle.lru_model.specs.Runs.{Step}
-use Rattle.lru_model.specs.Runs.{StepOrWrite, Run, ends, goes_on}
+use Rattle.lru_model.specs.Runs.{StepOrWrite, StepOrKeptWrite, Run, ends, goes_on}
 use Rattle.lru_model.specs.Theorems.{UsesAtMost}
 use Rattle.lru_model.proofs.Theorems.Limits.{keeps_limiter, length_at_most, uses_at_most}
 use Rattle.lru_model.proofs.Theorems.StepTotals.{step_total}
@@ -19,6 +19,22 @@ module _ {K V S H : Type 0} (rules : Rules K V S) (offers : Offers K V S K) (nam
       → Run (StepOrWrite rules offers names hash_of) new old
   nothing_written old ends = ends
   nothing_written old (goes_on mid step sized run) = goes_on mid (inl step) sized (nothing_written mid run)
+
+module _ {K V S H I : Type 0} (rules : Rules K V S) (offers : Offers K V S I) (names : I → K → Bool)
+    (hash_of : H → K → ℕ) (cost : K → V → ℕ) where
+  -- a run of calls is one in which no write changes a cost,
+  pub no_cost_written : {new : State K V S H} (old : State K V S H) → Run (Step rules offers names hash_of) new old
+      → Run (StepOrKeptWrite rules offers names hash_of cost) new old
+  no_cost_written old ends = ends
+  no_cost_written old (goes_on mid step sized run) = goes_on mid (inl step) sized (no_cost_written mid run)
+
+  -- and such a run is one of calls and writes
+  pub kept_written : {new : State K V S H} (old : State K V S H)
+      → Run (StepOrKeptWrite rules offers names hash_of cost) new old → Run (StepOrWrite rules offers names hash_of) new old
+  kept_written old ends = ends
+  kept_written old (goes_on mid (inl step) sized run) = goes_on mid (inl step) sized (kept_written mid run)
+  kept_written old (goes_on mid (inr (test, value, same, e)) sized run) =
+      goes_on mid (inr (test, value, e)) sized (kept_written mid run)
 
 -- a limiter that no call changes stays as it is
 pub run_keeps_limiter : {K V S H : Type 0} (rules : Rules K V S) (offers : Offers K V S K) (names : K → K → Bool)

@@ -1,5 +1,5 @@
 -- What each move keeps, every step keeps, and so does every run.
-use Rattle.std.proofs.Common.{◌≡◌, ℕ, Bool, true, List, Ok, ◌⊎◌, inl, inr, refl, subst}
+use Rattle.std.proofs.Common.{◌≡◌, ℕ, Bool, true, List, Ok, ◌⊎◌, inl, inr, refl, subst, ◌∙◌}
 use Rattle.std.specs.Cmp.{IsEquivalence}
 use Rattle.std.specs.List.{IsDistinct}
 use Rattle.std.specs.Map.{set_value}
@@ -12,7 +12,7 @@ use Rattle.lru_model.specs.State.{State, Contents, contents, IsSized, IsMap}
 use Rattle.lru_model.specs.Runs.{Step, inserts, makes_newest, updates, gets, demotes, removes, pops_oldest}
 use Rattle.lru_model.specs.Runs.{pops_newest, drains, clears}
 use Rattle.lru_model.specs.Runs.{reserves, shrinks, trims, retains}
-use Rattle.lru_model.specs.Runs.{AnyStep, calls, writes, sets_limiter, Run, ends, goes_on}
+use Rattle.lru_model.specs.Runs.{AnyStep, calls, writes, sets_limiter, StepOrKeptWrite, Run, ends, goes_on}
 use Rattle.lru_model.specs.Shrinks.{Shrink}
 use Rattle.lru_model.specs.Theorems.{PaysByStoring, PaysForMoves, IsSummed}
 use Rattle.lru_model.proofs.PairLists.DistinctKeys.{offers_distinct}
@@ -22,7 +22,7 @@ use Rattle.lru_model.proofs.Theorems.Potential.{Pays, pays_for_moves, pays_by_st
 use Rattle.lru_model.proofs.Theorems.Potential.{moves_paid_self, moves_paid_trans, bounded_of}
 use Rattle.lru_model.proofs.Theorems.Ways.{insert_changes, update_changes}
 use Rattle.lru_model.proofs.Theorems.PaidMoves.{stays_map}
-use Rattle.lru_model.proofs.Theorems.Sums.{keeps_sums, stays_summed}
+use Rattle.lru_model.proofs.Theorems.Sums.{keeps_sums, stays_summed, sum-set}
 use Rattle.lru_model.proofs.Theorems.CallChanges.{promoted_changes, demoted_changes, remove_changes, pop_oldest_changes}
 use Rattle.lru_model.proofs.Theorems.CallChanges.{pop_newest_changes, cleared_changes, drain_changes, trim_changes}
 use Rattle.lru_model.proofs.Theorems.CallChanges.{retain_changes}
@@ -63,11 +63,6 @@ module _ {K V S H I : Type 0} {rules : Rules K V S} {offers : Offers K V S I} {n
     any_changes write set old new (sets_limiter s e) = rw e
         (_, _, inl refl, set_changes rules R old s (set (contents old) s))
 
-    pub run_keeps : (new old : State K V S H) → Run (Step rules offers names hash_of) new old
-        → R (contents old) (contents new)
-    run_keeps new old ends = k.keeps.way.self (contents new)
-    run_keeps new old (goes_on mid s sized r) = k.keeps.way.trans (step_changes old mid s).3.moves (run_keeps new mid r)
-
   -- no call changes what builds the hashers, how far links reach, and what a bucket takes
   pub any_step_same : (old new : State K V S H) → AnyStep rules offers names hash_of old new
       → (new.hasher ≡ old.hasher) × (new.max ≡ old.max) × (new.entry_bytes ≡ old.entry_bytes)
@@ -102,10 +97,20 @@ module _ {K V S H I : Type 0} {rules : Rules K V S} {offers : Offers K V S I} {n
       → IsSummed cost account old → IsSummed cost account new
   step_summed laws old new s = stays_summed laws old new (step_changes (keeps_sums laws names) old new s).3.moves
 
+  -- and so does a call, or a write that keeps the cost
+  pub kept_summed : {cost : K → V → ℕ} {account : S → ℕ} → IsAccount rules offers cost account
+      → (old new : State K V S H) → StepOrKeptWrite rules offers names hash_of cost old new
+      → IsSummed cost account old → IsSummed cost account new
+  kept_summed laws old new (inl s) = step_summed laws old new s
+  kept_summed {cost} {account} laws old new (inr (test, value, same, e)) = λ summed.
+      subst (IsSummed cost account) (sym e) (summed ∙ sym (sum-set (λ p. cost p.0 p.1) test value old.pairs same))
+
   pub run_summed : {cost : K → V → ℕ} {account : S → ℕ} → IsAccount rules offers cost account
       → (new old : State K V S H)
-      → Run (Step rules offers names hash_of) new old → IsSummed cost account old → IsSummed cost account new
-  run_summed laws new old r = stays_summed laws old new (run_keeps (keeps_sums laws names) new old r)
+      → Run (StepOrKeptWrite rules offers names hash_of cost) new old → IsSummed cost account old
+      → IsSummed cost account new
+  run_summed laws new old ends summed = summed
+  run_summed laws new old (goes_on mid s sized r) summed = run_summed laws new mid r (kept_summed laws old mid s summed)
 
   module _ {eq : K → K → Bool} {query_input : I → List (List ℕ)} {key_input : K → List (List ℕ)}
       (equivalence : IsEquivalence eq) (looks_up : IsLookup names eq query_input key_input)

@@ -3,7 +3,8 @@
 ghost use Rattle.std.specs.Prelude.{◌≡◌, ℕ, ◌≤◌, Bool, length};
 ghost use Rattle.lru_model.specs.Lists.{IsFront};
 ghost use Rattle.lru_model.specs.State.{State, IsSized, IsMap, empty_map};
-ghost use Rattle.lru_model.specs.Runs.{Step, StepOrWrite, AnyStep, StepAmong, Run};
+ghost use Rattle.lru_model.specs.Runs.{StepOrWrite, StepOrKeptWrite, AnyStep, StepAmong, Run};
+ghost use Rattle.lru_model.specs.RunEvictions.{EachStep, InsertEvictsOldest};
 ghost use Rattle.lru_model.specs.Theorems.{PaysForMoves, UsesAtMost, IsSummed, others};
 
 use lru_limits::{
@@ -20,11 +21,11 @@ pub fn runs_keep_maps<K: Eq + Hash, V, I: LookupKey<K>, L: Insertion<K, V, I>, S
         IsMap K.eq old → IsMap K.eq new }
 {}
 
-/// A limiter's running total that was the sum of the costs is their sum after any calls that write nothing through a
-/// reference.
+/// A limiter's running total that was the sum of the costs is their sum after any calls, and any writes of values that
+/// cost what the values before them cost.
 pub fn runs_keep_sums<K: Eq + Hash, V, I: LookupKey<K>, L: Summing<K, V, I>, S: KeyHasher<K>>()
     ensures sum { (old new : State K V L S) →
-        Run (Step L.rules L.offers I.names S.hash_of) new old →
+        Run (StepOrKeptWrite L.rules L.offers I.names S.hash_of L.cost_of) new old →
         IsSummed L.cost_of L.account old → IsSummed L.cost_of L.account new }
 {}
 
@@ -57,6 +58,20 @@ pub fn runs_evict_the_oldest<
         IsFront (others test new.pairs) (others test old.pairs) }
 {}
 
+/// Each insert of a run evicts from the old end alone, whatever the other calls of the run are, `pop_newest` too. The
+/// one other entry that it may remove is the entry whose replacement is rejected. The same holds of each get that
+/// inserts.
+pub fn each_insert_of_a_run_evicts_the_oldest<
+    K: Eq + Hash,
+    V,
+    I: LookupKey<K>,
+    L: Insertion<K, V, I>,
+    S: KeyHasher<K>,
+>()
+    ensures { (old new : State K V L S) (run : Run (AnyStep L.rules L.offers I.names S.hash_of) new old) →
+        EachStep (InsertEvictsOldest L.rules L.offers I.names S.hash_of) run }
+{}
+
 /// With `ByLength` there are at most `max_length` entries after any calls and writes of values, if there were no more
 /// before. The limiter stays as it is.
 pub fn runs_keep_the_length<K: Eq + Hash + Drop, V: Drop, S: KeyHasher<K>>()
@@ -81,15 +96,16 @@ pub fn runs_keep_the_memory_usage<K: Eq + Hash + Drop, V: Drop, S: KeyHasher<K>>
         S.hash_of) new old → new.limiter ≡ old.limiter }
 {}
 
-/// With any limiter that has a budget the running total is at most the budget after any calls, if that held before and
-/// the total was the sum of the costs of the entries. The budget stays as it is.
+/// With any limiter that has a budget the running total is at most the budget after any calls, and any writes of values
+/// that cost what the values before them cost, if that held before and the total was the sum of the costs of the
+/// entries. The budget stays as it is, whatever is written.
 pub fn runs_keep_the_budget<K: Eq + Hash, V, L: Budgeted<K, V>, S: KeyHasher<K>>()
     ensures total { (old new : State K V L S) →
-        Run (Step L.rules L.offers K.eq S.hash_of) new old →
+        Run (StepOrKeptWrite L.rules L.offers K.eq S.hash_of L.cost_of) new old →
         IsSummed L.cost_of L.account old → L.account old.limiter ≤ L.budget_of old.limiter →
         L.account new.limiter ≤ L.budget_of new.limiter }
     ensures budget { (old new : State K V L S) →
-        Run (Step L.rules L.offers K.eq S.hash_of) new old → L.budget_of new.limiter ≡ L.budget_of old.limiter }
+        Run (StepOrWrite L.rules L.offers K.eq S.hash_of) new old → L.budget_of new.limiter ≡ L.budget_of old.limiter }
 {}
 
 /// A new map, which contains no entries and no buckets, satisfies `IsMap`, the premise of `runs_keep_maps`.

@@ -1,5 +1,7 @@
 //! A hash map in the order of insertion.
 
+mod iter;
+
 use crate::erased::lru_caches as proved;
 use crate::keys::Borrowed;
 use crate::rattle_std::alloc::{AllocError, Global};
@@ -7,47 +9,7 @@ use crate::{RandomState, ReserveError};
 use core::borrow::Borrow;
 use core::hash::{BuildHasher, Hash};
 
-/// An iterator over the entries of an [`OrderedMap`], oldest first, from both ends.
-///
-/// ```
-/// # let mut map = jeerdurian::caches::OrderedMap::new();
-/// # map.insert(1, 11).unwrap();
-/// # map.insert(2, 20).unwrap();
-/// let mut entries = map.iter();
-/// assert_eq!((entries.len(), entries.next(), entries.next_back()), (2, Some((&1, &11)), Some((&2, &20))));
-/// ```
-pub use crate::erased::lru_caches::Entries;
-
-/// An iterator that owns an [`OrderedMap`] and takes its entries out, oldest first, from both ends.
-///
-/// ```
-/// # let mut map = jeerdurian::caches::OrderedMap::new();
-/// # map.insert(1, 11).unwrap();
-/// # map.insert(2, 20).unwrap();
-/// let mut entries = map.into_iter();
-/// assert_eq!((entries.len(), entries.next(), entries.next_back()), (2, Some((1, 11)), Some((2, 20))));
-/// ```
-pub use crate::erased::lru_caches::IntoEntries;
-
-/// An iterator over the keys of an [`OrderedMap`], oldest first, from both ends.
-///
-/// ```
-/// # let mut map = jeerdurian::caches::OrderedMap::new();
-/// # map.insert(1, 11).unwrap();
-/// # map.insert(2, 20).unwrap();
-/// assert!(map.keys().eq([&1, &2]));
-/// ```
-pub use crate::erased::lru_caches::Keys;
-
-/// An iterator over the values of an [`OrderedMap`], oldest first, from both ends.
-///
-/// ```
-/// # let mut map = jeerdurian::caches::OrderedMap::new();
-/// # map.insert(1, 11).unwrap();
-/// # map.insert(2, 20).unwrap();
-/// assert!(map.values().rev().eq([&20, &11]));
-/// ```
-pub use crate::erased::lru_caches::Values;
+pub use iter::{Entries, IntoEntries, Keys, Values};
 
 /// A hash map whose entries are in the order of insertion, oldest first.
 ///
@@ -437,23 +399,5 @@ impl<K: Eq + Hash, V: Eq, S: BuildHasher> Eq for OrderedMap<K, V, S> {}
 impl<K: Eq + Hash + core::fmt::Debug, V: core::fmt::Debug, S: BuildHasher> core::fmt::Debug for OrderedMap<K, V, S> {
     fn fmt(&self, f: &mut core::fmt::Formatter<'_>) -> core::fmt::Result {
         self.map.fmt(f)
-    }
-}
-
-impl<'a, K: Eq + Hash, V, S: BuildHasher> IntoIterator for &'a OrderedMap<K, V, S> {
-    type Item = (&'a K, &'a V);
-    type IntoIter = Entries<'a, K, V>;
-
-    fn into_iter(self) -> Entries<'a, K, V> {
-        self.iter()
-    }
-}
-
-impl<K: Eq + Hash, V, S: BuildHasher> IntoIterator for OrderedMap<K, V, S> {
-    type Item = (K, V);
-    type IntoIter = IntoEntries<K, V, S>;
-
-    fn into_iter(self) -> IntoEntries<K, V, S> {
-        self.map.into_iter()
     }
 }

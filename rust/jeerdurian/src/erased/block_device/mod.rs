@@ -8,9 +8,9 @@
 use crate::rattle_std::prelude::*;
 
 mod device;
-#[cfg(feature = "std")]
 mod file_device;
 
 pub use device::BlockDevice;
-#[cfg(feature = "std")]
-pub use file_device::{FileDevice, FileError, durable::Durable, hashed::HashedFileDevice};
+pub use file_device::durable::Durable;
+pub use file_device::hashed::HashedFileDevice;
+pub use file_device::{FileDevice, FileError};

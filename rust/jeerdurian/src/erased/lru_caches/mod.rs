@@ -13,9 +13,7 @@ mod memo;
 mod ordered_map;
 mod page_cache;
 
-pub use crate::erased::block_device::BlockDevice;
-#[cfg(feature = "std")]
-pub use crate::erased::block_device::{Durable, FileDevice, FileError, HashedFileDevice};
+pub use crate::erased::block_device::{BlockDevice, Durable, FileDevice, FileError, HashedFileDevice};
 pub use memo::Memo;
 pub use memo::loader::Loader;
 pub use memo::table::{MemoTable, Question};

@@ -11,6 +11,7 @@ use crate::rattle_std::hash::Hash;
 
 mod calls;
 mod kept;
+mod placings;
 mod runs;
 mod shrinks;
 
@@ -19,9 +20,10 @@ pub use calls::{
     calls_keep_the_length, calls_keep_the_memory_usage, calls_pay_for_moves,
 };
 pub use kept::{inserts_leave_the_newest, inserts_with_room_are_exact, maps_keep_to_their_length, nothing_is_lost};
+pub use placings::try_inserts_pay_for_moves;
 pub use runs::{
-    runs_begin_with_maps, runs_evict_the_oldest, runs_keep_maps, runs_keep_sums, runs_keep_the_budget,
-    runs_keep_the_length, runs_keep_the_memory_usage, runs_pay_for_moves,
+    each_insert_of_a_run_evicts_the_oldest, runs_begin_with_maps, runs_evict_the_oldest, runs_keep_maps,
+    runs_keep_sums, runs_keep_the_budget, runs_keep_the_length, runs_keep_the_memory_usage, runs_pay_for_moves,
 };
 pub use shrinks::{shrinks_keep_the_list, shrinks_leave_a_tight_table, shrinks_pay_for_moves};
 
@@ -55,6 +57,12 @@ pub fn small_inserts_are_exact<K: Eq + Hash, V, I: LookupKey<K>, L: Insertion<K,
 /// same. The premises: no table has more than 16 buckets, before and after; offers are determined and find their
 /// memory; and both inserts find memory or neither does.
 pub fn small_inserts_look_alike<K: Eq + Hash, V, I: LookupKey<K>, L: Insertion<K, V, I>, S: KeyHasher<K>>() {}
+
+/// An insert that returns `Ok` is one into a plain list, unless growth is refused: its entry is stored with all the
+/// others, after the limiter was queried for a table of some bytes, or not at all (`exact`). If the limiter's offers are
+/// determined, what an insert returns, the entries and the limiter follow from the entries and the limiter before, and
+/// from that query (`alike`).
+pub fn inserts_are_exact_unless_refused<K: Eq + Hash, V, I: LookupKey<K>, L: Insertion<K, V, I>, S: KeyHasher<K>>() {}
 
 /// If the limiter permits every growth, as `ByLength` and the unlimited ones do, and the tables that an insert may need
 /// are within the reach of links and bytes, the insert does what it would do to a list of entries without a table. Only

@@ -12,8 +12,8 @@ use crate::rattle_std::hash::Hash;
 /// as clause `map` of each call says (`Run`).
 pub fn runs_keep_maps<K: Eq + Hash, V, I: LookupKey<K>, L: Insertion<K, V, I>, S: KeyHasher<K>>() {}
 
-/// A limiter's running total that was the sum of the costs is their sum after any calls that write nothing through a
-/// reference.
+/// A limiter's running total that was the sum of the costs is their sum after any calls, and any writes of values that
+/// cost what the values before them cost.
 pub fn runs_keep_sums<K: Eq + Hash, V, I: LookupKey<K>, L: Summing<K, V, I>, S: KeyHasher<K>>() {}
 
 /// Over any calls the count of moved entries and the potential together rise by at most two for each entry that inserts
@@ -25,6 +25,18 @@ pub fn runs_pay_for_moves<K: Eq + Hash, V, I: LookupKey<K>, L: Insertion<K, V, I
 /// newest, in their order, unless one of the calls is `pop_newest`.
 pub fn runs_evict_the_oldest<K: Eq + Hash, V, I: LookupKey<K>, L: Insertion<K, V, I>, S: KeyHasher<K>>() {}
 
+/// Each insert of a run evicts from the old end alone, whatever the other calls of the run are, `pop_newest` too. The
+/// one other entry that it may remove is the entry whose replacement is rejected. The same holds of each get that
+/// inserts.
+pub fn each_insert_of_a_run_evicts_the_oldest<
+    K: Eq + Hash,
+    V,
+    I: LookupKey<K>,
+    L: Insertion<K, V, I>,
+    S: KeyHasher<K>,
+>() {
+}
+
 /// With `ByLength` there are at most `max_length` entries after any calls and writes of values, if there were no more
 /// before. The limiter stays as it is.
 pub fn runs_keep_the_length<K: Eq + Hash, V, S: KeyHasher<K>>() {}
@@ -33,8 +45,9 @@ pub fn runs_keep_the_length<K: Eq + Hash, V, S: KeyHasher<K>>() {}
 /// used no more before. The limiter stays as it is.
 pub fn runs_keep_the_memory_usage<K: Eq + Hash, V, S: KeyHasher<K>>() {}
 
-/// With any limiter that has a budget the running total is at most the budget after any calls, if that held before and
-/// the total was the sum of the costs of the entries. The budget stays as it is.
+/// With any limiter that has a budget the running total is at most the budget after any calls, and any writes of values
+/// that cost what the values before them cost, if that held before and the total was the sum of the costs of the
+/// entries. The budget stays as it is, whatever is written.
 pub fn runs_keep_the_budget<K: Eq + Hash, V, L: Budgeted<K, V>, S: KeyHasher<K>>() {}
 
 /// A new map, which contains no entries and no buckets, satisfies `IsMap`, the premise of `runs_keep_maps`.

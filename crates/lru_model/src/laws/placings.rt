@@ -1,0 +1,32 @@
+//! What is proved of all insertions into the table, those of `try_insert` included.
+
+ghost use Rattle.std.specs.Prelude.{ℕ, ◌+◌, ◌≤◌, Result};
+ghost use Rattle.lru_model.specs.State.{State, IsSized, potential};
+ghost use Rattle.lru_model.specs.TryInserts.{TryInsert};
+ghost use Rattle.lru_model.specs.Runs.{Run};
+ghost use Rattle.lru_model.specs.PaidPlacings.{PaysForPlacings, PaidStep};
+
+use lru_limits::{Admission, KeyHasher};
+use std::hash::Hash;
+
+/// A `try_insert` pays for its insertions into the table, although it may reserve: they and the potential together rise
+/// by at most 3 (`rise`), and only if it stores the entry (`stored`).
+///
+/// So do any calls one after another, inserts and `try_insert` among them (`runs`): the insertions and the potential
+/// together rise by at most 3 for each entry stored, and by 2 for each entry that shrinks rehashed, while neither the
+/// count of stored entries nor the count of rehashed entries has reached `u64::MAX`. A reservation is among these calls
+/// only if no growth is left before it.
+pub fn try_inserts_pay_for_moves<K: Eq + Hash, V, L: Admission<K, V>, S: KeyHasher<K>>()
+    ensures rise { (key : K) (value : V) (old : State K V L S) (result : Result (Unit {0}) (K × V))
+        (new : State K V L S) →
+        IsSized old →
+        TryInsert L.terms L.rules key value old L.offers K.eq S.hash_of result new →
+        new.counts.placings + potential new ≤ old.counts.placings + potential old + 3 }
+    ensures stored { (key : K) (value : V) (old : State K V L S) (result : Result (Unit {0}) (K × V))
+        (new : State K V L S) →
+        IsSized old →
+        TryInsert L.terms L.rules key value old L.offers K.eq S.hash_of result new → PaysForPlacings old new }
+    ensures runs { (old new : State K V L S) →
+        Run (PaidStep L.rules L.offers K.eq S.hash_of L.terms) new old →
+        IsSized old → PaysForPlacings old new }
+{}

@@ -1,0 +1,17 @@
+// Erased from crates/lru_model/src/laws/placings.rt: do not edit.
+//! What is proved of all insertions into the table, those of `try_insert` included.
+
+#[allow(unused_imports)]
+use crate::rattle_std::prelude::*;
+
+use crate::erased::lru_limits::{Admission, KeyHasher};
+use crate::rattle_std::hash::Hash;
+
+/// A `try_insert` pays for its insertions into the table, although it may reserve: they and the potential together rise
+/// by at most 3 (`rise`), and only if it stores the entry (`stored`).
+///
+/// So do any calls one after another, inserts and `try_insert` among them (`runs`): the insertions and the potential
+/// together rise by at most 3 for each entry stored, and by 2 for each entry that shrinks rehashed, while neither the
+/// count of stored entries nor the count of rehashed entries has reached `u64::MAX`. A reservation is among these calls
+/// only if no growth is left before it.
+pub fn try_inserts_pay_for_moves<K: Eq + Hash, V, L: Admission<K, V>, S: KeyHasher<K>>() {}

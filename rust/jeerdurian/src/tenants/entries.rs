@@ -1,0 +1,204 @@
+//! The calls on the entries of a tenant.
+
+use super::{Budget, TenantCache, TenantError};
+use crate::Inserted;
+use crate::keys::Borrowed;
+use core::borrow::Borrow;
+use core::hash::{BuildHasher, Hash};
+
+impl<N, K, V, L, S> TenantCache<N, K, V, L, S>
+where
+    N: Eq + Hash,
+    K: Eq + Hash,
+    L: Budget<K, V>,
+    S: BuildHasher + Copy,
+{
+    /// Inserts a key with a value, as the newest entry of the tenant. Returns whether the key is there then.
+    ///
+    /// An entry that alone costs more than the budget, or that would take the tenant's total past `u64::MAX`, is rejected.
+    /// Otherwise the tenant's oldest entries are evicted until the total is within the budget. If the key is there and the
+    /// new value is rejected, its entry is removed.
+    ///
+    /// Cost: `O(1)` expected, amortised over the inserts.
+    ///
+    /// # Errors
+    ///
+    /// `NotOpen`: nothing has changed. `Memory`: out of memory for the entry, which is not there then.
+    ///
+    /// ```
+    /// # let mut cache = jeerdurian::tenants::TenantCache::<u64, u64, u64>::new();
+    /// # cache.open(1, 3).unwrap();
+    /// # cache.put(&1, 7, 2).unwrap();
+    /// assert_eq!(cache.put(&1, 8, 1), Ok(true));
+    /// assert_eq!(cache.put(&1, 9, 4), Ok(false));
+    /// ```
+    pub fn put(&mut self, name: &N, key: K, value: V) -> Result<bool, TenantError> {
+        self.cache.put(name, key, value)
+    }
+
+    /// Inserts as [`put`](Self::put) does, and passes the evicted entries to the callback, oldest first. The callback also
+    /// gets the entry that is removed because its new value is rejected, and the new entry if it could not be stored.
+    ///
+    /// # Errors
+    ///
+    /// As of `put`.
+    ///
+    /// ```
+    /// # let mut cache = jeerdurian::tenants::TenantCache::<u64, u64, u64>::new();
+    /// # cache.open(1, 3).unwrap();
+    /// # cache.put(&1, 7, 2).unwrap();
+    /// let mut left = 0;
+    /// assert_eq!(cache.put_with(&1, 8, 3, |key, _| left = key), Ok(true));
+    /// assert_eq!(left, 7);
+    /// ```
+    pub fn put_with(&mut self, name: &N, key: K, value: V, mut lost: impl FnMut(K, V)) -> Result<bool, TenantError> {
+        self.cache.put_with(name, key, value, &mut lost)
+    }
+
+    /// Inserts as [`put_with`](Self::put_with) does, and returns the value that the tenant does not keep: the replaced one,
+    /// or the new one if it is rejected.
+    ///
+    /// # Errors
+    ///
+    /// As of `put`. After `Memory` the callback got the key and the value.
+    ///
+    /// ```
+    /// # let mut cache = jeerdurian::tenants::TenantCache::<u64, u64, u64>::new();
+    /// # cache.open(1, 3).unwrap();
+    /// # cache.put(&1, 7, 2).unwrap();
+    /// let replaced = cache.put_full(&1, 7, 3, |_, _| {}).unwrap();
+    /// assert_eq!((replaced.kept, replaced.unkept), (true, Some(2)));
+    /// ```
+    pub fn put_full(
+        &mut self,
+        name: &N,
+        key: K,
+        value: V,
+        mut lost: impl FnMut(K, V),
+    ) -> Result<Inserted<V>, TenantError> {
+        self.cache.put_full(name, key, value, &mut lost)
+    }
+
+    /// Returns a tenant's value of a key, and makes its entry the tenant's newest.
+    ///
+    /// Cost: `O(1)` expected.
+    ///
+    /// # Errors
+    ///
+    /// `NotOpen`: nothing has changed.
+    ///
+    /// ```
+    /// # let mut cache = jeerdurian::tenants::TenantCache::<u64, u64, u64>::new();
+    /// # cache.open(1, 3).unwrap();
+    /// # cache.put(&1, 7, 2).unwrap();
+    /// assert_eq!(cache.get(&1, &7), Ok(Some(&2)));
+    /// ```
+    pub fn get<Q>(&mut self, name: &N, key: &Q) -> Result<Option<&V>, TenantError>
+    where
+        K: Borrow<Q>,
+        Q: Eq + Hash + ?Sized,
+    {
+        self.cache.get(name, &Borrowed(key))
+    }
+
+    /// Returns a tenant's value of a key. If the key is not there, inserts it with the value that the closure returns.
+    ///
+    /// `None` says that the new entry is not there, as `false` says it of `put`.
+    ///
+    /// # Errors
+    ///
+    /// As of `put`. If the error is `Memory`, the closure was called.
+    ///
+    /// ```
+    /// # let mut cache = jeerdurian::tenants::TenantCache::<u64, u64, u64>::new();
+    /// # cache.open(1, 3).unwrap();
+    /// # cache.put(&1, 7, 2).unwrap();
+    /// assert_eq!(cache.get_or_put(&1, 7, || 3), Ok(Some(&2)));
+    /// assert_eq!(cache.get_or_put(&1, 8, || 1), Ok(Some(&1)));
+    /// ```
+    pub fn get_or_put(&mut self, name: &N, key: K, make: impl FnOnce() -> V) -> Result<Option<&V>, TenantError> {
+        self.cache.get_or_put(name, key, make)
+    }
+
+    /// Returns a tenant's value of a key. The order of use stays.
+    ///
+    /// Cost: `O(1)` expected.
+    ///
+    /// # Errors
+    ///
+    /// `NotOpen`.
+    ///
+    /// ```
+    /// # let mut cache = jeerdurian::tenants::TenantCache::<u64, u64, u64>::new();
+    /// # cache.open(1, 3).unwrap();
+    /// # cache.put(&1, 7, 2).unwrap();
+    /// assert_eq!(cache.peek(&1, &7), Ok(Some(&2)));
+    /// ```
+    pub fn peek<Q>(&self, name: &N, key: &Q) -> Result<Option<&V>, TenantError>
+    where
+        K: Borrow<Q>,
+        Q: Eq + Hash + ?Sized,
+    {
+        self.cache.peek(name, &Borrowed(key))
+    }
+
+    /// Returns whether a tenant has an entry of a key. The order of use stays.
+    ///
+    /// Cost: `O(1)` expected.
+    ///
+    /// # Errors
+    ///
+    /// `NotOpen`.
+    ///
+    /// ```
+    /// # let mut cache = jeerdurian::tenants::TenantCache::<u64, u64, u64>::new();
+    /// # cache.open(1, 3).unwrap();
+    /// # cache.put(&1, 7, 2).unwrap();
+    /// assert_eq!(cache.contains(&1, &7), Ok(true));
+    /// ```
+    pub fn contains<Q>(&self, name: &N, key: &Q) -> Result<bool, TenantError>
+    where
+        K: Borrow<Q>,
+        Q: Eq + Hash + ?Sized,
+    {
+        self.cache.contains(name, &Borrowed(key))
+    }
+
+    /// Removes a key of a tenant, and returns its value. The tenant's other entries keep their order.
+    ///
+    /// Cost: `O(1)` expected.
+    ///
+    /// # Errors
+    ///
+    /// `NotOpen`: nothing has changed.
+    ///
+    /// ```
+    /// # let mut cache = jeerdurian::tenants::TenantCache::<u64, u64, u64>::new();
+    /// # cache.open(1, 3).unwrap();
+    /// # cache.put(&1, 7, 2).unwrap();
+    /// assert_eq!((cache.remove(&1, &7), cache.remove(&1, &7)), (Ok(Some(2)), Ok(None)));
+    /// ```
+    pub fn remove<Q>(&mut self, name: &N, key: &Q) -> Result<Option<V>, TenantError>
+    where
+        K: Borrow<Q>,
+        Q: Eq + Hash + ?Sized,
+    {
+        self.cache.remove(name, &Borrowed(key))
+    }
+
+    /// Drops the entries of a tenant, which stays open.
+    ///
+    /// # Errors
+    ///
+    /// `NotOpen`: nothing has changed.
+    ///
+    /// ```
+    /// # let mut cache = jeerdurian::tenants::TenantCache::<u64, u64, u64>::new();
+    /// # cache.open(1, 3).unwrap();
+    /// # cache.put(&1, 7, 2).unwrap();
+    /// assert_eq!((cache.clear(&1), cache.entries(&1), cache.cost(&1)), (Ok(()), Ok(0), Ok(0)));
+    /// ```
+    pub fn clear(&mut self, name: &N) -> Result<(), TenantError> {
+        self.cache.clear(name)
+    }
+}
