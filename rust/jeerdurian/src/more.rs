@@ -8,7 +8,8 @@ use crate::map::LruMap;
 use crate::{Inserted, MoveReport, ReserveError, Updated};
 use core::hash::{BuildHasher, Hash};
 
-/// Calls of [`LruMap`] that `schnellru` lacks. Import it to use them.
+/// Calls of [`LruMap`] that `schnellru` lacks. Import it to use them. What their docs say of the entries, of their order
+/// and of what they return is proved of the sources, as for `LruMap`.
 ///
 /// ```
 /// use jeerdurian::{ByLength, LruMap, More};
