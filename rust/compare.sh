@@ -1,14 +1,14 @@
 #!/usr/bin/env bash
 # Compares the crate jeerdurian with a checkout of schnellru 0.2.4, which cargo builds.
 #
-#     rust/compare.sh SCHNELLRU calls [CALLS [SEED]]     random calls on both, 10,000,000 of them; each call is compared
+#     rust/compare.sh SCHNELLRU [calls [CALLS [SEED]]]   random calls on both, 10,000,000 of them; each call is compared
 #     rust/compare.sh SCHNELLRU soak [CALLS [SEED]]      a billion calls on one map of each; a sum of the answers is compared
 #     rust/compare.sh SCHNELLRU counts [SIZE [LOAD..]]   instructions an operation, by valgrind
 #     rust/compare.sh SCHNELLRU times [SIZES [LOAD..]]   nanoseconds an operation, the best of PROCESSES (7)
 set -euo pipefail
 checkout=$(realpath "${1:?the folder of a checkout of schnellru}")
-what=${2:?calls, soak, counts or times}
-shift 2
+what=${2:-calls}
+shift $(($# < 2 ? $# : 2))
 cd "$(dirname "$0")"
 out=$(mktemp -d)
 trap 'rm -rf "$out"' EXIT
