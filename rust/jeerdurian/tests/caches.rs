@@ -203,7 +203,7 @@ fn tenants_are_lists() {
                 assert_eq!(cache.entries(&name), Ok(list.len()));
                 assert!(list.iter().all(|key| cache.peek(&name, &Key::new(*key)) == Ok(Some(&(key / 3)))));
             }
-            assert_eq!(cache.len(), lists.len());
+            assert_eq!([cache.len(), cache.names().len(), cache.names().count()], [lists.len(); 3]);
         }
         drop(cache);
         assert_eq!(LIVE.get(), 0, "seed {seed}");
