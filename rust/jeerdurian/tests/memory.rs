@@ -4,8 +4,8 @@ mod refusing;
 
 use jeerdurian::caches::OrderedMap;
 use jeerdurian::tenants::TenantCache;
-use jeerdurian::trace::Curve;
-use jeerdurian::{ByMemoryUsage, LruMap, More, ReserveError, UnlimitedCompact};
+use jeerdurian::trace::{Curve, report};
+use jeerdurian::{ByMemoryUsage, LruMap, More, ReserveError, Unlimited, UnlimitedCompact};
 use refusing::{aligned, held, refused};
 use std::cell::Cell;
 
@@ -130,6 +130,28 @@ fn caches_out_of_memory_return_errors() {
     errs(1, tenants, |cache| cache.open(3, 9).is_ok() || cache.contains(&3, &0).is_ok());
     errs(2, tenants, |cache| cache.put(&0, 1, 1).is_ok());
     errs(4, || Curve::new().unwrap(), |curve| curve.refer("a").is_ok());
+}
+
+/// The texts of a report are the last things that it takes memory for.
+#[test]
+fn a_report_out_of_memory_returns_an_error() {
+    let run = |n| refused(n, || report(&b"1 2\na\nb\na\n"[..], std::io::sink()));
+    let last = (1..1000).rev().find(|n| run(*n).1).unwrap();
+    assert!(run(last).0.is_err() && run(last + 1).0.is_ok());
+}
+
+/// What a map holds is its usage with links of 64 bits, too.
+#[test]
+fn usage_counts_the_links() {
+    type Long = LruMap<u32, u32, Unlimited>;
+    let bytes = held();
+    let mut map = Long::new(Unlimited);
+    for n in 0..100 {
+        assert!(map.insert(n, n));
+        let usage = map.memory_usage();
+        assert_eq!((held() - bytes, Long::memory_usage_for_memory_budget(usage)), (usage as i64, usage));
+        assert!(Long::memory_usage_for_memory_budget(usage - 1) < usage);
+    }
 }
 
 /// What a copy took comes back if a clone panics.

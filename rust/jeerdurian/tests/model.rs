@@ -167,6 +167,7 @@ fn what_is_rejected_is_not_lent() {
     assert_eq!(map.get_or_insert(2u64, || vec![0; 11]), None);
     assert_eq!(map.fallible().get_or_insert(2u64, || Ok::<_, ()>(vec![0; 11])), Ok(None));
     assert_eq!(map.try_insert(2, vec![0; 11]), Err((2, vec![0; 11])));
+    assert_eq!(map.try_insert(2, vec![0; 7]), Err((2, vec![0; 7])));
     assert_eq!((map.len(), map.limiter().cost(), Vec::<u8>::with_capacity(9).cost()), (1, 4, 0));
 }
 
