@@ -132,12 +132,12 @@ fn caches_out_of_memory_return_errors() {
     errs(4, || Curve::new().unwrap(), |curve| curve.refer("a").is_ok());
 }
 
-/// The texts of a report are the last things that it takes memory for.
+/// Lines, keys, counts and texts.
 #[test]
 fn a_report_out_of_memory_returns_an_error() {
     let run = |n| refused(n, || report(&b"1 2\na\nb\na\n"[..], std::io::sink()));
-    let last = (1..1000).rev().find(|n| run(*n).1).unwrap();
-    assert!(run(last).0.is_err() && run(last + 1).0.is_ok());
+    let last = (1..1000).take_while(|n| run(*n).1).inspect(|n| assert!(run(*n).0.is_err(), "request {n}")).count();
+    assert!(last > 10 && run(last as u64 + 1).0.is_ok());
 }
 
 /// What a map holds is its usage with links of 64 bits, too.

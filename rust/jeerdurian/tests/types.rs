@@ -223,3 +223,32 @@ fn seeds_differ() {
     let [a, b, c] = [0; 3].map(|_| RandomState::default().hash_one(1));
     assert!(a != b || b != c);
 }
+
+/// Entries of no size that equal nothing: each is stored, and dropped once.
+#[test]
+fn keys_and_values_of_no_size() {
+    thread_local!(static LIVE: Cell<i64> = const { Cell::new(0) });
+    struct Nothing;
+    impl Hash for Nothing {
+        fn hash<H: std::hash::Hasher>(&self, _: &mut H) {}
+    }
+    impl PartialEq for Nothing {
+        fn eq(&self, _: &Self) -> bool {
+            false
+        }
+    }
+    impl Drop for Nothing {
+        fn drop(&mut self) {
+            LIVE.set(LIVE.get() - 1);
+        }
+    }
+    assert_eq!(size_of::<Nothing>(), 0);
+    let mut map = LruMap::new(UnlimitedCompact);
+    for n in 1..=200 {
+        LIVE.set(LIVE.get() + 2);
+        assert!(map.insert(Nothing, Nothing));
+        assert_eq!((map.iter().count(), map.iter_mut().count()), (n, n));
+    }
+    drop((map.pop_oldest(), map.drain().nth(9)));
+    assert_eq!((map.len(), LIVE.get()), (0, 0));
+}
