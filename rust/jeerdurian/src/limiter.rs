@@ -11,9 +11,9 @@ use core::hash::Hash;
 
 /// Decides which entries a map accepts, when it is over its limit, and whether its table may grow.
 ///
-/// The map's answers are proved for limiters whose callbacks are functions of their state and their arguments, and whose
-/// `is_over_the_limit` does not change while no callback that takes `&mut self` is called. A limiter that breaks this
-/// gets other answers, and breaks no memory.
+/// The map's answers are proved for limiters whose callbacks depend on their arguments and on the limiter's state alone,
+/// which only the callbacks that take `&mut self` change. With another limiter the map gives other answers, and memory
+/// stays safe.
 ///
 /// ```
 /// use jeerdurian::{Limiter, LruMap};

@@ -123,8 +123,8 @@ where
     /// Says why there is no such table. Nothing has changed then.
     fn try_reserve(&mut self, additional: usize) -> Result<(), ReserveError>;
 
-    /// Moves the entries into the smallest table that holds them. Returns whether it moved them. Out of memory it did
-    /// not.
+    /// Moves the entries into the smallest table that holds them. Returns whether it moved them; out of memory, it returns
+    /// false.
     fn shrink_to_fit(&mut self) -> bool;
 
     /// Returns how many entries were stored, were moved by inserts, and were rehashed by shrinks.

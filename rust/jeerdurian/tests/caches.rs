@@ -1,9 +1,10 @@
 //! The tenants and the ordered map, compared with plain lists, and with keys whose `==` and `Hash` say anything and panic:
 //! nothing is dropped twice or used after its drop.
 
-use jeerdurian::caches::OrderedMap;
+use jeerdurian::caches::{Loader, Memo, OrderedMap};
 use jeerdurian::tenants::TenantCache;
-use jeerdurian::{ByCost, RandomState};
+use jeerdurian::trace::Curve;
+use jeerdurian::{ByCost, ByMemoryUsage, LruMap, RandomState};
 use std::cell::Cell;
 use std::collections::BTreeMap;
 use std::hash::{Hash, Hasher};
@@ -203,9 +204,63 @@ fn tenants_are_lists() {
                 assert_eq!(cache.entries(&name), Ok(list.len()));
                 assert!(list.iter().all(|key| cache.peek(&name, &Key::new(*key)) == Ok(Some(&(key / 3)))));
             }
-            assert_eq!(cache.len(), lists.len());
+            assert_eq!([cache.len(), cache.names().len(), cache.names().count()], [lists.len(); 3]);
         }
         drop(cache);
         assert_eq!(LIVE.get(), 0, "seed {seed}");
     }
+}
+
+#[test]
+fn a_tenant_loses_what_was_used_first() {
+    let mut cache: TenantCache<u64, u64, u64> = TenantCache::new();
+    assert_eq!(cache.open(1, 2), Ok(()));
+    (0..2).for_each(|n| assert_eq!(cache.put(&1, n, 1), Ok(true)));
+    assert_eq!(cache.get(&1, &0), Ok(Some(&1)));
+    let mut lost = Vec::new();
+    assert!(cache.put_full(&1, 2, 1, |key, value| lost.push((key, value))).is_ok());
+    assert_eq!((lost, cache.contains(&1, &0)), (vec![(1, 1)], Ok(true)));
+}
+
+#[test]
+fn a_total_limit_is_set_and_taken_back() {
+    let mut cache: TenantCache<u64, u64, u64> = TenantCache::new();
+    assert_eq!((cache.set_total_limit(Some(5)), cache.total_limit()), (Ok(()), Some(5)));
+    assert_eq!((cache.open(1, 3), cache.open(2, 3).is_err()), (Ok(()), true));
+    assert_eq!((cache.set_total_limit(None), cache.total_limit()), (Ok(()), None));
+    assert_eq!(cache.open(2, 3), Ok(()));
+    assert_eq!(format!("{cache:?}"), "TenantCache { len: 2, .. }");
+}
+
+#[test]
+fn equal_ordered_maps_have_one_order() {
+    let map = |keys: [u64; 3]| {
+        let mut map = OrderedMap::new();
+        keys.into_iter().for_each(|n| assert_eq!(map.insert(n, n), Ok(None)));
+        map
+    };
+    assert!(map([1, 2, 3]) == map([1, 2, 3]));
+    assert!(map([1, 2, 3]) != map([1, 3, 2]));
+}
+
+/// Memos within a limit of bytes keep what a map within it keeps.
+#[test]
+fn memos_count_the_bytes_of_their_entries() {
+    type S = std::hash::BuildHasherDefault<std::hash::DefaultHasher>;
+    let limit = ByMemoryUsage::new(5000);
+    let mut map = LruMap::with_hasher(limit, S::new());
+    let mut memo = Memo::with_hasher(limit, S::new(), |n: u64| n);
+    let mut loader = Loader::with_hasher(limit, S::new(), |n: u64| Ok::<_, ()>(n));
+    for n in 0..500u64 {
+        assert_eq!((map.insert(n, n), memo.answer(n), loader.load(n)), (true, n, Ok(n)));
+        assert_eq!((memo.len(), loader.len()), (map.len(), map.len()));
+    }
+}
+
+#[test]
+fn a_curve_of_many_keys() {
+    let mut curve = Curve::new().unwrap();
+    (0..6000).chain(0..6000).for_each(|n: u32| assert_eq!(curve.refer(&n.to_string()), Ok(())));
+    assert_eq!((curve.keys(), curve.references()), (6000, 12_000));
+    assert_eq!([1, 60, 5999, 6000].map(|n| curve.misses(n)), [12_000, 12_000, 12_000, 6000]);
 }

@@ -1,6 +1,6 @@
 //! How often and when callbacks are called, which no clause of a contract says.
 
-use jeerdurian::{Limiter, LruMap, More};
+use jeerdurian::{Admission, Limiter, LruMap, More};
 use std::cell::{Cell, RefCell};
 use std::hash::{BuildHasherDefault, DefaultHasher};
 use std::rc::Rc;
@@ -182,4 +182,61 @@ fn a_table_of_deleted_buckets_is_rehashed() {
         assert_eq!((map.memory_usage(), map.len()), (bytes, 892));
         assert!(is_tried || rehashes > 3, "{rehashes}");
     }
+}
+
+/// A limiter that counts the entries, and is told the count by each callback that has one.
+#[derive(Clone, Copy)]
+struct Counting(usize);
+
+impl Limiter<u64, u64> for Counting {
+    type KeyToInsert<'a> = u64;
+    type LinkType = u32;
+
+    fn is_over_the_limit(&self, _: usize) -> bool {
+        self.0 > 5
+    }
+
+    fn on_insert(&mut self, length: usize, key: u64, value: u64) -> Option<(u64, u64)> {
+        self.on_stored(length, &key, &value);
+        Some((key, value))
+    }
+
+    fn on_replace(&mut self, length: usize, _: &mut u64, _: u64, _: &mut u64, _: &mut u64) -> bool {
+        assert_eq!(length, self.0);
+        true
+    }
+
+    fn on_removed(&mut self, _: &mut u64, _: &mut u64) {
+        self.0 -= 1;
+    }
+
+    fn on_cleared(&mut self) {
+        self.0 = 0;
+    }
+
+    fn on_grow(&mut self, _: usize) -> bool {
+        true
+    }
+}
+
+impl Admission<u64, u64> for Counting {
+    fn accepts(&self, length: usize, key: &u64, _: &u64) -> bool {
+        assert_eq!(length, self.0);
+        *key != 13
+    }
+
+    fn on_stored(&mut self, length: usize, _: &u64, _: &u64) {
+        assert_eq!(length, self.0);
+        self.0 += 1;
+    }
+}
+
+#[test]
+fn limiters_are_told_the_length() {
+    let mut map = LruMap::with_hasher(Counting(0), S::new());
+    assert_eq!(map.try_insert(13, 0), Err((13, 0)));
+    (0..5).for_each(|n| assert_eq!(map.try_insert(n, n), Ok(())));
+    assert_eq!(map.try_insert(5, 5), Err((5, 5)));
+    (0..9).for_each(|n| assert!(map.insert(n, n) && map.insert(n, n + 1)));
+    assert_eq!((map.len(), map.limiter().0), (5, 5));
 }

@@ -2,8 +2,12 @@
 
 mod refusing;
 
-use jeerdurian::{ByMemoryUsage, LruMap, More, ReserveError, UnlimitedCompact};
-use refusing::{held, refused};
+use jeerdurian::caches::OrderedMap;
+use jeerdurian::tenants::TenantCache;
+use jeerdurian::trace::{Curve, report};
+use jeerdurian::{ByMemoryUsage, LruMap, More, ReserveError, Unlimited, UnlimitedCompact};
+use refusing::{aligned, held, refused};
+use std::cell::Cell;
 
 type Map = LruMap<u64, [u64; 2], UnlimitedCompact>;
 
@@ -22,7 +26,7 @@ fn entries(map: &Map) -> Vec<(u64, [u64; 2])> {
 /// Refuses each request of a call in turn. `call` returns whether it succeeded; then one entry more may be there.
 fn refuse_each(full: u64, holes: u64, requests: u64, call: impl Fn(&mut Map) -> bool) {
     for n in 1.. {
-        let bytes = held();
+        let (bytes, alignments) = (held(), aligned());
         let mut map = filled(full, holes);
         let before = entries(&map);
         let (done, was_refused) = refused(n, || call(&mut map));
@@ -31,7 +35,7 @@ fn refuse_each(full: u64, holes: u64, requests: u64, call: impl Fn(&mut Map) -> 
         assert_eq!(after[after.len() - before.len()..], before, "request {n}");
         assert!(map.insert(1000, [1; 2]) && map.peek(&1000) == Some(&[1; 2]));
         drop((map, before, after));
-        assert_eq!(held(), bytes, "request {n}");
+        assert_eq!((held(), aligned()), (bytes, alignments), "request {n}");
         if !was_refused {
             assert_eq!(n, requests + 1, "requests");
             return;
@@ -82,5 +86,94 @@ fn what_a_map_holds_is_its_memory_usage() {
         map.insert(n, n);
         assert_eq!(held() - bytes, map.memory_usage() as i64);
     }
-    assert!(map.memory_usage() <= 100_000 && map.len() > 1_000);
+    assert!(map.memory_usage() <= 100_000 && map.len() >= 896);
+}
+
+#[test]
+fn each_form_that_may_fail_returns_its_error() {
+    refuse_each(14, 0, 3, |map| map.fallible().insert_full(500, [5; 2], |_, _| {}).is_ok());
+    refuse_each(14, 0, 3, |map| map.insert_full(500, [5; 2], |_, _| {}).kept);
+    refuse_each(14, 0, 3, |map| map.fallible().get_or_insert(500u64, || Ok::<_, ()>([5; 2])).is_ok());
+    refuse_each(56, 50, 3, |map| map.fallible().shrink_to_fit().is_ok());
+}
+
+/// Refuses each request of a call in turn. `call` returns whether it succeeded, and succeeds if it is made again.
+fn errs<T>(requests: u64, new: impl Fn() -> T, call: impl Fn(&mut T) -> bool) {
+    for n in 1..=requests + 1 {
+        let mut it = new();
+        let (done, was_refused) = refused(n, || call(&mut it));
+        assert_eq!((done, was_refused), (n > requests, n <= requests), "request {n}");
+        assert!(call(&mut it), "after request {n}");
+    }
+}
+
+#[test]
+fn caches_out_of_memory_return_errors() {
+    let map = || {
+        let mut map = OrderedMap::new();
+        (0..14u64).for_each(|n| assert_eq!(map.insert(n, n), Ok(None)));
+        map
+    };
+    errs(3, map, |map| map.insert(14, 14).is_ok());
+    errs(3, map, |map| map.try_reserve(1).is_ok());
+    let half = || {
+        let mut map = map();
+        map.retain(|n, _| *n < 3);
+        map
+    };
+    errs(3, half, |map| map.shrink_to_fit().is_ok());
+    let tenants = || {
+        let mut cache: TenantCache<u64, u64, u64> = TenantCache::new();
+        (0..3).for_each(|n| assert_eq!(cache.open(n, 9), Ok(())));
+        cache
+    };
+    errs(1, tenants, |cache| cache.open(3, 9).is_ok() || cache.contains(&3, &0).is_ok());
+    errs(2, tenants, |cache| cache.put(&0, 1, 1).is_ok());
+    errs(4, || Curve::new().unwrap(), |curve| curve.refer("a").is_ok());
+}
+
+/// Lines, keys, counts and texts.
+#[test]
+fn a_report_out_of_memory_returns_an_error() {
+    let run = |n| refused(n, || report(&b"1 2\na\nb\na\n"[..], std::io::sink()));
+    let last = (1..1000).take_while(|n| run(*n).1).inspect(|n| assert!(run(*n).0.is_err(), "request {n}")).count();
+    assert!(last > 10 && run(last as u64 + 1).0.is_ok());
+}
+
+/// What a map holds is its usage with links of 64 bits, too.
+#[test]
+fn usage_counts_the_links() {
+    type Long = LruMap<u32, u32, Unlimited>;
+    let bytes = held();
+    let mut map = Long::new(Unlimited);
+    for n in 0..100 {
+        assert!(map.insert(n, n));
+        let usage = map.memory_usage();
+        assert_eq!((held() - bytes, Long::memory_usage_for_memory_budget(usage)), (usage as i64, usage));
+        assert!(Long::memory_usage_for_memory_budget(usage - 1) < usage);
+    }
+}
+
+/// What a copy took comes back if a clone panics.
+#[test]
+fn a_clone_that_panics_leaks_no_memory() {
+    struct Item(#[allow(dead_code)] Box<u64>);
+    thread_local!(static LEFT: Cell<u64> = const { Cell::new(0) });
+    impl Clone for Item {
+        fn clone(&self) -> Self {
+            LEFT.set(LEFT.get() - 1);
+            if LEFT.get() == 0 {
+                std::panic::resume_unwind(Box::new(()));
+            }
+            Item(self.0.clone())
+        }
+    }
+    let mut map = LruMap::new(UnlimitedCompact);
+    (0..14u64).for_each(|n| assert!(map.insert(n, Item(Box::new(n)))));
+    for n in 1..=14 {
+        LEFT.set(n);
+        let bytes = held();
+        assert!(std::panic::catch_unwind(std::panic::AssertUnwindSafe(|| map.clone())).is_err());
+        assert_eq!(held(), bytes, "clone {n}");
+    }
 }

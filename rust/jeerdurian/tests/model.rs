@@ -1,6 +1,7 @@
 //! Random calls against a plain list, the newest first, with texts as keys.
 
-use jeerdurian::{ByCost, ByLength, LruMap, More, Updated};
+use jeerdurian::{ByCost, ByLength, Costed, LruMap, More, Updated};
+use std::hash::BuildHasher;
 
 struct Random(u64);
 
@@ -76,6 +77,28 @@ fn step(map: &mut LruMap<String, u64>, list: &mut List, kind: u64, k: &str, v: u
     }
 }
 
+/// The same for calls that `step` lacks.
+fn step_more(map: &mut LruMap<String, u64>, list: &mut List, kind: u64, k: &str, v: u64) {
+    let hash = map.hasher().hash_one(k);
+    let at = list.at(k);
+    match kind {
+        0 => assert_eq!(map.peek_mut(k), at.map(|i| &mut list.pairs[i].1)),
+        1 => assert_eq!(map.peek_by_hash_mut(hash, |key, _| key == k), at.map(|i| &mut list.pairs[i].1)),
+        2 => assert_eq!(map.get_by_hash(hash, |key, _| key == k), list.promote(k)),
+        3 => assert_eq!(map.get_key_value(k).map(|it| it.1), list.promote(k).map(|it| &*it)),
+        4 => assert_eq!(map.fallible().get_or_insert(k.to_string(), || Err(v)).ok(), at.map(|_| list.promote(k))),
+        5 => assert_eq!(map.pop_oldest_if(|_, it| it % 2 == 0), list.pairs.pop_if(|it| it.1 % 2 == 0)),
+        6 => assert_eq!(map.pop_newest(), (!list.pairs.is_empty()).then(|| list.pairs.remove(0))),
+        7 => assert_eq!(map.newest_mut(), list.pairs.first_mut().map(|it| &mut it.1)),
+        _ => {
+            let old = map.set_limiter(ByLength::new(v as u32 % 40));
+            assert_eq!((old.max_length() as usize, map.limiter().max_length()), (list.most, v as u32 % 40));
+            list.most = v as usize % 40;
+            list.pairs.truncate(list.most);
+        }
+    }
+}
+
 fn update(map: &mut LruMap<String, u64>, list: &mut List, k: &str, v: u64) {
     let old = list.at(k).map(|i| std::mem::replace(&mut list.pairs[i].1, v));
     assert_eq!(map.update(k.to_string(), v), old.map_or(Updated::Absent(v), Updated::Replaced));
@@ -105,6 +128,61 @@ fn as_a_list() {
 }
 
 #[test]
+fn other_calls_as_of_a_list() {
+    for seed in 0..60 {
+        let mut random = Random(seed);
+        let mut list = List { most: 40, ..Default::default() };
+        let mut map = LruMap::with_seed(ByLength::new(40), [seed, 2, 3, 4]);
+        for v in 0..1000u64 {
+            let (k, kind) = (random.below(50).to_string(), random.below(100));
+            match kind {
+                0..=40 => step(&mut map, &mut list, kind % 24, &k, v),
+                41..=98 => step_more(&mut map, &mut list, kind % 8, &k, v),
+                _ => step_more(&mut map, &mut list, 8, &k, v),
+            }
+            assert!(map.iter().eq(list.pairs.iter().map(|it| (&it.0, &it.1))));
+        }
+    }
+}
+
+/// A closure that fails changes nothing, though the map is over its limit, or its table is full.
+#[test]
+fn a_closure_that_fails_changes_nothing() {
+    let mut map = LruMap::new(ByLength::new(14));
+    (0..14u64).for_each(|n| assert!(map.insert(n, n)));
+    *map.limiter_mut() = ByLength::new(5);
+    let before = (map.memory_usage(), map.guaranteed_capacity());
+    assert_eq!(map.get_or_insert_fallible(20u64, || Err(1)), Err(1));
+    assert!(map.fallible().get_or_insert(20u64, || Err(1)).is_err());
+    assert_eq!((map.len(), (map.memory_usage(), map.guaranteed_capacity())), (14, before));
+    map.trim();
+    assert!(map.keys().eq(&[13, 12, 11, 10, 9]));
+}
+
+/// What a limiter rejects is not there, and the newest entry is not lent for it.
+#[test]
+fn what_is_rejected_is_not_lent() {
+    let mut map: LruMap<u64, Vec<u8>, ByCost> = LruMap::new(ByCost::new(10));
+    assert!(map.insert(1, vec![0; 4]));
+    assert_eq!(map.get_or_insert(2u64, || vec![0; 11]), None);
+    assert_eq!(map.fallible().get_or_insert(2u64, || Ok::<_, ()>(vec![0; 11])), Ok(None));
+    assert_eq!(map.try_insert(2, vec![0; 11]), Err((2, vec![0; 11])));
+    assert_eq!(map.try_insert(2, vec![0; 7]), Err((2, vec![0; 7])));
+    assert_eq!((map.len(), map.limiter().cost(), Vec::<u8>::with_capacity(9).cost()), (1, 4, 0));
+}
+
+#[test]
+fn reservations_suffice() {
+    for n in 0..500 {
+        let mut map: LruMap<u64, u64> = LruMap::new(ByLength::new(1000));
+        map.reserve_or_panic(n);
+        assert!(map.guaranteed_capacity() >= n);
+        assert!(map.insert(1, 1) && map.try_reserve(n).is_ok());
+        assert!(map.guaranteed_capacity() > n);
+    }
+}
+
+#[test]
 fn a_running_total_is_the_sum() {
     let mut map: LruMap<String, String, ByCost> = LruMap::new(ByCost::new(100));
     let mut random = Random(5);
@@ -114,6 +192,7 @@ fn a_running_total_is_the_sum() {
         assert_eq!(answer, is_fitting && map.contains(&key));
         if n % 5 == 0 {
             map.remove(&random.below(60).to_string());
+            _ = map.try_insert(key, "x".repeat(n as usize % 120));
         }
         let sum: usize = map.values().map(String::len).sum();
         assert_eq!(map.limiter().cost(), sum as u64);

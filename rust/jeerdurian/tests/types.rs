@@ -1,7 +1,8 @@
 //! Signatures, auto traits, variance, layouts and constants, as those of schnellru.
 
 use jeerdurian::{
-    ByLength, ByMemoryUsage, Drain, Iter, IterMut, Limiter, LruMap, RandomState, Unlimited, UnlimitedCompact,
+    ByLength, ByMemoryUsage, Drain, IntoIter, Iter, IterMut, Keys, Limiter, LruMap, RandomState, Unlimited,
+    UnlimitedCompact, Values, caches, tenants,
 };
 use std::cell::{Cell, RefCell, UnsafeCell};
 use std::fmt::Debug;
@@ -69,8 +70,46 @@ fn auto_traits() {
     is_ref_unwind_safe::<LruMap<u64, String>>();
 }
 
+/// Whether a type has the auto traits of another one.
+macro_rules! same {
+    ($other:ty: $($type:ty),* $(,)?) => {$({
+        let ((send, sync, _), (is_send, is_sync, _)) = (asked!($type), asked!($other));
+        assert_eq!((send, sync), (is_send, is_sync), stringify!($type));
+    })*};
+}
+
+/// Each iterator has what a reference has, by its keys and by its values. Each cache has what a vector has.
+macro_rules! lend_alike {
+    ($($type:ty),*) => {$(
+        same!(&'static Vec<$type>:
+            Iter<'static, $type, u8, ByLength>, Keys<'static, $type, u8, ByLength>, Keys<'static, u8, $type, ByLength>,
+            Values<'static, u8, $type, ByLength>, Values<'static, $type, u8, ByLength>,
+            caches::Entries<'static, $type, u8>, caches::Entries<'static, u8, $type>,
+            caches::Keys<'static, $type, u8>, caches::Values<'static, u8, $type>);
+        same!(&'static mut Vec<$type>: IterMut<'static, $type, u8, ByLength>);
+        same!(Vec<$type>:
+            IntoIter<$type, u8, ByLength, RandomState>, IntoIter<u8, $type, ByLength, RandomState>,
+            caches::OrderedMap<u8, $type>, caches::IntoEntries<u8, $type, RandomState>,
+            caches::Memo<u8, $type, fn(u8) -> $type>, tenants::TenantCache<u8, u8, Vec<$type>>);
+    )*};
+}
+
+#[test]
+fn auto_traits_of_iterators_and_caches() {
+    lend_alike!(u64, Box<dyn Fn() + Send>, Box<dyn Fn() + Sync>, std::rc::Rc<u8>, Cell<u8>, MutexGuard<'static, u8>);
+    same!(std::rc::Rc<u8>: caches::OrderedMap<std::rc::Rc<u8>, u8>, tenants::TenantCache<u8, std::rc::Rc<u8>, u8>,
+        tenants::TenantCache<std::rc::Rc<u8>, u8, u8>, caches::Memo<u8, u8, std::rc::Rc<u8>>);
+}
+
 #[test]
 fn variance() {
+    fn keys<'a>(it: Keys<'static, u8, u8, ByLength>) -> Keys<'a, u8, u8, ByLength> {
+        it
+    }
+    fn values<'a>(it: Values<'static, u8, u8, ByLength>) -> Values<'a, u8, u8, ByLength> {
+        it
+    }
+    _ = (keys, values);
     fn shorter<'a>(it: Iter<'static, u8, u8, ByLength>) -> Iter<'a, u8, u8, ByLength> {
         it
     }
@@ -151,13 +190,13 @@ fn limiters_are_what_they_limit() {
 
 #[test]
 fn aligned_values_are_aligned() {
-    #[repr(align(256))]
+    #[repr(align(16384))]
     struct Wide(u8);
     let mut map = LruMap::new(UnlimitedCompact);
     for n in 0..100u8 {
         map.insert(n, Wide(n));
+        assert!(map.iter().all(|(key, value)| *key == value.0 && (&raw const *value).addr() % 16384 == 0));
     }
-    assert!(map.iter().all(|(key, value)| *key == value.0 && (&raw const *value).addr() % 256 == 0));
 }
 
 /// A `BuildHasher` that overrides `hash_one`, even by type, changes no answer: the map builds a hasher, and hashes with it.
@@ -177,4 +216,39 @@ fn an_overridden_hash_one_is_not_called() {
     let mut map = LruMap::with_hasher(Unlimited, Typed);
     (0..100u64).for_each(|n| assert!(map.insert(n, n)));
     assert!((0..100u64).all(|n| map.get(&n) == Some(&mut { n })));
+}
+
+#[test]
+fn seeds_differ() {
+    let [a, b, c] = [0; 3].map(|_| RandomState::default().hash_one(1));
+    assert!(a != b || b != c);
+}
+
+/// Entries of no size that equal nothing: each is stored, and dropped once.
+#[test]
+fn keys_and_values_of_no_size() {
+    thread_local!(static LIVE: Cell<i64> = const { Cell::new(0) });
+    struct Nothing;
+    impl Hash for Nothing {
+        fn hash<H: std::hash::Hasher>(&self, _: &mut H) {}
+    }
+    impl PartialEq for Nothing {
+        fn eq(&self, _: &Self) -> bool {
+            false
+        }
+    }
+    impl Drop for Nothing {
+        fn drop(&mut self) {
+            LIVE.set(LIVE.get() - 1);
+        }
+    }
+    assert_eq!(size_of::<Nothing>(), 0);
+    let mut map = LruMap::new(UnlimitedCompact);
+    for n in 1..=200 {
+        LIVE.set(LIVE.get() + 2);
+        assert!(map.insert(Nothing, Nothing));
+        assert_eq!((map.iter().count(), map.iter_mut().count()), (n, n));
+    }
+    drop((map.pop_oldest(), map.drain().nth(9)));
+    assert_eq!((map.len(), LIVE.get()), (0, 0));
 }

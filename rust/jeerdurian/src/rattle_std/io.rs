@@ -10,8 +10,7 @@ pub trait BufRead {
 
     fn consume(&mut self, n: usize);
 
-    /// Adds the bytes up to the next `byte`, with it. Without memory for them the program ends, where Rattle's returns an
-    /// error.
+    /// Adds the bytes up to the next `byte`, with it. Returns how many, or an error if there is no memory for them.
     fn read_until(&mut self, byte: u8, line: &mut Vec<u8>) -> Result<usize>;
 }
 
@@ -25,6 +24,23 @@ impl<R: std::io::BufRead> BufRead for R {
     }
 
     fn read_until(&mut self, byte: u8, line: &mut Vec<u8>) -> Result<usize> {
-        std::io::BufRead::read_until(self, byte, line.as_std_mut())
+        let mut count = 0;
+        loop {
+            let bytes = match std::io::BufRead::fill_buf(self) {
+                Ok(bytes) => bytes,
+                Err(error) if error.kind() == ErrorKind::Interrupted => continue,
+                Err(error) => return Err(error),
+            };
+            let end = bytes.iter().position(|it| *it == byte);
+            let part = end.map_or(bytes, |end| &bytes[..=end]);
+            line.as_std_mut().try_reserve(part.len())?;
+            line.as_std_mut().extend_from_slice(part);
+            let added = part.len();
+            count += added;
+            std::io::BufRead::consume(self, added);
+            if end.is_some() || added == 0 {
+                return Ok(count);
+            }
+        }
     }
 }

@@ -6,6 +6,7 @@ use std::cell::Cell;
 thread_local! {
     static REFUSED: Cell<u64> = const { Cell::new(0) };
     static HELD: Cell<i64> = const { Cell::new(0) };
+    static ALIGNED: Cell<i64> = const { Cell::new(0) };
 }
 
 struct Refusing;
@@ -19,12 +20,14 @@ unsafe impl GlobalAlloc for Refusing {
             return core::ptr::null_mut();
         }
         HELD.set(HELD.get() + layout.size() as i64);
+        ALIGNED.set(ALIGNED.get() + layout.align() as i64);
         // SAFETY: as the caller says.
         unsafe { System.alloc(layout) }
     }
 
     unsafe fn dealloc(&self, start: *mut u8, layout: Layout) {
         HELD.set(HELD.get() - layout.size() as i64);
+        ALIGNED.set(ALIGNED.get() - layout.align() as i64);
         // SAFETY: as the caller says.
         unsafe { System.dealloc(start, layout) }
     }
@@ -45,4 +48,10 @@ pub fn refused<R>(n: u64, f: impl FnOnce() -> R) -> (R, bool) {
 #[allow(dead_code)]
 pub fn held() -> i64 {
     HELD.get()
+}
+
+/// Returns the sum of the alignments of the blocks that the thread holds.
+#[allow(dead_code)]
+pub fn aligned() -> i64 {
+    ALIGNED.get()
 }
