@@ -173,6 +173,26 @@ fn trim(list: &mut Vec<u64>, budget: u64) {
     }
 }
 
+/// What a call makes of the budgets and the keys of the tenants, the newest key first.
+fn serve_lists(lists: &mut BTreeMap<u64, (u64, Vec<u64>)>, kind: u64, name: u64, n: u64) {
+    match (kind, lists.get_mut(&name)) {
+        (0..=2, None) => _ = lists.insert(name, (n, Vec::new())),
+        (3..=4, _) => _ = lists.remove(&name),
+        (16, Some((_, list))) if list.contains(&n) => {
+            list.retain(|key| *key != n);
+            list.insert(0, n);
+        }
+        (5..=16, Some((budget, list))) => put(list, *budget, n),
+        (17, Some((_, list))) => list.retain(|key| *key != n),
+        (18, Some((budget, list))) => {
+            *budget = n;
+            trim(list, n);
+        }
+        (19, Some((_, list))) => list.clear(),
+        _ => {}
+    }
+}
+
 #[test]
 fn tenants_are_lists() {
     for seed in 1..100u64 {
@@ -181,22 +201,7 @@ fn tenants_are_lists() {
         for _ in 0..500 {
             let (kind, name, n) = (next(&mut state, 20), next(&mut state, 5), next(&mut state, 40));
             serve(&mut cache, kind, name, n);
-            match (kind, lists.get_mut(&name)) {
-                (0..=2, None) => _ = lists.insert(name, (n, Vec::new())),
-                (3..=4, _) => _ = lists.remove(&name),
-                (16, Some((_, list))) if list.contains(&n) => {
-                    list.retain(|key| *key != n);
-                    list.insert(0, n);
-                }
-                (5..=16, Some((budget, list))) => put(list, *budget, n),
-                (17, Some((_, list))) => list.retain(|key| *key != n),
-                (18, Some((budget, list))) => {
-                    *budget = n;
-                    trim(list, n);
-                }
-                (19, Some((_, list))) => list.clear(),
-                _ => {}
-            }
+            serve_lists(&mut lists, kind, name, n);
             for (name, (budget, list)) in &lists {
                 let name = Key::new(*name);
                 let cost = list.iter().map(|key| key / 3).sum();

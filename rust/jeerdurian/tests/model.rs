@@ -1,7 +1,9 @@
 //! Random calls against a plain list, the newest first, with texts as keys.
 
-use jeerdurian::{ByCost, ByLength, Costed, LruMap, More, Updated};
+use jeerdurian::{ByCost, ByLength, Costed, Limiter, LruMap, More, Updated};
+use std::cell::{Cell, RefCell};
 use std::hash::BuildHasher;
+use std::rc::Rc;
 
 struct Random(u64);
 
@@ -200,41 +202,52 @@ fn a_running_total_is_the_sum() {
     }
 }
 
-/// A limiter over what values keep themselves: a replaced value is dropped before anything is evicted.
+/// A value that adds 25 to a total while it lives.
+struct Blob(Rc<Cell<u64>>);
+
+impl Blob {
+    fn new(total: &Rc<Cell<u64>>) -> Self {
+        total.set(total.get() + 25);
+        Blob(total.clone())
+    }
+}
+
+impl Drop for Blob {
+    fn drop(&mut self) {
+        self.0.set(self.0.get() - 25);
+    }
+}
+
+/// A limiter over the total that values keep themselves.
+struct Total(Rc<Cell<u64>>);
+
+impl Limiter<u64, Blob> for Total {
+    type KeyToInsert<'a> = u64;
+    type LinkType = u32;
+
+    fn is_over_the_limit(&self, _: usize) -> bool {
+        self.0.get() > 100
+    }
+
+    fn on_insert(&mut self, _: usize, key: u64, value: Blob) -> Option<(u64, Blob)> {
+        Some((key, value))
+    }
+
+    fn on_replace(&mut self, _: usize, _: &mut u64, _: u64, _: &mut Blob, _: &mut Blob) -> bool {
+        true
+    }
+
+    fn on_removed(&mut self, _: &mut u64, _: &mut Blob) {}
+
+    fn on_cleared(&mut self) {}
+
+    fn on_grow(&mut self, _: usize) -> bool {
+        true
+    }
+}
+
 #[test]
 fn a_replaced_value_is_dropped_before_evictions() {
-    use std::{cell::Cell, rc::Rc};
-    struct Blob(Rc<Cell<u64>>);
-    impl Blob {
-        fn new(total: &Rc<Cell<u64>>) -> Self {
-            total.set(total.get() + 25);
-            Blob(total.clone())
-        }
-    }
-    impl Drop for Blob {
-        fn drop(&mut self) {
-            self.0.set(self.0.get() - 25);
-        }
-    }
-    struct Total(Rc<Cell<u64>>);
-    impl jeerdurian::Limiter<u64, Blob> for Total {
-        type KeyToInsert<'a> = u64;
-        type LinkType = u32;
-        fn is_over_the_limit(&self, _: usize) -> bool {
-            self.0.get() > 100
-        }
-        fn on_insert(&mut self, _: usize, key: u64, value: Blob) -> Option<(u64, Blob)> {
-            Some((key, value))
-        }
-        fn on_replace(&mut self, _: usize, _: &mut u64, _: u64, _: &mut Blob, _: &mut Blob) -> bool {
-            true
-        }
-        fn on_removed(&mut self, _: &mut u64, _: &mut Blob) {}
-        fn on_cleared(&mut self) {}
-        fn on_grow(&mut self, _: usize) -> bool {
-            true
-        }
-    }
     let total = Rc::new(Cell::new(0));
     let mut map = LruMap::new(Total(total.clone()));
     (0..4).for_each(|n| assert!(map.insert(n, Blob::new(&total))));
@@ -245,7 +258,6 @@ fn a_replaced_value_is_dropped_before_evictions() {
 /// Of an entry that the map drops, the key is dropped first.
 #[test]
 fn a_key_is_dropped_before_its_value() {
-    use std::{cell::RefCell, rc::Rc};
     type Log = Rc<RefCell<Vec<&'static str>>>;
     struct Noted(u64, &'static str, Log);
     impl Drop for Noted {
