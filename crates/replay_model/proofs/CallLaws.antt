@@ -11,15 +11,16 @@ use Rattle.replay_model.specs.declared.calls.Call.{Call}
 use Rattle.replay_model.specs.declared.calls.Call.TheVariants as calls
 use Rattle.replay_model.proofs.CallKinds.{Kind, calls_map, stays, writes_value, sets_limiter, kind_of, any_step}
 
-module _ {K V S H : Type 0} (rules : Rules K V S) (offers : Offers K V S K) (eq : K → K → Bool)
-    (hash_of : H → K → ℕ) where
-  -- a run of calls is one of any steps of the map
+module _ {K V S H : Type 0} {rules : Rules K V S} {offers : Offers K V S K} {eq : K → K → Bool} {hash_of : H → K → ℕ}
+    {IsStep : State K V S H → Call K V S → Reply K V → State K V S H → Type 0}
+    (moves : (old new : State K V S H) (call : Call K V S) (reply : Reply K V) → IsStep old call reply new
+    → AnyStep rules offers eq hash_of old new ⊎ (new ≡ old)) where
+  -- a run of calls that are steps of the map, or change nothing, is one of any steps of the map
   pub any_run : (old : State K V S H) (calls : List (Call K V S)) (replies : List (Reply K V)) (new : State K V S H)
-      → IsRun (CallStep rules offers eq hash_of) (IsMap eq) old calls replies new
-      → Run (AnyStep rules offers eq hash_of) new old
+      → IsRun IsStep (IsMap eq) old calls replies new → Run (AnyStep rules offers eq hash_of) new old
   any_run old [] [] new same = subst (Run (AnyStep rules offers eq hash_of) new) same ends
   any_run old (call ∷ calls) (reply ∷ replies) new (mid, step, map, run) =
-      elim (any_step call (kind_of call reply step)) [
+      elim (moves old mid call reply step) [
         | inl any ↦ goes_on mid any map.sized (any_run mid calls replies new run)
         | inr same ↦ subst (Run (AnyStep rules offers eq hash_of) new) same (any_run mid calls replies new run)
       ]

@@ -22,10 +22,14 @@ use std::hash::Hash;
 
 /// Over any calls the count of moved entries and the potential together rise by at most two for each entry that inserts
 /// store, and by one for each entry that shrinks rehash, while neither the count of stored entries nor the count of
-/// rehashed entries has reached `u64::MAX`.
+/// rehashed entries has reached `u64::MAX`. So it is under a limiter with a running total.
 pub fn calls_pay_for_moves<K: Eq + Hash, V, L: Insertion<K, V, K>, S: KeyHasher<K>>()
     ensures rise { (old new : State K V L S) (calls : List (Call K V L)) (replies : List (Reply K V)) →
         IsRun (CallStep L.rules L.offers K.eq S.hash_of) (IsMap K.eq)
+        old calls replies new → IsSized old → PaysForMoves old new }
+    ensures summing { (cost : K → V → ℕ) (account : L → ℕ) (old new : State K V L S) (calls : List (Call K V L))
+        (replies : List (Reply K V)) →
+        IsRun (SummingStep L.rules L.offers K.eq S.hash_of cost account) (IsMap K.eq)
         old calls replies new → IsSized old → PaysForMoves old new }
 {
     laws::runs_pay_for_moves::<K, V, K, L, S>();
