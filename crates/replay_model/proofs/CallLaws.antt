@@ -9,6 +9,7 @@ use Rattle.replay_model.specs.CallRuns.{IsRun, CallStep, SummingStep, KeepsCost,
 use Rattle.replay_model.specs.Replies.{Reply}
 use Rattle.replay_model.specs.declared.calls.Call.{Call}
 use Rattle.replay_model.specs.declared.calls.Call.TheVariants as calls
+use Rattle.replay_model.proofs.CallRuns.{run-follows}
 use Rattle.replay_model.proofs.CallKinds.{Kind, calls_map, stays, writes_value, sets_limiter, kind_of, any_step}
 
 module _ {K V S H : Type 0} {rules : Rules K V S} {offers : Offers K V S K} {eq : K → K → Bool} {hash_of : H → K → ℕ}
@@ -59,19 +60,26 @@ module _ {K V S H N : Type 0} (rules : Rules K V S) (offers : Offers K V S K) (e
       subst (Stays old) (sym e) (writes (limit old.limiter) old key v (subst (Keeps old) is kept) within, refl)
   kind_within old new ok call none kept (sets_limiter s is e) within = absurd (subst SetsNoLimiter is none)
 
-  pub run_within : (n : N) (old : State K V S H) (calls : List (Call K V S)) (replies : List (Reply K V))
+  -- what is known of each state anyway stays known
+  pub run_known : (n : N) (old : State K V S H) (calls : List (Call K V S)) (replies : List (Reply K V))
       (new : State K V S H) → IsRun IsStep Holds old calls replies new → AllByRecursion SetsNoLimiter calls
-      → limit old.limiter ≡ n → Within n old → IsRun IsStep (Within n) old calls replies new
-  run_within n old [] [] new same none is within = same
-  run_within n old (call ∷ calls) (reply ∷ replies) new (mid, step, holds, run) (one, none) is within =
+      → limit old.limiter ≡ n → Within n old → IsRun IsStep (λ st. Holds st × Within n st) old calls replies new
+  run_known n old [] [] new same none is within = same
+  run_known n old (call ∷ calls) (reply ∷ replies) new (mid, step, holds, run) (one, none) is within =
       let begun : Within (limit old.limiter) old = subst (λ m. Within m old) (sym is) within in
       let after : Stays old mid = elim (kinds old mid call reply step) [
         | inl known ↦ kind_within old mid (sized mid holds) call one known.0 known.1 begun
         | inr same ↦ unchanged old mid same begun
       ] in
       let kept : Within n mid = subst (λ m. Within m mid) is after.0 in
-      (mid, step, kept, run_within n mid calls replies new run none (after.1 ∙ is) kept)
-  run_within n old calls replies new p none is within = absurd p
+      (mid, step, (holds, kept), run_known n mid calls replies new run none (after.1 ∙ is) kept)
+  run_known n old calls replies new p none is within = absurd p
+
+  pub run_within : (n : N) (old : State K V S H) (calls : List (Call K V S)) (replies : List (Reply K V))
+      (new : State K V S H) → IsRun IsStep Holds old calls replies new → AllByRecursion SetsNoLimiter calls
+      → limit old.limiter ≡ n → Within n old → IsRun IsStep (Within n) old calls replies new
+  run_within n old calls replies new run none is within = run-follows IsStep (λ st h. h.1) old calls replies new
+      (run_known n old calls replies new run none is within)
 
 module _ {K V S H : Type 0} {rules : Rules K V S} {offers : Offers K V S K} {eq : K → K → Bool}
     {hash_of : H → K → ℕ} where

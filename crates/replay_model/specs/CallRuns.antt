@@ -61,6 +61,11 @@ module _ {K V S : Type 0} where
   SetsNoLimiter (calls.SetLimiter s) = ⊥
   SetsNoLimiter call = Unit {0}
 
+  -- the call reserves no growth
+  abbrev pub ReservesNothing : Call K V S → Type 0
+  ReservesNothing (calls.Reserve n) = ⊥
+  ReservesNothing call = Unit {0}
+
 module _ {K V S : Type 0} (eq : K → K → Bool) (cost : K → V → ℕ) (account : S → ℕ) where
   -- a write keeps the cost of its pair, and another limiter has the same running total
   abbrev pub KeepsCost : Contents K V S → Call K V S → Type 0

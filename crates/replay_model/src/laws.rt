@@ -8,7 +8,7 @@ ghost use Rattle.lru_model.specs.State.{State, contents, buckets, IsSized, IsMap
 ghost use Rattle.lru_model.specs.Theorems.{PaysForMoves, UsesAtMost, IsSummed, others};
 ghost use Rattle.replay_model.specs.declared.calls.Call.{Call};
 ghost use Rattle.replay_model.specs.CallRuns.{IsRun, CallStep, SummingStep, NamesAmong, SetsNoLimiter, HasPlainSearch};
-ghost use Rattle.replay_model.specs.CallRuns.{HasSmallBudget};
+ghost use Rattle.replay_model.specs.CallRuns.{HasSmallBudget, ReservesNothing};
 ghost use Rattle.replay_model.specs.LineRuns.{LineStep};
 ghost use Rattle.replay_model.specs.ListRuns.{ListCallStep, ListSummingStep};
 ghost use Rattle.replay_model.specs.Maps.{Map};
@@ -165,6 +165,25 @@ pub fn small_budgets_are_alike<K: Eq + Hash + Drop, V: Drop, S: KeyHasher<K>>()
 {
     laws::runs_keep_the_memory_usage::<K, V, S>();
     small_calls_are_alike::<K, V, ByMemoryUsage, S>();
+}
+
+/// With `ByLength` and a limit of at most 14 it holds of these runs, too, if the first map is within its limit and has
+/// at most 16 buckets, and no call sets another limiter or reserves growth.
+pub fn small_lengths_are_alike<K: Eq + Hash + Drop, V: Drop, S: KeyHasher<K>>()
+    ensures alike { (old other new last : State K V ByLength S) (calls : List (Call K V ByLength))
+        (replies answers : List (Reply K V)) →
+        old.limiter ≤ 14 → length old.pairs ≤ old.limiter → IsSized old → buckets old ≤ 16 → LookAlike old other →
+        AllByRecursion SetsNoLimiter calls → AllByRecursion ReservesNothing calls →
+        AllByRecursion (HasPlainSearch (S.hash_of old.hasher)) calls →
+        IsRun (CallStep ⟦<ByLength as Limiter<K, V>>⟧.rules ⟦<ByLength as Insertion<K, V, K>>⟧.offers K.eq
+        S.hash_of) (IsMap K.eq) old calls replies new →
+        IsRun (CallStep ⟦<ByLength as Limiter<K, V>>⟧.rules ⟦<ByLength as Insertion<K, V, K>>⟧.offers K.eq
+        S.hash_of) (IsMap K.eq) other calls answers last →
+        map memory_report replies ≡ map memory_report answers →
+        (replies ≡ answers) × LookAlike new last }
+{
+    laws::runs_keep_the_length::<K, V, S>();
+    small_calls_are_alike::<K, V, ByLength, S>();
 }
 
 /// So do two runs under a limiter with a running total. No contract shows that the tables of a run of `run_summing`
