@@ -26,3 +26,4 @@ pub mod Wants
 pub mod SmallBudgets
 pub mod SmallGrowth
 pub mod SmallLengths
+pub mod SmallTotals

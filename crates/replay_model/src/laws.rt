@@ -1,6 +1,6 @@
 //! What is proved of runs of calls, in addition to what `run_calls` and `run_summing` say of each. The functions do
 //! nothing: their contracts are the theorems.
-ghost use Rattle.std.specs.Prelude.{◌≡◌, ℕ, ◌≤◌, ◌+◌, ◌*◌, Bool, length, List, map, nat_eq, Option};
+ghost use Rattle.std.specs.Prelude.{◌≡◌, ℕ, ◌≤◌, ◌<◌, ◌+◌, ◌*◌, Bool, length, List, map, nat_eq, Option};
 ghost use Rattle.std.specs.List.{AllByRecursion, IsDistinct};
 ghost use Rattle.lru_model.specs.Exact.{AlwaysGrants, HasTables, HasTableFor, IsDetermined, NeverRunsOut, LookAlike};
 ghost use Rattle.lru_model.specs.Lists.{keys_of, IsFront};
@@ -186,8 +186,8 @@ pub fn small_lengths_are_alike<K: Eq + Hash + Drop, V: Drop, S: KeyHasher<K>>()
     small_calls_are_alike::<K, V, ByLength, S>();
 }
 
-/// So do two runs under a limiter with a running total. No contract shows that the tables of a run of `run_summing`
-/// have at most 16 buckets.
+/// Two runs of the same calls under a limiter with a running total are alike, too, if the maps before and the tables are
+/// as `small_calls_are_alike` demands.
 pub fn small_summing_is_alike<K: Eq + Hash, V, L: Summing<K, V, K>, S: KeyHasher<K>>()
     ensures alike { (old other new last : State K V L S) (calls : List (Call K V L))
         (replies answers : List (Reply K V)) →
@@ -201,6 +201,30 @@ pub fn small_summing_is_alike<K: Eq + Hash, V, L: Summing<K, V, K>, S: KeyHasher
         (replies ≡ answers) × LookAlike new last }
 {
     laws::small_inserts_look_alike::<K, V, K, L, S>();
+}
+
+/// With any limiter that has a budget, as `ByCost` and `ByWeight` have, this holds of the runs that `run_summing`
+/// ensures, if 14 pairs always cost more than the budget (a pair costs `least` or more), if the first map is within its
+/// budget, has the sum of the costs as its total, and has at most 16 buckets, and if no call sets another limiter or
+/// reserves growth.
+pub fn small_totals_are_alike<K: Eq + Hash, V, L: Budgeted<K, V>, S: KeyHasher<K>>()
+    ensures alike { (least : ℕ) (old other new last : State K V L S) (calls : List (Call K V L))
+        (replies answers : List (Reply K V)) →
+        IsDetermined L.offers → NeverRunsOut L.offers → ((key : K) (value : V) → least ≤ L.cost_of key value) →
+        L.budget_of old.limiter < 14 * least → L.account old.limiter ≤ L.budget_of old.limiter →
+        IsSummed L.cost_of L.account old → IsSized old → buckets old ≤ 16 → LookAlike old other →
+        AllByRecursion SetsNoLimiter calls → AllByRecursion ReservesNothing calls →
+        AllByRecursion (HasPlainSearch (S.hash_of old.hasher)) calls →
+        IsRun (SummingStep L.rules L.offers K.eq S.hash_of
+        L.cost_of L.account) (IsMap K.eq) old calls replies new →
+        IsRun (SummingStep L.rules L.offers K.eq S.hash_of
+        L.cost_of L.account) (IsMap K.eq) other calls answers last →
+        map memory_report replies ≡ map memory_report answers →
+        (replies ≡ answers) × LookAlike new last }
+{
+    laws::runs_keep_the_budget::<K, V, L, S>();
+    laws::runs_keep_sums::<K, V, K, L, S>();
+    small_summing_is_alike::<K, V, L, S>();
 }
 
 /// In a run of lines from a map, each line leaves a map: no two keys are equal, and inserts moved at most twice as many
