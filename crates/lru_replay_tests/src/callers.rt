@@ -1,8 +1,9 @@
-//! A caller of a run, whose contract follows from a law on runs: the code of docs/CALLING.md.
-ghost use Rattle.std.specs.Prelude.{◌≤◌, length, OnOk};
+//! Callers of runs, whose contracts follow from laws on runs: the code of docs/CALLING.md.
+ghost use Rattle.std.specs.Prelude.{◌≡◌, ◌≤◌, length, OnOk};
+ghost use Rattle.std.specs.List.{sum_by};
 
-use lru_replay::{Answer, Call, laws, run_calls};
-use schnellru::{ByLength, LruMap, RandomState};
+use lru_replay::{Answer, Call, laws, run_calls, run_summing};
+use schnellru::{ByCost, ByLength, LruMap, RandomState};
 use std::alloc::{AllocError, Global};
 
 /// Inserts two pairs by a list of calls, into a map that is within its length, and leaves it so.
@@ -21,4 +22,23 @@ fn put_both(
         Call::Insert(second.0, second.1),
     ]?;
     run_calls(alloc, map, calls)
+}
+
+/// Inserts two pairs by a list of calls, into a map that is within its total cost, and leaves it so.
+fn charge_both(
+    alloc: Global,
+    map: &mut LruMap<u64, u64, ByCost>,
+    first: (u64, u64),
+    second: (u64, u64),
+) -> Result<Vec<Answer<u64, u64>>, AllocError>
+    requires summed { map.old.limiter.cost ≡ sum_by (λ p. p.1) map.old.pairs }
+    requires within { map.old.limiter.cost ≤ map.old.limiter.limit }
+    ensures { OnOk result (map.new.limiter.cost ≤ map.old.limiter.limit) }
+{
+    laws::calls_keep_the_budget::<u64, u64, ByCost, RandomState>();
+    let calls = vec![in alloc;
+        Call::Insert(first.0, first.1),
+        Call::Insert(second.0, second.1),
+    ]?;
+    run_summing(alloc, map, calls)
 }

@@ -9,17 +9,19 @@ use Rattle.replay_model.specs.CallRuns.{IsRun, CallStep, SummingStep, KeepsCost,
 use Rattle.replay_model.specs.Replies.{Reply}
 use Rattle.replay_model.specs.declared.calls.Call.{Call}
 use Rattle.replay_model.specs.declared.calls.Call.TheVariants as calls
+use Rattle.replay_model.proofs.CallRuns.{run-follows}
 use Rattle.replay_model.proofs.CallKinds.{Kind, calls_map, stays, writes_value, sets_limiter, kind_of, any_step}
 
-module _ {K V S H : Type 0} (rules : Rules K V S) (offers : Offers K V S K) (eq : K → K → Bool)
-    (hash_of : H → K → ℕ) where
-  -- a run of calls is one of any steps of the map
+module _ {K V S H : Type 0} {rules : Rules K V S} {offers : Offers K V S K} {eq : K → K → Bool} {hash_of : H → K → ℕ}
+    {IsStep : State K V S H → Call K V S → Reply K V → State K V S H → Type 0}
+    (moves : (old new : State K V S H) (call : Call K V S) (reply : Reply K V) → IsStep old call reply new
+    → AnyStep rules offers eq hash_of old new ⊎ (new ≡ old)) where
+  -- a run of calls that are steps of the map, or change nothing, is one of any steps of the map
   pub any_run : (old : State K V S H) (calls : List (Call K V S)) (replies : List (Reply K V)) (new : State K V S H)
-      → IsRun (CallStep rules offers eq hash_of) (IsMap eq) old calls replies new
-      → Run (AnyStep rules offers eq hash_of) new old
+      → IsRun IsStep (IsMap eq) old calls replies new → Run (AnyStep rules offers eq hash_of) new old
   any_run old [] [] new same = subst (Run (AnyStep rules offers eq hash_of) new) same ends
   any_run old (call ∷ calls) (reply ∷ replies) new (mid, step, map, run) =
-      elim (any_step call (kind_of call reply step)) [
+      elim (moves old mid call reply step) [
         | inl any ↦ goes_on mid any map.sized (any_run mid calls replies new run)
         | inr same ↦ subst (Run (AnyStep rules offers eq hash_of) new) same (any_run mid calls replies new run)
       ]
@@ -58,19 +60,26 @@ module _ {K V S H N : Type 0} (rules : Rules K V S) (offers : Offers K V S K) (e
       subst (Stays old) (sym e) (writes (limit old.limiter) old key v (subst (Keeps old) is kept) within, refl)
   kind_within old new ok call none kept (sets_limiter s is e) within = absurd (subst SetsNoLimiter is none)
 
-  pub run_within : (n : N) (old : State K V S H) (calls : List (Call K V S)) (replies : List (Reply K V))
+  -- what is known of each state anyway stays known
+  pub run_known : (n : N) (old : State K V S H) (calls : List (Call K V S)) (replies : List (Reply K V))
       (new : State K V S H) → IsRun IsStep Holds old calls replies new → AllByRecursion SetsNoLimiter calls
-      → limit old.limiter ≡ n → Within n old → IsRun IsStep (Within n) old calls replies new
-  run_within n old [] [] new same none is within = same
-  run_within n old (call ∷ calls) (reply ∷ replies) new (mid, step, holds, run) (one, none) is within =
+      → limit old.limiter ≡ n → Within n old → IsRun IsStep (λ st. Holds st × Within n st) old calls replies new
+  run_known n old [] [] new same none is within = same
+  run_known n old (call ∷ calls) (reply ∷ replies) new (mid, step, holds, run) (one, none) is within =
       let begun : Within (limit old.limiter) old = subst (λ m. Within m old) (sym is) within in
       let after : Stays old mid = elim (kinds old mid call reply step) [
         | inl known ↦ kind_within old mid (sized mid holds) call one known.0 known.1 begun
         | inr same ↦ unchanged old mid same begun
       ] in
       let kept : Within n mid = subst (λ m. Within m mid) is after.0 in
-      (mid, step, kept, run_within n mid calls replies new run none (after.1 ∙ is) kept)
-  run_within n old calls replies new p none is within = absurd p
+      (mid, step, (holds, kept), run_known n mid calls replies new run none (after.1 ∙ is) kept)
+  run_known n old calls replies new p none is within = absurd p
+
+  pub run_within : (n : N) (old : State K V S H) (calls : List (Call K V S)) (replies : List (Reply K V))
+      (new : State K V S H) → IsRun IsStep Holds old calls replies new → AllByRecursion SetsNoLimiter calls
+      → limit old.limiter ≡ n → Within n old → IsRun IsStep (Within n) old calls replies new
+  run_within n old calls replies new run none is within = run-follows IsStep (λ st h. h.1) old calls replies new
+      (run_known n old calls replies new run none is within)
 
 module _ {K V S H : Type 0} {rules : Rules K V S} {offers : Offers K V S K} {eq : K → K → Bool}
     {hash_of : H → K → ℕ} where

@@ -24,3 +24,6 @@ pub mod ListRuns
 pub mod AlikeRuns
 pub mod Wants
 pub mod SmallBudgets
+pub mod SmallGrowth
+pub mod SmallLengths
+pub mod SmallTotals

@@ -5,8 +5,7 @@ use Rattle.lru_limits.specs.Rules.{Rules, Offers}
 use Rattle.lru_model.specs.Lists.{lookup_entry}
 use Rattle.lru_model.specs.Runs.{AreAmong}
 use Rattle.lru_model.specs.Sizes.{usage}
-use Rattle.lru_model.specs.State.{State, Contents, contents, IsMap}
-use Rattle.lru_model.specs.Theorems.{IsSummed}
+use Rattle.lru_model.specs.State.{State, Contents, contents}
 use Rattle.replay_model.specs.declared.calls.Call.{Call}
 use Rattle.replay_model.specs.declared.calls.Call.TheVariants as calls
 use Rattle.replay_model.specs.Replies.{Reply, no_memory, cost_differs}
@@ -62,6 +61,11 @@ module _ {K V S : Type 0} where
   SetsNoLimiter (calls.SetLimiter s) = ⊥
   SetsNoLimiter call = Unit {0}
 
+  -- the call reserves no growth
+  abbrev pub ReservesNothing : Call K V S → Type 0
+  ReservesNothing (calls.Reserve n) = ⊥
+  ReservesNothing call = Unit {0}
+
 module _ {K V S : Type 0} (eq : K → K → Bool) (cost : K → V → ℕ) (account : S → ℕ) where
   -- a write keeps the cost of its pair, and another limiter has the same running total
   abbrev pub KeepsCost : Contents K V S → Call K V S → Type 0
@@ -75,12 +79,6 @@ module _ {K V S : Type 0} (eq : K → K → Bool) (cost : K → V → ℕ) (acco
       → Call K V S → Reply K V → A → Type 0
   StepIfKept of IsStep old call reply new = (KeepsCost (of old) call × IsStep old call reply new)
       ⊎ ((KeepsCost (of old) call → ⊥) × (reply ≡ cost_differs) × (new ≡ old))
-
-module _ {K V S H : Type 0} (eq : K → K → Bool) (cost : K → V → ℕ) (account : S → ℕ) where
-  -- it is a map, and its running total is the sum of the costs, if it was so of the first map
-  pub record IsSummedFrom (first st : State K V S H) : Type 0 where
-    pub map : IsMap eq st
-    pub sum : IsSummed cost account first → IsSummed cost account st
 
 module _ {K V S H : Type 0} (rules : Rules K V S) (offers : Offers K V S K) (eq : K → K → Bool)
     (hash_of : H → K → ℕ) where

@@ -1,6 +1,6 @@
 //! What is proved of runs of calls, in addition to what `run_calls` and `run_summing` say of each. The functions do
 //! nothing: their contracts are the theorems.
-ghost use Rattle.std.specs.Prelude.{◌≡◌, ℕ, ◌≤◌, ◌+◌, ◌*◌, Bool, length, List, map, nat_eq, Option};
+ghost use Rattle.std.specs.Prelude.{◌≡◌, ℕ, ◌≤◌, ◌<◌, ◌+◌, ◌*◌, Bool, length, List, map, nat_eq, Option};
 ghost use Rattle.std.specs.List.{AllByRecursion, IsDistinct};
 ghost use Rattle.lru_model.specs.Exact.{AlwaysGrants, HasTables, HasTableFor, IsDetermined, NeverRunsOut, LookAlike};
 ghost use Rattle.lru_model.specs.Lists.{keys_of, IsFront};
@@ -8,7 +8,7 @@ ghost use Rattle.lru_model.specs.State.{State, contents, buckets, IsSized, IsMap
 ghost use Rattle.lru_model.specs.Theorems.{PaysForMoves, UsesAtMost, IsSummed, others};
 ghost use Rattle.replay_model.specs.declared.calls.Call.{Call};
 ghost use Rattle.replay_model.specs.CallRuns.{IsRun, CallStep, SummingStep, NamesAmong, SetsNoLimiter, HasPlainSearch};
-ghost use Rattle.replay_model.specs.CallRuns.{HasSmallBudget};
+ghost use Rattle.replay_model.specs.CallRuns.{HasSmallBudget, ReservesNothing};
 ghost use Rattle.replay_model.specs.LineRuns.{LineStep};
 ghost use Rattle.replay_model.specs.ListRuns.{ListCallStep, ListSummingStep};
 ghost use Rattle.replay_model.specs.Maps.{Map};
@@ -22,10 +22,14 @@ use std::hash::Hash;
 
 /// Over any calls the count of moved entries and the potential together rise by at most two for each entry that inserts
 /// store, and by one for each entry that shrinks rehash, while neither the count of stored entries nor the count of
-/// rehashed entries has reached `u64::MAX`.
+/// rehashed entries has reached `u64::MAX`. So it is under a limiter with a running total.
 pub fn calls_pay_for_moves<K: Eq + Hash, V, L: Insertion<K, V, K>, S: KeyHasher<K>>()
     ensures rise { (old new : State K V L S) (calls : List (Call K V L)) (replies : List (Reply K V)) →
         IsRun (CallStep L.rules L.offers K.eq S.hash_of) (IsMap K.eq)
+        old calls replies new → IsSized old → PaysForMoves old new }
+    ensures summing { (cost : K → V → ℕ) (account : L → ℕ) (old new : State K V L S) (calls : List (Call K V L))
+        (replies : List (Reply K V)) →
+        IsRun (SummingStep L.rules L.offers K.eq S.hash_of cost account) (IsMap K.eq)
         old calls replies new → IsSized old → PaysForMoves old new }
 {
     laws::runs_pay_for_moves::<K, V, K, L, S>();
@@ -163,8 +167,27 @@ pub fn small_budgets_are_alike<K: Eq + Hash + Drop, V: Drop, S: KeyHasher<K>>()
     small_calls_are_alike::<K, V, ByMemoryUsage, S>();
 }
 
-/// So do two runs under a limiter with a running total. No contract shows that the tables of a run of `run_summing`
-/// have at most 16 buckets.
+/// With `ByLength` and a limit of at most 14 it holds of these runs, too, if the first map is within its limit and has
+/// at most 16 buckets, and no call sets another limiter or reserves growth.
+pub fn small_lengths_are_alike<K: Eq + Hash + Drop, V: Drop, S: KeyHasher<K>>()
+    ensures alike { (old other new last : State K V ByLength S) (calls : List (Call K V ByLength))
+        (replies answers : List (Reply K V)) →
+        old.limiter ≤ 14 → length old.pairs ≤ old.limiter → IsSized old → buckets old ≤ 16 → LookAlike old other →
+        AllByRecursion SetsNoLimiter calls → AllByRecursion ReservesNothing calls →
+        AllByRecursion (HasPlainSearch (S.hash_of old.hasher)) calls →
+        IsRun (CallStep ⟦<ByLength as Limiter<K, V>>⟧.rules ⟦<ByLength as Insertion<K, V, K>>⟧.offers K.eq
+        S.hash_of) (IsMap K.eq) old calls replies new →
+        IsRun (CallStep ⟦<ByLength as Limiter<K, V>>⟧.rules ⟦<ByLength as Insertion<K, V, K>>⟧.offers K.eq
+        S.hash_of) (IsMap K.eq) other calls answers last →
+        map memory_report replies ≡ map memory_report answers →
+        (replies ≡ answers) × LookAlike new last }
+{
+    laws::runs_keep_the_length::<K, V, S>();
+    small_calls_are_alike::<K, V, ByLength, S>();
+}
+
+/// Two runs of the same calls under a limiter with a running total are alike, too, if the maps before and the tables are
+/// as `small_calls_are_alike` demands.
 pub fn small_summing_is_alike<K: Eq + Hash, V, L: Summing<K, V, K>, S: KeyHasher<K>>()
     ensures alike { (old other new last : State K V L S) (calls : List (Call K V L))
         (replies answers : List (Reply K V)) →
@@ -178,6 +201,30 @@ pub fn small_summing_is_alike<K: Eq + Hash, V, L: Summing<K, V, K>, S: KeyHasher
         (replies ≡ answers) × LookAlike new last }
 {
     laws::small_inserts_look_alike::<K, V, K, L, S>();
+}
+
+/// With any limiter that has a budget, as `ByCost` and `ByWeight` have, this holds of the runs that `run_summing`
+/// ensures, if 14 pairs always cost more than the budget (a pair costs `least` or more), if the first map is within its
+/// budget, has the sum of the costs as its total, and has at most 16 buckets, and if no call sets another limiter or
+/// reserves growth.
+pub fn small_totals_are_alike<K: Eq + Hash, V, L: Budgeted<K, V>, S: KeyHasher<K>>()
+    ensures alike { (least : ℕ) (old other new last : State K V L S) (calls : List (Call K V L))
+        (replies answers : List (Reply K V)) →
+        IsDetermined L.offers → NeverRunsOut L.offers → ((key : K) (value : V) → least ≤ L.cost_of key value) →
+        L.budget_of old.limiter < 14 * least → L.account old.limiter ≤ L.budget_of old.limiter →
+        IsSummed L.cost_of L.account old → IsSized old → buckets old ≤ 16 → LookAlike old other →
+        AllByRecursion SetsNoLimiter calls → AllByRecursion ReservesNothing calls →
+        AllByRecursion (HasPlainSearch (S.hash_of old.hasher)) calls →
+        IsRun (SummingStep L.rules L.offers K.eq S.hash_of
+        L.cost_of L.account) (IsMap K.eq) old calls replies new →
+        IsRun (SummingStep L.rules L.offers K.eq S.hash_of
+        L.cost_of L.account) (IsMap K.eq) other calls answers last →
+        map memory_report replies ≡ map memory_report answers →
+        (replies ≡ answers) × LookAlike new last }
+{
+    laws::runs_keep_the_budget::<K, V, L, S>();
+    laws::runs_keep_sums::<K, V, K, L, S>();
+    small_summing_is_alike::<K, V, L, S>();
 }
 
 /// In a run of lines from a map, each line leaves a map: no two keys are equal, and inserts moved at most twice as many

@@ -3,7 +3,7 @@ ghost use Rattle.std.specs.Prelude.{◌≡◌, IfOk, true, false};
 ghost use Rattle.std.specs.Result.{OnErr};
 ghost use Rattle.lru_model.specs.State.{contents, IsMap};
 ghost use Rattle.lru_model.specs.Theorems.{IsSummed};
-ghost use Rattle.replay_model.specs.CallRuns.{IsRun, IsSummedFrom, SummingStep, KeepsCost};
+ghost use Rattle.replay_model.specs.CallRuns.{IsRun, SummingStep, KeepsCost};
 ghost use Rattle.replay_model.specs.Replies.{said, all_said};
 
 use crate::calls::runs::make_call;
@@ -40,10 +40,13 @@ where
     V: Copy + Drop,
     L: Summing<K, V, K> + Drop,
     S: KeyHasher<K>,
-    // The answers and the map after them are a run from the map before, and each state in between is a map, whose total
-    // is the sum of the costs if it was so before.
+    // The answers and the map after them are a run from the map before, and each state in between is a map,
     ensures run { IfOk result (λ answers. IsRun (SummingStep L.rules L.offers K.eq S.hash_of
-        L.cost_of L.account) (IsSummedFrom K.eq L.cost_of L.account map.old)
+        L.cost_of L.account) (IsMap K.eq) map.old calls.items (all_said answers.items) map.new) }
+    // whose total is the sum of the costs, if it was so before.
+    ensures sums { IsSummed L.cost_of L.account map.old → IfOk result (λ answers. IsRun
+        (SummingStep L.rules L.offers K.eq S.hash_of L.cost_of L.account)
+        (λ st. IsMap K.eq st × IsSummed L.cost_of L.account st)
         map.old calls.items (all_said answers.items) map.new) }
     // So it is after all calls.
     ensures account { IsSummed L.cost_of L.account map.old → IsSummed L.cost_of L.account map.new }

@@ -1,13 +1,9 @@
-use Rattle.std.proofs.Common.{◌≤◌, length, Result, Ok, Err, IfOk, OnOk}
+use Rattle.std.proofs.Common.{◌≤◌, length}
 use Rattle.std.specs.List.{AllByRecursion}
 use Rattle.replay_model.specs.CallRuns.{SetsNoLimiter}
 use Rattle.replay_model.proofs.CallRuns.{run_holds}
+use Rattle.lru_replay_tests.proofs.Results.{follows}
 use Rattle.lru_replay_tests.proofs.callers.put_both.Goals as goal
-
-follows : {T E : Type 0} {P : T → Type 0} {Q : Type 0} (result : Result T E) → ((value : T) → P value → Q)
-    → IfOk result P → OnOk result Q
-follows (Ok value) f holds = f value holds
-follows (Err error) f holds = tt
 
 pub returns : goal.returns
 returns c =

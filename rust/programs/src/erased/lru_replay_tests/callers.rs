@@ -1,11 +1,11 @@
 // Erased from crates/lru_replay_tests/src/callers.rt: do not edit.
-//! A caller of a run, whose contract follows from a law on runs: the code of docs/CALLING.md.
+//! Callers of runs, whose contracts follow from laws on runs: the code of docs/CALLING.md.
 
 #[allow(unused_imports)]
 use crate::rattle_std::prelude::*;
 
-use crate::erased::schnellru::{ByLength, LruMap, RandomState};
-use crate::programs::lru_replay::{Answer, Call, laws, run_calls};
+use crate::erased::schnellru::{ByCost, ByLength, LruMap, RandomState};
+use crate::programs::lru_replay::{Answer, Call, laws, run_calls, run_summing};
 use crate::rattle_std::alloc::{AllocError, Global};
 
 /// Inserts two pairs by a list of calls, into a map that is within its length, and leaves it so.
@@ -21,4 +21,19 @@ fn put_both(
         Call::Insert(second.0, second.1),
     ]?;
     run_calls(alloc, map, calls)
+}
+
+/// Inserts two pairs by a list of calls, into a map that is within its total cost, and leaves it so.
+fn charge_both(
+    alloc: Global,
+    map: &mut LruMap<u64, u64, ByCost>,
+    first: (u64, u64),
+    second: (u64, u64),
+) -> Result<Vec<Answer<u64, u64>>, AllocError> {
+    laws::calls_keep_the_budget::<u64, u64, ByCost, RandomState>();
+    let calls = vec![in alloc;
+        Call::Insert(first.0, first.1),
+        Call::Insert(second.0, second.1),
+    ]?;
+    run_summing(alloc, map, calls)
 }

@@ -13,7 +13,7 @@ use crate::rattle_std::hash::Hash;
 
 /// Over any calls the count of moved entries and the potential together rise by at most two for each entry that inserts
 /// store, and by one for each entry that shrinks rehash, while neither the count of stored entries nor the count of
-/// rehashed entries has reached `u64::MAX`.
+/// rehashed entries has reached `u64::MAX`. So it is under a limiter with a running total.
 pub fn calls_pay_for_moves<K: Eq + Hash, V, L: Insertion<K, V, K>, S: KeyHasher<K>>() {
     laws::runs_pay_for_moves::<K, V, K, L, S>();
 }
@@ -75,10 +75,27 @@ pub fn small_budgets_are_alike<K: Eq + Hash, V, S: KeyHasher<K>>() {
     small_calls_are_alike::<K, V, ByMemoryUsage, S>();
 }
 
-/// So do two runs under a limiter with a running total. No contract shows that the tables of a run of `run_summing`
-/// have at most 16 buckets.
+/// With `ByLength` and a limit of at most 14 it holds of these runs, too, if the first map is within its limit and has
+/// at most 16 buckets, and no call sets another limiter or reserves growth.
+pub fn small_lengths_are_alike<K: Eq + Hash, V, S: KeyHasher<K>>() {
+    laws::runs_keep_the_length::<K, V, S>();
+    small_calls_are_alike::<K, V, ByLength, S>();
+}
+
+/// Two runs of the same calls under a limiter with a running total are alike, too, if the maps before and the tables are
+/// as `small_calls_are_alike` demands.
 pub fn small_summing_is_alike<K: Eq + Hash, V, L: Summing<K, V, K>, S: KeyHasher<K>>() {
     laws::small_inserts_look_alike::<K, V, K, L, S>();
+}
+
+/// With any limiter that has a budget, as `ByCost` and `ByWeight` have, this holds of the runs that `run_summing`
+/// ensures, if 14 pairs always cost more than the budget (a pair costs `least` or more), if the first map is within its
+/// budget, has the sum of the costs as its total, and has at most 16 buckets, and if no call sets another limiter or
+/// reserves growth.
+pub fn small_totals_are_alike<K: Eq + Hash, V, L: Budgeted<K, V>, S: KeyHasher<K>>() {
+    laws::runs_keep_the_budget::<K, V, L, S>();
+    laws::runs_keep_sums::<K, V, K, L, S>();
+    small_summing_is_alike::<K, V, L, S>();
 }
 
 /// In a run of lines from a map, each line leaves a map: no two keys are equal, and inserts moved at most twice as many

@@ -16,7 +16,9 @@ loop-call-preserved g c =
       items = next_items c.loop-call.yielded first h.items;
       left = omega (arith, c.in-Some.ensures.steps.1, h.left, ap length first);
       run = next_run _ _ _ c.loop-call.yielded _ _ _ _ _ _ c.push_reserved.ensures.items h.run
-          c.make_summing_call.ensures.step (record { map = c.make_summing_call.ensures.map; sum = sum });
+          c.make_summing_call.ensures.step c.make_summing_call.ensures.map;
+      sums = λ begun. next_run _ _ _ c.loop-call.yielded _ _ _ _ _ _ c.push_reserved.ensures.items (h.sums begun)
+          c.make_summing_call.ensures.step (c.make_summing_call.ensures.map, sum begun);
       account = sum;
       len = omega (arith, c.push_reserved.ensures.len, h.len, length-append c.loop-call.yielded (c.in-Some.call ∷ []));
       capacity = omega (arith, c.push_reserved.ensures.capacity, h.capacity);
@@ -26,3 +28,9 @@ pub returns-clause-run : goal.returns-clause-run
 returns-clause-run g c =
     let h = c.loop-call.invariant in
     whole_run _ _ _ c.loop-call.yielded _ _ _ _ (sym h.left ∙ c.in-None.ensures.steps.0) h.items h.run
+
+pub returns-clause-sums : goal.returns-clause-sums
+returns-clause-sums g c =
+    let h = c.loop-call.invariant in
+    λ begun. whole_run _ _ _ c.loop-call.yielded _ _ _ _ (sym h.left ∙ c.in-None.ensures.steps.0) h.items
+    (h.sums begun)

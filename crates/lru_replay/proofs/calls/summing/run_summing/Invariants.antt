@@ -1,8 +1,9 @@
 -- The calls so far are a run.
 use Rattle.std.proofs.Common.{◌≡◌, ◌≤◌, ◌++◌, length, vec_len, vec_capacity}
 use Rattle.std.specs.Vec.Iter.{into_iter_items, into_iter_len}
+use Rattle.lru_model.specs.State.{IsMap}
 use Rattle.lru_model.specs.Theorems.{IsSummed}
-use Rattle.replay_model.specs.CallRuns.{IsRun, IsSummedFrom, SummingStep}
+use Rattle.replay_model.specs.CallRuns.{IsRun, SummingStep}
 use Rattle.replay_model.specs.Replies.{all_said}
 use Rattle.lru_replay.proofs.calls.summing.run_summing.Given as goal
 
@@ -11,8 +12,12 @@ invariant-loop-call g l = record {
   items : l.yielded ++ into_iter_items l.call-iterator ≡ l.fn.calls.items;
   left : into_iter_len l.call-iterator ≡ length (into_iter_items l.call-iterator);
   run : IsRun (SummingStep g.L.Limiter.rules g.L.Insertion.offers g.K.PartialEq.eq
+      g.S.KeyHasher.hash_of g.L.Summing.cost_of g.L.Summing.account) (IsMap g.K.PartialEq.eq)
+      l.fn.map l.yielded (all_said l.answers.items) l.map;
+  sums : IsSummed g.L.Summing.cost_of g.L.Summing.account l.fn.map
+      → IsRun (SummingStep g.L.Limiter.rules g.L.Insertion.offers g.K.PartialEq.eq
       g.S.KeyHasher.hash_of g.L.Summing.cost_of g.L.Summing.account)
-      (IsSummedFrom g.K.PartialEq.eq g.L.Summing.cost_of g.L.Summing.account l.fn.map)
+      (λ st. IsMap g.K.PartialEq.eq st × IsSummed g.L.Summing.cost_of g.L.Summing.account st)
       l.fn.map l.yielded (all_said l.answers.items) l.map;
   account : IsSummed g.L.Summing.cost_of g.L.Summing.account l.fn.map
       → IsSummed g.L.Summing.cost_of g.L.Summing.account l.map;
