@@ -1,5 +1,5 @@
 //! Callers of a map whose own contracts rest on those of its calls: the code of docs/CALLING.md.
-ghost use Rattle.std.specs.Prelude.{◌≡◌, ◌≤◌, ◌<◌, ◌⊎◌, ℕ, ◌+◌, ◌*◌, ◌∷◌, ◌++◌, List, length, reverse, take, nat_eq};
+ghost use Rattle.std.specs.Prelude.{◌≡◌, ◌≤◌, ◌<◌, ◌⊎◌, ℕ, ◌+◌, ◌*◌, ◌/◌, ◌∷◌, ◌++◌, List, length, reverse, take, nat_eq};
 ghost use Rattle.std.specs.Prelude.{Some, None, Ok, IfOk, IsOk, OnOk, OnErr, true, is_some, sum_by, string_len};
 ghost use Rattle.std.specs.List.{All};
 ghost use Rattle.std.specs.String.{string_eq};
@@ -16,8 +16,8 @@ ghost use Rattle.lru_model.specs.RunEvictions.{EachStep, InsertEvictsOldest};
 ghost use Rattle.lru_model.specs.Theorems.{KeepsValues, PaysForMoves, others};
 
 use schnellru::{
-    ByCost, ByLength, Insertion, KeyHasher, Limiter, LruMap, MoveReport, RandomState, ReserveError,
-    UnlimitedCompact, laws,
+    ByCost, ByLength, ByMemoryUsage, Insertion, KeyHasher, Limiter, LruMap, MoveReport,
+    RandomState, ReserveError, UnlimitedCompact, laws,
 };
 use std::alloc::{AllocError, Global};
 use std::hash::Hash;
@@ -195,6 +195,21 @@ fn put_tightly(map: &mut LruMap<String, u64>, key: String, value: u64) -> Result
     laws::inserts_grow_little::<String, u64, String, ByLength, RandomState>();
     // Nothing at run time: it shows the proof that the table is sound.
     let _len = map.len();
+    map.insert(key, value)
+}
+
+/// Puts a pair of a new key into a map. It keeps all others, or at least half of what the table may hold.
+fn put_and_keep_half(
+    map: &mut LruMap<String, u64, ByMemoryUsage>,
+    key: String,
+    value: u64,
+) -> Result<bool, AllocError>
+    requires { lookup_entry (string_eq key) map.old.pairs ≡ None }
+    ensures { result ≡ Ok true → (map.new.pairs ≡ (key, value) ∷ map.old.pairs)
+        ⊎ (full_capacity (buckets map.old) / 2 ≤ length map.new.pairs) }
+{
+    laws::growth_keeps_the_list::<String, u64, ByMemoryUsage, RandomState>();
+    laws::refused_growth_keeps_half::<String, u64, ByMemoryUsage, RandomState>();
     map.insert(key, value)
 }
 

@@ -5,8 +5,8 @@
 use crate::rattle_std::prelude::*;
 
 use crate::erased::schnellru::{
-    ByCost, ByLength, Insertion, KeyHasher, Limiter, LruMap, MoveReport, RandomState, ReserveError, UnlimitedCompact,
-    laws,
+    ByCost, ByLength, ByMemoryUsage, Insertion, KeyHasher, Limiter, LruMap, MoveReport, RandomState, ReserveError,
+    UnlimitedCompact, laws,
 };
 use crate::rattle_std::alloc::{AllocError, Global};
 use crate::rattle_std::hash::Hash;
@@ -135,6 +135,17 @@ fn put_tightly(map: &mut LruMap<String, u64>, key: String, value: u64) -> Result
     laws::inserts_grow_little::<String, u64, String, ByLength, RandomState>();
     // Nothing at run time: it shows the proof that the table is sound.
     let _len = map.len();
+    map.insert(key, value)
+}
+
+/// Puts a pair of a new key into a map. It keeps all others, or at least half of what the table may hold.
+fn put_and_keep_half(
+    map: &mut LruMap<String, u64, ByMemoryUsage>,
+    key: String,
+    value: u64,
+) -> Result<bool, AllocError> {
+    laws::growth_keeps_the_list::<String, u64, ByMemoryUsage, RandomState>();
+    laws::refused_growth_keeps_half::<String, u64, ByMemoryUsage, RandomState>();
     map.insert(key, value)
 }
 
