@@ -13,7 +13,7 @@ ghost use Rattle.lru_model.specs.Exact.{EndsAsAsked, EndsExactly, WasRefused};
 ghost use Rattle.lru_model.specs.Kept.{KeepsToLength};
 ghost use Rattle.lru_model.specs.Runs.{AnyStep, Run};
 ghost use Rattle.lru_model.specs.RunEvictions.{EachStep, InsertEvictsOldest};
-ghost use Rattle.lru_model.specs.Theorems.{KeepsValues, PaysForMoves, others};
+ghost use Rattle.lru_model.specs.Theorems.{KeepsValues, PaysForMoves, UsesAtMost, others};
 
 use schnellru::{
     ByCost, ByLength, ByMemoryUsage, Insertion, KeyHasher, Limiter, LruMap, MoveReport,
@@ -198,7 +198,8 @@ fn put_tightly(map: &mut LruMap<String, u64>, key: String, value: u64) -> Result
     map.insert(key, value)
 }
 
-/// Puts a pair of a new key into a map. It keeps all others, or at least half of what the table may hold.
+/// Puts a pair of a new key into a map. If it is there then, the map kept all others, or it has at least half of what
+/// the table may hold.
 fn put_and_keep_half(
     map: &mut LruMap<String, u64, ByMemoryUsage>,
     key: String,
@@ -242,15 +243,12 @@ fn forget(map: &mut LruMap<String, u64>, key: &str) -> Option<u64>
     map.remove(&key)
 }
 
-/// Shrinks the table as far as it goes: another call would shrink no more.
-fn shrink_fully(map: &mut LruMap<String, u64>) -> Result<bool, AllocError>
-    ensures { result ≡ Ok true → ⊥ }
+/// Shrinks the table. A table of at most n bytes has at most n bytes then, whatever the result is.
+fn shrink_within(map: &mut LruMap<String, u64>) -> Result<bool, AllocError>
+    ensures { (n : ℕ) → UsesAtMost n map.old → UsesAtMost n map.new }
 {
     laws::shrinks_leave_a_tight_table::<String, u64, ByLength, RandomState>();
-    if map.shrink_to_fit()? {
-        return map.shrink_to_fit();
-    }
-    Ok(false)
+    map.shrink_to_fit()
 }
 
 /// Inserts an entry, and passes what leaves to the callback. If the insert returns true, nothing is lost: the entries
