@@ -1,12 +1,15 @@
 //! Callers of runs, whose contracts follow from laws on runs: the code of docs/CALLING.md.
-ghost use Rattle.std.specs.Prelude.{◌≡◌, ◌≤◌, length, OnOk};
+ghost use Rattle.std.specs.Prelude.{◌≡◌, ◌≤◌, ℕ, Bool, true, length, OnOk};
 ghost use Rattle.std.specs.List.{sum_by};
+ghost use Rattle.lru_model.specs.Lists.{IsFront};
+ghost use Rattle.lru_model.specs.Theorems.{PaysForMoves, others};
 
 use lru_replay::{Answer, Call, laws, run_calls, run_summing};
 use schnellru::{ByCost, ByLength, LruMap, RandomState};
 use std::alloc::{AllocError, Global};
 
-/// Inserts two pairs by a list of calls, into a map that is within its length, and leaves it so.
+/// Inserts two pairs by a list of calls, into a map that is within its length, and leaves it so. Of the pairs of other
+/// keys the newest are left, in their order, and the inserts pay for the entries that they move.
 fn put_both(
     alloc: Global,
     map: &mut LruMap<u64, u64>,
@@ -14,9 +17,16 @@ fn put_both(
     second: (u64, u64),
 ) -> Result<Vec<Answer<u64, u64>>, AllocError>
     requires { length map.old.pairs ≤ map.old.limiter }
-    ensures { OnOk result (length map.new.pairs ≤ map.old.limiter) }
+    ensures within { OnOk result (length map.new.pairs ≤ map.old.limiter) }
+    ensures oldest { (test : ℕ → Bool) → test first.0 ≡ true → test second.0 ≡ true →
+        OnOk result (IsFront (others test map.new.pairs) (others test map.old.pairs)) }
+    ensures paid { OnOk result (PaysForMoves map.old map.new) }
 {
     laws::calls_keep_the_length::<u64, u64, RandomState>();
+    laws::calls_evict_the_oldest::<u64, u64, ByLength, RandomState>();
+    laws::calls_pay_for_moves::<u64, u64, ByLength, RandomState>();
+    // Nothing at run time: it shows the proof that the table is sound.
+    let _len = map.len();
     let calls = vec![in alloc;
         Call::Insert(first.0, first.1),
         Call::Insert(second.0, second.1),

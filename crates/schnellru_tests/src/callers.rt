@@ -1,15 +1,23 @@
 //! Callers of a map whose own contracts rest on those of its calls: the code of docs/CALLING.md.
-ghost use Rattle.std.specs.Prelude.{◌≡◌, ◌≤◌, ℕ, ◌∷◌, ◌++◌, List, length, reverse, take, nat_eq, Some, None, Ok, IfOk};
-ghost use Rattle.std.specs.Prelude.{OnOk, OnErr, true, is_some};
+ghost use Rattle.std.specs.Prelude.{◌≡◌, ◌≤◌, ◌<◌, ◌⊎◌, ℕ, ◌+◌, ◌*◌, ◌/◌, ◌∷◌, ◌++◌, List, length, reverse, take, nat_eq};
+ghost use Rattle.std.specs.Prelude.{Some, None, Ok, IfOk, IsOk, OnOk, OnErr, true, is_some, sum_by, string_len};
 ghost use Rattle.std.specs.List.{All};
-ghost use Rattle.lru_model.specs.Lists.{lookup, lookup_entry, without};
+ghost use Rattle.std.specs.String.{string_eq};
+ghost use Rattle.group_table.specs.Sizes.{full_capacity};
+ghost use Rattle.lru_limits.specs.Texts.{names_text};
+ghost use Rattle.lru_model.specs.Lists.{lookup, lookup_entry, without, IsFront};
+ghost use Rattle.lru_model.specs.State.{buckets, contents};
 ghost use Rattle.lru_model.specs.Calls.{promoted};
 ghost use Rattle.lru_model.specs.Callbacks.{CalledWith};
+ghost use Rattle.lru_model.specs.Exact.{EndsAsAsked, EndsExactly, WasRefused};
 ghost use Rattle.lru_model.specs.Kept.{KeepsToLength};
-ghost use Rattle.lru_model.specs.Theorems.{IsSummed, KeepsValues};
+ghost use Rattle.lru_model.specs.Runs.{AnyStep, Run};
+ghost use Rattle.lru_model.specs.RunEvictions.{EachStep, InsertEvictsOldest};
+ghost use Rattle.lru_model.specs.Theorems.{KeepsValues, PaysForMoves, UsesAtMost, others};
 
 use schnellru::{
-    ByCost, ByLength, Insertion, LruMap, RandomState, ReserveError, Summing, UnlimitedCompact, laws,
+    ByCost, ByLength, ByMemoryUsage, Insertion, KeyHasher, Limiter, LruMap, MoveReport,
+    RandomState, ReserveError, UnlimitedCompact, laws,
 };
 use std::alloc::{AllocError, Global};
 use std::hash::Hash;
@@ -80,30 +88,167 @@ fn memo<F: Fn(u64) -> u64>(
     Ok(value)
 }
 
+/// Returns the text of a key, from the map if the key is there, and else from the closure. Of the entries of other keys
+/// the newest are left, in their order.
+fn fetch<F: Fn(&String) -> String>(
+    map: &mut LruMap<String, String>,
+    key: String,
+    load: F,
+) -> Result<String, AllocError>
+    requires callable { F.IsAlwaysCallable load }
+    ensures { IsFront (others (string_eq key) map.new.pairs) (others (string_eq key) map.old.pairs) }
+{
+    laws::calls_evict_the_oldest::<String, String, String, ByLength, RandomState>();
+    if let Some(text) = map.get(&key) {
+        return text.clone();
+    }
+    let text = load(&key);
+    map.insert(key, text.clone()?)?;
+    Ok(text)
+}
+
+/// Puts a number under each text into a new map. On average, growth moved each stored entry at most twice.
+fn count_all(alloc: Global, texts: &[String]) -> Result<MoveReport, AllocError>
+    ensures { IfOk result (λ report. report.moved ≤ 2 * report.placed) }
+{
+    laws::runs_begin_with_maps::<String, u64, ByLength, RandomState>();
+    laws::inserts_pay_for_moves::<String, u64, String, ByLength, RandomState>();
+    let mut map: LruMap<String, u64> = LruMap::new(alloc, ByLength::new(1000), [1, 2, 3, 4], 40);
+    for text in texts {
+        map.insert(text.clone()?, 1)?;
+    }
+    Ok(map.move_report())
+}
+
+/// Puts a number under each new text into a new map, and evicts nothing. The table makes at most three insertions for
+/// each text, including those that move entries.
+fn keep_all(alloc: Global, texts: &[String]) -> Result<LruMap<String, u64>, AllocError>
+    ensures { IfOk result (λ map. map.counts.placings ≤ 3 * length texts.now) }
+{
+    laws::runs_begin_with_maps::<String, u64, ByLength, RandomState>();
+    laws::try_inserts_pay_for_moves::<String, u64, ByLength, RandomState>();
+    let mut map: LruMap<String, u64> = LruMap::new(alloc, ByLength::new(1000), [1, 2, 3, 4], 40);
+    for text in texts {
+        let _ = map.try_insert(text.clone()?, 1);
+    }
+    Ok(map)
+}
+
 /// Puts a pair into a map that is within its length, and leaves it so.
-fn put_within(map: &mut LruMap<u64, u64>, key: u64, value: u64) -> Result<bool, AllocError>
+fn put_within(map: &mut LruMap<String, u64>, key: String, value: u64) -> Result<bool, AllocError>
     requires { length map.old.pairs ≤ map.old.limiter }
     ensures { length map.new.pairs ≤ map.new.limiter }
 {
-    laws::calls_keep_the_length::<u64, u64, RandomState>();
+    laws::calls_keep_the_length::<String, u64, RandomState>();
     map.insert(key, value)
 }
 
-/// Removes a key and inserts another one. The limiter still holds the sum of the values.
+/// Removes a key and inserts another one. The limiter still holds the sum of the bytes of the texts, and they are
+/// within its limit.
 fn exchange(
-    map: &mut LruMap<u64, u64, ByCost>,
-    old: u64,
-    new: u64,
+    map: &mut LruMap<String, String, ByCost>,
+    old: &str,
+    new: String,
+    text: String,
+) -> Result<bool, AllocError>
+    requires summed { map.old.limiter.cost ≡ sum_by (λ p. string_len p.1) map.old.pairs }
+    requires within { map.old.limiter.cost ≤ map.old.limiter.limit }
+    ensures summed { map.new.limiter.cost ≡ sum_by (λ p. string_len p.1) map.new.pairs }
+    ensures within { map.new.limiter.cost ≤ map.new.limiter.limit }
+{
+    laws::calls_keep_sums::<String, String, String, ByCost, RandomState>();
+    laws::calls_keep_the_budget::<String, String, ByCost, RandomState>();
+    map.remove(&old);
+    map.insert(new, text)
+}
+
+/// Inserts a pair, pops it, and inserts another one. Each of the inserts evicts only from the old end, and all of them
+/// pay for the entries that they move.
+fn put_two(
+    map: &mut LruMap<String, u64>,
+    first: String,
+    second: String,
+    value: u64,
+) -> Result<(), AllocError>
+    ensures oldest { OnOk result ((run : Run (AnyStep ⟦<ByLength as Limiter<String, u64>>⟧.rules
+        ⟦<ByLength as Insertion<String, u64, String>>⟧.offers string_eq ⟦<RandomState as KeyHasher<String>>⟧.hash_of)
+        map.new map.old) × EachStep (InsertEvictsOldest ⟦<ByLength as Limiter<String, u64>>⟧.rules
+        ⟦<ByLength as Insertion<String, u64, String>>⟧.offers string_eq ⟦<RandomState as KeyHasher<String>>⟧.hash_of)
+        run) }
+    ensures paid { OnOk result (PaysForMoves map.old map.new) }
+{
+    laws::each_insert_of_a_run_evicts_the_oldest::<String, u64, String, ByLength, RandomState>();
+    laws::runs_pay_for_moves::<String, u64, String, ByLength, RandomState>();
+    // Nothing at run time: it shows the proof that the table is sound.
+    let _len = map.len();
+    map.insert(first, value)?;
+    map.pop_newest();
+    map.insert(second, value)?;
+    Ok(())
+}
+
+/// Puts a pair into a map. If its table grows, it can hold fewer than four times the entries.
+fn put_tightly(map: &mut LruMap<String, u64>, key: String, value: u64) -> Result<bool, AllocError>
+    ensures { buckets map.old < buckets map.new →
+        full_capacity (buckets map.new) < 4 * (length map.old.pairs + 1) }
+{
+    laws::inserts_grow_little::<String, u64, String, ByLength, RandomState>();
+    // Nothing at run time: it shows the proof that the table is sound.
+    let _len = map.len();
+    map.insert(key, value)
+}
+
+/// Puts a pair of a new key into a map. If it is there then, the map kept all others, or it has at least half of what
+/// the table may hold.
+fn put_and_keep_half(
+    map: &mut LruMap<String, u64, ByMemoryUsage>,
+    key: String,
     value: u64,
 ) -> Result<bool, AllocError>
-    requires { IsSummed ⟦<ByCost as Summing<u64, u64, u64>>⟧.cost_of
-        ⟦<ByCost as Summing<u64, u64, u64>>⟧.account map.old }
-    ensures { IsSummed ⟦<ByCost as Summing<u64, u64, u64>>⟧.cost_of
-        ⟦<ByCost as Summing<u64, u64, u64>>⟧.account map.new }
+    requires { lookup_entry (string_eq key) map.old.pairs ≡ None }
+    ensures { result ≡ Ok true → (map.new.pairs ≡ (key, value) ∷ map.old.pairs)
+        ⊎ (full_capacity (buckets map.old) / 2 ≤ length map.new.pairs) }
 {
-    laws::calls_keep_sums::<u64, u64, u64, ByCost, RandomState>();
-    map.remove(&old);
-    map.insert(new, value)
+    laws::growth_keeps_the_list::<String, u64, ByMemoryUsage, RandomState>();
+    laws::refused_growth_keeps_half::<String, u64, ByMemoryUsage, RandomState>();
+    map.insert(key, value)
+}
+
+/// Puts a pair into a map. Unless it runs out of memory, either growth was refused, or the entries, the limiter and
+/// whether it was queried for growth determine how it ends (`listed`). In a table of up to 16 buckets the growth left
+/// decides how it ends (`small`).
+fn put_exactly<K: Eq + Hash + Drop, V: Drop, L: Insertion<K, V, K>, S: KeyHasher<K>>(
+    map: &mut LruMap<K, V, L, S>,
+    key: K,
+    value: V,
+) -> Result<bool, AllocError>
+    ensures listed { IsOk result →
+        EndsAsAsked L.rules L.offers K.eq key value (contents map.old) result (contents map.new)
+        ⊎ WasRefused L.rules L.offers K.eq key value S.hash_of map.old }
+    ensures small { IsOk result → buckets map.old ≤ 16 →
+        EndsExactly L.rules L.offers K.eq key value map.old result map.new }
+{
+    laws::inserts_are_exact_unless_refused::<K, V, K, L, S>();
+    laws::small_inserts_are_exact::<K, V, K, L, S>();
+    map.insert(key, value)
+}
+
+/// Removes a key, which is not there then.
+fn forget(map: &mut LruMap<String, u64>, key: &str) -> Option<u64>
+    ensures { lookup_entry (names_text key.now) map.new.pairs ≡ None }
+{
+    laws::removed_keys_are_absent::<String, u64, &str, ByLength, RandomState>();
+    // Nothing at run time: it shows the proof that no two keys are equal.
+    let _len = map.len();
+    map.remove(&key)
+}
+
+/// Shrinks the table. A table of at most n bytes has at most n bytes then, whatever the result is.
+fn shrink_within(map: &mut LruMap<String, u64>) -> Result<bool, AllocError>
+    ensures { (n : ℕ) → UsesAtMost n map.old → UsesAtMost n map.new }
+{
+    laws::shrinks_leave_a_tight_table::<String, u64, ByLength, RandomState>();
+    map.shrink_to_fit()
 }
 
 /// Inserts an entry, and passes what leaves to the callback. If the insert returns true, nothing is lost: the entries

@@ -8,7 +8,8 @@ use crate::erased::schnellru::{ByCost, ByLength, LruMap, RandomState};
 use crate::programs::lru_replay::{Answer, Call, laws, run_calls, run_summing};
 use crate::rattle_std::alloc::{AllocError, Global};
 
-/// Inserts two pairs by a list of calls, into a map that is within its length, and leaves it so.
+/// Inserts two pairs by a list of calls, into a map that is within its length, and leaves it so. Of the pairs of other
+/// keys the newest are left, in their order, and the inserts pay for the entries that they move.
 fn put_both(
     alloc: Global,
     map: &mut LruMap<u64, u64>,
@@ -16,6 +17,10 @@ fn put_both(
     second: (u64, u64),
 ) -> Result<Vec<Answer<u64, u64>>, AllocError> {
     laws::calls_keep_the_length::<u64, u64, RandomState>();
+    laws::calls_evict_the_oldest::<u64, u64, ByLength, RandomState>();
+    laws::calls_pay_for_moves::<u64, u64, ByLength, RandomState>();
+    // Nothing at run time: it shows the proof that the table is sound.
+    let _len = map.len();
     let calls = vec![in alloc;
         Call::Insert(first.0, first.1),
         Call::Insert(second.0, second.1),

@@ -5,7 +5,8 @@
 use crate::rattle_std::prelude::*;
 
 use crate::erased::schnellru::{
-    ByCost, ByLength, Insertion, LruMap, RandomState, ReserveError, Summing, UnlimitedCompact, laws,
+    ByCost, ByLength, ByMemoryUsage, Insertion, KeyHasher, Limiter, LruMap, MoveReport, RandomState, ReserveError,
+    UnlimitedCompact, laws,
 };
 use crate::rattle_std::alloc::{AllocError, Global};
 use crate::rattle_std::hash::Hash;
@@ -57,17 +58,123 @@ fn memo<F: Fn(u64) -> u64>(map: &mut LruMap<u64, u64>, answers: F, key: u64) -> 
     Ok(value)
 }
 
+/// Returns the text of a key, from the map if the key is there, and else from the closure. Of the entries of other keys
+/// the newest are left, in their order.
+fn fetch<F: Fn(&String) -> String>(
+    map: &mut LruMap<String, String>,
+    key: String,
+    load: F,
+) -> Result<String, AllocError> {
+    laws::calls_evict_the_oldest::<String, String, String, ByLength, RandomState>();
+    if let Some(text) = map.get(&key) {
+        return text.try_clone();
+    }
+    let text = load(&key);
+    map.insert(key, text.try_clone()?)?;
+    Ok(text)
+}
+
+/// Puts a number under each text into a new map. On average, growth moved each stored entry at most twice.
+fn count_all(alloc: Global, texts: &[String]) -> Result<MoveReport, AllocError> {
+    laws::runs_begin_with_maps::<String, u64, ByLength, RandomState>();
+    laws::inserts_pay_for_moves::<String, u64, String, ByLength, RandomState>();
+    let mut map: LruMap<String, u64> = LruMap::new(alloc, ByLength::new(1000), [1, 2, 3, 4], 40);
+    for text in texts {
+        map.insert(text.try_clone()?, 1)?;
+    }
+    Ok(map.move_report())
+}
+
+/// Puts a number under each new text into a new map, and evicts nothing. The table makes at most three insertions for
+/// each text, including those that move entries.
+fn keep_all(alloc: Global, texts: &[String]) -> Result<LruMap<String, u64>, AllocError> {
+    laws::runs_begin_with_maps::<String, u64, ByLength, RandomState>();
+    laws::try_inserts_pay_for_moves::<String, u64, ByLength, RandomState>();
+    let mut map: LruMap<String, u64> = LruMap::new(alloc, ByLength::new(1000), [1, 2, 3, 4], 40);
+    for text in texts {
+        let _ = map.try_insert(text.try_clone()?, 1);
+    }
+    Ok(map)
+}
+
 /// Puts a pair into a map that is within its length, and leaves it so.
-fn put_within(map: &mut LruMap<u64, u64>, key: u64, value: u64) -> Result<bool, AllocError> {
-    laws::calls_keep_the_length::<u64, u64, RandomState>();
+fn put_within(map: &mut LruMap<String, u64>, key: String, value: u64) -> Result<bool, AllocError> {
+    laws::calls_keep_the_length::<String, u64, RandomState>();
     map.insert(key, value)
 }
 
-/// Removes a key and inserts another one. The limiter still holds the sum of the values.
-fn exchange(map: &mut LruMap<u64, u64, ByCost>, old: u64, new: u64, value: u64) -> Result<bool, AllocError> {
-    laws::calls_keep_sums::<u64, u64, u64, ByCost, RandomState>();
+/// Removes a key and inserts another one. The limiter still holds the sum of the bytes of the texts, and they are
+/// within its limit.
+fn exchange(
+    map: &mut LruMap<String, String, ByCost>,
+    old: &str,
+    new: String,
+    text: String,
+) -> Result<bool, AllocError> {
+    laws::calls_keep_sums::<String, String, String, ByCost, RandomState>();
+    laws::calls_keep_the_budget::<String, String, ByCost, RandomState>();
     map.remove(&old);
-    map.insert(new, value)
+    map.insert(new, text)
+}
+
+/// Inserts a pair, pops it, and inserts another one. Each of the inserts evicts only from the old end, and all of them
+/// pay for the entries that they move.
+fn put_two(map: &mut LruMap<String, u64>, first: String, second: String, value: u64) -> Result<(), AllocError> {
+    laws::each_insert_of_a_run_evicts_the_oldest::<String, u64, String, ByLength, RandomState>();
+    laws::runs_pay_for_moves::<String, u64, String, ByLength, RandomState>();
+    // Nothing at run time: it shows the proof that the table is sound.
+    let _len = map.len();
+    map.insert(first, value)?;
+    map.pop_newest();
+    map.insert(second, value)?;
+    Ok(())
+}
+
+/// Puts a pair into a map. If its table grows, it can hold fewer than four times the entries.
+fn put_tightly(map: &mut LruMap<String, u64>, key: String, value: u64) -> Result<bool, AllocError> {
+    laws::inserts_grow_little::<String, u64, String, ByLength, RandomState>();
+    // Nothing at run time: it shows the proof that the table is sound.
+    let _len = map.len();
+    map.insert(key, value)
+}
+
+/// Puts a pair of a new key into a map. If it is there then, the map kept all others, or it has at least half of what
+/// the table may hold.
+fn put_and_keep_half(
+    map: &mut LruMap<String, u64, ByMemoryUsage>,
+    key: String,
+    value: u64,
+) -> Result<bool, AllocError> {
+    laws::growth_keeps_the_list::<String, u64, ByMemoryUsage, RandomState>();
+    laws::refused_growth_keeps_half::<String, u64, ByMemoryUsage, RandomState>();
+    map.insert(key, value)
+}
+
+/// Puts a pair into a map. Unless it runs out of memory, either growth was refused, or the entries, the limiter and
+/// whether it was queried for growth determine how it ends (`listed`). In a table of up to 16 buckets the growth left
+/// decides how it ends (`small`).
+fn put_exactly<K: Eq + Hash, V, L: Insertion<K, V, K>, S: KeyHasher<K>>(
+    map: &mut LruMap<K, V, L, S>,
+    key: K,
+    value: V,
+) -> Result<bool, AllocError> {
+    laws::inserts_are_exact_unless_refused::<K, V, K, L, S>();
+    laws::small_inserts_are_exact::<K, V, K, L, S>();
+    map.insert(key, value)
+}
+
+/// Removes a key, which is not there then.
+fn forget(map: &mut LruMap<String, u64>, key: &str) -> Option<u64> {
+    laws::removed_keys_are_absent::<String, u64, &str, ByLength, RandomState>();
+    // Nothing at run time: it shows the proof that no two keys are equal.
+    let _len = map.len();
+    map.remove(&key)
+}
+
+/// Shrinks the table. A table of at most n bytes has at most n bytes then, whatever the result is.
+fn shrink_within(map: &mut LruMap<String, u64>) -> Result<bool, AllocError> {
+    laws::shrinks_leave_a_tight_table::<String, u64, ByLength, RandomState>();
+    map.shrink_to_fit()
 }
 
 /// Inserts an entry, and passes what leaves to the callback. If the insert returns true, nothing is lost: the entries
