@@ -9,8 +9,6 @@ target=x86_64-unknown-linux-gnu
 # The sanitizer is not stable; this variable lets a stable compiler take the flag.
 RUSTC_BOOTSTRAP=1 RUSTFLAGS="-Zsanitizer=address" ASAN_OPTIONS=detect_leaks=0 CARGO_TARGET_DIR=$out/address \
     cargo test --offline --release -p jeerdurian --tests --target "$target"
-CARGO_TARGET_DIR=$out/plain cargo test --offline --release -p jeerdurian --tests --no-run
-for test in "$out"/plain/release/deps/{lies,panics}-*[!.d]; do
-    # What leaks where the docs say so is not an error here; the tests count it.
-    valgrind -q --error-exitcode=9 "$test"
-done
+# What leaks where the docs say so is not an error here; the tests count it.
+CARGO_TARGET_X86_64_UNKNOWN_LINUX_GNU_RUNNER="valgrind -q --error-exitcode=9" CARGO_TARGET_DIR=$out/plain \
+    cargo test --offline --release -p jeerdurian --test lies --test panics --target "$target"

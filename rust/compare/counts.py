@@ -1,7 +1,7 @@
 #!/usr/bin/env python3
 """Counts the instructions of an operation, by callgrind in `run` alone: `counts.py PROGRAM [SIZE [LOAD..]]`.
 
-A count is that of a run with twice the operations less that of a run, so the fill and the walk at the end are left out."""
+Each count is the difference of two runs, of which one has twice the operations: the fill and the last walk are left out."""
 import os
 import re
 import subprocess

@@ -2,8 +2,8 @@
 //!
 //!     loads ROUNDS [SIZES [LOAD..]]      prints: load size, and nanoseconds an operation for each engine
 //!
-//! The time of a load is that of a fill and the load, less that of the fill, each the best of several rounds in which the
-//! engines take turns. ENGINES (names with | between them), COUNT (operations) and ONE (one fill) are for counts.py.
+//! The time of a load is the difference of two times, of a fill with the load and of a fill alone, each the best of
+//! several rounds in which the engines take turns. ENGINES (names with | between them), COUNT (operations) and ONE (one fill) are for counts.py.
 use std::hash::BuildHasher;
 use std::hint::black_box;
 use std::time::Instant;

@@ -71,7 +71,7 @@ pub trait Limiter<K, V> {
         new_value: &mut V,
     ) -> bool;
 
-    /// Called after an entry was removed from the map, or accepted and then not stored for want of a larger table.
+    /// Called after an entry was removed from the map, or accepted and then not stored because no table holds it.
     fn on_removed(&mut self, key: &mut K, value: &mut V);
 
     /// Called after the map was cleared.
