@@ -20,9 +20,10 @@
 //! # What is proved
 //!
 //! The table, the order of use, the limiters and the calls of the map are written in Rattle, which is Rust with contracts,
-//! and a prover checks that each function meets its contract. A script takes the contracts off, and the result is tested. What this crate adds by hand, in terms of Rust's
-//! library and of `schnellru`'s signatures, is tested and not proved. The proofs assume that the keys, the hasher and the
-//! limiter satisfy the laws of their traits; memory safety does not depend on that (`SAFETY.md`).
+//! and a prover checks that each function meets its contract. A script takes the contracts off, and the result is tested.
+//! What this crate adds by hand, in terms of Rust's library and of `schnellru`'s signatures, is tested and not proved. The
+//! proofs assume that the keys, the hasher and the limiter satisfy the laws of their traits; memory safety does not depend
+//! on that (`SAFETY.md`).
 #![no_std]
 #![deny(missing_docs, unsafe_op_in_unsafe_fn)]
 
