@@ -5,3 +5,4 @@ pub mod Theorems
 pub mod CallerLemmas
 pub mod PassingLemmas
 pub mod CallbackLemmas
+pub mod EveryCall

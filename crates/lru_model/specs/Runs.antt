@@ -82,9 +82,31 @@ module _ {K V S H I : Type 0} (rules : Rules K V S) (offers : Offers K V S I) (n
   abbrev pub StepAmong : (K → Bool) → State K V S H → State K V S H → Type 0
   StepAmong test old new = (step : AnyStep old new) × NamesOnly test old new step
 
+-- the keys by which a call that inserts nothing inserts, of which there are none
+abbrev pub no_keys : {K : Type 0} → ⊥ → K → Bool
+no_keys key k = false
+
+-- what a limiter does with no offers
+abbrev pub no_offers : {K V S : Type 0} → Offers K V S ⊥
+no_offers = record {
+  on_insert = λ limiter n key value left pair. ⊥;
+  may_run_out = λ limiter n key value. ⊥;
+  on_replace = λ limiter n stored key was value. record {
+    limiter = limiter; taken = false; key = stored; old_value = was; new_value = value };
+}
+
 -- `Run IsStep new old`: steps, one after another, lead from `old` to `new`. Each leaves a sound table, as calls do.
 pub data Run {K V S H : Type 0} (IsStep : State K V S H → State K V S H → Type 0) (new : State K V S H) : State K V S H
     → Type 0 where
   ends : Run IsStep new new
   goes_on : {old : State K V S H} (mid : State K V S H) → IsStep old mid → IsSized mid → Run IsStep new mid
       → Run IsStep new old
+
+module _ {K V S H : Type 0} (rules : Rules K V S) (hash_of : H → K → ℕ) where
+  -- a call that inserts nothing: by keys of any type, it is a step (`without_insert`)
+  abbrev pub StepWithoutInsert : (old new : State K V S H) → Type 0
+  StepWithoutInsert = Step rules no_offers no_keys hash_of
+
+  -- calls that insert nothing, and writes through references, one after another
+  abbrev pub RunWithoutInsert : (new old : State K V S H) → Type 0
+  RunWithoutInsert = Run (AnyStep rules no_offers no_keys hash_of)
