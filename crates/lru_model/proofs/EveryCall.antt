@@ -5,7 +5,7 @@
 --     removes_entry            `remove_entry`
 --     retains_pairs            `retain`, `retain_with`
 --     makes_step               `ensure_newest`
---     one_step, no_step, joined       a run of one step, of none, and of two runs
+--     one_step, no_step, joined, any_steps      a run of one step, of none, of two runs, and of steps among any
 --     makes_if_made            `ensure_newest_fallible`, and `get_or_insert_fallible` up to the loan
 --     keeps_step               `insert_and_keep`
 --     pops_if, tries_pop       `pop_oldest_if`, `try_pop_oldest`
@@ -78,7 +78,7 @@ module _ {K V S H I : Type 0} {rules : Rules K V S} {hash_of : H → K → ℕ} 
       goes_on mid (any_without_insert old mid step) sized (run_without_insert new mid run)
 
 module _ {K V S H : Type 0} {IsStep : State K V S H → State K V S H → Type 0} where
-  pub joined : {old mid new : State K V S H} → Run IsStep mid old → Run IsStep new mid → Run IsStep new old
+  pub joined : {mid old new : State K V S H} → Run IsStep mid old → Run IsStep new mid → Run IsStep new old
   joined ends run = run
   joined (goes_on mid step sized first) run = goes_on mid step sized (joined first run)
 
@@ -109,6 +109,13 @@ module _ {K V S H I : Type 0} {rules : Rules K V S} {offers : Offers K V S I} {n
       → InsertPasses rules offers names hash_of key value old result passed new
       → Step rules offers names hash_of old new
   keeps_step {key} {value} {result} h = inserts key value result (plain_insert h)
+
+module _ {K V S H I : Type 0} {rules : Rules K V S} {offers : Offers K V S I} {names : I → K → Bool}
+    {hash_of : H → K → ℕ} where
+  pub any_steps : {new old : State K V S H} → Run (Step rules offers names hash_of) new old
+      → Run (AnyStep rules offers names hash_of) new old
+  any_steps ends = ends
+  any_steps (goes_on mid step sized run) = goes_on mid (calls step) sized (any_steps run)
 
 module _ {K V S H I : Type 0} {rules : Rules K V S} {offers : Offers K V S I} {names : I → K → Bool}
     {hash_of : H → K → ℕ} {new old : State K V S H} (sized : IsSized new) where

@@ -10,6 +10,8 @@ mod callers;
 #[cfg(test)]
 mod counts;
 #[cfg(test)]
+mod every_call;
+#[cfg(test)]
 mod examples;
 #[cfg(test)]
 mod order_of_calls;

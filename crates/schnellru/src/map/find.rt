@@ -7,7 +7,7 @@ ghost use Rattle.std.specs.Borrow.{sem};
 ghost use Rattle.schnellru.specs.Lending.Values.{written_in};
 
 use crate::map::LruMap;
-use crate::map::leave::take_out;
+use crate::map::remove::take_out;
 use lru_limits::{KeyHasher, Limiter, LookupKey};
 use ordered_table::Pair;
 use std::hash::Hash;

@@ -8,7 +8,7 @@ ghost use Rattle.std.specs.Borrow.{sem};
 ghost use Rattle.schnellru.specs.Lending.Answers.{lent_or_none};
 
 use crate::map::LruMap;
-use crate::map::leave::discard;
+use crate::map::remove::discard;
 use lru_limits::{Insertion, KeyHasher, Limiter, LookupKey};
 use lru_model::GetOrInsertError;
 use std::alloc::AllocError;

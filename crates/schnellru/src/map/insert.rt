@@ -9,7 +9,7 @@ ghost use Rattle.lru_model.specs.Callbacks.{noting, noting_offers, noted, Called
 ghost use Rattle.schnellru.specs.Inside.Passing.{Passes};
 
 use crate::map::LruMap;
-use crate::map::leave::discard;
+use crate::map::remove::discard;
 use lru_limits::{Insertion, KeyHasher, Limiter, LookupKey};
 use lru_model::Inserted;
 use std::alloc::AllocError;

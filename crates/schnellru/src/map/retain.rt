@@ -9,7 +9,7 @@ ghost use Rattle.lru_model.specs.Retains.{Retains, RetainPasses};
 ghost use Rattle.lru_model.specs.State.{IsMap};
 
 use crate::map::LruMap;
-use crate::map::leave::{discard, take_out};
+use crate::map::remove::{discard, take_out};
 use lru_limits::{KeyHasher, Limiter};
 use std::hash::Hash;
 

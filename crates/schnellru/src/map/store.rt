@@ -13,7 +13,7 @@ ghost use Rattle.lru_model.specs.MayTake.{MayTakeEach};
 ghost use Rattle.schnellru.specs.Inside.Passing.{Passes};
 
 use crate::map::LruMap;
-use crate::map::leave::notify;
+use crate::map::remove::notify;
 use group_table::full_capacity;
 use lru_limits::{KeyHasher, Limiter};
 use std::alloc::AllocError;

@@ -5,7 +5,7 @@ ghost use Rattle.lru_model.specs.Callbacks.{CalledWith, TrimPasses};
 ghost use Rattle.lru_model.specs.MayTake.{MayTakeEach};
 
 use crate::map::LruMap;
-use crate::map::leave::discard;
+use crate::map::remove::discard;
 use lru_limits::{KeyHasher, Limiter};
 use std::hash::Hash;
 use std::mem;

@@ -7,7 +7,7 @@ ghost use Rattle.lru_model.specs.Runs.{Step, Run};
 ghost use Rattle.lru_model.specs.TryInserts.{TryInsert, IsReady, IsUnready, can_store};
 
 use crate::map::LruMap;
-use crate::map::leave::discard;
+use crate::map::remove::discard;
 use lru_limits::{Admission, KeyHasher};
 use std::hash::Hash;
 

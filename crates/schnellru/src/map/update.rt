@@ -7,7 +7,7 @@ ghost use Rattle.lru_model.specs.State.{IsMap, contents};
 ghost use Rattle.lru_model.specs.Updates.{Update, UpdatePasses};
 
 use crate::map::LruMap;
-use crate::map::leave::discard;
+use crate::map::remove::discard;
 use lru_limits::{Insertion, KeyHasher, Limiter, LookupKey};
 use lru_model::Updated;
 use std::hash::Hash;

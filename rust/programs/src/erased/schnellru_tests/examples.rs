@@ -245,7 +245,7 @@ fn of_new_maps(alloc: Global) -> bool {
 fn of_a_new_map() {
     let run = |rt: HostRuntime| -> () {
         let alloc = rt.alloc();
-        let mut map = LruMap::new(alloc, ByLength::new(2), [1, 2, 3, 4], 16);
+        let mut map: LruMap<u64, u64> = LruMap::with_limiter(alloc, ByLength::new(2));
         let held = of_the_map(&mut map).unwrap_or(false) & fill(&mut map) & of_look_ups(&mut map);
         let held = held & fill(&mut map) & of_both_ends(&mut map);
         let held = held & fill(&mut map) & of_removals(&mut map);

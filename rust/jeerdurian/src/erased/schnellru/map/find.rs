@@ -7,7 +7,7 @@ use crate::rattle_std::prelude::*;
 use crate::erased::lru_limits::{KeyHasher, Limiter, LookupKey};
 use crate::erased::ordered_table::Pair;
 use crate::erased::schnellru::map::LruMap;
-use crate::erased::schnellru::map::leave::take_out;
+use crate::erased::schnellru::map::remove::take_out;
 use crate::rattle_std::hash::Hash;
 
 impl<K: Eq + Hash, V, L: Limiter<K, V>, S: KeyHasher<K>> LruMap<K, V, L, S> {

@@ -7,7 +7,7 @@ use crate::rattle_std::prelude::*;
 use crate::erased::lru_limits::{Insertion, KeyHasher, Limiter, LookupKey};
 use crate::erased::lru_model::GetOrInsertError;
 use crate::erased::schnellru::map::LruMap;
-use crate::erased::schnellru::map::leave::discard;
+use crate::erased::schnellru::map::remove::discard;
 use crate::rattle_std::alloc::AllocError;
 use crate::rattle_std::hash::Hash;
 

@@ -8,7 +8,7 @@ use crate::rattle_std::prelude::*;
 use crate::erased::group_table::full_capacity;
 use crate::erased::lru_limits::{KeyHasher, Limiter};
 use crate::erased::schnellru::map::LruMap;
-use crate::erased::schnellru::map::leave::notify;
+use crate::erased::schnellru::map::remove::notify;
 use crate::rattle_std::alloc::AllocError;
 use crate::rattle_std::hash::Hash;
 

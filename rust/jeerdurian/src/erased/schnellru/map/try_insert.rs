@@ -6,7 +6,7 @@ use crate::rattle_std::prelude::*;
 
 use crate::erased::lru_limits::{Admission, KeyHasher};
 use crate::erased::schnellru::map::LruMap;
-use crate::erased::schnellru::map::leave::discard;
+use crate::erased::schnellru::map::remove::discard;
 use crate::rattle_std::hash::Hash;
 
 impl<K: Eq + Hash, V, L: Admission<K, V> + Copy, S: KeyHasher<K>> LruMap<K, V, L, S> {

@@ -7,7 +7,7 @@ use crate::rattle_std::prelude::*;
 use crate::erased::lru_limits::{Insertion, KeyHasher, Limiter, LookupKey};
 use crate::erased::lru_model::Updated;
 use crate::erased::schnellru::map::LruMap;
-use crate::erased::schnellru::map::leave::discard;
+use crate::erased::schnellru::map::remove::discard;
 use crate::rattle_std::hash::Hash;
 
 impl<K: Eq + Hash, V, L: Limiter<K, V>, S: KeyHasher<K>> LruMap<K, V, L, S> {

@@ -1,4 +1,4 @@
-use Rattle.schnellru.proofs.map.leave.take_out.Goals as goal
+use Rattle.schnellru.proofs.map.remove.take_out.Goals as goal
 
 pub returns-clause-taken : goal.returns-clause-taken
 returns-clause-taken g c = record {

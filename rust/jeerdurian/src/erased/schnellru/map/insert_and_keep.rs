@@ -1,4 +1,4 @@
-// Erased from crates/schnellru/src/map/keep.rt: do not edit.
+// Erased from crates/schnellru/src/map/insert_and_keep.rt: do not edit.
 //! An insert that returns the entries that it evicts, removes or cannot store.
 
 #[allow(unused_imports)]

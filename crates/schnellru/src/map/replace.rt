@@ -11,7 +11,7 @@ ghost use Rattle.schnellru.specs.Inside.Steps.{IsReplaced, IsRemoved, IsOffered}
 ghost use Rattle.schnellru.specs.Inside.Passing.{Passes, PassesRemoved};
 
 use crate::map::LruMap;
-use crate::map::leave::take_out;
+use crate::map::remove::take_out;
 use lru_limits::{Insertion, KeyHasher, Limiter, LookupKey};
 use ordered_table::OrderedTable;
 use std::hash::Hash;

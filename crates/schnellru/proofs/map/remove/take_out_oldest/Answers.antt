@@ -1,4 +1,4 @@
-use Rattle.schnellru.proofs.map.leave.take_out_oldest.Goals as goal
+use Rattle.schnellru.proofs.map.remove.take_out_oldest.Goals as goal
 
 pub returns-clause-taken : goal.returns-clause-taken
 returns-clause-taken g c = let (b, is, took) = c.take_oldest.ensures.taken in (

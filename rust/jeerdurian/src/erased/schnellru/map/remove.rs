@@ -1,4 +1,4 @@
-// Erased from crates/schnellru/src/map/leave.rt: do not edit.
+// Erased from crates/schnellru/src/map/remove.rt: do not edit.
 //! Removals, pops, a clear and evictions. The limiter is notified of each.
 
 #[allow(unused_imports)]

@@ -1,4 +1,4 @@
-// Erased from crates/schnellru/src/map/offer.rt: do not edit.
+// Erased from crates/schnellru/src/map/replace.rt: do not edit.
 //! Offering the limiter a new value for a key that is there.
 
 #[allow(unused_imports)]
@@ -7,7 +7,7 @@ use crate::rattle_std::prelude::*;
 use crate::erased::lru_limits::{Insertion, KeyHasher, Limiter, LookupKey};
 use crate::erased::ordered_table::OrderedTable;
 use crate::erased::schnellru::map::LruMap;
-use crate::erased::schnellru::map::leave::take_out;
+use crate::erased::schnellru::map::remove::take_out;
 use crate::rattle_std::hash::Hash;
 use crate::rattle_std::mem;
 

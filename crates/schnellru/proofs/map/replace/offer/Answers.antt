@@ -6,7 +6,7 @@ use Rattle.schnellru.specs.Inside.Passing.{PassesRemoved}
 use Rattle.schnellru.proofs.Maps.Replacements.{is_removed, left_as_notified}
 use Rattle.lru_model.specs.MayTake.{MayTakeRejected}
 use Rattle.lru_model.proofs.States.CallablePairs.{here, one_callable}
-use Rattle.schnellru.proofs.map.offer.offer.Goals as goal
+use Rattle.schnellru.proofs.map.replace.offer.Goals as goal
 
 pub returns-else-taken-clause-removed : goal.returns-else-taken-clause-removed
 returns-else-taken-clause-removed g c = λ refusal pair there.

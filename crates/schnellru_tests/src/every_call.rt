@@ -1,0 +1,71 @@
+//! Every public call that may change a map is a step, or steps one after another, for any types: so what the laws say of
+//! steps and of runs holds of each. A function here makes some of the calls, and ensures that they are a run.
+//!
+//! The forms with a callback have the same clause `step` as those without, and `try_insert` says itself that it is a run.
+ghost use Rattle.lru_model.specs.Runs.{Step, AnyStep, Run, RunWithoutInsert};
+
+use schnellru::{Insertion, KeyHasher, Limiter, LookupKey, LruMap};
+use std::hash::Hash;
+
+fn look_up<K: Eq + Hash, V, Q: LookupKey<K>, L: Limiter<K, V>, S: KeyHasher<K>>(
+    map: &mut LruMap<K, V, L, S>,
+    key: &Q,
+)
+    ensures { RunWithoutInsert L.rules S.hash_of map.new map.old }
+{
+    map.promote(key);
+    map.demote(key);
+    let _ = map.get_key_value(key);
+}
+
+fn remove<K: Eq + Hash + Drop, V: Drop, Q: LookupKey<K>, L: Limiter<K, V>, S: KeyHasher<K>>(
+    map: &mut LruMap<K, V, L, S>,
+    key: &Q,
+)
+    ensures { RunWithoutInsert L.rules S.hash_of map.new map.old }
+{
+    map.remove(key);
+    map.remove_entry(key);
+    map.pop_oldest();
+    map.pop_newest();
+    map.pop_oldest_if(|_, _| true);
+    map.clear();
+}
+
+fn resize<K: Eq + Hash + Drop, V: Drop, L: Limiter<K, V> + Drop, S: KeyHasher<K>>(
+    map: &mut LruMap<K, V, L, S>,
+    limiter: L,
+)
+    ensures { RunWithoutInsert L.rules S.hash_of map.new map.old }
+{
+    map.trim();
+    map.set_limiter(limiter);
+    let _ = map.try_reserve(1);
+    let _ = map.shrink_to_fit();
+    map.retain(|_, _| true);
+    map.for_each_mut(|_, _| {});
+}
+
+fn write<K: Eq + Hash, V: Drop, Q: LookupKey<K>, L: Limiter<K, V>, S: KeyHasher<K>>(
+    map: &mut LruMap<K, V, L, S>,
+    key: &Q,
+    value: V,
+)
+    ensures { RunWithoutInsert L.rules S.hash_of map.new map.old }
+{
+    if let Some(place) = map.get(key) {
+        *place = value;
+    }
+}
+
+fn insert<K: Eq + Hash + Drop, V: Drop, I: LookupKey<K> + Drop, L: Insertion<K, V, I>, S: KeyHasher<K>>(
+    map: &mut LruMap<K, V, L, S>,
+    keys: (I, I, I),
+    values: (V, V, V),
+)
+    ensures { Run (Step L.rules L.offers I.names S.hash_of) map.new map.old }
+{
+    let _ = map.insert(keys.0, values.0);
+    map.update(keys.1, values.1);
+    let _ = map.insert_and_keep(keys.2, values.2);
+}
