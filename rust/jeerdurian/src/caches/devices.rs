@@ -1,7 +1,7 @@
 //! Devices over a file, which check what they read.
 
 use crate::caches::BlockDevice;
-use crate::erased::block_device as proved;
+use crate::erased::lru_caches as proved;
 use crate::rattle_std::alloc::Global;
 use std::io::{Read, Seek, Write};
 
@@ -13,7 +13,7 @@ use std::io::{Read, Seek, Write};
 ///
 /// assert!(std::io::Cursor::new([0; 4]).make_durable().is_ok());
 /// ```
-pub use crate::erased::block_device::Durable;
+pub use crate::erased::lru_caches::Durable;
 
 /// Why a call on a file device failed.
 ///
@@ -23,7 +23,7 @@ pub use crate::erased::block_device::Durable;
 /// let mut device: FileDevice<_, 4> = FileDevice::new(std::io::Cursor::new(*b"zeroone."), 2).unwrap();
 /// assert_eq!(device.read(9), Err(FileError::NoBlock));
 /// ```
-pub use crate::erased::block_device::FileError;
+pub use crate::erased::lru_caches::FileError;
 
 impl core::error::Error for FileError {}
 
