@@ -38,8 +38,8 @@ PACKAGES = {
         "lru_trace",
     ],
     "programs": [
-        "test_helpers", "test_maps", "replay_model", "lru_theory", "lru_replay", "row_model", "trace", "replay",
-        "example_pages", "example_responses", "rows", "group_table_tests", "lru_limits_tests", "schnellru_tests", "lru_replay_tests",
+        "test_helpers", "test_maps", "replay_model", "lru_theory", "lru_replay", "trace", "replay", "example_pages",
+        "example_responses", "rows", "group_table_tests", "lru_limits_tests", "schnellru_tests", "lru_replay_tests",
         "lru_tenants_tests", "lru_caches_tests", "lru_trace_tests",
     ],
 }

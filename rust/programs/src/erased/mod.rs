@@ -31,8 +31,6 @@ pub(crate) mod replay;
 #[allow(dropping_copy_types, unused, clippy::all)]
 pub(crate) mod replay_model;
 #[allow(dropping_copy_types, unused, clippy::all)]
-pub(crate) mod row_model;
-#[allow(dropping_copy_types, unused, clippy::all)]
 pub(crate) mod rows;
 #[cfg(test)]
 #[allow(dropping_copy_types, unused, clippy::all)]

@@ -1,9 +1,9 @@
-// Erased from crates/row_model/src/row.rt: do not edit.
+// Erased from crates/rows/src/row.rt: do not edit.
 //! Rows of a data file. `docs/ROWS.md` has their form.
 #[allow(unused_imports)]
 use crate::rattle_std::prelude::*;
 
-use crate::programs::row_model::escapes::unescape;
+use crate::programs::rows::escapes::unescape;
 use crate::rattle_std::alloc::Global;
 use crate::rattle_std::fmt::Write;
 

@@ -1,4 +1,4 @@
-// Erased from crates/row_model/src/table.rt: do not edit.
+// Erased from crates/rows/src/table.rt: do not edit.
 //! The figures of a table of at most 16 buckets, by the rules of `docs/TABLE.md`. Such a table has no deleted buckets,
 //! so its figures follow from the calls.
 #[allow(unused_imports)]

@@ -1,4 +1,4 @@
-// Erased from crates/row_model/src/streams.rt: do not edit.
+// Erased from crates/rows/src/streams.rt: do not edit.
 //! Readers and writers in memory that give and take few bytes a call, and fail at one call.
 #[allow(unused_imports)]
 use crate::rattle_std::prelude::*;

@@ -1,10 +1,10 @@
-// Erased from crates/row_model/src/plain.rt: do not edit.
+// Erased from crates/rows/src/plain.rt: do not edit.
 //! A plain list of pairs under a limit, which carries out calls as the documents of the map describe them.
 #[allow(unused_imports)]
 use crate::rattle_std::prelude::*;
 
 use crate::erased::lru_model::{ReserveError, Updated};
-use crate::programs::row_model::table::Table;
+use crate::programs::rows::table::Table;
 use crate::rattle_std::alloc::Global;
 
 /// What limits the list.

@@ -1,4 +1,4 @@
-// Erased from crates/row_model/src/report.rt: do not edit.
+// Erased from crates/rows/src/report.rt: do not edit.
 //! What is printed of a row that does not hold.
 #[allow(unused_imports)]
 use crate::rattle_std::prelude::*;

@@ -1,4 +1,4 @@
-// Erased from crates/row_model/src/escapes.rt: do not edit.
+// Erased from crates/rows/src/escapes.rt: do not edit.
 //! Escapes, by which a row spells bytes that a line of a text file cannot hold.
 //!
 //! Each function returns `false` if the text is malformed. Out of memory, bytes are missing.

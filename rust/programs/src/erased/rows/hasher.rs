@@ -1,4 +1,4 @@
-// Erased from crates/row_model/src/hasher.rt: do not edit.
+// Erased from crates/rows/src/hasher.rt: do not edit.
 //! A hasher whose hashes a row chooses.
 
 #[allow(unused_imports)]

@@ -1,10 +1,10 @@
-// Erased from crates/row_model/src/results.rt: do not edit.
+// Erased from crates/rows/src/results.rt: do not edit.
 //! The texts of what calls return.
 #[allow(unused_imports)]
 use crate::rattle_std::prelude::*;
 
 use crate::erased::lru_model::{MoveReport, ReserveError, Updated};
-use crate::programs::row_model::text::Text;
+use crate::programs::rows::text::Text;
 
 /// Adds what an update did.
 pub(crate) fn write_updated(out: &mut Text, updated: Updated<u64>) {

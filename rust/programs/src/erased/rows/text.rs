@@ -1,4 +1,4 @@
-// Erased from crates/row_model/src/text.rt: do not edit.
+// Erased from crates/rows/src/text.rt: do not edit.
 //! A text to which parts are added.
 #[allow(unused_imports)]
 use crate::rattle_std::prelude::*;

@@ -1,10 +1,10 @@
-// Erased from crates/row_model/src/calls.rt: do not edit.
+// Erased from crates/rows/src/calls.rt: do not edit.
 //! Calls on a map, as lines spell them.
 #[allow(unused_imports)]
 use crate::rattle_std::prelude::*;
 
 use crate::programs::replay_model::Call;
-use crate::programs::row_model::limiters::{Numbered, number_of};
+use crate::programs::rows::limiters::{Numbered, number_of};
 use crate::rattle_std::alloc::Global;
 
 /// The calls that the lines spell, by the names of the program's lines if they have them. A line that spells no call

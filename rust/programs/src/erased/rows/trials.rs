@@ -1,12 +1,12 @@
-// Erased from crates/row_model/src/trials.rt: do not edit.
+// Erased from crates/rows/src/trials.rt: do not edit.
 //! Rows of random calls, with the answers of a plain list of pairs.
 #[allow(unused_imports)]
 use crate::rattle_std::prelude::*;
 
 use crate::erased::lru_model::MoveReport;
-use crate::programs::row_model::plain::{Limit, Plain};
-use crate::programs::row_model::results::{write_figures, write_reserved, write_updated};
-use crate::programs::row_model::text::Text;
+use crate::programs::rows::plain::{Limit, Plain};
+use crate::programs::rows::results::{write_figures, write_reserved, write_updated};
+use crate::programs::rows::text::Text;
 use crate::programs::test_helpers::Random;
 use crate::rattle_std::alloc::Global;
 

@@ -1,4 +1,4 @@
-// Erased from crates/row_model/src/limiters.rt: do not edit.
+// Erased from crates/rows/src/limiters.rt: do not edit.
 //! Limiters that a row can name.
 #[allow(unused_imports)]
 use crate::rattle_std::prelude::*;
