@@ -1,20 +1,12 @@
 #!/usr/bin/env bash
 # Times the program on a million lines, on maps of 3, 100 and 100,000 pairs, on lines of all kinds, on one line of
 # 100 MB, and on lists and drains of 100,000 pairs: the best of three runs.
-# It builds the program first, which proves it. With the folder of a checkout of schnellru it times the program of
-# compare/ over that crate beside it, which cargo builds there, and compares the answers.
+# It builds the program first, which proves it.
 set -euo pipefail
-checkout=${1:+$(realpath "$1")}
 cd "$(dirname "$0")/../crates/replay"
 work=$(mktemp -d)
 trap 'rm -rf "$work"' EXIT
 rt run <stdin >"$work/log" 2>&1 || { cat "$work/log"; exit 1; }
-if [ -n "$checkout" ]; then
-    (cd "$checkout" && RUSTFLAGS="-C target-cpu=x86-64-v2" cargo build --release --lib) >"$work/log" 2>&1 ||
-        { cat "$work/log"; exit 1; }
-    rustc --edition 2024 -C opt-level=3 -C target-cpu=x86-64-v2 ../../compare/rust/main.rs -o "$work/crate" \
-        --extern "schnellru=$checkout/target/release/libschnellru.rlib" -L "dependency=$checkout/target/release/deps"
-fi
 
 lines() { # the greatest length, and how many keys
     awk -v most="$1" -v keys="$2" 'BEGIN {
@@ -26,7 +18,7 @@ lines() { # the greatest length, and how many keys
     }'
 }
 
-all_kinds() { # each line but `put` and `shrink`, which the crate has not
+all_kinds() {
     awk 'BEGIN {
         srand(2); print "length 1000"
         for (i = 0; i < 1000000; i++) {
@@ -63,12 +55,11 @@ pairs() { # how often all are inserted, then the line that is given, and how oft
     }'
 }
 
-best() { # a file for the answers, and a command: the milliseconds of the best of three runs
-    local answers=$1 start end least=
-    shift
+best() { # a command: the milliseconds of the best of three runs
+    local start end least=
     for _ in 1 2 3; do
         start=$(date +%s%N)
-        "$@" <"$work/input" >"$answers"
+        "$@" <"$work/input" >/dev/null
         end=$(date +%s%N)
         if [ -z "$least" ] || [ $((end - start)) -lt "$least" ]; then least=$((end - start)); fi
     done
@@ -76,12 +67,7 @@ best() { # a file for the answers, and a command: the milliseconds of the best o
 }
 
 measure() { # a name
-    printf '%-32s %5d ms' "$1" "$(best "$work/here" out/replay)"
-    if [ -n "$checkout" ]; then
-        printf ' %6d ms' "$(best "$work/there" "$work/crate" answers)"
-        cmp -s "$work/here" "$work/there" || printf '   other answers'
-    fi
-    echo
+    printf '%-32s %5d ms\n' "$1" "$(best out/replay)"
 }
 
 lines 3 6 >"$work/input" && measure "a million lines, 3 pairs"

@@ -1,12 +1,33 @@
 //! Makes the same random calls on schnellru and on jeerdurian, with one hasher, and compares after each call what it
-//! returned, the order, the limiter's callbacks, the memory and the capacity.
+//! returned, the order, the limiter's callbacks, the memory, the capacity, and how many hashes it computed: one for the
+//! key, and one for each entry that moved.
 //!
 //!     calls [CALLS [SEED]]       about so many calls in all; prints a line for each limiter
+use std::cell::Cell;
 use std::collections::BTreeMap;
 use std::hash::{BuildHasherDefault, DefaultHasher};
 use std::panic::{AssertUnwindSafe, catch_unwind};
 
-type Hasher = BuildHasherDefault<DefaultHasher>;
+thread_local! {
+    static HASHES: Cell<u64> = const { Cell::new(0) };
+}
+
+/// A hasher that counts the hashes.
+#[derive(Default)]
+struct Counting(DefaultHasher);
+
+impl std::hash::Hasher for Counting {
+    fn write(&mut self, bytes: &[u8]) {
+        self.0.write(bytes);
+    }
+
+    fn finish(&self) -> u64 {
+        HASHES.set(HASHES.get() + 1);
+        self.0.finish()
+    }
+}
+
+type Hasher = BuildHasherDefault<Counting>;
 
 mod upstream {
     use schnellru as krate;
@@ -30,19 +51,21 @@ pub struct Seen {
     log: Vec<String>,
     memory: usize,
     capacity: usize,
+    hashes: u64,
 }
 
 pub trait Engine {
     /// Makes a call, and returns its answer as text.
     fn call(&mut self, call: Call) -> String;
 
-    fn seen(&mut self, answer: String) -> Seen;
+    fn seen(&mut self, answer: String, hashes: u64) -> Seen;
 }
 
 /// What a call shows. A panic, as of `reserve_or_panic`, is an answer.
 fn made(engine: &mut dyn Engine, call: Call) -> Seen {
+    HASHES.set(0);
     let answer = catch_unwind(AssertUnwindSafe(|| engine.call(call))).unwrap_or("panic".into());
-    engine.seen(answer)
+    engine.seen(answer, HASHES.get())
 }
 
 struct Random(u64);
@@ -61,6 +84,16 @@ fn stores(call: Call) -> bool {
     matches!(call.0, 0..=29 | 75..=84)
 }
 
+/// How many more entries a call reserves space for.
+fn reserved(call: Call) -> Option<usize> {
+    match call {
+        Call(97, _, v) if v % 8 == 0 => Some(v as usize % 3),
+        Call(98, k, v) if v % 16 == 0 => Some(k as usize),
+        Call(98, k, v) if v % 16 == 1 => Some(usize::MAX >> (k % 4)),
+        _ => None,
+    }
+}
+
 /// How two sights of the same call differ, if they do. What docs/DIFFERENCES.md lists is named without capitals.
 fn difference(call: Call, up: &mut Seen, here: &Seen) -> Option<&'static str> {
     // schnellru asks once more after it evicted the last entry.
@@ -69,10 +102,14 @@ fn difference(call: Call, up: &mut Seen, here: &Seen) -> Option<&'static str> {
     }
     let unstored = stores(call) && here.log.len() == up.log.len() + 1 && here.log.starts_with(&up.log);
     let refused = stores(call) && up.order.len() == up.capacity;
+    let is_short = |it: &Seen, n| it.answer == "()" && it.capacity < it.order.len() + n;
+    let too_few = reserved(call).is_some_and(|n| is_short(up, n) && !is_short(here, n));
     if up.answer != here.answer {
         Some("ANSWER")
     } else if up.order != here.order {
         Some("ORDER")
+    } else if too_few {
+        Some("an emptied table gets too little space by a reserve")
     } else if unstored && here.order.is_empty() && here.log.last().is_some_and(|it| it.starts_with("removed")) {
         Some("an accepted entry that was not stored goes to on_removed")
     } else if up.log != here.log {
@@ -83,6 +120,8 @@ fn difference(call: Call, up: &mut Seen, here: &Seen) -> Option<&'static str> {
         Some("a table that may not grow is rehashed")
     } else if up.capacity != here.capacity {
         Some("CAPACITY")
+    } else if up.hashes != here.hashes {
+        Some("HASHES")
     } else {
         None
     }

@@ -1,5 +1,5 @@
 // One of both crates, named `krate`, behind a common form. `calls.rs` includes this file twice.
-use super::{Call, Engine, Hasher, Seen};
+use super::{Call, Engine, Hasher, Seen, reserved};
 use krate::{ByLength, ByMemoryUsage, Limiter, LruMap, Unlimited, UnlimitedCompact};
 
 /// A limiter by the sum of the values, by the length and by the bytes, which logs its callbacks. `LINK` is the width of
@@ -138,18 +138,21 @@ where
             94 if v % 4 == 0 => shown(self.limiter_mut().lower(k)),
             95 => shown(self.get_by_hash(std::hash::BuildHasher::hash_one(&Hasher::default(), k), |a, _| *a == k)),
             96 => shown(Self::memory_usage_for_memory_budget(v as usize * 37)),
-            97 if v % 8 == 0 => shown(self.reserve_or_panic(v as usize % 3)),
-            _ => shown((self.len(), self.is_empty())),
+            _ => match reserved(Call(kind, k, v)) {
+                Some(n) => shown(self.reserve_or_panic(n)),
+                None => shown((self.len(), self.is_empty())),
+            },
         }
     }
 
-    fn seen(&mut self, answer: String) -> Seen {
+    fn seen(&mut self, answer: String, hashes: u64) -> Seen {
         self.assert_check_internal_state();
         Seen {
             answer,
             order: self.iter().map(|(k, v)| (*k, *v)).collect(),
             memory: self.memory_usage(),
             capacity: self.guaranteed_capacity(),
+            hashes,
             log: self.limiter_mut().take(),
         }
     }

@@ -34,18 +34,17 @@ CRATES = RUST.parent / "crates"
 # `lru_c`, the map for C, and `bench_loads`. Two tests are ignored, as places.txt says.
 PACKAGES = {
     "jeerdurian": [
-        "group_table", "lru_limits", "lru_model", "block_device", "ordered_table", "schnellru", "lru_tenants", "lru_caches",
-        "recency", "lru_trace",
+        "group_table", "lru_limits", "lru_model", "ordered_table", "schnellru", "lru_tenants", "lru_caches", "recency",
+        "lru_trace",
     ],
     "programs": [
-        "test_helpers", "map_helpers", "replay_model", "lru_theory", "lru_replay", "row_model", "trace", "replay", "pages",
-        "responses", "rows", "group_table_tests", "ordered_table_tests", "lru_limits_tests", "schnellru_tests",
-        "schnellru_memory_tests", "lru_replay_tests", "lru_tenants_tests", "block_device_tests", "lru_caches_tests",
-        "lru_trace_tests",
+        "test_helpers", "test_maps", "replay_model", "lru_theory", "lru_replay", "trace", "replay", "example_pages",
+        "example_responses", "rows", "group_table_tests", "lru_limits_tests", "schnellru_tests", "lru_replay_tests",
+        "lru_tenants_tests", "lru_caches_tests", "lru_trace_tests",
     ],
 }
 # Those that need std.
-OF_STD = ("block_device", "lru_tenants", "lru_caches", "lru_trace")
+OF_STD = ("lru_tenants", "lru_caches", "lru_trace")
 MODULES = {name: ("crate::erased::" if package == "jeerdurian" else "crate::programs::") + name
            for package, names in PACKAGES.items() for name in names}
 ALLOW = "#[allow(dropping_copy_types, unused, clippy::all)]"

@@ -2,15 +2,21 @@
 //!
 //! [`PageCache`] keeps the blocks of a [`BlockDevice`] that were used last, and writes them back when they are evicted
 //! or flushed. A call that fails changes no block that it shows. [`FileDevice`] and [`HashedFileDevice`] are devices
-//! over a file. [`Memo`] stores the newest results of a function, [`Loader`] of one that may fail, and [`MemoTable`] of
-//! one that calls itself. [`OrderedMap`] is a hash map in the order of insertion.
+//! over a [`Durable`] file, and check what they read. [`Memo`] stores the newest results of a function, [`Loader`] of
+//! one that may fail, and [`MemoTable`] of one that calls itself. [`OrderedMap`] is a hash map in the order of
+//! insertion.
 #![tactic(auto)]
 
+mod device;
+mod file_device;
 mod memo;
 mod ordered_map;
 mod page_cache;
 
-pub use block_device::{BlockDevice, Durable, FileDevice, FileError, HashedFileDevice};
+pub use device::BlockDevice;
+pub use file_device::durable::Durable;
+pub use file_device::hashed::HashedFileDevice;
+pub use file_device::{FileDevice, FileError};
 pub use memo::Memo;
 pub use memo::loader::Loader;
 pub use memo::table::{MemoTable, Question};

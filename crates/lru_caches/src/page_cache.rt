@@ -3,10 +3,10 @@ ghost use Rattle.std.specs.Prelude.{◌≡◌, ◌≢◌, ◌≤◌, ℕ, [], le
 ghost use Rattle.lru_model.specs.Lists.{is_empty};
 ghost use Rattle.lru_caches.specs.Pages.{shown, ShowsTheSame, IsCached, numbers, numbers_after};
 
+use crate::device::BlockDevice;
 use crate::page_cache::pages::{
     Page, Pages, add_page, cached_block, make_room, overwrite, write_all_back,
 };
-use block_device::BlockDevice;
 use schnellru::{KeyHasher, LruMap, RandomState, UnlimitedCompact};
 use std::alloc::Global;
 use std::fmt::Display;

@@ -6,12 +6,12 @@ use lru_caches::{
     BlockDevice, FileError, Loader, Memo, MemoTable, OrderedMap, PageCache, PageError, Question,
     Unclosed,
 };
-use map_helpers::{is_pair, is_value};
 use schnellru::{ByLength, RandomState};
 use std::alloc::AllocError;
 use std::cell::Cell;
 use std::test::Fail;
 use test_helpers::{all, check};
+use test_maps::{is_pair, is_value};
 
 #[test]
 fn of_the_page_cache(rt: HostRuntime) {

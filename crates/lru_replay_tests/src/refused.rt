@@ -1,11 +1,11 @@
 //! Runs of calls, as lists and as lines, in which the first requests for memory are met and the next one is refused.
 use lru_replay::{Answer, Call, ReplayEnd, replay, run_calls, run_summing};
-use map_helpers::{insert_all, map_of};
 use schnellru::ByCost;
 use std::alloc::{AllocError, Global};
 use std::mem::size_of;
 use std::test::Fail;
 use test_helpers::{Hog, check};
+use test_maps::{insert_all, map_of};
 
 /// The bytes of the answers to three calls.
 const ANSWERS: usize = 3 * size_of::<Answer<u64, u64>>();

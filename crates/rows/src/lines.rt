@@ -1,6 +1,7 @@
 //! Rows of program lines: each is replayed in one piece, in single bytes, and with each read and each write failing.
+use crate::row::Row;
+use crate::streams::{Failure, Narrow, Slow, count_lines, error_at, front_lines};
 use lru_replay::{ReplayEnd, ReplayError, replay, status};
-use row_model::{Failure, Narrow, Row, Slow, count_lines, error_at, front_lines};
 use std::alloc::Global;
 use std::io::{BufReader, ErrorKind};
 

@@ -1,6 +1,10 @@
 //! Rows of calls on a map under any limiter, which the lines of the program cannot spell.
+use crate::answers::write_answers;
+use crate::calls::calls_of;
+use crate::hasher::Polynomial;
+use crate::limiters::{Numbered, number_of};
+use crate::text::Text;
 use lru_replay::{run_calls, run_summing};
-use row_model::{Numbered, Polynomial, Text, calls_of, number_of, write_answers};
 use schnellru::{
     ByCost, ByLength, ByMemoryUsage, Insertion, LruMap, Storing, Unlimited, UnlimitedCompact,
 };

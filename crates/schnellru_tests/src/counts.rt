@@ -1,8 +1,8 @@
 //! How often calls build a hasher, and how often a search by a hash calls its closure.
-use map_helpers::{insert, insert_all};
 use schnellru::{LruMap, UnlimitedCompact};
 use std::cell::Cell;
 use test_helpers::{Counted, check};
+use test_maps::{insert, insert_all};
 
 type Map = LruMap<u64, u64, UnlimitedCompact, Counted>;
 

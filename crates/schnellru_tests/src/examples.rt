@@ -2,7 +2,6 @@
 //!
 //! A function has several examples, on the map that the one before left or on the three pairs of `fill`, and returns
 //! whether their assertions hold: a function for each would cost twice as much to prove.
-use map_helpers::{fill, is_pair, is_value};
 use schnellru::{
     ByLength, ByMemoryUsage, GetOrInsertError, KeyHasher, LruMap, MoveReport, RandomState,
     ReserveError, Unlimited, UnlimitedCompact, Updated,
@@ -10,6 +9,7 @@ use schnellru::{
 use std::alloc::{AllocError, Global};
 use std::hash::BuildHasher;
 use test_helpers::{all, check};
+use test_maps::{fill, is_pair, is_value};
 
 type Map = LruMap<u64, u64>;
 

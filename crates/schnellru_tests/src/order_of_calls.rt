@@ -5,11 +5,11 @@ ghost use Rattle.std.specs.Prelude.{◌≡◌, true, nat_lt, nat_le, nat_eq};
 ghost use Rattle.std.specs.Cmp.{nat_eq_equiv};
 ghost use Rattle.lru_limits.specs.Stores.{ReturnsPairIf, answers, given-names};
 
-use map_helpers::{insert_all, map_of};
 use schnellru::{Insertion, Limiter, LruMap, Storing};
 use std::alloc::{AllocError, Global};
 use std::cell::Cell;
 use test_helpers::{Counted, Hog, check};
+use test_maps::{insert_all, map_of};
 
 /// The calls that are noted, each as a digit.
 const IS_OVER: u64 = 1;

@@ -1,8 +1,8 @@
 //! Keys and values of 4 KiB, and maps of many pairs. The contracts hold for every type and size. These tests show that
 //! no call fails above some size.
-use map_helpers::{insert_all, map_of, remove_all, reserve, shrink};
 use schnellru::{LruMap, UnlimitedCompact};
 use test_helpers::{all, check};
+use test_maps::{insert_all, map_of, remove_all, reserve, shrink};
 
 type Page = [u8; 4096];
 

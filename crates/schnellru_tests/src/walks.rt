@@ -1,9 +1,9 @@
 //! Walks that are forgotten, printed texts, and the numbers of the refusals.
-use map_helpers::{insert_all, is_pair, map_of};
 use schnellru::{ByCost, GetOrInsertError, LruMap, ReserveError};
 use std::alloc::Global;
 use std::mem::forget;
 use test_helpers::{all, check};
+use test_maps::{insert_all, is_pair, map_of};
 
 type Map = LruMap<u64, u64, ByCost>;
 

@@ -37,13 +37,13 @@ pub fn trace() -> impl Termination {
 }
 
 /// Reads and writes the blocks of a file through a page cache.
-pub fn pages() -> impl Termination {
-    programs::pages::main(HostRuntime)
+pub fn example_pages() -> impl Termination {
+    programs::example_pages::main(HostRuntime)
 }
 
 /// Keeps responses of many hosts in a cache.
-pub fn responses() -> impl Termination {
-    programs::responses::main(HostRuntime)
+pub fn example_responses() -> impl Termination {
+    programs::example_responses::main(HostRuntime)
 }
 
 /// Checks the rows of data files, and random calls.

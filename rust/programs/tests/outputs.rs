@@ -34,13 +34,13 @@ fn trace() {
 }
 
 #[test]
-fn responses() {
-    writes_its_output("responses", env!("CARGO_BIN_EXE_responses"));
+fn example_responses() {
+    writes_its_output("example_responses", env!("CARGO_BIN_EXE_example_responses"));
 }
 
 #[test]
-fn pages() {
-    writes_its_output("pages", env!("CARGO_BIN_EXE_pages"));
+fn example_pages() {
+    writes_its_output("example_pages", env!("CARGO_BIN_EXE_example_pages"));
 }
 
 #[test]

@@ -5,8 +5,8 @@ ghost use Rattle.std.specs.Map.{lookup, keys_of};
 ghost use Rattle.lru_model.specs.Lists.{without};
 ghost use Rattle.lru_caches.specs.Pages.{block_at, AreClean};
 
+use crate::device::BlockDevice;
 use crate::page_cache::PageError;
-use block_device::BlockDevice;
 use schnellru::{KeyHasher, LruMap, UnlimitedCompact};
 
 // A cached block. It is dirty if it was written in the present round of the cache.

@@ -1,7 +1,6 @@
 //! A write-back cache of the blocks of a device.
 
 use crate::RandomState;
-use crate::erased::block_device;
 use crate::erased::lru_caches as proved;
 use crate::rattle_std::alloc::Global;
 use core::hash::BuildHasher;
@@ -74,7 +73,7 @@ pub trait BlockDevice<B> {
 /// A device as the proved cache calls it.
 struct Called<D>(D);
 
-impl<B, D: BlockDevice<B>> block_device::BlockDevice<B> for Called<D> {
+impl<B, D: BlockDevice<B>> proved::BlockDevice<B> for Called<D> {
     type Error = D::Error;
     type Seen = B;
 

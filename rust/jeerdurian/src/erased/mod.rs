@@ -1,8 +1,5 @@
 //! The crates of the workspace, erased: written by `python3 rust/erase`.
 
-#[cfg(feature = "std")]
-#[allow(dropping_copy_types, unused, clippy::all)]
-pub(crate) mod block_device;
 #[allow(dropping_copy_types, unused, clippy::all)]
 pub(crate) mod group_table;
 #[cfg(feature = "std")]

@@ -1,8 +1,9 @@
 //! The crates of the workspace, erased: written by `python3 rust/erase`.
 
-#[cfg(test)]
 #[allow(dropping_copy_types, unused, clippy::all)]
-pub(crate) mod block_device_tests;
+pub(crate) mod example_pages;
+#[allow(dropping_copy_types, unused, clippy::all)]
+pub(crate) mod example_responses;
 #[cfg(test)]
 #[allow(dropping_copy_types, unused, clippy::all)]
 pub(crate) mod group_table_tests;
@@ -26,29 +27,17 @@ pub(crate) mod lru_theory;
 #[allow(dropping_copy_types, unused, clippy::all)]
 pub(crate) mod lru_trace_tests;
 #[allow(dropping_copy_types, unused, clippy::all)]
-pub(crate) mod map_helpers;
-#[cfg(test)]
-#[allow(dropping_copy_types, unused, clippy::all)]
-pub(crate) mod ordered_table_tests;
-#[allow(dropping_copy_types, unused, clippy::all)]
-pub(crate) mod pages;
-#[allow(dropping_copy_types, unused, clippy::all)]
 pub(crate) mod replay;
 #[allow(dropping_copy_types, unused, clippy::all)]
 pub(crate) mod replay_model;
 #[allow(dropping_copy_types, unused, clippy::all)]
-pub(crate) mod responses;
-#[allow(dropping_copy_types, unused, clippy::all)]
-pub(crate) mod row_model;
-#[allow(dropping_copy_types, unused, clippy::all)]
 pub(crate) mod rows;
-#[cfg(test)]
-#[allow(dropping_copy_types, unused, clippy::all)]
-pub(crate) mod schnellru_memory_tests;
 #[cfg(test)]
 #[allow(dropping_copy_types, unused, clippy::all)]
 pub(crate) mod schnellru_tests;
 #[allow(dropping_copy_types, unused, clippy::all)]
 pub(crate) mod test_helpers;
+#[allow(dropping_copy_types, unused, clippy::all)]
+pub(crate) mod test_maps;
 #[allow(dropping_copy_types, unused, clippy::all)]
 pub(crate) mod trace;

@@ -9,8 +9,8 @@ use crate::erased::lru_caches::{
 };
 use crate::erased::schnellru::{ByLength, RandomState};
 use crate::programs::lru_caches_tests::disk::{Disk, DiskError};
-use crate::programs::map_helpers::{is_pair, is_value};
 use crate::programs::test_helpers::{all, check};
+use crate::programs::test_maps::{is_pair, is_value};
 use crate::rattle_std::alloc::AllocError;
 use crate::rattle_std::cell::Cell;
 use crate::rattle_std::test::Fail;

@@ -7,6 +7,8 @@ use crate::rattle_std::prelude::*;
 #[cfg(test)]
 mod callers;
 #[cfg(test)]
+mod devices;
+#[cfg(test)]
 mod disk;
 #[cfg(test)]
 mod examples;

@@ -5,8 +5,8 @@ use crate::rattle_std::prelude::*;
 
 use crate::erased::schnellru::ByCost;
 use crate::programs::lru_replay::{Answer, Call, ReplayEnd, replay, run_calls, run_summing};
-use crate::programs::map_helpers::{insert_all, map_of};
 use crate::programs::test_helpers::{Hog, check};
+use crate::programs::test_maps::{insert_all, map_of};
 use crate::rattle_std::alloc::{AllocError, Global};
 use crate::rattle_std::mem::size_of;
 use crate::rattle_std::test::Fail;

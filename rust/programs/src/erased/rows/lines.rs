@@ -4,7 +4,8 @@
 use crate::rattle_std::prelude::*;
 
 use crate::programs::lru_replay::{ReplayEnd, ReplayError, replay, status};
-use crate::programs::row_model::{Failure, Narrow, Row, Slow, count_lines, error_at, front_lines};
+use crate::programs::rows::row::Row;
+use crate::programs::rows::streams::{Failure, Narrow, Slow, count_lines, error_at, front_lines};
 use crate::rattle_std::alloc::Global;
 use crate::rattle_std::io::{BufReader, ErrorKind};
 

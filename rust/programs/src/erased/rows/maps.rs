@@ -7,7 +7,11 @@ use crate::erased::schnellru::{
     ByCost, ByLength, ByMemoryUsage, Insertion, LruMap, Storing, Unlimited, UnlimitedCompact,
 };
 use crate::programs::lru_replay::{run_calls, run_summing};
-use crate::programs::row_model::{Numbered, Polynomial, Text, calls_of, number_of, write_answers};
+use crate::programs::rows::answers::write_answers;
+use crate::programs::rows::calls::calls_of;
+use crate::programs::rows::hasher::Polynomial;
+use crate::programs::rows::limiters::{Numbered, number_of};
+use crate::programs::rows::text::Text;
 use crate::programs::test_helpers::{Alternating, Blanking, LinkedBy};
 use crate::rattle_std::alloc::Global;
 use crate::rattle_std::fmt::Debug;

@@ -1,15 +1,38 @@
 // Erased from crates/rows/src/main.rt: do not edit.
 //! Runs the rows of data files, and rows of random calls. `docs/ROWS.md` has their form.
+//!
+//! - `row`, `escapes`: a row of a data file.
+//! - `lines`, `streams`: carries out a row of lines, through readers and writers of few bytes a call, and with a call
+//!   that fails.
+//! - `maps`, `calls`, `limiters`, `hasher`: carries out a row of calls on the map that its first line names.
+//! - `trials`, `plain`, `table`: random calls with the answers of a plain list.
+//! - `answers`, `results`, `text`, `report`: writes answers, compares them, and prints the first difference.
 
 #[allow(unused_imports)]
 use crate::rattle_std::prelude::*;
 
+mod answers;
+mod calls;
+mod escapes;
+mod hasher;
+mod limiters;
 mod lines;
 mod maps;
+mod plain;
+mod report;
+mod results;
+mod row;
+mod streams;
+mod table;
+mod text;
+mod trials;
 
-use crate::programs::row_model::{Bounds, Limit, Row, Trial, agrees};
 use crate::rattle_std::alloc::Global;
 use crate::rattle_std::{env, fs, io};
+use plain::Limit;
+use report::agrees;
+use row::Row;
+use trials::{Bounds, Trial};
 
 /// How many random calls are tried under each limit.
 const CALLS: u64 = 400_000;

@@ -4,8 +4,8 @@
 use crate::rattle_std::prelude::*;
 
 use crate::erased::schnellru::{LruMap, UnlimitedCompact};
-use crate::programs::map_helpers::{insert, insert_all};
 use crate::programs::test_helpers::{Counted, check};
+use crate::programs::test_maps::{insert, insert_all};
 use crate::rattle_std::cell::Cell;
 
 type Map = LruMap<u64, u64, UnlimitedCompact, Counted>;

@@ -1,12 +1,13 @@
 // Erased from crates/schnellru_tests/src/every_call.rt: do not edit.
-//! Every public call that may change a map is a step, or steps one after another, for any types: what the laws say of
-//! steps and runs holds of each. A function here makes some of the calls, and ensures that they are a run.
+//! Every public call that may change a map is a step, or steps one after another, for any types: so what the laws say of
+//! steps and of runs holds of each. A function here makes some of the calls, and ensures that they are a run.
+//!
+//! The forms with a callback have the same clause `step` as those without, and `try_insert` says itself that it is a run.
 
 #[allow(unused_imports)]
 use crate::rattle_std::prelude::*;
 
-use crate::erased::schnellru::{Admission, Insertion, KeyHasher, Limiter, LookupKey, LruMap, RandomState};
-use crate::rattle_std::alloc::AllocError;
+use crate::erased::schnellru::{Insertion, KeyHasher, Limiter, LookupKey, LruMap};
 use crate::rattle_std::hash::Hash;
 
 fn look_up<K: Eq + Hash, V, Q: LookupKey<K>, L: Limiter<K, V>, S: KeyHasher<K>>(map: &mut LruMap<K, V, L, S>, key: &Q) {
@@ -20,5 +21,35 @@ fn remove<K: Eq + Hash, V, Q: LookupKey<K>, L: Limiter<K, V>, S: KeyHasher<K>>(m
     map.remove_entry(key);
     map.pop_oldest();
     map.pop_newest();
+    map.pop_oldest_if(|_, _| true);
     map.clear();
+}
+
+fn resize<K: Eq + Hash, V, L: Limiter<K, V>, S: KeyHasher<K>>(map: &mut LruMap<K, V, L, S>, limiter: L) {
+    map.trim();
+    map.set_limiter(limiter);
+    let _ = map.try_reserve(1);
+    let _ = map.shrink_to_fit();
+    map.retain(|_, _| true);
+    map.for_each_mut(|_, _| {});
+}
+
+fn write<K: Eq + Hash, V, Q: LookupKey<K>, L: Limiter<K, V>, S: KeyHasher<K>>(
+    map: &mut LruMap<K, V, L, S>,
+    key: &Q,
+    value: V,
+) {
+    if let Some(place) = map.get(key) {
+        *place = value;
+    }
+}
+
+fn insert<K: Eq + Hash, V, I: LookupKey<K>, L: Insertion<K, V, I>, S: KeyHasher<K>>(
+    map: &mut LruMap<K, V, L, S>,
+    keys: (I, I, I),
+    values: (V, V, V),
+) {
+    let _ = map.insert(keys.0, values.0);
+    map.update(keys.1, values.1);
+    let _ = map.insert_and_keep(keys.2, values.2);
 }

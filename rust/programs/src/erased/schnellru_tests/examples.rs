@@ -10,8 +10,8 @@ use crate::erased::schnellru::{
     ByLength, ByMemoryUsage, GetOrInsertError, KeyHasher, LruMap, MoveReport, RandomState, ReserveError, Unlimited,
     UnlimitedCompact, Updated,
 };
-use crate::programs::map_helpers::{fill, is_pair, is_value};
 use crate::programs::test_helpers::{all, check};
+use crate::programs::test_maps::{fill, is_pair, is_value};
 use crate::rattle_std::alloc::{AllocError, Global};
 use crate::rattle_std::hash::BuildHasher;
 

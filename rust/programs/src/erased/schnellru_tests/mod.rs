@@ -2,8 +2,8 @@
 //! Tests of `schnellru` through its public calls: what no contract of it says.
 //!
 //! Contracts say what each call returns and leaves. They do not say how often a closure, a callback or a hasher is
-//! called, or which text is printed. The examples of the documents are tested here too. The worked rows are data of the
-//! program `rows`, and `schnellru_memory_tests` has the tests that count memory and drops.
+//! called, or which text is printed. The module `memory` counts memory and drops. The examples of the documents are
+//! tested here too, and in `ordered` that of `ordered_table`. The worked rows are data of the program `rows`.
 
 #[allow(unused_imports)]
 use crate::rattle_std::prelude::*;
@@ -17,7 +17,11 @@ mod every_call;
 #[cfg(test)]
 mod examples;
 #[cfg(test)]
+mod memory;
+#[cfg(test)]
 mod order_of_calls;
+#[cfg(test)]
+mod ordered;
 #[cfg(test)]
 mod sizes;
 #[cfg(test)]

@@ -7,8 +7,8 @@
 use crate::rattle_std::prelude::*;
 
 use crate::erased::schnellru::{Insertion, Limiter, LruMap, Storing};
-use crate::programs::map_helpers::{insert_all, map_of};
 use crate::programs::test_helpers::{Counted, Hog, check};
+use crate::programs::test_maps::{insert_all, map_of};
 use crate::rattle_std::alloc::{AllocError, Global};
 use crate::rattle_std::cell::Cell;
 

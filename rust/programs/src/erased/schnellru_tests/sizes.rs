@@ -5,8 +5,8 @@
 use crate::rattle_std::prelude::*;
 
 use crate::erased::schnellru::{LruMap, UnlimitedCompact};
-use crate::programs::map_helpers::{insert_all, map_of, remove_all, reserve, shrink};
 use crate::programs::test_helpers::{all, check};
+use crate::programs::test_maps::{insert_all, map_of, remove_all, reserve, shrink};
 
 type Page = [u8; 4096];
 

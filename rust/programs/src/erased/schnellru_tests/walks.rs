@@ -4,8 +4,8 @@
 use crate::rattle_std::prelude::*;
 
 use crate::erased::schnellru::{ByCost, GetOrInsertError, LruMap, ReserveError};
-use crate::programs::map_helpers::{insert_all, is_pair, map_of};
 use crate::programs::test_helpers::{all, check};
+use crate::programs::test_maps::{insert_all, is_pair, map_of};
 use crate::rattle_std::alloc::Global;
 use crate::rattle_std::mem::forget;
 

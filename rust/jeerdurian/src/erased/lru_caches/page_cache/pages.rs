@@ -4,7 +4,7 @@
 #[allow(unused_imports)]
 use crate::rattle_std::prelude::*;
 
-use crate::erased::block_device::BlockDevice;
+use crate::erased::lru_caches::device::BlockDevice;
 use crate::erased::lru_caches::page_cache::PageError;
 use crate::erased::schnellru::{KeyHasher, LruMap, UnlimitedCompact};
 

@@ -1,0 +1,218 @@
+-- What a look-up of a response leaves of its host.
+use Rattle.std.proofs.Common.{◌≡◌, ◌<◌, ◌≤◌, ℕ, arith, Result, Ok, Err, is_ok, Bool, true, false, is_some, List, []}
+use Rattle.std.proofs.Common.{◌∷◌, Option, Some, None, cond, refl, sym, ap, ◌∙◌, subst}
+use Rattle.std.specs.Cmp.{IsEquivalence}
+use Rattle.std.specs.List.{All, IsDistinct}
+use Rattle.std.specs.Map.{keys_of, values_of, remove_entry}
+use Rattle.std.proofs.lemmas.List.Elements.{All-weaker}
+use Rattle.std.proofs.lemmas.Map.Views.{IfSome-lookup_from_All}
+use Rattle.std.proofs.lemmas.Bool.{true≢false}
+use Rattle.std.proofs.lemmas.Map.{lookup-remove_entry}
+use Rattle.lru_limits.specs.Budget.{Budget}
+use Rattle.lru_limits.specs.Rules.{Rules}
+use Rattle.lru_model.specs.Calls.{promoted, Remove}
+use Rattle.lru_model.specs.Lists.{lookup, lookup_entry, after, front, without}
+use Rattle.lru_model.specs.State.{State, notified_of}
+use Rattle.lru_tenants.specs.Cache.{Cache, tenant, IsTenant, Leaves, On}
+use Rattle.lru_tenants.specs.TenantRuns.{Gets, OfOpen, IfOpen}
+use Rattle.lru_tenants.specs.declared.error.TenantError.{TenantError}
+use Rattle.example_responses.specs.LookUps.{fresh_at, looked_up, LooksUp}
+use Rattle.example_responses.specs.declared.cache.Response.{Response}
+use Rattle.std.specs.Prelude.{IfSome}
+use Rattle.lru_model.proofs.PairLists.NamedPairs.{no_pair}
+use Rattle.lru_model.proofs.CallerLemmas.{read_back, written-found, promoted-absent}
+
+ok≢err : {T E : Type 0} {x : T} {e : E} → Ok x ≡ Err e → ⊥
+ok≢err p = true≢false (ap is_ok p)
+
+abbrev or-else : {T E : Type 0} → T → Result T E → T
+or-else x (Ok y) = y
+or-else x (Err e) = x
+
+ok-same : {T E : Type 0} {x y : T} → ◌≡◌ {A = Result T E} (Ok x) (Ok y) → x ≡ y
+ok-same {T} {E} {x} {y} p = ap (or-else x) p
+
+module _ {K V : Type 0} (names : K → Bool) where
+  -- the pair of a value that is found passes the test
+  found-pair : (xs : List (K × V)) (v : V) → lookup names xs ≡ Some v
+      → (p : K × V) × (lookup_entry names xs ≡ Some p) × (names p.0 ≡ true)
+  found-pair [] v e = absurd (true≢false (sym (ap is_some e)))
+  found-pair (x ∷ xs) v e = go (found-pair xs v) (names x.0) refl e
+    where
+      go : (lookup names xs ≡ Some v → (p : K × V) × (lookup_entry names xs ≡ Some p) × (names p.0 ≡ true))
+          → (is : Bool) → names x.0 ≡ is → cond is (Some x.1) (lookup names xs) ≡ Some v
+          → (p : K × V) × (cond is (Some x) (lookup_entry names xs) ≡ Some p) × (names p.0 ≡ true)
+      go later true is e = (x, refl, is)
+      go later false is e = later e
+
+  -- a pair that became the newest is removed
+  without-front : (xs : List (K × V)) (v : V) → lookup names xs ≡ Some v
+      → without names (front names xs) ≡ without names xs
+  without-front xs v found =
+      let (p, there, named) = found-pair xs v found in
+      ap (λ o. without names (after o (without names xs))) there
+      ∙ ap (λ b. cond b (without names xs) (p ∷ without names (without names xs))) named
+
+module _ {K : Type 0} (names : K → Bool) (now : ℕ) (xs : List (K × Response)) where
+  -- the list after a get that finds nothing, or a fresh response
+  front-looked_up : (found : Option Response) → lookup names xs ≡ found → fresh_at now found ≡ found
+      → front names xs ≡ looked_up names now xs
+  front-looked_up None is same = ap (λ o. after o (without names xs)) (no_pair names xs is)
+      ∙ sym (ap (λ o. cond (is_some (fresh_at now o)) (front names xs) (without names xs)) is)
+  front-looked_up (Some v) is same =
+      sym (ap (λ o. cond (is_some o) (front names xs) (without names xs)) (ap (fresh_at now) is ∙ same))
+
+  -- the list after a stale response was removed
+  stale-looked_up : (v : Response) → lookup names xs ≡ Some v → fresh_at now (lookup names xs) ≡ None
+      → without names (front names xs) ≡ looked_up names now xs
+  stale-looked_up v found stale = without-front names xs v found
+      ∙ sym (ap (λ o. cond (is_some o) (front names xs) (without names xs)) stale)
+
+module _ {K V : Type 0} {eq : K → K → Bool} (laws : IsEquivalence eq) (names : K → Bool)
+    (one : (x y : K) → names x ≡ true → names y ≡ eq x y) where
+  -- after a removal the key is not there
+  pub not-there : (xs : List (K × V)) (v : V) → lookup names xs ≡ Some v → IsDistinct eq (keys_of xs)
+      → lookup names (remove_entry names xs) ≡ None
+  not-there xs v found distinct =
+      let (p, there, is) = found-pair names xs v found in let k = p.0 in
+      ap (λ test. lookup test (remove_entry names xs)) (λ i y. one k y is i)
+      ∙ lookup-remove_entry laws names one k xs distinct ∙ ap (λ b. cond b None (lookup (eq k) xs)) is
+
+-- after a get the value is there, as before
+pub still-there : {K V L S : Type 0} (names : K → Bool) (map : State K V L S) (found : Option V)
+    → lookup names map.pairs ≡ found → lookup names (promoted names map).pairs ≡ found
+still-there names map None none = ap (λ st. lookup names st.pairs) (promoted-absent names map none) ∙ none
+still-there names map (Some v) is = ap (λ st. lookup names st.pairs) (sym (read_back names map v is)) ∙ written-found
+    names map v v is
+
+-- no key of a tenant is there twice
+pub distinct-keys : {N K V L S : Type 0} {keys : K → K → Bool} {cost : K → V → ℕ} {account budget : L → ℕ}
+    (cache : Cache N K V L S) (test : N → Bool) → All (IsTenant keys cost account budget) (values_of cache.tenants)
+    → IfSome (tenant test cache) (λ map. IsDistinct keys (keys_of map.pairs))
+distinct-keys {keys = keys} {cost = cost} {account = account} {budget = budget} cache test all =
+    IfSome-lookup_from_All (λ map. IsDistinct keys (keys_of map.pairs)) test cache.tenants
+    (All-weaker (IsTenant keys cost account budget) (λ map. IsDistinct keys (keys_of map.pairs))
+    (λ map is. is.map.distinct)
+    (values_of cache.tenants) all)
+
+-- a response is fresh before it expires, and stale from then on
+pub fresh-before : (now : ℕ) (response : Response) → now < response.expires
+    → fresh_at now (Some response) ≡ Some response
+fresh-before now response lt = grind (arith, lt)
+
+pub stale-from : (now : ℕ) (response : Response) → response.expires ≤ now → fresh_at now (Some response) ≡ None
+stale-from now response le = grind (arith, le)
+
+-- two calls on a tenant, one after another, are one
+pub leaves-both : {N K V L S : Type 0} {eq : N → N → Bool} (name : N) (mid-left left : Option (State K V L S))
+    (old mid new : Cache N K V L S) → Leaves eq name mid-left old mid → Leaves eq name left mid new
+    → Leaves eq name left old new
+leaves-both {N} {K} {V} {L} {S} {eq} name mid-left left old mid new first second = record {
+  tenants = λ other. second.tenants other ∙ go other (eq name other) (first.tenants other);
+  hasher = second.hasher ∙ first.hasher;
+  entry_bytes = second.entry_bytes ∙ first.entry_bytes;
+  total_limit = second.total_limit ∙ first.total_limit;
+}
+  where
+    go : (other : N) (b : Bool) → tenant (eq other) mid ≡ cond b mid-left (tenant (eq other) old)
+        → cond b left (tenant (eq other) mid) ≡ cond b left (tenant (eq other) old)
+    go other true is = refl
+    go other false is = is
+
+module _ {K S : Type 0} (names : K → Bool) (now : ℕ) where
+  -- a get that finds nothing, or a fresh response
+  pub get-finds : (was : Option (State K Response Budget S)) (found : Option Response)
+      (left : Option (State K Response Budget S))
+      → Gets names was (Ok found) left → fresh_at now found ≡ found
+      → OfOpen (LooksUp names now) was (Ok found) left
+  get-finds None found left (says, is) same = absurd (ok≢err says)
+  get-finds (Some map) found left (says, is) same =
+      let value = ok-same says in (
+        promoted names map,
+        ap Ok (sym same ∙ ap (fresh_at now) value),
+        is,
+        ap (λ pairs. record (promoted names map) { pairs = pairs })
+            (front-looked_up names now map.pairs found (sym value) same),
+        still-there names map found (sym value) ∙ sym same ∙ ap (fresh_at now) value,
+      )
+
+-- so a look-up ends with the get
+pub on-finds : {N K S : Type 0} {eq : N → N → Bool} (names : K → Bool) (now : ℕ) (host : N)
+    (old mid : Cache N K Response Budget S)
+    (answer : Result (Option Response) TenantError) (found : Option Response) → On eq host (Gets names) old answer mid
+    → answer ≡ Ok found → fresh_at now found ≡ found → On eq host (OfOpen (LooksUp names now)) old (Ok found) mid
+on-finds {eq = eq} names now host old mid answer found (left, gets, leaves) is same = (
+  left,
+  get-finds names now (tenant (eq host) old) found left
+      (subst (λ a. Gets names (tenant (eq host) old) a left) is gets) same,
+  leaves,
+)
+
+module _ {N K S : Type 0} {eq : N → N → Bool} (equal : IsEquivalence eq) {keys : K → K → Bool}
+    (laws : IsEquivalence keys)
+    (names : K → Bool) (one : (x y : K) → names x ≡ true → names y ≡ keys x y) (now : ℕ)
+    (rules : Rules K Response Budget)
+    (host : N) (old mid new : Cache N K Response Budget S) (response : Response) where
+  -- what the get of a response leaves
+  got-it : On eq host (Gets names) old (Ok (Some response)) mid
+      → (map : State K Response Budget S) × (tenant (eq host) old ≡ Some map) × (lookup names map.pairs ≡ Some response)
+      × (tenant (eq host) mid ≡ Some (promoted names map))
+  got-it (left, gets, leaves) = go (tenant (eq host) old) refl gets
+    where
+      go : (was : Option (State K Response Budget S)) → tenant (eq host) old ≡ was
+          → Gets names was (Ok (Some response)) left
+          → (map : State K Response Budget S) × (tenant (eq host) old ≡ Some map)
+          × (lookup names map.pairs ≡ Some response)
+          × (tenant (eq host) mid ≡ Some (promoted names map))
+      go None is (says, stays) = absurd (ok≢err says)
+      go (Some map) is (says, stays) = (
+        map,
+        is,
+        sym (ok-same says),
+        leaves.tenants host
+            ∙ ap (λ b. cond b left (tenant (eq host) old)) (equal.refl host) ∙ stays,
+      )
+
+  -- the limiter may be notified of a removal, and keeps its limit then
+  abbrev pub KeepsLimit : Type 0
+  KeepsLimit = (limiter : Budget) (k : K) (v : Response)
+      → (rules.on_removed limiter k v).limiter ≡ record limiter { cost = (rules.on_removed limiter k v).limiter.cost }
+
+  limit-stays : KeepsLimit → (limiter : Budget) (gone : Option (K × Response))
+      → notified_of rules gone limiter ≡ record limiter { cost = (notified_of rules gone limiter).cost }
+  limit-stays keeps limiter None = refl
+  limit-stays keeps limiter (Some pair) = keeps limiter pair.0 pair.1
+
+  -- a get that finds a stale response, and a removal
+  pub stale-removed : KeepsLimit → (removed : Option Response) (answer : Result (Option Response) TenantError)
+      → On eq host (Gets names) old answer mid → answer ≡ Ok (Some response)
+      → fresh_at now (Some response) ≡ None
+      → IfSome (tenant (eq host) mid) (λ map. IsDistinct keys (keys_of map.pairs))
+      → On eq host (IfOpen (Remove rules names)) mid (Ok removed) new
+      → On eq host (OfOpen (LooksUp names now)) old (Ok None) new
+  stale-removed keeps removed answer (first, does, kept) said stale distinct (left, removes, leaves) =
+      let gets : On eq host (Gets names) old (Ok (Some response)) mid =
+      (first, subst (λ a. Gets names (tenant (eq host) old) a first) said does, kept) in
+      let (map, was, found, is) = got-it gets in
+      let (result, own, remove, says, now-is) = subst (λ t. IfOpen (Remove rules names) t (Ok removed) left) is
+      removes in
+      let none = ap (λ st. lookup names st.pairs) remove.state.is
+      ∙ not-there laws names one (promoted names map).pairs response (still-there names map (Some response) found)
+      (subst (λ t. IfSome t (λ map. IsDistinct keys (keys_of map.pairs))) is distinct) in
+      let same : fresh_at now (lookup names map.pairs) ≡ None = ap (fresh_at now) found ∙ stale in
+      let list = stale-looked_up names now map.pairs response found same in
+      let limiter : notified_of rules (lookup_entry names (promoted names map).pairs) map.limiter
+      ≡ record map.limiter { cost = own.limiter.cost } =
+      limit-stays keeps map.limiter (lookup_entry names (promoted names map).pairs)
+      ∙ ap (λ notified. record map.limiter { cost = notified.cost })
+      (sym (ap (λ st. st.limiter) remove.state.is)) in (
+        left,
+        subst (λ t. OfOpen (LooksUp names now) t (Ok None) left) (sym was) (
+          own,
+          ap Ok (sym same),
+          now-is,
+          remove.state.is ∙ (λ i. record map { pairs = list i; limiter = limiter i; table = own.table }),
+          none ∙ sym same,
+        ),
+        leaves-both host gets.0 left old mid new gets.2 leaves,
+      )

@@ -1,0 +1,140 @@
+//! Calls whose requests for memory are refused in turn, until one is met. No clause says that memory is there, or how
+//! much a call takes. What a refused call leaves is a clause; these tests show that it succeeds with memory.
+use schnellru::{ByMemoryUsage, LruMap};
+use std::alloc::Global;
+use std::hash::BuildHasher;
+use test_helpers::{Counting, Hog, InsertKey, LastByte, OF_HASH_28, check};
+use test_maps::{insert_all, map_of, remove_all};
+
+/// The bytes of a first table of 4 buckets with entries of 24 bytes: its entries, and its control bytes with 16 more.
+const FIRST_TABLE: [usize; 2] = [96, 20];
+
+/// Of a table of 16 buckets, and of the links of the 8 before.
+const GROWTH: [usize; 3] = [384, 32, 32];
+
+/// Of the links of 32 buckets, and of fresh control bytes for them.
+const REHASH: [usize; 2] = [128, 48];
+
+/// Of a table of 8 buckets, and of the links of the 32 before.
+const SHRINK: [usize; 3] = [192, 24, 128];
+
+/// The calls before this one insert a key.
+const RESERVE: u64 = 7;
+
+const SHRINK_TO_FIT: u64 = 8;
+
+/// Makes the call of this number, with a key or with how many pairs it reserves space for, and returns whether it fails.
+fn is_refused<S: BuildHasher>(
+    map: &mut LruMap<u64, u64, ByMemoryUsage, S>,
+    call: u64,
+    key: u64,
+) -> bool {
+    let make = move || key;
+    let make_ok = move || Ok::<u64, u8>(key);
+    match call {
+        0 => map.insert(key, key).is_err(),
+        1 => map.insert_with(key, key, &mut |_, _| {}).is_err(),
+        2 => map.get_or_insert(key, make).is_err(),
+        3 => map.get_or_insert_fallible(key, make_ok).is_err(),
+        4 => map.ensure_newest(key, make).is_err(),
+        5 => map.ensure_newest_fallible(key, make_ok).is_err(),
+        6 => map.try_extend([(key, key)]).is_err(),
+        RESERVE => map.try_reserve(key as usize).is_err(),
+        _ => map.shrink_to_fit().is_err(),
+    }
+}
+
+/// Makes the call while each request in turn is refused, and then once with memory. Returns whether each request is
+/// refused once and the call then succeeds, or memory has no end.
+fn ends_as_expected(
+    alloc: Global,
+    map: &mut LruMap<u64, u64, ByMemoryUsage, LastByte>,
+    (call, key): (u64, u64),
+    requests: &[usize],
+) -> bool {
+    match Hog::new(alloc, requests) {
+        Ok(mut hog) => {
+            let mut right = true;
+            for i in 0..=requests.len() {
+                right = (is_refused(map, call, key) == (i < requests.len())) & right;
+                hog.release();
+            }
+            right | !hog.took_all()
+        }
+        Err(_) => false,
+    }
+}
+
+/// Makes the call on a map whose table has at most `most` bytes, after the pairs 1 to `len` were inserted, and those from
+/// `removed` on were removed.
+fn is_met(
+    alloc: Global,
+    call: u64,
+    [most, len, removed, key]: [u64; 4],
+    requests: &[usize],
+) -> bool {
+    let limiter = ByMemoryUsage::new(most as usize);
+    let mut map = LruMap::with_hasher(alloc, limiter, LastByte(0), 16);
+    let is_filled = insert_all(&mut map, 1..=len).is_ok();
+    remove_all(&mut map, removed..=len);
+    is_filled & ends_as_expected(alloc, &mut map, (call, key), requests)
+}
+
+/// Inserts that need a first table, a growth, and a rehash after a refused growth, for which the oldest 15 pairs are
+/// evicted. Then reservations of a first table, of a larger one and of a rehash, and a shrink.
+#[test]
+fn each_request_is_refused(rt: HostRuntime) {
+    let alloc = rt.alloc();
+    for call in 0..RESERVE {
+        check!(rt; is_met(alloc, call, [84, 0, 1, 1], &FIRST_TABLE));
+        check!(rt; is_met(alloc, call, [288, 7, 8, 8], &GROWTH));
+        check!(rt; is_met(alloc, call, [560, 28, 29, OF_HASH_28], &REHASH));
+    }
+    check!(rt; is_met(alloc, RESERVE, [84, 0, 1, 3], &FIRST_TABLE));
+    check!(rt; is_met(alloc, RESERVE, [288, 7, 8, 1], &GROWTH));
+    check!(rt; is_met(alloc, RESERVE, [560, 28, 4, 6], &REHASH));
+    check!(rt; is_met(alloc, SHRINK_TO_FIT, [560, 15, 6, 0], &SHRINK));
+}
+
+/// No form of insert fails above some number of pairs, if there is memory.
+#[test]
+fn inserts_of_many_pairs(rt: HostRuntime) {
+    for call in 0..RESERVE {
+        let mut map = map_of(rt.alloc(), ByMemoryUsage::new(usize::MAX));
+        for key in 0..100_000u64 {
+            check!(rt; !is_refused(&mut map, call, key));
+        }
+    }
+}
+
+/// Copies a map of three texts, and inserts a text into it, while each request in turn is refused, and then with memory.
+/// Returns whether each request is refused once and the call then succeeds. The limiter makes each key in fresh memory,
+/// again after each refused growth.
+fn texts_are_refused(alloc: Global, map: &mut LruMap<String, u32, Counting>) -> Option<bool> {
+    let mut right = true;
+    // Entries, control bytes, and a byte for each text.
+    let mut hog = Hog::new(alloc, &[160, 20, 1, 1, 1]).ok()?;
+    for n in 0..6u32 {
+        right = (map.clone().is_err() == (n < 5)) & right;
+        hog.release();
+    }
+    drop(hog);
+    // The text, and a growth.
+    let mut hog = Hog::new(alloc, &[1, 8 * 40, 24, 16]).ok()?;
+    for n in 0..5u32 {
+        right = (map.insert(InsertKey("9"), 9).is_err() == (n < 4)) & right;
+        right = (map.limiter().inserts == n.wrapping_add(3)) & right;
+        hog.release();
+    }
+    Some(right | !hog.took_all())
+}
+
+#[test]
+fn copies_and_keys_that_are_made(rt: HostRuntime) {
+    let alloc = rt.alloc();
+    let mut map = LruMap::new(alloc, Counting::default(), [1, 2, 3, 4], 16);
+    for text in ["1", "2", "3"] {
+        let _ = map.insert(InsertKey(text), 1);
+    }
+    check!(rt; texts_are_refused(alloc, &mut map).unwrap_or(false));
+}

@@ -1,0 +1,23 @@
+//! The example of the docs of `ordered_table`, the table of a map.
+use lru_limits::RandomState;
+use ordered_table::OrderedTable;
+use std::hash::BuildHasher;
+use std::test::Fail;
+use test_helpers::check;
+
+#[test]
+fn a_table_in_an_order(rt: HostRuntime) -> Result<(), Fail> {
+    let hasher = RandomState::default();
+    let mut table: OrderedTable<u64, u64, u32> = OrderedTable::new(rt.alloc());
+    table.move_to(4, &hasher)?;
+    for key in [1u64, 2, 3] {
+        let _ = table.try_place(hasher.hash_one(&key), (key, 10 * key));
+    }
+    if let Some(b) = table.find(hasher.hash_one(&1u64), &1u64) {
+        table.promote(b);
+    }
+    check!(rt; table.iter().next() == Some((&1, &10)));
+    let mut walk = table.iter();
+    check!(rt; walk.next_back() == Some((&2, &20)) && walk.len() == 2);
+    Ok(())
+}

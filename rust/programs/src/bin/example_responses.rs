@@ -1,0 +1,3 @@
+fn main() -> impl std::process::Termination {
+    programs::example_responses()
+}

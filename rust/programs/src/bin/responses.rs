@@ -1,3 +1,0 @@
-fn main() -> impl std::process::Termination {
-    programs::responses()
-}

@@ -1,0 +1,42 @@
+// Erased from crates/example_pages/src/counted.rt: do not edit.
+//! A device that counts its writes.
+#[allow(unused_imports)]
+use crate::rattle_std::prelude::*;
+
+use crate::erased::lru_caches::BlockDevice;
+
+/// A device, and how many writes it was asked for.
+
+pub struct Counted<D> {
+    device: D,
+    writes: u64,
+}
+
+impl<D> Counted<D> {
+    pub fn new(device: D) -> Counted<D> {
+        Counted { device, writes: 0 }
+    }
+
+    pub fn writes(&self) -> u64 {
+        self.writes
+    }
+}
+
+impl<B, D: BlockDevice<B>> BlockDevice<B> for Counted<D> {
+    type Error = D::Error;
+
+    type Seen = D::Seen;
+
+    fn read(&mut self, n: u64) -> Result<B, D::Error> {
+        self.device.read(n)
+    }
+
+    fn write(&mut self, n: u64, block: &B) -> Result<(), D::Error> {
+        self.writes = self.writes.saturating_add(1);
+        self.device.write(n, block)
+    }
+
+    fn sync(&mut self) -> Result<(), D::Error> {
+        self.device.sync()
+    }
+}

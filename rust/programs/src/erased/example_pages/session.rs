@@ -1,0 +1,97 @@
+// Erased from crates/example_pages/src/session.rt: do not edit.
+//! The lines of a session, and what they print.
+#[allow(unused_imports)]
+use crate::rattle_std::prelude::*;
+
+use crate::erased::lru_caches::{FileError, HashedFileDevice, PageCache, PageError, Unclosed};
+use crate::programs::example_pages::command::{BLOCKS, Block, Command, block_of, command_of};
+use crate::programs::example_pages::counted::Counted;
+use crate::rattle_std::fs::File;
+use crate::rattle_std::{io, str};
+
+type Cache = PageCache<Block, Counted<HashedFileDevice<File, 16>>>;
+
+/// A cache, and how often the block of a line was cached, or not.
+pub struct Session {
+    cache: Cache,
+    hits: u64,
+    misses: u64,
+}
+
+/// The text of a block, without the spaces at its end.
+pub fn text_of(block: &[u8]) -> &str {
+    str::from_utf8(block).unwrap_or("?").trim_end()
+}
+
+/// Prints the word if a call is done, and else why it failed.
+fn say(rt: &HostRuntime, done: Result<(), PageError<FileError>>, word: &str) -> io::Result<()> {
+    let text = match done {
+        Ok(()) => word,
+        Err(PageError::Memory) => "error: out of memory",
+        Err(PageError::Device(error)) => return println!(rt; "error: {error}"),
+    };
+    println!(rt; "{text}")
+}
+
+impl Session {
+    pub fn new(cache: Cache) -> Session {
+        Session { cache, hits: 0, misses: 0 }
+    }
+
+    /// Counts a use of a block.
+    fn count(&mut self, n: u64) {
+        if self.cache.contains(n) {
+            self.hits = self.hits.saturating_add(1);
+        } else {
+            self.misses = self.misses.saturating_add(1);
+        }
+    }
+
+    fn read(&mut self, rt: &HostRuntime, n: u64) -> io::Result<()> {
+        self.count(n);
+        match self.cache.read(n) {
+            Ok(block) => println!(rt; "{n}: {}", text_of(&block)),
+            Err(error) => say(rt, Err(error), ""),
+        }
+    }
+
+    fn write(&mut self, n: u64, text: &str) -> Result<(), PageError<FileError>> {
+        // The cache would accept a page that the device lacks, and keep it: no write of it could succeed.
+        if n >= BLOCKS {
+            return Err(PageError::Device(FileError::NoBlock));
+        }
+        self.count(n);
+        self.cache.write(n, block_of(text))
+    }
+
+    fn stats(&self, rt: &HostRuntime) -> io::Result<()> {
+        let writes = self.cache.device().writes();
+        println!(rt;
+            "hits {}, misses {}, write-backs {writes}",
+            self.hits, self.misses
+        )
+    }
+
+    /// Does what a line asks for, and prints the answer.
+    pub fn answer(&mut self, rt: &HostRuntime, line: &str) -> io::Result<()> {
+        match command_of(line) {
+            Some(Command::Read(n)) => self.read(rt, n),
+            Some(Command::Write(n, text)) => say(rt, self.write(n, text), "written"),
+            Some(Command::Flush) => say(rt, self.cache.flush(), "flushed"),
+            Some(Command::Stats) => self.stats(rt),
+            None => say(rt, Ok(()), "no command"),
+        }
+    }
+
+    /// Closes the cache, and returns whether all its pages were written.
+    pub fn close(self) -> bool {
+        let Session { cache, hits: _, misses: _ } = self;
+        match cache.close() {
+            Ok(_) => true,
+            Err(Unclosed { cache, error: _ }) => {
+                cache.discard();
+                false
+            }
+        }
+    }
+}

@@ -1,0 +1,78 @@
+// Erased from crates/example_responses/src/main.rt: do not edit.
+//! A cache of responses, a tenant for each host, driven by lines from standard input. It prints an answer to each
+//! line but `now`.
+
+#[allow(unused_imports)]
+use crate::rattle_std::prelude::*;
+
+mod cache;
+mod line;
+
+use crate::erased::lru_tenants::TenantError;
+use crate::rattle_std::io;
+use cache::ResponseCache;
+use line::Line;
+
+/// Why a call failed.
+fn text_of(error: TenantError) -> &'static str {
+    match error {
+        TenantError::NotOpen => "no host",
+        TenantError::AlreadyOpen => "already open",
+        TenantError::Memory => "no memory",
+        TenantError::OverTotal => "over the total limit",
+    }
+}
+
+/// Prints what a call did, and how many entries were evicted.
+fn say_evicted(rt: &HostRuntime, done: Result<(&str, u64), TenantError>) -> io::Result<()> {
+    match done {
+        Ok((what, evicted)) => println!(rt; "{what}, {evicted} evicted"),
+        Err(error) => println!(rt; "{}", text_of(error)),
+    }
+}
+
+/// Prints the counts of each host.
+fn stats(rt: &HostRuntime, cache: &ResponseCache) -> io::Result<()> {
+    for (name, counts) in cache.counts() {
+        let (entries, cost) = cache.size(name);
+        println!(rt;
+            "{name}: {} hits, {} misses, {} evictions, {entries} entries, cost {cost}",
+            counts.hits, counts.misses, counts.evictions
+        )?;
+    }
+    Ok(())
+}
+
+/// Does what a line asks for at this time, and prints the answer.
+fn answer(rt: &HostRuntime, cache: &mut ResponseCache, now: &mut u64, line: Option<Line>) -> io::Result<()> {
+    let text = match line {
+        Some(Line::Now(time)) => {
+            *now = time;
+            return Ok(());
+        }
+        Some(Line::Host(host, budget)) => return say_evicted(rt, cache.set_host(host, budget)),
+        Some(Line::Put(host, path, response)) => return say_evicted(rt, cache.put(host, path, response)),
+        Some(Line::Get(host, path)) => match cache.look_up(host, path, *now) {
+            Ok(Some(it)) => return println!(rt; "hit {} until {}", it.bytes, it.expires),
+            Ok(None) => "miss",
+            Err(error) => text_of(error),
+        },
+        Some(Line::Purge(host, path)) => match cache.purge(host, path) {
+            Ok(true) => "purged",
+            Ok(false) => "not there",
+            Err(error) => text_of(error),
+        },
+        Some(Line::Stats) => return stats(rt, cache),
+        None => "what?",
+    };
+    println!(rt; "{text}")
+}
+
+pub(crate) fn main(rt: HostRuntime) -> io::Result<()> {
+    let mut cache = ResponseCache::new(rt.alloc());
+    let mut now = 0;
+    for text in rt.lines(rt.alloc()) {
+        answer(&rt, &mut cache, &mut now, line::parse(text?.as_str()))?;
+    }
+    Ok(())
+}

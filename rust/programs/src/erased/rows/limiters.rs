@@ -1,0 +1,75 @@
+// Erased from crates/rows/src/limiters.rt: do not edit.
+//! Limiters that a row can name.
+#[allow(unused_imports)]
+use crate::rattle_std::prelude::*;
+
+use crate::erased::lru_limits::{ByCost, ByLength, ByMemoryUsage, LinkType, Storing, Unlimited, UnlimitedCompact};
+use crate::programs::test_helpers::{Alternating, Blanking, LinkedBy};
+use crate::rattle_std::marker::PhantomData;
+
+/// A limiter that a number makes, which `number_of` finds in its words.
+pub trait Numbered: Sized {
+    /// The limiter of the number.
+    fn of(number: u64) -> Self;
+}
+
+/// The number of a limiter that words name: the one at their end, or one that stands for the words.
+pub fn number_of(words: &str) -> u64 {
+    match words {
+        "no growth at first" | "blank values" => 0,
+        "growth at first" | "blank pairs" => 1,
+        "over the limit" => 2,
+        _ => {
+            let (_, number) = words.rsplit_once(' ').unwrap_or(("", "0"));
+            number.parse().unwrap_or(0)
+        }
+    }
+}
+
+impl Numbered for ByLength {
+    fn of(number: u64) -> ByLength {
+        ByLength::new(u32::try_from(number).unwrap_or(0))
+    }
+}
+
+impl Numbered for ByMemoryUsage {
+    fn of(number: u64) -> ByMemoryUsage {
+        ByMemoryUsage::new(number as usize)
+    }
+}
+
+impl Numbered for ByCost {
+    fn of(number: u64) -> ByCost {
+        ByCost::new(number)
+    }
+}
+
+impl Numbered for Unlimited {
+    fn of(_number: u64) -> Unlimited {
+        Unlimited
+    }
+}
+
+impl Numbered for UnlimitedCompact {
+    fn of(_number: u64) -> UnlimitedCompact {
+        UnlimitedCompact
+    }
+}
+
+impl<N: LinkType> Numbered for Storing<LinkedBy<N>> {
+    fn of(_number: u64) -> Storing<LinkedBy<N>> {
+        Storing(LinkedBy(PhantomData))
+    }
+}
+
+impl Numbered for Storing<Alternating> {
+    fn of(number: u64) -> Storing<Alternating> {
+        Storing(Alternating::new(number == 2, number > 0))
+    }
+}
+
+impl Numbered for Storing<Blanking> {
+    fn of(number: u64) -> Storing<Blanking> {
+        Storing(Blanking { keys: number == 1, last: (0, 0) })
+    }
+}

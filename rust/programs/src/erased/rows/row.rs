@@ -1,0 +1,107 @@
+// Erased from crates/rows/src/row.rt: do not edit.
+//! Rows of a data file. `docs/ROWS.md` has their form.
+#[allow(unused_imports)]
+use crate::rattle_std::prelude::*;
+
+use crate::programs::rows::escapes::unescape;
+use crate::rattle_std::alloc::Global;
+use crate::rattle_std::fmt::Write;
+
+/// An input, and the answers and the exit status that it must give. Out of memory, bytes are missing, and the row
+/// fails.
+
+pub struct Row<'a> {
+    /// What the row shows.
+    pub name: &'a str,
+    /// The lines that go in.
+    pub input: Vec<u8>,
+    /// The answer lines that must come out.
+    pub text: Vec<u8>,
+    /// The exit status.
+    pub status: u8,
+    alloc: Global,
+}
+
+impl<'a> Row<'a> {
+    /// An empty row of this name.
+    fn new(alloc: Global, name: &'a str) -> Row<'a> {
+        Row { name, input: Vec::new(alloc), text: Vec::new(alloc), status: 0, alloc }
+    }
+
+    /// The row of these lines. A malformed one expects a text that no row has.
+    pub fn of(alloc: Global, lines: &'a str) -> Row<'a> {
+        let mut row = Row::new(alloc, "");
+        let mut is_good = true;
+        for line in lines.lines() {
+            if let Some(name) = line.strip_prefix("row ") {
+                row.name = name;
+            } else if !line.starts_with('#') {
+                is_good = row.add(line) && is_good;
+            }
+        }
+        if !is_good {
+            row.text.clear();
+            unescape(&mut row.text, "the row is malformed");
+        }
+        row
+    }
+
+    /// Adds what a line of the file says. Returns `false` if the line is malformed.
+    fn add(&mut self, line: &str) -> bool {
+        if let Some(rest) = line.strip_prefix("each ") {
+            return self.add_each(rest);
+        }
+        match line.strip_prefix("status ") {
+            Some(status) => {
+                self.status = status.parse().unwrap_or(99);
+                true
+            }
+            None => self.add_line(line),
+        }
+    }
+
+    /// Adds the line once for each number from the first to the last, up or down, with the number in place of `#`.
+    fn add_each(&mut self, rest: &str) -> bool {
+        let (first, rest) = rest.split_once(' ').unwrap_or(("", ""));
+        let (last, line) = rest.split_once(' ').unwrap_or(("", ""));
+        let (Ok(first), Ok(last)) = (first.parse::<u64>(), last.parse::<u64>()) else {
+            return false;
+        };
+        let mut is_good = true;
+        for step in 0..=first.abs_diff(last) {
+            let number = if first <= last { first.wrapping_add(step) } else { first.wrapping_sub(step) };
+            is_good = self.add_numbered(line, number) && is_good;
+        }
+        is_good
+    }
+
+    /// Adds the line with the number in place of each `#`.
+    fn add_numbered(&mut self, line: &str, number: u64) -> bool {
+        let mut digits = String::new_in(self.alloc);
+        let _ = write!(digits, "{number}");
+        match line.replace_in(self.alloc, "#", digits.as_str()) {
+            Ok(line) => self.add_line(line.as_str()),
+            Err(_) => false,
+        }
+    }
+
+    /// Adds an input line and, after ` -> `, its answer.
+    fn add_line(&mut self, line: &str) -> bool {
+        let Some((input, answer)) = line.split_once("-> ") else {
+            return self.add_input(line);
+        };
+        let is_good = self.add_input(input.trim_end_matches(' ')) && unescape(&mut self.text, answer);
+        let _ = self.text.push(b'\n');
+        is_good
+    }
+
+    /// Adds an input line. With `\c` at its end it has no line feed.
+    fn add_input(&mut self, line: &str) -> bool {
+        if let Some(line) = line.strip_suffix("\\c") {
+            return unescape(&mut self.input, line);
+        }
+        let is_good = unescape(&mut self.input, line);
+        let _ = self.input.push(b'\n');
+        is_good
+    }
+}

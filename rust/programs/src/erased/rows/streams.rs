@@ -1,0 +1,152 @@
+// Erased from crates/rows/src/streams.rt: do not edit.
+//! Readers and writers in memory that give and take few bytes a call, and fail at one call.
+#[allow(unused_imports)]
+use crate::rattle_std::prelude::*;
+
+use crate::rattle_std::alloc::Global;
+use crate::rattle_std::io::{self, Error, ErrorKind, Read, Write};
+
+/// Gives at most `most` bytes a read, and fails at the read with the number `fails_at`, counted from 0.
+
+pub struct Slow<'a> {
+    bytes: &'a [u8],
+    most: usize,
+    reads: usize,
+    fails_at: usize,
+    kind: ErrorKind,
+}
+
+impl<'a> Slow<'a> {
+    /// A reader of these bytes that never fails.
+    pub fn new(bytes: &'a [u8], most: usize) -> Slow<'a> {
+        Slow { bytes, most, reads: 0, fails_at: usize::MAX, kind: ErrorKind::Other }
+    }
+
+    /// The same reader, which fails at a read.
+    pub fn failing(self, fails_at: usize, kind: ErrorKind) -> Slow<'a> {
+        Slow { fails_at, kind, ..self }
+    }
+}
+
+impl<'a> Read for Slow<'a> {
+    fn read(&mut self, buf: &mut [u8]) -> io::Result<usize> {
+        let read = self.reads;
+        self.reads = read.saturating_add(1);
+        if read == self.fails_at {
+            return Err(Error::from(self.kind));
+        }
+        let n = self.most.min(self.bytes.len()).min(buf.len());
+        let (now, later) = self.bytes.split_at(n);
+        (*at_mut!(buf, ..n)).copy_from_slice(now);
+        self.bytes = later;
+        Ok(n)
+    }
+}
+
+/// How a write fails.
+#[derive(Clone, Copy)]
+pub enum Failure {
+    /// With an error of this kind.
+    Error(ErrorKind),
+    /// It takes no bytes.
+    NoBytes,
+}
+
+/// Takes at most `most` bytes a write, fails `times` times from the write with the number `fails_at` on, counted from
+/// 0, and counts its flushes.
+
+pub struct Narrow {
+    /// What was written.
+    bytes: Vec<u8>,
+    /// How often it was flushed.
+    flushes: usize,
+    /// How each flush fails.
+    pub flush_fails: Option<ErrorKind>,
+    most: usize,
+    writes: usize,
+    fails_at: usize,
+    times: usize,
+    failure: Failure,
+}
+
+impl Narrow {
+    /// A writer that never fails.
+    pub fn new(alloc: Global, most: usize) -> Narrow {
+        Narrow {
+            bytes: Vec::new(alloc),
+            flushes: 0,
+            flush_fails: None,
+            most,
+            writes: 0,
+            fails_at: usize::MAX,
+            times: 0,
+            failure: Failure::NoBytes,
+        }
+    }
+
+    /// Whether this was written, and it was flushed this often.
+    pub fn has(&self, text: &[u8], flushes: usize) -> bool {
+        self.bytes.as_slice() == text && self.flushes == flushes
+    }
+
+    /// The same writer, which fails `times` times, from a write on.
+    pub fn failing(self, fails_at: usize, times: usize, failure: Failure) -> Narrow {
+        Narrow { fails_at, times, failure, ..self }
+    }
+}
+
+impl Write for Narrow {
+    fn write(&mut self, buf: &[u8]) -> io::Result<usize> {
+        let write = self.writes;
+        self.writes = write.saturating_add(1);
+        if write >= self.fails_at && write - self.fails_at < self.times {
+            return match self.failure {
+                Failure::Error(kind) => Err(Error::from(kind)),
+                Failure::NoBytes => Ok(0),
+            };
+        }
+        let n = self.most.min(buf.len());
+        self.bytes.extend_from_slice(&(*at!(buf, ..n)))?;
+        Ok(n)
+    }
+
+    fn flush(&mut self) -> io::Result<()> {
+        self.flushes = self.flushes.saturating_add(1);
+        match self.flush_fails {
+            Some(kind) => Err(Error::from(kind)),
+            None => Ok(()),
+        }
+    }
+}
+
+/// The error of the read or write with this number. One that was interrupted is tried again instead.
+pub fn error_at(at: usize) -> ErrorKind {
+    match at % 3 {
+        0 => ErrorKind::BrokenPipe,
+        1 => ErrorKind::StorageFull,
+        _ => ErrorKind::Other,
+    }
+}
+
+/// The front of a text, up to the end of this many lines.
+pub fn front_lines(text: &[u8], lines: usize) -> &[u8] {
+    let mut left = lines;
+    for (i, byte) in text.iter().enumerate() {
+        if left == 0 {
+            return &(*at!(text, ..i));
+        }
+        if *byte == b'\n' {
+            left -= 1;
+        }
+    }
+    text
+}
+
+/// The number of line feeds.
+pub fn count_lines(text: &[u8]) -> usize {
+    let mut lines = 0usize;
+    for byte in text {
+        lines = lines.saturating_add((*byte == b'\n') as usize);
+    }
+    lines
+}

@@ -1,0 +1,94 @@
+// Erased from crates/rows/src/table.rt: do not edit.
+//! The figures of a table of at most 16 buckets, by the rules of `docs/TABLE.md`. Such a table has no deleted buckets,
+//! so its figures follow from the calls.
+#[allow(unused_imports)]
+use crate::rattle_std::prelude::*;
+
+use crate::erased::lru_model::ReserveError;
+
+/// The most buckets that links of 32 bits reach.
+const MOST_BUCKETS: u64 = 1 << 31;
+
+/// The number of buckets, and what was counted.
+#[derive(Clone, Copy, Default)]
+pub(crate) struct Table {
+    /// The buckets.
+    pub(crate) buckets: u64,
+    /// The entries that inserts moved.
+    pub(crate) moved: u64,
+    /// The entries that inserts placed.
+    pub(crate) placed: u64,
+    /// The entries that shrinks moved.
+    pub(crate) shrunk: u64,
+}
+
+/// The buckets for this many pairs: at least 4, and then twice as many until they take the pairs.
+fn buckets_for(pairs: u64) -> u64 {
+    match pairs {
+        0 => 0,
+        1..=3 => 4,
+        4..=7 => 8,
+        _ => (pairs.saturating_mul(8) / 7).checked_next_power_of_two().unwrap_or(u64::MAX),
+    }
+}
+
+/// The bytes of a table: the entries, rounded up to a multiple of 16, a control byte for each bucket, and 16 more.
+fn bytes(buckets: u64, entry_bytes: u64) -> u64 {
+    if buckets == 0 {
+        return 0;
+    }
+    let entries = buckets.saturating_mul(entry_bytes).saturating_add(15) / 16;
+    entries.saturating_mul(16).saturating_add(buckets).saturating_add(16)
+}
+
+impl Table {
+    /// The pairs that the table takes.
+    pub(crate) fn capacity(&self) -> u64 {
+        match self.buckets {
+            0 => 0,
+            16 => 14,
+            _ => self.buckets.saturating_sub(1),
+        }
+    }
+
+    /// The bytes of the table.
+    pub(crate) fn bytes(&self, entry_bytes: u64) -> u64 {
+        bytes(self.buckets, entry_bytes)
+    }
+
+    /// Moves this many pairs into a table that takes one more, and returns whether that is within the most bytes.
+    pub(crate) fn grow(&mut self, len: u64, most: u64, entry_bytes: u64) -> bool {
+        let buckets = buckets_for(len.saturating_add(1));
+        if bytes(buckets, entry_bytes) > most {
+            return false;
+        }
+        self.buckets = buckets;
+        self.moved = self.moved.saturating_add(len);
+        true
+    }
+
+    /// Makes room for this many pairs, within the most bytes.
+    pub(crate) fn reserve(&mut self, pairs: u64, most: u64, entry_bytes: u64) -> Result<(), ReserveError> {
+        if pairs <= self.capacity() {
+            return Ok(());
+        }
+        let buckets = buckets_for(pairs);
+        if buckets > MOST_BUCKETS {
+            return Err(ReserveError::TooLarge);
+        }
+        if bytes(buckets, entry_bytes) > most {
+            return Err(ReserveError::Refused);
+        }
+        self.buckets = buckets;
+        Ok(())
+    }
+
+    /// Moves this many pairs into as few buckets as hold them.
+    pub(crate) fn shrink(&mut self, len: u64) {
+        let buckets = buckets_for(len);
+        if buckets < self.buckets {
+            self.buckets = buckets;
+            self.shrunk = self.shrunk.saturating_add(len);
+        }
+    }
+}

@@ -1,0 +1,72 @@
+// Erased from crates/schnellru_tests/src/memory/clones.rt: do not edit.
+//! Copies: whole, and refused. No clause says how often something is copied, or what a refused copy drops.
+
+#[allow(unused_imports)]
+use crate::rattle_std::prelude::*;
+
+use super::live::{Live, Lives};
+use crate::erased::schnellru::{Limiter, LruMap, Storing};
+use crate::programs::test_helpers::{LastByte, check};
+use crate::rattle_std::hash::BuildHasher;
+
+/// Limits nothing, and writes into `clones` how many keys live when it is notified of a clear.
+impl<K, V> Limiter<K, V> for Live<'_> {
+    type LinkType = u32;
+
+    fn is_over_the_limit(&self, _length: usize) -> bool {
+        false
+    }
+
+    fn on_removed(&mut self, _key: &mut K, _value: &mut V) {}
+
+    fn on_cleared(&mut self) {
+        self.clones.set(self.lives.get());
+    }
+
+    fn on_grow(&mut self, _new_memory_usage: usize) -> bool {
+        true
+    }
+}
+
+/// Each number below 2^56 has the hash 0.
+impl BuildHasher for Live<'_> {
+    type Hasher = LastByte;
+
+    fn build_hasher(&self) -> LastByte {
+        LastByte(0)
+    }
+}
+
+type Map<'a> = LruMap<Live<'a>, Live<'a>, Storing<Live<'a>>, Live<'a>>;
+
+/// Copies a map of seven pairs while this number of clones is allowed. Returns whether the copy takes a clone for each
+/// key, each value, the limiter and the hasher, and whether a copy that is refused one drops what it made.
+fn is_cloned_once(map: &Map, lives: &Lives, allowed: u64) -> bool {
+    lives.clones.set(allowed);
+    let is_made = map.try_clone().is_ok();
+    let left = lives.clones.get();
+    (is_made == (allowed >= 16)) & (left == allowed.saturating_sub(16)) & lives.are(8)
+}
+
+/// A clear is reported after the pairs were dropped. The limiter, which is counted as a key, and the hasher are dropped
+/// with the walk that takes the map apart.
+#[ignore = "the clone of a `Storing` cannot fail"]
+#[test]
+fn each_key_and_value_is_cloned_once() {
+    let run = |rt: HostRuntime| -> () {
+        let lives = Lives::new();
+        let (limiter, hasher) = (Storing(lives.key(0)), lives.value(0));
+        let mut map = LruMap::with_hasher(rt.alloc(), limiter, hasher, 16);
+        for number in 0..7u64 {
+            let _ = map.insert(lives.key(number), lives.value(number));
+        }
+        for allowed in 0..=17u64 {
+            check!(rt; is_cloned_once(&map, &lives, allowed));
+        }
+        map.clear();
+        let left = lives.clones.get();
+        drop(map.into_iter().next());
+        check!(rt; (left == 1) & lives.are(0));
+    };
+    run(HostRuntime).passes();
+}

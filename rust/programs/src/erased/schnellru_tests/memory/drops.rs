@@ -1,0 +1,240 @@
+// Erased from crates/schnellru_tests/src/memory/drops.rt: do not edit.
+//! Each key and each value is dropped once: none twice, and none is forgotten. No clause says when a value is dropped.
+//! The limiters of the crate are tried one by one in `lru_limits_tests`.
+#[allow(unused_imports)]
+use crate::rattle_std::prelude::*;
+
+use super::live::{Limit, Live, Lives, Map, fill_with, map_of_lives};
+use crate::erased::schnellru::{Both, GetOrInsertError, KeyHasher};
+use crate::programs::test_helpers::{Hog, Random, check};
+use crate::rattle_std::alloc::Global;
+
+/// A random value. The greatest one and any other that is not 0 have no sum of 64 bits.
+fn random_value<'a>(random: &mut Random, lives: &'a Lives) -> Live<'a> {
+    match random.below(12) {
+        11 => lives.value(u64::MAX),
+        number => lives.value(number),
+    }
+}
+
+/// Inserts what a closure makes, and returns whether there was memory.
+fn insert_made<'a>(map: &mut Map<'a>, key: Live<'a>, value: Live<'a>, lends: bool) -> bool {
+    let make = move || value;
+    if lends { map.get_or_insert(key, make).is_ok() } else { map.ensure_newest(key, make).is_ok() }
+}
+
+/// Inserts what a closure makes, unless it drops the value and fails, and returns whether there was memory.
+fn insert_if_made<'a>(map: &mut Map<'a>, key: Live<'a>, (value, fails): (Live<'a>, bool), lends: bool) -> bool {
+    let make = move || if fails { Err(0u8) } else { Ok(value) };
+    let error =
+        if lends { map.get_or_insert_fallible(key, make).err() } else { map.ensure_newest_fallible(key, make).err() };
+    error != Some(GetOrInsertError::Memory)
+}
+
+/// Makes a random call that inserts, and returns whether there was memory. Each closure owns its value, also if it is
+/// not called, or fails.
+fn random_insert<'a>(map: &mut Map<'a>, random: &mut Random, lives: &'a Lives) -> bool {
+    let (key, value) = (lives.key(random.below(40)), random_value(random, lives));
+    let mut sink = |key: Live, value: Live| drop((key, value));
+    match random.below(10) {
+        0 => map.insert(key, value).is_ok(),
+        7 => map.insert_full(key, value, &mut sink).is_ok(),
+        1 => map.insert_with(key, value, &mut sink).is_ok(),
+        2 => insert_made(map, key, value, true),
+        3 => insert_if_made(map, key, (value, false), true),
+        4 => insert_made(map, key, value, false),
+        5 => insert_if_made(map, key, (value, false), false),
+        8 => {
+            drop(map.update(key, value));
+            true
+        }
+        9 => map.try_extend([(key, value)]).is_ok(),
+        _ => insert_if_made(map, key, (value, true), false),
+    }
+}
+
+/// Makes another random call, and drops what it returns.
+fn random_call<'a>(map: &mut Map<'a>, random: &mut Random, lives: &'a Lives) {
+    let number = random.below(40);
+    match random.below(40) {
+        0 => map.clear(),
+        1 => drop(map.drain().next()),
+        2 => drop(map.drain().next_back()),
+        3..=5 => drop(map.shrink_to_fit().is_ok()),
+        6..=9 => drop(map.try_reserve(random.below(60) as usize).is_ok()),
+        10..=13 => {
+            lives.clones.set(random.below(40).wrapping_mul(random.below(3000)));
+            drop(map.try_clone());
+        }
+        14..=20 => drop(map.remove(&lives.key(number))),
+        21..=24 => drop(map.pop_oldest()),
+        25..=27 => drop(map.pop_newest()),
+        28 => drop(map.demote(&lives.key(number))),
+        _ => {
+            if let Some(value) = map.get(&lives.key(number)) {
+                *value = random_value(random, lives);
+            }
+        }
+    }
+}
+
+/// Makes random calls on a map of this many pairs. Returns whether after each the keys and values that live are those
+/// of the map, and none after its drop.
+fn balances<'a>(mut map: Map<'a>, lives: &'a Lives, pairs: u64) -> bool {
+    let mut random = Random::new(pairs.wrapping_add(1));
+    let mut right = fill_with(&mut map, lives, pairs);
+    for _ in 0..20_000u32 {
+        if random.below(3) == 0 {
+            random_call(&mut map, &mut random, lives);
+        } else {
+            right = random_insert(&mut map, &mut random, lives) & right;
+        }
+        right = lives.are(map.len() as u64) & right;
+    }
+    drop(map);
+    lives.are(0) & right
+}
+
+const MAX: u64 = u64::MAX;
+
+const ANY: usize = usize::MAX;
+
+/// Limits by the sum of the values, by the bytes of the table, by both and by none, and such that no pair is stored.
+/// The last maps have 10,000 pairs and more, until a random call takes all out.
+#[test]
+fn keys_and_values_are_dropped_once() {
+    let run = |rt: HostRuntime| -> () {
+        let lives = Lives::new();
+        for (most, bytes, pairs) in [
+            (20, ANY, 0),
+            (0, ANY, 0),
+            (MAX, 560, 0),
+            (MAX, 83, 0),
+            (10, 560, 0),
+            (MAX, ANY, 0),
+            (MAX, ANY, 10_000),
+            (MAX, ANY, 10_001),
+            (10_000, ANY, 10_002),
+            (10_000, ANY, 10_003),
+        ] {
+            let map = map_of_lives(rt.alloc(), most, bytes);
+            check!(rt; balances(map, &lives, pairs));
+        }
+    };
+    run(HostRuntime).passes();
+}
+
+/// Extends a map of three pairs, which has no growth left, by two pairs. Returns whether it runs out of memory and drops
+/// both, or memory has no end.
+fn is_refused<'a>(alloc: Global, map: &mut Map<'a>, lives: &'a Lives) -> bool {
+    let entries = [(lives.key(7), lives.value(7)), (lives.key(8), lives.value(8))];
+    match Hog::new(alloc, &[]) {
+        Ok(hog) => (map.try_extend(entries).is_err() & lives.are(3)) | !hog.took_all(),
+        Err(_) => false,
+    }
+}
+
+/// The limiter of the map, with another limit of the sum.
+fn with_most(map: &Map, most: u64) -> Limit {
+    Both(map.limiter().0.with_limit(most), map.limiter().1)
+}
+
+/// Makes calls on a map of the numbers below 20,000, and returns whether what they take out is dropped.
+fn what_they_evict_is_dropped<'a>(map: &mut Map<'a>, lives: &'a Lives) -> bool {
+    *map.limiter_mut() = with_most(map, 16_000);
+    drop(map.update(lives.key(19_999), lives.value(1)));
+    let held = lives.are(16_000);
+    *map.limiter_mut() = with_most(map, 12_000);
+    map.trim();
+    let held = held & lives.are(12_000);
+    map.set_limiter(with_most(map, 5000));
+    drop(map.remove_entry(&lives.key(19_999)));
+    let held = held & lives.are(4999);
+    map.retain(|key, _| key.number % 2 == 0);
+    let held = held & lives.are(2500);
+    map.retain_with(|key, _| key.number % 4 == 0, &mut |key, value| drop((key, value)));
+    held & lives.are(1250)
+}
+
+/// What an extend without memory does not insert is dropped, with what its iterator has left. What an update, a trim,
+/// another limiter and a retain take out is dropped, and so is what a walk by value has left.
+#[test]
+fn what_trims_evict_is_dropped() {
+    let run = |rt: HostRuntime| -> () {
+        let lives = Lives::new();
+        let mut map = map_of_lives(rt.alloc(), 20_000, ANY);
+        let held = fill_with(&mut map, &lives, 3) & is_refused(rt.alloc(), &mut map, &lives);
+        let held = held & fill_with(&mut map, &lives, 20_000);
+        check!(rt; held & what_they_evict_is_dropped(&mut map, &lives));
+        drop(map.into_iter().next());
+        check!(rt; lives.are(0));
+    };
+    run(HostRuntime).passes();
+}
+
+/// Inserts a value for a key that is there, and returns the most values that live while an evicted entry is passed on.
+fn most_values_at_an_eviction<'a>(map: &mut Map<'a>, key: Live<'a>, value: Live<'a>, lives: &'a Lives) -> u64 {
+    let mut most = 0;
+    let inserted = map.insert_with(key, value, &mut |key, value| {
+        if lives.values.get() > most {
+            most = lives.values.get();
+        }
+        drop((key, value));
+    });
+    drop(inserted.is_ok());
+    most
+}
+
+/// A replaced value is dropped before an entry is evicted, and so is not among the values that live then.
+#[test]
+fn a_replaced_value_is_dropped_first() {
+    let run = |rt: HostRuntime| -> () {
+        let lives = Lives::new();
+        let mut map = map_of_lives(rt.alloc(), 3, ANY);
+        let is_filled = fill_with(&mut map, &lives, 3);
+        let most = most_values_at_an_eviction(&mut map, lives.key(2), lives.value(2), &lives);
+        check!(rt; is_filled & (most == 3) & lives.are(2));
+    };
+    run(HostRuntime).passes();
+}
+
+/// Makes a call with a closure that owns a value, and compares a value that it gets with this value.
+fn ask<'a>(map: &mut Map<'a>, call: u64, hash: u64, value: Live<'a>) {
+    if call == 0 {
+        drop(map.try_pop_oldest(move |_, other| if *other == value { Ok(()) } else { Err(0u8) }));
+        return;
+    }
+    if call == 1 {
+        map.for_each_mut(move |_, other| {
+            if *other == value {
+                other.number = 4;
+            }
+        });
+        return;
+    }
+    let accepts = move |_: &Live, other: &Live| *other == value;
+    match call {
+        2 => drop(map.pop_oldest_if(accepts)),
+        3 => drop(map.peek_by_hash(hash, accepts).is_some()),
+        4 => drop(map.get_by_hash(hash, accepts).is_some()),
+        5 => drop(map.peek_by_hash_mut(hash, accepts).is_some()),
+        _ => map.retain(accepts),
+    }
+}
+
+/// A closure is dropped, whether it is called or not, and whatever it returns: on a map of one pair and of none, with the
+/// value of the pair and with another one.
+#[test]
+fn closures_are_dropped() {
+    let run = |rt: HostRuntime| -> () {
+        let lives = Lives::new();
+        for case in 0..28u64 {
+            let mut map = map_of_lives(rt.alloc(), 1, ANY);
+            let is_filled = fill_with(&mut map, &lives, case / 7 % 2);
+            let hash = map.hasher().hash_named(&lives.key(0));
+            ask(&mut map, case % 7, hash, lives.value(case / 14));
+            check!(rt; is_filled & lives.are(map.len() as u64));
+        }
+    };
+    run(HostRuntime).passes();
+}
