@@ -7,7 +7,7 @@
 --     makes_step               `ensure_newest`
 --     one_step, no_step, joined, any_steps      a run of one step, of none, of two runs, and of steps among any
 --     makes_if_made            `ensure_newest_fallible`, and `get_or_insert_fallible` up to the loan
---     keeps_step               `insert_and_keep`
+--     keeps_run                `insert_and_keep`
 --     pops_if, tries_pop       `pop_oldest_if`, `try_pop_oldest`
 --     sets_and_trims           `set_limiter`, `set_limiter_with`
 --     gets_and_writes          `get`, and `get_by_hash` if it finds a pair
@@ -26,6 +26,7 @@ use Rattle.std.specs.Cmp.{IsEquivalence}
 use Rattle.std.specs.List.{IsDistinct, AllByRecursion}
 use Rattle.std.specs.Map.{set_value}
 use Rattle.std.specs.Fn.{Mut}
+use Rattle.std.specs.Prelude.{IfOk, OnErr}
 use Rattle.std.specs.declared.alloc.AllocError.{AllocError}
 use Rattle.lru_limits.specs.Rules.{Rules, Offers}
 use Rattle.lru_model.specs.Calls.{Get, found, absent, promoted, written, RemoveEntry}
@@ -105,10 +106,13 @@ module _ {K V S H I : Type 0} {rules : Rules K V S} {offers : Offers K V S I} {n
   makes_step {key = key} (got w there is e) = gets (names key) e
   makes_step {key = key} {result = result} (inserted none value made h) = inserts key value result h
 
-  pub keeps_step : {key : I} {value : V} {result : Result Bool AllocError} {passed : List (K × V)}
-      → InsertPasses rules offers names hash_of key value old result passed new
-      → Step rules offers names hash_of old new
-  keeps_step {key} {value} {result} h = inserts key value result (plain_insert h)
+  pub keeps_run : {W E : Type 0} (key : I) (value : V) (items : W → List (K × V))
+      (result : Result (Result Bool AllocError × W) E)
+      → IfOk result (λ answer. InsertPasses rules offers names hash_of key value old answer.0 (items answer.1) new)
+      → OnErr result (new ≡ old) → IsSized new → Run (Step rules offers names hash_of) new old
+  keeps_run key value items (Ok answer) h same sized =
+      one_step (inserts key value answer.0 (plain_insert h)) sized
+  keeps_run key value items (Err e) h same sized = no_step same
 
 module _ {K V S H I : Type 0} {rules : Rules K V S} {offers : Offers K V S I} {names : I → K → Bool}
     {hash_of : H → K → ℕ} where

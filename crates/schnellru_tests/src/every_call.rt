@@ -53,19 +53,54 @@ fn write<K: Eq + Hash, V: Drop, Q: LookupKey<K>, L: Limiter<K, V>, S: KeyHasher<
 )
     ensures { RunWithoutInsert L.rules S.hash_of map.new map.old }
 {
+    // Nothing at run time: it shows the proof that the table is sound.
+    let _len = map.len();
     if let Some(place) = map.get(key) {
         *place = value;
     }
 }
 
-fn insert<K: Eq + Hash + Drop, V: Drop, I: LookupKey<K> + Drop, L: Insertion<K, V, I>, S: KeyHasher<K>>(
-    map: &mut LruMap<K, V, L, S>,
-    keys: (I, I, I),
-    values: (V, V, V),
-)
+fn insert<
+    K: Eq + Hash + Drop,
+    V: Drop,
+    I: LookupKey<K> + Drop,
+    L: Insertion<K, V, I>,
+    S: KeyHasher<K>,
+>(map: &mut LruMap<K, V, L, S>, keys: (I, I, I), values: (V, V, V))
     ensures { Run (Step L.rules L.offers I.names S.hash_of) map.new map.old }
 {
     let _ = map.insert(keys.0, values.0);
     map.update(keys.1, values.1);
     let _ = map.insert_and_keep(keys.2, values.2);
+}
+
+fn make<
+    K: Eq + Hash + Drop,
+    V: Drop,
+    I: LookupKey<K> + Drop,
+    E: Drop,
+    L: Insertion<K, V, I>,
+    S: KeyHasher<K>,
+    F: FnOnce() -> V,
+    G: FnOnce() -> Result<V, E>,
+>(map: &mut LruMap<K, V, L, S>, keys: (I, I), make: F, try_to_make: G)
+    requires first { F.pre make }
+    requires second { G.pre try_to_make }
+    ensures { Run (Step L.rules L.offers I.names S.hash_of) map.new map.old }
+{
+    let _ = map.ensure_newest(keys.0, make);
+    let _ = map.ensure_newest_fallible(keys.1, try_to_make);
+}
+
+fn write_newest<K: Eq + Hash, V: Drop, L: Limiter<K, V>, S: KeyHasher<K>>(
+    map: &mut LruMap<K, V, L, S>,
+    value: V,
+)
+    ensures { RunWithoutInsert L.rules S.hash_of map.new map.old }
+{
+    // Nothing at run time: it shows the proof that no two keys are equal.
+    let _len = map.len();
+    if let Some(place) = map.newest_mut() {
+        *place = value;
+    }
 }

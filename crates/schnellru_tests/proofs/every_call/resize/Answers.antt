@@ -1,5 +1,5 @@
 use Rattle.lru_model.specs.Runs.{calls, trims, reserves, shrinks, goes_on}
-use Rattle.lru_model.proofs.EveryCall.{one_step, joined, sets_and_trims, retains_pairs, writes_all}
+use Rattle.lru_model.proofs.EveryCall.{joined, sets_and_trims, retains_pairs, writes_all}
 use Rattle.schnellru_tests.proofs.every_call.resize.Goals as goal
 
 pub returns : goal.returns

@@ -39,6 +39,8 @@ fn write<K: Eq + Hash, V, Q: LookupKey<K>, L: Limiter<K, V>, S: KeyHasher<K>>(
     key: &Q,
     value: V,
 ) {
+    // Nothing at run time: it shows the proof that the table is sound.
+    let _len = map.len();
     if let Some(place) = map.get(key) {
         *place = value;
     }
@@ -52,4 +54,31 @@ fn insert<K: Eq + Hash, V, I: LookupKey<K>, L: Insertion<K, V, I>, S: KeyHasher<
     let _ = map.insert(keys.0, values.0);
     map.update(keys.1, values.1);
     let _ = map.insert_and_keep(keys.2, values.2);
+}
+
+fn make<
+    K: Eq + Hash,
+    V,
+    I: LookupKey<K>,
+    E,
+    L: Insertion<K, V, I>,
+    S: KeyHasher<K>,
+    F: FnOnce() -> V,
+    G: FnOnce() -> Result<V, E>,
+>(
+    map: &mut LruMap<K, V, L, S>,
+    keys: (I, I),
+    make: F,
+    try_to_make: G,
+) {
+    let _ = map.ensure_newest(keys.0, make);
+    let _ = map.ensure_newest_fallible(keys.1, try_to_make);
+}
+
+fn write_newest<K: Eq + Hash, V, L: Limiter<K, V>, S: KeyHasher<K>>(map: &mut LruMap<K, V, L, S>, value: V) {
+    // Nothing at run time: it shows the proof that no two keys are equal.
+    let _len = map.len();
+    if let Some(place) = map.newest_mut() {
+        *place = value;
+    }
 }
