@@ -224,7 +224,7 @@ module _ {K V : Type 0} {eq : K → K → Bool} (lawful : IsEquivalence eq) wher
     pub writes_newest : {old : State K V S H} (w : V) → IsMap eq old
         → Run (AnyStep rules offers names hash_of) (record old { pairs = set_newest old.pairs w }) old
     writes_newest {old} w map = newest old.pairs refl
-        where
+      where
         newest : (pairs : List (K × V)) → old.pairs ≡ pairs
             → Run (AnyStep rules offers names hash_of) (record old { pairs = set_newest old.pairs w }) old
         newest [] e = no_step (ap (λ pairs. record old { pairs = pairs }) (ap (λ p. set_newest p w) e ∙ sym e))

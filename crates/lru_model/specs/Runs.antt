@@ -92,7 +92,12 @@ no_offers = record {
   on_insert = λ limiter n key value left pair. ⊥;
   may_run_out = λ limiter n key value. ⊥;
   on_replace = λ limiter n stored key was value. record {
-    limiter = limiter; taken = false; key = stored; old_value = was; new_value = value };
+    limiter = limiter;
+    taken = false;
+    key = stored;
+    old_value = was;
+    new_value = value;
+  };
 }
 
 -- `Run IsStep new old`: steps, one after another, lead from `old` to `new`. Each leaves a sound table, as calls do.
