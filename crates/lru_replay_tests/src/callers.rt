@@ -22,9 +22,9 @@ fn put_both(
         OnOk result (IsFront (others test map.new.pairs) (others test map.old.pairs)) }
     ensures paid { OnOk result (PaysForMoves map.old map.new) }
 {
-    laws::calls_keep_the_length::<u64, u64, RandomState>();
-    laws::calls_evict_the_oldest::<u64, u64, ByLength, RandomState>();
-    laws::calls_pay_for_moves::<u64, u64, ByLength, RandomState>();
+    laws::lists_keep_the_length::<u64, u64, RandomState>();
+    laws::lists_evict_the_oldest::<u64, u64, ByLength, RandomState>();
+    laws::lists_pay_for_moves::<u64, u64, ByLength, RandomState>();
     // Nothing at run time: it shows the proof that the table is sound.
     let _len = map.len();
     let calls = vec![in alloc;
@@ -45,7 +45,7 @@ fn charge_both(
     requires within { map.old.limiter.cost ≤ map.old.limiter.limit }
     ensures { OnOk result (map.new.limiter.cost ≤ map.old.limiter.limit) }
 {
-    laws::calls_keep_the_budget::<u64, u64, ByCost, RandomState>();
+    laws::lists_keep_the_budget::<u64, u64, ByCost, RandomState>();
     let calls = vec![in alloc;
         Call::Insert(first.0, first.1),
         Call::Insert(second.0, second.1),

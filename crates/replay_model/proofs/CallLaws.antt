@@ -9,23 +9,33 @@ use Rattle.replay_model.specs.CallRuns.{IsRun, CallStep, SummingStep, KeepsCost,
 use Rattle.replay_model.specs.Replies.{Reply}
 use Rattle.replay_model.specs.declared.calls.Call.{Call}
 use Rattle.replay_model.specs.declared.calls.Call.TheVariants as calls
-use Rattle.replay_model.proofs.CallRuns.{run-follows}
+use Rattle.replay_model.proofs.CallRuns.{run-follows, run_keeps, any_call}
 use Rattle.replay_model.proofs.CallKinds.{Kind, calls_map, stays, writes_value, sets_limiter, kind_of, any_step}
+
+module _ {K V S H : Type 0} (eq : K → K → Bool) (Steps : State K V S H → State K V S H → Type 0)
+    {IsStep : State K V S H → Call K V S → Reply K V → State K V S H → Type 0} {IsCall : Call K V S → Type 0}
+    (moves : (old new : State K V S H) (call : Call K V S) (reply : Reply K V) → IsStep old call reply new
+    → IsCall call → Steps old new ⊎ (new ≡ old)) where
+  -- a run of calls that are steps, or change nothing, is a run of these steps
+  pub steps_run : (old : State K V S H) (calls : List (Call K V S)) (replies : List (Reply K V)) (new : State K V S H)
+      → IsRun IsStep (IsMap eq) old calls replies new → AllByRecursion IsCall calls → Run Steps new old
+  steps_run old [] [] new same all = subst (Run Steps new) same ends
+  steps_run old (call ∷ calls) (reply ∷ replies) new (mid, step, map, run) (is, all) =
+      elim (moves old mid call reply step is) [
+        | inl one ↦ goes_on mid one map.sized (steps_run mid calls replies new run all)
+        | inr same ↦ subst (Run Steps new) same (steps_run mid calls replies new run all)
+      ]
+  steps_run old calls replies new none all = absurd none
 
 module _ {K V S H : Type 0} {rules : Rules K V S} {offers : Offers K V S K} {eq : K → K → Bool} {hash_of : H → K → ℕ}
     {IsStep : State K V S H → Call K V S → Reply K V → State K V S H → Type 0}
     (moves : (old new : State K V S H) (call : Call K V S) (reply : Reply K V) → IsStep old call reply new
     → AnyStep rules offers eq hash_of old new ⊎ (new ≡ old)) where
-  -- a run of calls that are steps of the map, or change nothing, is one of any steps of the map
+  -- so it is one of any steps of the map
   pub any_run : (old : State K V S H) (calls : List (Call K V S)) (replies : List (Reply K V)) (new : State K V S H)
       → IsRun IsStep (IsMap eq) old calls replies new → Run (AnyStep rules offers eq hash_of) new old
-  any_run old [] [] new same = subst (Run (AnyStep rules offers eq hash_of) new) same ends
-  any_run old (call ∷ calls) (reply ∷ replies) new (mid, step, map, run) =
-      elim (moves old mid call reply step) [
-        | inl any ↦ goes_on mid any map.sized (any_run mid calls replies new run)
-        | inr same ↦ subst (Run (AnyStep rules offers eq hash_of) new) same (any_run mid calls replies new run)
-      ]
-  any_run old calls replies new none = absurd none
+  any_run old calls replies new run = steps_run eq (AnyStep rules offers eq hash_of)
+      (λ old new call reply step is. moves old new call reply step) old calls replies new run (any_call calls)
 
 -- What each step of the map keeps of a limit, and the limit itself, each call keeps that sets no other limiter.
 --     limit           the limit of a limiter
@@ -64,16 +74,19 @@ module _ {K V S H N : Type 0} (rules : Rules K V S) (offers : Offers K V S K) (e
   pub run_known : (n : N) (old : State K V S H) (calls : List (Call K V S)) (replies : List (Reply K V))
       (new : State K V S H) → IsRun IsStep Holds old calls replies new → AllByRecursion SetsNoLimiter calls
       → limit old.limiter ≡ n → Within n old → IsRun IsStep (λ st. Holds st × Within n st) old calls replies new
-  run_known n old [] [] new same none is within = same
-  run_known n old (call ∷ calls) (reply ∷ replies) new (mid, step, holds, run) (one, none) is within =
-      let begun : Within (limit old.limiter) old = subst (λ m. Within m old) (sym is) within in
-      let after : Stays old mid = elim (kinds old mid call reply step) [
-        | inl known ↦ kind_within old mid (sized mid holds) call one known.0 known.1 begun
-        | inr same ↦ unchanged old mid same begun
-      ] in
-      let kept : Within n mid = subst (λ m. Within m mid) is after.0 in
-      (mid, step, (holds, kept), run_known n mid calls replies new run none (after.1 ∙ is) kept)
-  run_known n old calls replies new p none is within = absurd p
+  run_known n old calls replies new run none is within = run-follows IsStep (λ st h. (h.0, h.1.0)) old calls replies
+      new (run_keeps IsStep {Keeps = λ st. Within n st × (limit st.limiter ≡ n)} keeps old calls replies new run none
+      (within, is))
+    where
+      keeps : (old new : State K V S H) (call : Call K V S) (reply : Reply K V) → IsStep old call reply new → Holds new
+          → SetsNoLimiter call → Within n old × (limit old.limiter ≡ n) → Within n new × (limit new.limiter ≡ n)
+      keeps old new call reply step holds one (within, is) =
+          let begun : Within (limit old.limiter) old = subst (λ m. Within m old) (sym is) within in
+          let after : Stays old new = elim (kinds old new call reply step) [
+            | inl known ↦ kind_within old new (sized new holds) call one known.0 known.1 begun
+            | inr same ↦ unchanged old new same begun
+          ] in
+          (subst (λ m. Within m new) is after.0, after.1 ∙ is)
 
   pub run_within : (n : N) (old : State K V S H) (calls : List (Call K V S)) (replies : List (Reply K V))
       (new : State K V S H) → IsRun IsStep Holds old calls replies new → AllByRecursion SetsNoLimiter calls

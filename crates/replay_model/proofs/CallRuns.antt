@@ -2,6 +2,7 @@
 use Rattle.std.proofs.Common.{◌≡◌, List, [], ◌∷◌, ◌++◌, length, refl, sym, ap, ◌∙◌, subst}
 use Rattle.std.proofs.Common.{append_assoc}
 use Rattle.std.proofs.lemmas.List.{append-nil, nil_from_length}
+use Rattle.std.specs.List.{AllByRecursion}
 use Rattle.replay_model.specs.declared.calls.Answer.{Answer}
 use Rattle.replay_model.specs.declared.calls.Call.{Call}
 use Rattle.replay_model.specs.CallRuns.{IsRun}
@@ -40,6 +41,21 @@ module _ {S C R : Type 0} (IsStep : S → C → R → S → Type 0) (Holds : S �
       let (reply, mid, is, after) = step a holds call in
       let (replies, b, run) = some_run step mid after calls in
       (reply ∷ replies, b, (mid, is, after, run))
+
+-- what each step keeps that is no step of an excluded call, a run keeps
+pub run_keeps : {S C R : Type 0} (IsStep : S → C → R → S → Type 0) {Holds Keeps : S → Type 0} {IsCall : C → Type 0}
+    → ((old new : S) (call : C) (reply : R) → IsStep old call reply new → Holds new → IsCall call → Keeps old
+    → Keeps new) → (old : S) (calls : List C) (replies : List R) (new : S) → IsRun IsStep Holds old calls replies new
+    → AllByRecursion IsCall calls → Keeps old → IsRun IsStep (λ st. Holds st × Keeps st) old calls replies new
+run_keeps IsStep keeps old [] [] new same all kept = same
+run_keeps IsStep keeps old (call ∷ calls) (reply ∷ replies) new (mid, step, holds, run) (is, all) kept =
+    let next = keeps old mid call reply step holds is kept in
+    (mid, step, (holds, next), run_keeps IsStep keeps mid calls replies new run all next)
+run_keeps IsStep keeps old calls replies new none all kept = absurd none
+
+pub any_call : {C : Type 0} (calls : List C) → AllByRecursion (λ call. Unit {0}) calls
+any_call [] = tt
+any_call (call ∷ calls) = (tt, any_call calls)
 
 -- what follows from what holds of each state holds of each
 pub run-follows : {S C R : Type 0} (IsStep : S → C → R → S → Type 0) {Holds Follows : S → Type 0}

@@ -1,15 +1,15 @@
 -- The first line and the others together, and how a replay ends.
 use Rattle.std.proofs.Common.{◌≡◌, ℕ, ◌<◌, List, [], ◌∷◌, ◌++◌, append_assoc, length, refl, sym, ap, ◌∙◌, subst, inl}
-use Rattle.std.proofs.Common.{inr, ◌⊎◌, arith, Option, Some, None, Result, Ok, Err, IfSome, OnOk, ◌↔◌}
+use Rattle.std.proofs.Common.{inr, ◌⊎◌, arith, Option, Some, None, Result, Ok, Err, IfSome, OnSome}
 use Rattle.std.proofs.lemmas.List.{append-nil}
-use Rattle.std.specs.Io.KnownBytes.{Appends, Keeps}
+use Rattle.std.specs.Io.KnownBytes.{Appends, Keeps, IsAtEnd}
 use Rattle.std.proofs.KnownBytes.{Appends-nil, Appends-kept, Consumes-nil}
 use Rattle.lru_limits.specs.Budget.{Budget}
 use Rattle.lru_limits.specs.Rules.{Rules, Offers}
 use Rattle.lru_model.specs.State.{IsSized}
 use Rattle.std.proofs.lemmas.Option.{IfSome_then}
-use Rattle.replay_model.specs.declared.lines.command.Limit.{Limit}
-use Rattle.replay_model.specs.declared.lines.command.Limit.TheVariants as limits
+use Rattle.replay_model.specs.declared.lines.words.Limit.{Limit}
+use Rattle.replay_model.specs.declared.lines.words.Limit.TheVariants as limits
 use Rattle.replay_model.specs.declared.lines.line.Ending.{Ending}
 use Rattle.replay_model.specs.declared.lines.line.Ending.TheVariants as endings
 use Rattle.replay_model.specs.declared.lines.outcome.ReplayEnd.{ReplayEnd}
@@ -20,18 +20,19 @@ use Rattle.replay_model.specs.Grammar.{SpellsLimit}
 use Rattle.replay_model.specs.Lines.{lines_of, TakesFed, TakesRest, TakesLine, TakesPart, TakesFirst}
 use Rattle.replay_model.specs.Output.{Begins, Fails, no_limiter_text}
 use Rattle.replay_model.specs.Replay.{IsTextUnder, IsReplay, NamesNoLimit, IsOutput, SoFar, plain_entry_bytes}
-use Rattle.replay_model.specs.Replay.{WritesCut, WritesCutSoFar, Replays}
+use Rattle.replay_model.specs.Replay.{Replays, Finished, WriteFailed}
 use Rattle.lru_limits.specs.Limiters.{length_rules, length_offers, memory_rules, no_rules, all_offers}
 use Rattle.replay_model.specs.Limits.{cost_rules, cost_offers, no_cost, cost_reported}
 use Rattle.replay_model.specs.Maps.{Map, empty}
 use Rattle.lru_model.specs.Sizes.{max_of_32_bits, max_of_64_bits}
-use Rattle.replay_model.specs.LineRuns.{IsTextOf, Answers}
+use Rattle.replay_model.specs.LineRuns.{IsTextOf, Answers, OfAll, BeginsText}
 use Rattle.replay_model.proofs.LineLists.{lines_of-fed, lines_of-last, lines_at_end, lines_left, takes_line_before}
 use Rattle.replay_model.proofs.LineRuns.{some_line_run, line_run_sized, line_run-append}
 use Rattle.replay_model.proofs.ByteLists.{Consumes_end}
 use Rattle.lru_model.proofs.CallerLemmas.{empty_is_sound}
 use Rattle.replay_model.proofs.AlwaysOffers.{AlwaysOffers, length_always, cost_always, all_always}
 use Rattle.replay_model.proofs.SpelledLines.{limit_or}
+use Rattle.replay_model.proofs.SpelledWords.{short_limit}
 
 -- what is said of the lines after the first, said of all lines
 after_first : (a b : Option (List ℕ)) (first : List ℕ) (P Q : List ℕ → Type 0) → TakesFed a b first
@@ -129,7 +130,8 @@ output_goes_on (line ∷ lines) more text (inr (none, is)) = (
 )
 
 -- What is cut within what the lines read write is cut within what all lines write.
-pub cut_of_all : (a b w v : Option (List ℕ)) → WritesCutSoFar a b w v → WritesCut a w v
+cut_of_all : (a b w v : Option (List ℕ)) → BeginsText IsOutput (SoFar IsOutput) a b w v
+    → OfAll IsOutput a (Begins w v)
 cut_of_all a b w v (inl (cut, at_end)) = cut
 cut_of_all None b w v h = tt
 cut_of_all (Some x) None w v (inr (lines, text, rest, is, reads, begun)) = absurd reads.2
@@ -140,35 +142,38 @@ cut_of_all (Some x) (Some y) w v (inr (lines, text, rest, is, reads, (part, (mor
       (part, (more ++ u, ap (λ l. l ++ u) front ∙ append_assoc part more u), wrote),
     )
 
--- `NoLimiter` comes exactly if no limit is named.
-pub exactly_no_limiter : (a b w v : Option (List ℕ)) (end : Result ReplayEnd ReplayError) → Replays a b w v end
-    → OnOk end (IfSome a (λ input. (end ≡ Ok ends.NoLimiter) ↔ NamesNoLimit (lines_of input)))
-exactly_no_limiter a b w v (Ok ends.Done) (done, at_end) = IfSome_then a done
-    (λ input (text, (limit, first, others, is, spells, run), wrote).
-    (λ other. absurd (done_is_done other), λ names. absurd (names limit first others is spells)))
-  where
-    done_is_done : (let done : Result ReplayEnd ReplayError = Ok ends.Done in done) ≡ Ok ends.NoLimiter → ⊥
-    done_is_done e = cc
-exactly_no_limiter a b w v (Ok ends.NoLimiter) (none, reads, wrote) = IfSome_then a none
-    (λ input is. (λ same. is, λ names. refl))
-exactly_no_limiter a b w v (Err e) h = tt
+cut_off : (a b w v : Option (List ℕ)) → BeginsText IsOutput (SoFar IsOutput) a b w v → WriteFailed a b w v
+cut_off a b w v reads = record { cut = cut_of_all a b w v reads; reads = reads }
+
+finished : (a b w v : Option (List ℕ)) → OfAll IsReplay a (Appends w v) → OnSome a (IsAtEnd b) → Finished a b w v
+finished a b w v replay at_end = record {
+  named = IfSome_then a replay (λ input (text, (limit, first, others, is, spells, run), wrote) names.
+      names limit first others is spells);
+  replay = replay;
+  at_end = at_end;
+}
 
 -- What was read and written stays true while the writer's bytes stay the same.
 pub replays-kept : (a b w v u : Option (List ℕ)) (end : Result ReplayEnd ReplayError) → Keeps v u → Replays a b w v end
     → Replays a b w u end
-replays-kept a b w v u (Ok ends.Done) keeps (done, at_end) =
-    (IfSome_then a done (λ input (text, is, wrote). (text, is, Appends-kept w v u text wrote keeps)), at_end)
-replays-kept a b w v u (Ok ends.NoLimiter) keeps (none, reads, wrote) =
-    (none, reads, Appends-kept w v u no_limiter_text wrote keeps)
+replays-kept a b w v u (Ok ends.Done) keeps h = finished a b w u
+    (IfSome_then a h.replay (λ input (text, is, wrote). (text, is, Appends-kept w v u text wrote keeps))) h.at_end
+replays-kept a b w v u (Ok ends.NoLimiter) keeps h = record {
+  unnamed = h.unnamed;
+  reads = h.reads;
+  writes = Appends-kept w v u no_limiter_text h.writes keeps;
+}
 replays-kept a b w v u (Err errors.Read) keeps (lines, text, part, is, reads, wrote) =
     (lines, text, part, is, reads, Appends-kept w v u text wrote keeps)
-replays-kept a b w v u (Err errors.Write) keeps (inl (cut, at_end)) = inl (
-  IfSome_then a cut
-      (λ input (text, is, (part, front, wrote)). (text, is, (part, front, Appends-kept w v u part wrote keeps))),
-  at_end,
-)
-replays-kept a b w v u (Err errors.Write) keeps (inr (lines, text, rest, is, reads, (part, front, wrote))) =
-    inr (lines, text, rest, is, reads, (part, front, Appends-kept w v u part wrote keeps))
+replays-kept a b w v u (Err errors.Write) keeps h = cut_off a b w u (elim h.reads [
+  | inl (cut, at_end) ↦ inl (
+    IfSome_then a cut
+        (λ input (text, is, (part, front, wrote)). (text, is, (part, front, Appends-kept w v u part wrote keeps))),
+    at_end,
+  )
+  | inr (lines, text, rest, is, reads, (part, front, wrote)) ↦
+      inr (lines, text, rest, is, reads, (part, front, Appends-kept w v u part wrote keeps))
+])
 
 -- all of a text is a beginning of it
 all_of : (w v : Option (List ℕ)) (text : List ℕ) → Appends w v text → Begins w v text
@@ -178,16 +183,13 @@ so_far_output : (lines : List (List ℕ)) (text : List ℕ) → SoFar IsReplay l
 so_far_output [] text is = is
 so_far_output (first ∷ others) text is = inl is
 
--- The flush failed: all text of the lines that were read was written before.
-pub flush_failed : (a b w v : Option (List ℕ)) (end : Result ReplayEnd ReplayError) → Replays a b w v end
-    → Replays a b w v (Err errors.Write)
-flush_failed None b w v end h = inl (tt, tt)
-flush_failed (Some x) b w v (Ok ends.Done) ((text, is, wrote), at_end) =
-    inl ((text, inl is, all_of w v text wrote), at_end)
-flush_failed (Some x) b w v (Ok ends.NoLimiter) (none, (line, inr rest), wrote) =
-    inl ((no_limiter_text, inr (none, refl), all_of w v no_limiter_text wrote), rest.2)
-flush_failed (Some x) None w v (Ok ends.NoLimiter) (none, (line, inl fed), wrote) = absurd fed.1
-flush_failed (Some x) (Some y) w v (Ok ends.NoLimiter) (none, (line, inl fed), wrote) =
+-- No limit is named, and a beginning of what is written then was written.
+unnamed_cut : (a b w v : Option (List ℕ)) → IfSome a (λ input. NamesNoLimit (lines_of input)) → TakesFirst a b
+    → Begins w v no_limiter_text → BeginsText IsOutput (SoFar IsOutput) a b w v
+unnamed_cut None b w v none reads begun = inl (tt, tt)
+unnamed_cut (Some x) b w v none (line, inr rest) begun = inl ((no_limiter_text, inr (none, refl), begun), rest.2)
+unnamed_cut (Some x) None w v none (line, inl fed) begun = absurd fed.1
+unnamed_cut (Some x) (Some y) w v none (line, inl fed) begun =
     let first : lines_of x ≡ line ∷ lines_of y = ap lines_of fed.1 ∙ lines_of-fed line y fed.0 in
     let unnamed : (limit : Limit) → SpellsLimit line limit → ⊥ = λ limit spells. none limit line
     (lines_of y) first spells in
@@ -197,11 +199,22 @@ flush_failed (Some x) (Some y) w v (Ok ends.NoLimiter) (none, (line, inl fed), w
       [],
       inr (none_named (line ∷ []) [] line refl unnamed, refl),
       takes_line_before (Some x) (Some y) (Some y) line [] [] fed (tt, tt, refl),
-      all_of w v no_limiter_text wrote,
+      begun,
     )
-flush_failed (Some x) b w v (Err errors.Read) (lines, text, part, is, reads, wrote) =
-    inr (lines, text, part, so_far_output lines text is, reads, all_of w v text wrote)
-flush_failed (Some x) b w v (Err errors.Write) h = h
+
+-- The flush failed: all text of the lines that were read was written before.
+pub flush_failed : (a b w v : Option (List ℕ)) (end : Result ReplayEnd ReplayError) → Replays a b w v end
+    → Replays a b w v (Err errors.Write)
+flush_failed a b w v (Ok ends.Done) h = cut_off a b w v (inl (
+  IfSome_then a h.replay
+      (λ input (text, is, wrote). (text, inl is, all_of w v text wrote)),
+  h.at_end,
+))
+flush_failed a b w v (Ok ends.NoLimiter) h =
+    cut_off a b w v (unnamed_cut a b w v h.unnamed h.reads (all_of w v no_limiter_text h.writes))
+flush_failed a b w v (Err errors.Read) (lines, text, part, is, reads, wrote) =
+    cut_off a b w v (inr (lines, text, part, so_far_output lines text is, reads, all_of w v text wrote))
+flush_failed a b w v (Err errors.Write) h = h
 
 -- A read failed in the first line.
 pub first_failed : (a b w : Option (List ℕ)) (part : List ℕ) → TakesPart a b part → Replays a b w w (Err errors.Read)
@@ -219,31 +232,13 @@ module _ (a b w v : Option (List ℕ)) (ending : Ending) (first : List ℕ)
       by endings.Nothing rest = (first, inr rest.0)
 
   pub no_limiter : Appends w v no_limiter_text → Replays a b w v (Ok ends.NoLimiter)
-  no_limiter wrote = (no_limit a b ending first taken none, takes_first, wrote)
+  no_limiter wrote = record { unnamed = no_limit a b ending first taken none; reads = takes_first; writes = wrote }
 
   -- a write of that failed
   pub no_limiter_cut : (e : ReplayError) → Fails e w v no_limiter_text → Replays a b w v (Err e)
   no_limiter_cut errors.Read (same, begun) = absurd (cc same)
-  no_limiter_cut errors.Write (same, begun) = by a b ending taken (no_limit a b ending first taken none)
-    where
-      by : (a b : Option (List ℕ)) (ending : Ending) → TakesLine a b ending first
-          → IfSome a (λ input. NamesNoLimit (lines_of input)) → WritesCutSoFar a b w v
-      by None b ending taken names = inl (tt, tt)
-      by (Some x) None endings.Feed fed names = absurd fed.1
-      by (Some x) (Some y) endings.Feed fed names = inr (
-        first ∷ [],
-        no_limiter_text,
-        [],
-        inr (none_named (first ∷ []) [] first refl none, refl),
-        takes_line_before (Some x) (Some y) (Some y) first [] [] fed (tt, tt, refl),
-        begun,
-      )
-      by (Some x) b endings.InputEnd rest names = inl ((no_limiter_text, inr (names, refl), begun), rest.0.2)
-      by (Some x) b endings.Nothing rest names = inl ((no_limiter_text, inr (names, refl), begun), rest.0.2)
-
-spelled_some : (line : List ℕ) (limit : Limit) → SpellsLimit line limit → 0 < length line
-spelled_some line (limits.Length n) (fits, is) = omega (arith, ap length is)
-spelled_some line limit (fits, is) = omega (arith, ap length is)
+  no_limiter_cut errors.Write (same, begun) =
+      cut_off a b w v (unnamed_cut a b w v (no_limit a b ending first taken none) takes_first begun)
 
 -- a line without a line feed is all that was left
 rest_taken : (a b : Option (List ℕ)) (ending : Ending) (line : List ℕ) → (ending ≡ endings.Feed → ⊥)
@@ -257,32 +252,29 @@ pub done_first : (a b w : Option (List ℕ)) (ending : Ending) (first : List ℕ
     → (ending ≡ endings.Feed → ⊥) → TakesLine a b ending first
     → Replays a b w w (Ok ends.Done)
 done_first a b w ending first limit spells not_fed line =
-    let taken = rest_taken a b ending first not_fed line in (
-      only_first a b first (λ input. (text : List ℕ) × IsReplay (lines_of input) text × Appends w w text) taken
-          (λ input same. (
-            [],
-            (
-              limit,
-              first,
-              [],
-              same ∙ lines_of-last first taken.0 (spelled_some first limit spells),
-              spells,
-              no_lines_under limit,
-            ),
-            Appends-nil w,
-          )),
-      taken.2,
-    )
+    let taken = rest_taken a b ending first not_fed line in
+    finished a b w w (only_first a b first (λ input. (text : List ℕ) × IsReplay (lines_of input) text × Appends w w text)
+    taken (λ input same. (
+      [],
+      (
+        limit,
+        first,
+        [],
+        same ∙ lines_of-last first taken.0 (short_limit first limit spells).0,
+        spells,
+        no_lines_under limit,
+      ),
+      Appends-nil w,
+    ))) taken.2
 
 -- The others were answered after the first.
 module _ (a b c w v : Option (List ℕ)) (first : List ℕ) (limit : Limit) (spells : SpellsLimit first limit)
     (taken : TakesFed a b first) where
   pub done_others : Answers (IsTextUnder limit) b c w v (Ok tt) → Replays a c w v (Ok ends.Done)
-  done_others (done, at_end) = (
-    after_first a b first _ _ taken
-        (λ rest input all (text, is, wrote). (text, (limit, first, lines_of rest, all, spells, is), wrote)) done,
-    Consumes_end a b c _ taken.1 at_end,
-  )
+  done_others (done, at_end) = finished a c w v
+      (after_first a b first _ _ taken
+      (λ rest input all (text, is, wrote). (text, (limit, first, lines_of rest, all, spells, is), wrote)) done)
+      (Consumes_end a b c _ taken.1 at_end)
 
   pub others_failed : (e : ReplayError) → Answers (IsTextUnder limit) b c w v (Err e) → Replays a c w v (Err e)
   others_failed errors.Read (lines, text, part, is, reads, wrote) = (
@@ -293,16 +285,16 @@ module _ (a b c w v : Option (List ℕ)) (first : List ℕ) (limit : Limit) (spe
     takes_line_before a b c first lines part taken reads,
     wrote,
   )
-  others_failed errors.Write (inl (cut, at_end)) = inl (
+  others_failed errors.Write (inl (cut, at_end)) = cut_off a c w v (inl (
     after_first a b first _ _ taken (λ rest input all (text, is, begun).
         (text, inl (limit, first, lines_of rest, all, spells, is), begun)) cut,
     Consumes_end a b c _ taken.1 at_end,
-  )
-  others_failed errors.Write (inr (lines, text, rest, is, reads, begun)) = inr (
+  ))
+  others_failed errors.Write (inr (lines, text, rest, is, reads, begun)) = cut_off a c w v (inr (
     first ∷ lines,
     text,
     rest,
     inl (limit, first, lines, refl, spells, is),
     takes_line_before a b c first lines rest taken reads,
     begun,
-  )
+  ))

@@ -4,6 +4,7 @@ pub mod Options
 pub mod WrittenTexts
 pub mod LineLists
 pub mod SpelledLines
+pub mod SpelledWords
 pub mod HeldBytes
 pub mod AlwaysOffers
 pub mod Pops
@@ -11,7 +12,6 @@ pub mod DrainedPairs
 pub mod SomeSteps
 pub mod CallRuns
 pub mod LineRuns
-pub mod AnsweredCommands
 pub mod AnsweredLines
 pub mod EndedReplays
 pub mod MadeValues

@@ -4,8 +4,8 @@ use Rattle.std.proofs.lemmas.Grind.{flat_map-append}
 use Rattle.std.proofs.lemmas.List.{append-nil}
 use Rattle.lru_limits.specs.Rules.{Rules, Offers}
 use Rattle.lru_model.specs.State.{IsSized}
-use Rattle.replay_model.specs.declared.lines.command.Command.{Command}
-use Rattle.replay_model.specs.Grammar.{SpellsCommand}
+use Rattle.replay_model.specs.declared.calls.Call.{Call}
+use Rattle.replay_model.specs.Grammar.{SpellsCall}
 use Rattle.replay_model.proofs.AlwaysOffers.{AlwaysOffers}
 use Rattle.replay_model.specs.Lines.{fed}
 use Rattle.replay_model.specs.Maps.{Map}
@@ -13,7 +13,8 @@ use Rattle.replay_model.specs.Output.{reply_text, bad_text}
 use Rattle.replay_model.specs.LineRuns.{LineStep, IsLineRun}
 use Rattle.replay_model.proofs.CallRuns.{run-append, run_holds, some_run}
 use Rattle.replay_model.proofs.SomeSteps.{some_step}
-use Rattle.replay_model.proofs.SpelledLines.{spelled_or, Spelled}
+use Rattle.replay_model.proofs.SpelledLines.{spelled_or}
+use Rattle.replay_model.proofs.SpelledWords.{has_line}
 
 module _ {S : Type 0} (rules : Rules ℕ ℕ S) (offers : Offers ℕ ℕ S ℕ) (reported : S → Option ℕ) where
   pub line_run-append : (a : Map S) (lines : List (List ℕ)) (t : List ℕ) (b : Map S) (more : List (List ℕ))
@@ -41,12 +42,12 @@ module _ {S : Type 0} (rules : Rules ℕ ℕ S) (offers : Offers ℕ ℕ S ℕ) 
         × LineStep rules offers reported old line text new × IsSized new
     some_line_step old ok line = by (spelled_or line)
       where
-        by : Spelled line ⊎ ((command : Command) → SpellsCommand line command → ⊥) → (text : List ℕ) × (new : Map S)
-            × LineStep rules offers reported old line text new × IsSized new
-        by (inl (command, spells)) =
-            let (reply, new, is, after) = some_step rules offers offered old ok command in
+        by : ((call : Call ℕ ℕ S) × SpellsCall line call) ⊎ ((call : Call ℕ ℕ S) → SpellsCall line call → ⊥)
+            → (text : List ℕ) × (new : Map S) × LineStep rules offers reported old line text new × IsSized new
+        by (inl (call, spells)) =
+            let (reply, new, is, after) = some_step rules offers offered old ok call (has_line line call spells) in
             let text = reply_text (reported old.limiter) reply in
-            (text, new, inl (command, spells, (reply, is, refl)), after)
+            (text, new, inl (call, spells, (reply, is, refl)), after)
         by (inr none) = (bad_text, old, inr (none, refl, refl), ok)
 
     -- So each list of lines has a run from each map.

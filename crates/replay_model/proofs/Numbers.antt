@@ -9,10 +9,11 @@ use Rattle.std.proofs.lemmas.Result.{OkIff-at_ok}
 use Rattle.std.proofs.lemmas.Str.{IsUtf8-from_ascii}
 use Rattle.std.specs.Result.{result_ok}
 use Rattle.std.specs.Str.Parse.{ParsesUnsigned, IsNumeral, digits_value, AllDigits}
-use Rattle.replay_model.specs.Grammar.{SpellsNumber, StartsAsNumber, SpellsPair, SpellsLimit, pair_spelling}
-use Rattle.replay_model.specs.declared.lines.command.Limit.{Limit}
-use Rattle.replay_model.specs.declared.lines.command.Limit.TheVariants as limits
+use Rattle.replay_model.specs.Grammar.{SpellsNumber, StartsAsNumber, SpellsPair, IsSplit, pair_spelling}
+use Rattle.replay_model.specs.declared.lines.words.Numbers.{Numbers}
+use Rattle.replay_model.specs.declared.lines.words.Numbers.TheVariants as numbers
 use Rattle.replay_model.specs.Lines.{Lacks}
+use Rattle.std.proofs.lemmas.List.{append-nil}
 use Rattle.replay_model.proofs.ByteLists.{one_split, Lacks-none}
 
 pub decimal_starts : (n : ℕ) → n < 2 ^ 64 → StartsAsNumber (decimal n)
@@ -69,21 +70,13 @@ pair_parts words a b k v lacks e s =
 pub no_pair : (words : List ℕ) (k v : ℕ) → Lacks 32 words → SpellsPair words k v → ⊥
 no_pair words k v lacks s = Lacks-none 32 (decimal k) (decimal v) (subst (Lacks 32) s.2 lacks)
 
-pub length_too_large : (line rest : List ℕ) (n : ℕ) → line ≡ codes "length " ++ rest → SpellsNumber rest n → 2 ^ 32 ≤ n
-    → (limit : Limit) → SpellsLimit line limit → ⊥
-length_too_large line rest n e s large (limits.Length m) h =
-    let same : codes "length " ++ rest ≡ codes "length " ++ decimal m = sym e ∙ h.1 in
-    let digits : rest ≡ decimal m = cc in
-    omega (arith, decimal_injective n m s.0 (omega (arith, h.0)) (sym s.1 ∙ digits), h.0, large)
-length_too_large line rest n e s large (limits.Memory budget entry_bytes) h = let k : codes "length " ++ rest
-    ≡ codes "memory " ++ pair_spelling budget entry_bytes = sym e ∙ h.1 in
-    let first : 108 ≡ 109 = ap (λ l. get_or l 0 0) k in
-    omega (arith, first)
-length_too_large line rest n e s large (limits.Cost most) h = let k : codes "length " ++ rest ≡ codes "cost "
-    ++ decimal most = sym e ∙ h.1 in
-    let first : 108 ≡ 99 = ap (λ l. get_or l 0 0) k in
-    omega (arith, first)
-length_too_large line rest n e s large limits.Compact h = let k : codes "length " ++ rest ≡ codes "compact" = sym e
-    ∙ h.1 in
-    let first : 108 ≡ 99 = ap (λ l. get_or l 0 0) k in
-    omega (arith, first)
+-- what follows the first space spells no numbers
+pub no_numbers : (line rest first : List ℕ) → Lacks 32 first → line ≡ first ++ 32 ∷ rest
+    → ((n : ℕ) → SpellsNumber rest n → ⊥) → ((k v : ℕ) → SpellsPair rest k v → ⊥) → (word : List ℕ) (given : Numbers)
+    → IsSplit line word given → ⊥
+no_numbers line rest first lacks is none none_pair word numbers.Zero (bare, fits, same) =
+    Lacks-none 32 first rest (subst (Lacks 32) (sym (append-nil word) ∙ sym same ∙ is) bare)
+no_numbers line rest first lacks is none none_pair word (numbers.One n) (bare, fits, same) =
+    none n (fits, (one_split 32 first rest word (decimal n) lacks bare (sym is ∙ same)).1)
+no_numbers line rest first lacks is none none_pair word (numbers.Two k v) (bare, fits, same) =
+    none_pair k v (fits.0, fits.1, (one_split 32 first rest word (pair_spelling k v) lacks bare (sym is ∙ same)).1)

@@ -23,6 +23,7 @@ use Rattle.lru_model.specs.Updates.{Update, updated, rejected, not_there}
 use Rattle.lru_model.specs.State.{State, buckets, IsMap}
 use Rattle.lru_model.specs.declared.results.Updated.{Updated}
 use Rattle.replay_model.specs.CallRuns.{IsRun, CallStep, SummingStep, ReservesNothing, SetsNoLimiter}
+use Rattle.replay_model.proofs.CallRuns.{run-follows, run_keeps}
 use Rattle.replay_model.specs.Replies.{Reply}
 use Rattle.replay_model.specs.Steps.{ReplyStep}
 use Rattle.replay_model.specs.declared.calls.Call.{Call}
@@ -107,11 +108,10 @@ module _ {K V S H : Type 0} (rules : Rules K V S) (offers : Offers K V S K) (eq 
       → IsSmall old → Within old → AllByRecursion ReservesNothing calls
       → IsRun IsStep (λ st. IsMap eq st × Within st) old calls replies new
       → IsRun IsStep (λ st. buckets st ≤ 16) old calls replies new
-  run_small old [] [] new small within none same = same
-  run_small old (call ∷ calls) (reply ∷ replies) new small within (one, none) (mid, step, holds, run) =
-      let few = one_small old mid small (makes_room old within) call reply one step in
-      (mid, step, few, run_small mid calls replies new (small_of mid holds.0.sized few) holds.1 none run)
-  run_small old calls replies new small within none p = absurd p
+  run_small old calls replies new small within none run = run-follows IsStep (λ st h. h.1.0.few) old calls replies new
+      (run_keeps IsStep {Keeps = λ st. IsSmall st × Within st} (λ old new call reply step holds one (small, within).
+      (small_of new holds.0.sized (one_small old new small (makes_room old within) call reply one step), holds.1))
+      old calls replies new run none (small, within))
 
 module _ {K V H : Type 0} (eq : K → K → Bool) (hash_of : H → K → ℕ) where
   -- the map keeps to the length n

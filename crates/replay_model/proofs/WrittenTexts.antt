@@ -35,12 +35,6 @@ failed a b c t u v all e p (same, begun) whole =
 pub failed_front : (a b : Option (List ℕ)) (t u : List ℕ) (e : ReplayError) → Fails e a b t → Fails e a b (t ++ u)
 failed_front a b t u e (same, begun) = (same, begins_front a b t u begun)
 
--- the text of an insert is the text of its reply
-pub inserted_text : (cost : Option ℕ) (result : Result Bool AllocError)
-    → insert_text result ≡ reply_text cost (insert_reply result)
-inserted_text cost (Ok there) = refl
-inserted_text cost (Err e) = refl
-
 pub rest_text-append : (xs ys : List (ℕ × ℕ)) → rest_text (xs ++ ys) ≡ rest_text xs ++ rest_text ys
 rest_text-append [] ys = refl
 rest_text-append (x ∷ xs) ys = ap (λ l. (32 ∷ pair_text x) ++ l) (rest_text-append xs ys)

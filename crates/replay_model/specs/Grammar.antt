@@ -1,10 +1,16 @@
--- How commands and limits are spelled: words with one space between them, and numbers in decimal digits. Each has one
--- spelling.
-use Rattle.std.specs.Prelude.{◌≡◌, ◌≢◌, length, slice_index, ℕ, ◌<◌, ◌^◌, List, ◌∷◌, ◌++◌, decimal, codes}
-use Rattle.replay_model.specs.declared.lines.command.Command.{Command}
-use Rattle.replay_model.specs.declared.lines.command.Command.TheVariants as commands
-use Rattle.replay_model.specs.declared.lines.command.Limit.{Limit}
-use Rattle.replay_model.specs.declared.lines.command.Limit.TheVariants as limits
+-- How calls and limits are spelled: a word, and at most two numbers in decimal digits, each with one space before it.
+-- Each has one spelling.
+use Rattle.std.specs.Prelude.{◌≡◌, ◌≢◌, length, slice_index, ℕ, ◌<◌, ◌^◌, List, [], ◌∷◌, ◌++◌, decimal, codes, Option}
+use Rattle.std.specs.Prelude.{Some, option_map}
+use Rattle.std.specs.Str.{bytes_eq}
+use Rattle.lru_model.specs.Lists.{lookup}
+use Rattle.replay_model.specs.declared.calls.Call.{Call}
+use Rattle.replay_model.specs.declared.calls.Call.TheVariants as calls
+use Rattle.replay_model.specs.declared.lines.words.Limit.{Limit}
+use Rattle.replay_model.specs.declared.lines.words.Limit.TheVariants as limits
+use Rattle.replay_model.specs.declared.lines.words.Numbers.{Numbers}
+use Rattle.replay_model.specs.declared.lines.words.Numbers.TheVariants as numbers
+use Rattle.replay_model.specs.Lines.{Lacks}
 
 -- the word is a number below 2 ^ 64 in decimal digits, with no zero in front
 abbrev pub SpellsNumber : List ℕ → ℕ → Type 0
@@ -22,86 +28,68 @@ pair_spelling k v = decimal k ++ 32 ∷ decimal v
 abbrev pub SpellsPair : List ℕ → ℕ → ℕ → Type 0
 SpellsPair words k v = (k < 2 ^ 64) × (v < 2 ^ 64) × (words ≡ pair_spelling k v)
 
--- a command as it is spelled
-abbrev pub command_spelling : Command → List ℕ
-command_spelling (commands.Insert k v) = codes "insert " ++ pair_spelling k v
-command_spelling (commands.Put k v) = codes "put " ++ pair_spelling k v
-command_spelling (commands.Update k v) = codes "update " ++ pair_spelling k v
-command_spelling (commands.Get k) = codes "get " ++ decimal k
-command_spelling (commands.Peek k) = codes "peek " ++ decimal k
-command_spelling (commands.Remove k) = codes "remove " ++ decimal k
-command_spelling (commands.RemoveEntry k) = codes "remove-entry " ++ decimal k
-command_spelling (commands.Contains k) = codes "contains " ++ decimal k
-command_spelling (commands.Promote k) = codes "promote " ++ decimal k
-command_spelling (commands.Demote k) = codes "demote " ++ decimal k
-command_spelling (commands.Reserve n) = codes "reserve " ++ decimal n
-command_spelling (commands.Drain n) = codes "drain " ++ decimal n
-command_spelling commands.PopOldest = codes "pop-oldest"
-command_spelling commands.PopNewest = codes "pop-newest"
-command_spelling commands.Clear = codes "clear"
-command_spelling commands.Stats = codes "stats"
-command_spelling commands.Shrink = codes "shrink"
-command_spelling commands.List = codes "list"
+-- numbers as they stand after a word, each with a space before it
+abbrev pub numbers_text : Numbers → List ℕ
+numbers_text numbers.Zero = []
+numbers_text (numbers.One n) = 32 ∷ decimal n
+numbers_text (numbers.Two k v) = 32 ∷ pair_spelling k v
 
--- the numbers of the command are below 2 ^ 64
-abbrev pub FitsCommand : Command → Type 0
-FitsCommand (commands.Insert k v) = (k < 2 ^ 64) × (v < 2 ^ 64)
-FitsCommand (commands.Put k v) = (k < 2 ^ 64) × (v < 2 ^ 64)
-FitsCommand (commands.Update k v) = (k < 2 ^ 64) × (v < 2 ^ 64)
-FitsCommand (commands.Get k) = k < 2 ^ 64
-FitsCommand (commands.Peek k) = k < 2 ^ 64
-FitsCommand (commands.Remove k) = k < 2 ^ 64
-FitsCommand (commands.RemoveEntry k) = k < 2 ^ 64
-FitsCommand (commands.Contains k) = k < 2 ^ 64
-FitsCommand (commands.Promote k) = k < 2 ^ 64
-FitsCommand (commands.Demote k) = k < 2 ^ 64
-FitsCommand (commands.Reserve n) = n < 2 ^ 64
-FitsCommand (commands.Drain n) = n < 2 ^ 64
-FitsCommand command = Unit {0}
+-- each number is below 2 ^ 64
+abbrev pub Fit : Numbers → Type 0
+Fit numbers.Zero = Unit {0}
+Fit (numbers.One n) = n < 2 ^ 64
+Fit (numbers.Two k v) = (k < 2 ^ 64) × (v < 2 ^ 64)
 
--- the command is spelled by a word and a key, which it does not remove
-abbrev pub IsOfKey : Command → Type 0
-IsOfKey (commands.Get k) = Unit {0}
-IsOfKey (commands.Peek k) = Unit {0}
-IsOfKey (commands.Contains k) = Unit {0}
-IsOfKey (commands.Promote k) = Unit {0}
-IsOfKey (commands.Demote k) = Unit {0}
-IsOfKey command = ⊥
+-- the line is this word, which has no space, and these numbers
+abbrev pub IsSplit : List ℕ → List ℕ → Numbers → Type 0
+IsSplit line word given = Lacks 32 word × Fit given × (line ≡ word ++ numbers_text given)
 
--- the command removes a key
-abbrev pub IsRemoval : Command → Type 0
-IsRemoval (commands.Remove k) = Unit {0}
-IsRemoval (commands.RemoveEntry k) = Unit {0}
-IsRemoval command = ⊥
+-- what words mean: alone, with one number, and with two
+pub record Words (X : Type 0) : Type 0 where
+  pub alone : List (List ℕ × X)
+  pub one : List (List ℕ × (ℕ → X))
+  pub two : List (List ℕ × (ℕ → ℕ → X))
 
--- the command is spelled by one word alone
-abbrev pub IsPlain : Command → Type 0
-IsPlain commands.PopOldest = Unit {0}
-IsPlain commands.PopNewest = Unit {0}
-IsPlain commands.Clear = Unit {0}
-IsPlain commands.Stats = Unit {0}
-IsPlain commands.Shrink = Unit {0}
-IsPlain commands.List = Unit {0}
-IsPlain command = ⊥
+module _ {X : Type 0} (words : Words X) where
+  -- what the word means with these numbers
+  abbrev pub said_of : List ℕ → Numbers → Option X
+  said_of word numbers.Zero = lookup (bytes_eq word) words.alone
+  said_of word (numbers.One n) = option_map (λ make. make n) (lookup (bytes_eq word) words.one)
+  said_of word (numbers.Two k v) = option_map (λ make. make k v) (lookup (bytes_eq word) words.two)
 
--- the line is this command
-abbrev pub SpellsCommand : List ℕ → Command → Type 0
-SpellsCommand line command = FitsCommand command × (line ≡ command_spelling command)
+  -- the line is a word with numbers, and means this
+  abbrev pub Spells : List ℕ → X → Type 0
+  Spells line x = (word : List ℕ) × (given : Numbers) × IsSplit line word given × (said_of word given ≡ Some x)
 
--- a limit as the first line spells it
-abbrev pub limit_spelling : Limit → List ℕ
-limit_spelling (limits.Length n) = codes "length " ++ decimal n
-limit_spelling (limits.Memory budget entry_bytes) = codes "memory " ++ pair_spelling budget entry_bytes
-limit_spelling (limits.Cost most) = codes "cost " ++ decimal most
-limit_spelling limits.Compact = codes "compact"
+-- the calls of lines
+abbrev pub call_words : {S : Type 0} → Words (Call ℕ ℕ S)
+call_words = record {
+  alone = (codes "list", calls.List) ∷ (codes "pop-oldest", calls.PopOldest) ∷ (codes "pop-newest", calls.PopNewest)
+      ∷ (codes "clear", calls.Clear) ∷ (codes "stats", calls.Stats) ∷ (codes "shrink", calls.Shrink) ∷ [];
+  one = (codes "get", calls.Get) ∷ (codes "peek", calls.Peek) ∷ (codes "contains", calls.Contains)
+      ∷ (codes "promote", calls.Promote) ∷ (codes "demote", calls.Demote) ∷ (codes "remove", calls.Remove)
+      ∷ (codes "remove-entry", calls.RemoveEntry) ∷ (codes "reserve", calls.Reserve)
+      ∷ (codes "drain", λ n. calls.Drain n 0) ∷ [];
+  two = (codes "insert", calls.Insert) ∷ (codes "put", calls.InsertWith) ∷ (codes "update", calls.Update) ∷ [];
+}
 
--- the length is below 2 ^ 32, and the other numbers are below 2 ^ 64
+-- the line spells this call
+abbrev pub SpellsCall : {S : Type 0} → List ℕ → Call ℕ ℕ S → Type 0
+SpellsCall line call = Spells call_words line call
+
+-- the limits of a first line
+abbrev pub limit_words : Words Limit
+limit_words = record {
+  alone = (codes "compact", limits.Compact) ∷ [];
+  one = (codes "length", limits.Length) ∷ (codes "cost", limits.Cost) ∷ [];
+  two = (codes "memory", limits.Memory) ∷ [];
+}
+
+-- a length is below 2 ^ 32
 abbrev pub FitsLimit : Limit → Type 0
 FitsLimit (limits.Length n) = n < 2 ^ 32
-FitsLimit (limits.Memory budget entry_bytes) = (budget < 2 ^ 64) × (entry_bytes < 2 ^ 64)
-FitsLimit (limits.Cost most) = most < 2 ^ 64
-FitsLimit limits.Compact = Unit {0}
+FitsLimit limit = Unit {0}
 
 -- the line names this limit
 abbrev pub SpellsLimit : List ℕ → Limit → Type 0
-SpellsLimit line limit = FitsLimit limit × (line ≡ limit_spelling limit)
+SpellsLimit line limit = FitsLimit limit × Spells limit_words line limit

@@ -6,7 +6,6 @@ pub mod Steps
 pub mod CallRuns
 pub mod ListRuns
 pub mod Grammar
-pub mod Commands
 pub mod Lines
 pub mod Output
 pub mod LineRuns

@@ -3,41 +3,39 @@ use Rattle.std.specs.Prelude.{◌≡◌, ℕ, nat_eq, List, ◌⊎◌, flat_map,
 use Rattle.std.specs.Io.KnownBytes.{Appends, IsAtEnd}
 use Rattle.lru_limits.specs.Rules.{Rules, Offers}
 use Rattle.lru_model.specs.State.{IsSized}
-use Rattle.replay_model.specs.declared.lines.command.Command.{Command}
-use Rattle.replay_model.specs.declared.lines.command.Command.TheVariants as commands
+use Rattle.replay_model.specs.declared.calls.Call.{Call}
+use Rattle.replay_model.specs.declared.calls.Call.TheVariants as calls
 use Rattle.replay_model.specs.declared.lines.outcome.ReplayError.{ReplayError}
 use Rattle.replay_model.specs.declared.lines.outcome.ReplayError.TheVariants as errors
 use Rattle.replay_model.specs.CallRuns.{IsRun}
-use Rattle.replay_model.specs.Commands.{call_of}
-use Rattle.replay_model.specs.Grammar.{SpellsCommand}
+use Rattle.replay_model.specs.Grammar.{SpellsCall}
 use Rattle.replay_model.specs.Lines.{lines_of, fed, TakesLines}
 use Rattle.replay_model.specs.Maps.{Map, hash_of}
 use Rattle.replay_model.specs.Output.{reply_text, bad_text, Writes, Begins}
 use Rattle.replay_model.specs.Replies.{Reply, no_memory}
 use Rattle.replay_model.specs.Steps.{ReplyStep}
 
--- The command lists the pairs that its insert passes on before it writes them. The list takes memory.
-abbrev pub StoresFirst : Command → Type 0
-StoresFirst (commands.Put k v) = Unit {0}
-StoresFirst command = ⊥
+-- The line of the call lists the pairs that its insert passes on before it writes them. The list takes memory.
+abbrev pub StoresFirst : {S : Type 0} → Call ℕ ℕ S → Type 0
+StoresFirst (calls.InsertWith k v) = Unit {0}
+StoresFirst call = ⊥
 
 module _ {S : Type 0} (rules : Rules ℕ ℕ S) (offers : Offers ℕ ℕ S ℕ) where
-  -- the call of the command is carried out, or no memory is found to store pairs, and nothing changes
-  abbrev pub AnswersCommand : Map S → Command → Reply ℕ ℕ → Map S → Type 0
-  AnswersCommand old command reply new = ReplyStep rules offers nat_eq hash_of old (call_of command) reply new
-      ⊎ (StoresFirst command × (reply ≡ no_memory) × (new ≡ old))
+  -- the call is carried out, or no memory is found to store pairs, and nothing changes
+  abbrev pub AnswersCall : Map S → Call ℕ ℕ S → Reply ℕ ℕ → Map S → Type 0
+  AnswersCall old call reply new = ReplyStep rules offers nat_eq hash_of old call reply new
+      ⊎ (StoresFirst call × (reply ≡ no_memory) × (new ≡ old))
 
 module _ {S : Type 0} (rules : Rules ℕ ℕ S) (offers : Offers ℕ ℕ S ℕ) (reported : S → Option ℕ) where
-  -- the command is carried out, and the text is the text of the reply
-  abbrev pub CommandStep : Map S → Command → List ℕ → Map S → Type 0
-  CommandStep old command text new = (reply : Reply ℕ ℕ)
-      × AnswersCommand rules offers old command reply new
+  -- the call is carried out, and the text is the text of the reply
+  abbrev pub TextStep : Map S → Call ℕ ℕ S → List ℕ → Map S → Type 0
+  TextStep old call text new = (reply : Reply ℕ ℕ) × AnswersCall rules offers old call reply new
       × (text ≡ reply_text (reported old.limiter) reply)
 
-  -- The line spells a command, which is carried out, or it spells none, is bad, and changes nothing.
+  -- The line spells a call, which is carried out, or it spells none, is bad, and changes nothing.
   abbrev pub LineStep : Map S → List ℕ → List ℕ → Map S → Type 0
-  LineStep old line text new = ((command : Command) × SpellsCommand line command × CommandStep old command text new)
-      ⊎ (((command : Command) → SpellsCommand line command → ⊥) × (text ≡ bad_text) × (new ≡ old))
+  LineStep old line text new = ((call : Call ℕ ℕ S) × SpellsCall line call × TextStep old call text new)
+      ⊎ (((call : Call ℕ ℕ S) → SpellsCall line call → ⊥) × (text ≡ bad_text) × (new ≡ old))
 
   -- The line is answered, and its text is written with a line feed, or a beginning of that if a write failed.
   abbrev pub AnswersLine : Map S → List ℕ → Map S → Option (List ℕ) → Option (List ℕ) → Result (Unit {0}) ReplayError

@@ -115,7 +115,7 @@ reply_text cost (shrunk result) = shrink_text result
 reply_text cost (stats figures) = figures_text figures ++ cost_text cost
 reply_text cost done = codes "ok"
 reply_text cost no_memory = codes "no memory"
-reply_text cost cost_differs = []
+reply_text cost cost_differs = codes "cost differs"
 
 -- the text of a line that spells no command
 abbrev pub bad_text : List ℕ

@@ -3,8 +3,8 @@ use Rattle.std.specs.Prelude.{◌≡◌, ℕ, List, [], ◌∷◌, ◌⊎◌, Op
 use Rattle.std.specs.Io.KnownBytes.{Appends, IsAtEnd}
 use Rattle.lru_limits.specs.Limiters.{length_rules, length_offers, memory_rules, no_rules, all_offers}
 use Rattle.lru_limits.specs.declared.limiters.unlimited_compact.UnlimitedCompact.{UnlimitedCompact}
-use Rattle.replay_model.specs.declared.lines.command.Limit.{Limit}
-use Rattle.replay_model.specs.declared.lines.command.Limit.TheVariants as limits
+use Rattle.replay_model.specs.declared.lines.words.Limit.{Limit}
+use Rattle.replay_model.specs.declared.lines.words.Limit.TheVariants as limits
 use Rattle.replay_model.specs.declared.lines.outcome.ReplayEnd.{ReplayEnd}
 use Rattle.replay_model.specs.declared.lines.outcome.ReplayEnd.TheVariants as ends
 use Rattle.replay_model.specs.declared.lines.outcome.ReplayError.{ReplayError}
@@ -52,34 +52,36 @@ abbrev pub SoFar : (List (List ℕ) → List ℕ → Type 0) → List (List ℕ)
 SoFar IsText [] text = text ≡ []
 SoFar IsText (first ∷ others) text = IsText (first ∷ others) text
 
--- Below, as in `LineRuns`, a reader had the bytes `from` left, if they are known, and has `to` left now. A writer's
--- bytes were `old` and are `new`.
-module _ (from old new : Option (List ℕ)) where
-  -- A replay of all the lines was written.
-  abbrev pub WritesReplay : Type 0
-  WritesReplay = OfAll IsReplay from (Appends old new)
-
-  -- A beginning of what is written of the lines was written.
-  abbrev pub WritesCut : Type 0
-  WritesCut = OfAll IsOutput from (Begins old new)
-
+-- What a replay read and wrote, by how it ended. As in `LineRuns`, a reader had the bytes `from` left, if they are known,
+-- and has `to` left now. A writer's bytes were `old` and are `new`.
 module _ (from to old new : Option (List ℕ)) where
-  -- Some whole lines were read, and a part of the next, and the text of the whole lines was written.
-  abbrev pub WritesSoFar : Type 0
-  WritesSoFar = OfRead (SoFar IsReplay) from to (Appends old new)
+  -- The first line names a limit, a replay of all the lines was written, and nothing is left to read.
+  pub record Finished : Type 0 where
+    pub named : IfSome from (λ input. NamesNoLimit (lines_of input) → ⊥)
+    pub replay : OfAll IsReplay from (Appends old new)
+    pub at_end : OnSome from (IsAtEnd to)
 
-  -- A beginning of what is written of the lines was written, and all lines were read, or the first n, and then a part
-  -- of the next may have been read.
-  abbrev pub WritesCutSoFar : Type 0
-  WritesCutSoFar = BeginsText IsOutput (SoFar IsOutput) from to old new
+  -- The first line names no limit, or there is none. It alone was read, and that was written.
+  pub record HasNoLimit : Type 0 where
+    pub unnamed : IfSome from (λ input. NamesNoLimit (lines_of input))
+    pub reads : TakesFirst from to
+    pub writes : Appends old new no_limiter_text
 
-  -- what was read and written, by how the replay ended
+  -- A read failed: the text of the lines that were read whole was written, and nothing else.
+  abbrev pub ReadFailed : Type 0
+  ReadFailed = OfRead (SoFar IsReplay) from to (Appends old new)
+
+  -- A write failed: a beginning was written of what a replay of these lines writes, and of what a replay of all lines
+  -- writes, or of those that were read whole.
+  pub record WriteFailed : Type 0 where
+    pub cut : OfAll IsOutput from (Begins old new)
+    pub reads : BeginsText IsOutput (SoFar IsOutput) from to old new
+
   abbrev pub Replays : Result ReplayEnd ReplayError → Type 0
-  Replays (Ok ends.Done) = WritesReplay from old new × OnSome from (IsAtEnd to)
-  Replays (Ok ends.NoLimiter) =
-      IfSome from (λ input. NamesNoLimit (lines_of input)) × TakesFirst from to × Appends old new no_limiter_text
-  Replays (Err errors.Read) = WritesSoFar
-  Replays (Err errors.Write) = WritesCutSoFar
+  Replays (Ok ends.Done) = Finished
+  Replays (Ok ends.NoLimiter) = HasNoLimit
+  Replays (Err errors.Read) = ReadFailed
+  Replays (Err errors.Write) = WriteFailed
 
 -- 0 if the lines were carried out, 1 if none names a limit, and 2 if a read or a write failed
 abbrev pub status_of : Result ReplayEnd ReplayError → ℕ

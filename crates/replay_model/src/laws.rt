@@ -23,7 +23,7 @@ use std::hash::Hash;
 /// Over any calls the count of moved entries and the potential together rise by at most two for each entry that inserts
 /// store, and by one for each entry that shrinks rehash, while neither the count of stored entries nor the count of
 /// rehashed entries has reached `u64::MAX`. So it is under a limiter with a running total.
-pub fn calls_pay_for_moves<K: Eq + Hash, V, L: Insertion<K, V, K>, S: KeyHasher<K>>()
+pub fn lists_pay_for_moves<K: Eq + Hash, V, L: Insertion<K, V, K>, S: KeyHasher<K>>()
     ensures rise { (old new : State K V L S) (calls : List (Call K V L)) (replies : List (Reply K V)) →
         IsRun (CallStep L.rules L.offers K.eq S.hash_of) (IsMap K.eq)
         old calls replies new → IsSized old → PaysForMoves old new }
@@ -38,7 +38,7 @@ pub fn calls_pay_for_moves<K: Eq + Hash, V, L: Insertion<K, V, K>, S: KeyHasher<
 /// A list of calls evicts from the old end alone: of the pairs whose keys none of the calls names, those that are left
 /// are the newest, in their order, unless one of the calls is `PopNewest`. So does a list under a limiter with a
 /// running total.
-pub fn calls_evict_the_oldest<K: Eq + Hash, V, L: Insertion<K, V, K>, S: KeyHasher<K>>()
+pub fn lists_evict_the_oldest<K: Eq + Hash, V, L: Insertion<K, V, K>, S: KeyHasher<K>>()
     ensures oldest { (test : K → Bool) (old new : State K V L S) (calls : List (Call K V L))
         (replies : List (Reply K V)) →
         IsRun (CallStep L.rules L.offers K.eq S.hash_of) (IsMap K.eq) old calls replies new →
@@ -53,7 +53,7 @@ pub fn calls_evict_the_oldest<K: Eq + Hash, V, L: Insertion<K, V, K>, S: KeyHash
 
 /// With `ByLength` there are at most `max_length` pairs after each of the calls, if there were no more before, and none
 /// sets another limiter.
-pub fn calls_keep_the_length<K: Eq + Hash + Drop, V: Drop, S: KeyHasher<K>>()
+pub fn lists_keep_the_length<K: Eq + Hash + Drop, V: Drop, S: KeyHasher<K>>()
     ensures length { (old new : State K V ByLength S) (calls : List (Call K V ByLength)) (replies : List (Reply K V)) →
         IsRun (CallStep ⟦<ByLength as Limiter<K, V>>⟧.rules ⟦<ByLength as Insertion<K, V, K>>⟧.offers K.eq
         S.hash_of) (IsMap K.eq) old calls replies new →
@@ -66,7 +66,7 @@ pub fn calls_keep_the_length<K: Eq + Hash + Drop, V: Drop, S: KeyHasher<K>>()
 
 /// With `ByMemoryUsage` the table uses at most `max_memory_usage` bytes after each of the calls, if it used no more
 /// before, and none sets another limiter.
-pub fn calls_keep_the_memory_usage<K: Eq + Hash + Drop, V: Drop, S: KeyHasher<K>>()
+pub fn lists_keep_the_memory_usage<K: Eq + Hash + Drop, V: Drop, S: KeyHasher<K>>()
     ensures usage { (old new : State K V ByMemoryUsage S) (calls : List (Call K V ByMemoryUsage))
         (replies : List (Reply K V)) →
         IsRun (CallStep ⟦<ByMemoryUsage as Limiter<K, V>>⟧.rules ⟦<ByMemoryUsage as Insertion<K, V, K>>⟧.offers K.eq
@@ -81,7 +81,7 @@ pub fn calls_keep_the_memory_usage<K: Eq + Hash + Drop, V: Drop, S: KeyHasher<K>
 /// With any limiter that has a budget, as `ByCost` and `ByWeight` have, the running total is at most the budget after
 /// each of the calls, if that held before and the total was the sum of the costs of the pairs, and none sets another
 /// limiter.
-pub fn calls_keep_the_budget<K: Eq + Hash, V, L: Budgeted<K, V>, S: KeyHasher<K>>()
+pub fn lists_keep_the_budget<K: Eq + Hash, V, L: Budgeted<K, V>, S: KeyHasher<K>>()
     ensures total { (old new : State K V L S) (calls : List (Call K V L)) (replies : List (Reply K V)) →
         IsRun (SummingStep L.rules L.offers K.eq S.hash_of L.cost_of L.account) (IsMap K.eq) old calls replies new →
         AllByRecursion SetsNoLimiter calls → IsSummed L.cost_of L.account old →

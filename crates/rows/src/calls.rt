@@ -1,10 +1,11 @@
 //! Calls on a map, as lines spell them.
 use crate::limiters::{Numbered, number_of};
 use replay_model::Call;
+use replay_model::lines::words;
 use std::alloc::Global;
 
-/// The calls that the lines spell, by the names of the program's lines if they have them. A line that spells no call
-/// asks for the figures, which is not what its row expects. Out of memory, a call is missing.
+/// The calls that the lines spell, as lines of the program if they are such lines. A line that spells no call asks for
+/// the figures, which is not what its row expects. Out of memory, a call is missing.
 pub fn calls_of<L: Numbered + Drop>(alloc: Global, lines: &str) -> Vec<Call<u64, u64, L>> {
     let mut calls = Vec::new(alloc);
     for line in lines.lines() {
@@ -20,35 +21,21 @@ fn number(text: &str) -> u64 {
 
 /// The call that the line spells.
 fn call_of<L: Numbered>(line: &str) -> Call<u64, u64, L> {
-    let (word, rest) = line.split_once(' ').unwrap_or((line, ""));
-    if word == "set" {
-        return Call::SetLimiter(L::of(number_of(rest)));
-    }
-    match rest.split_once(' ') {
-        Some((first, second)) => call_of_pair(word, number(first), number(second)),
-        None => call_of_number(word, number(rest)),
+    match words::call_of(line.as_bytes()) {
+        Some(call) => call,
+        None => other_call(line),
     }
 }
 
-/// The call that a word and at most one number spell.
-fn call_of_number<L>(word: &str, number: u64) -> Call<u64, u64, L> {
-    match word {
-        "get" => Call::Get(number),
-        "peek" => Call::Peek(number),
-        "contains" => Call::Contains(number),
-        "promote" => Call::Promote(number),
-        "demote" => Call::Demote(number),
-        "remove" => Call::Remove(number),
-        "remove-entry" => Call::RemoveEntry(number),
-        "reserve" => Call::Reserve(number as usize),
-        "pop-oldest" => Call::PopOldest,
-        "pop-newest" => Call::PopNewest,
-        "peek-oldest" => Call::PeekOldest,
-        "peek-newest" => Call::PeekNewest,
-        "shrink" => Call::Shrink,
-        "trim" => Call::Trim,
-        "clear" => Call::Clear,
-        "list" => Call::List,
+/// The call that the line spells, if it is no line of the program.
+fn other_call<L: Numbered>(line: &str) -> Call<u64, u64, L> {
+    let (word, rest) = line.split_once(' ').unwrap_or((line, ""));
+    match (word, rest.split_once(' ')) {
+        ("peek-oldest", None) => Call::PeekOldest,
+        ("peek-newest", None) => Call::PeekNewest,
+        ("trim", None) => Call::Trim,
+        ("set", _) => Call::SetLimiter(L::of(number_of(rest))),
+        (_, Some((first, second))) => call_of_pair(word, number(first), number(second)),
         _ => Call::Stats,
     }
 }
@@ -56,9 +43,6 @@ fn call_of_number<L>(word: &str, number: u64) -> Call<u64, u64, L> {
 /// The call that a word and two numbers spell.
 fn call_of_pair<L>(word: &str, first: u64, second: u64) -> Call<u64, u64, L> {
     match word {
-        "insert" => Call::Insert(first, second),
-        "put" => Call::InsertWith(first, second),
-        "update" => Call::Update(first, second),
         "get-or-insert" => Call::GetOrInsert(first, second),
         "get-by-hash" => Call::GetByHash(first, second),
         "peek-by-hash" => Call::PeekByHash(first, second),

@@ -13,12 +13,12 @@ use std::io::Write;
 pub fn write_drain<L: Insertion<u64, u64, u64>, W: Write>(
     writer: &mut W,
     map: &mut LruMap<u64, u64, L>,
-    most: u64,
+    most: usize,
 ) -> Result<(), ReplayError>
     ensures { (pairs : List (ℕ × ℕ)) × Drained L.rules most 0 map.old pairs map.new
         × Writes (W.contents writer.old) (W.contents writer.new) result (pairs_text pairs) }
 {
-    let count = most.min(map.len() as u64);
+    let count = most.min(map.len());
     let mut any = false;
     let mut written = Ok(());
     for _ in 0..count {

@@ -1,28 +1,19 @@
 //! A replay, from the lines of a reader to the answer lines of a writer.
-ghost use Rattle.std.specs.Prelude.{◌≡◌, ◌↔◌, ℕ, List, IfSome, OnOk, IsErrOf};
-ghost use Rattle.std.specs.Io.KnownBytes.{Appends, IsAtEnd};
-ghost use Rattle.std.specs.Option.{OnSome};
+ghost use Rattle.std.specs.Prelude.{ℕ, List};
 ghost use Rattle.lru_model.specs.State.{IsSized};
-ghost use Rattle.replay_model.specs.Lines.{lines_of, TakesFirst};
 ghost use Rattle.replay_model.specs.Maps.{empty};
-ghost use Rattle.replay_model.specs.Output.{Writes, no_limiter_text};
-ghost use Rattle.replay_model.specs.Replay.{IsTextUnder, NamesNoLimit, WritesReplay, WritesSoFar, WritesCut};
-ghost use Rattle.replay_model.specs.Replay.{WritesCutSoFar, Replays};
+ghost use Rattle.replay_model.specs.Output.{Writes};
+ghost use Rattle.replay_model.specs.Replay.{IsTextUnder, Replays};
 ghost use Rattle.replay_model.specs.LineRuns.{LineStep, AnswersLine, IsTextOf, Answers};
 
-use crate::calls::steps::get;
+use crate::calls::runs::make_call;
 use crate::lines::drain::write_drain;
-use crate::lines::figures::figures_of;
 use crate::lines::pairs::write_pairs;
-use crate::lines::put::write_put;
-use replay_model::lines::command::{Command, Limit, command_of, limit_of};
 use replay_model::lines::figures::ReportsCost;
 use replay_model::lines::line::{Ending, Line, read_line};
-use replay_model::lines::output::{
-    write_bytes, write_cost, write_figures, write_flag, write_insert, write_left,
-    write_reservation, write_shrink, write_updated, write_value,
-};
-use replay_model::{ReplayEnd, ReplayError};
+use replay_model::lines::output::{write_answer, write_bytes};
+use replay_model::lines::words::{Limit, call_of, limit_of};
+use replay_model::{Call, ReplayEnd, ReplayError};
 use schnellru::{
     ByCost, ByLength, ByMemoryUsage, Insertion, LruMap, RandomState, UnlimitedCompact,
 };
@@ -32,8 +23,9 @@ use std::io::{BufRead, Write};
 /// The bytes that the map counts for an entry, unless the first line says otherwise.
 const ENTRY_BYTES: usize = 32;
 
-/// Carries out what a line says, and writes the answer.
-fn answer_command<L: Insertion<u64, u64, u64> + ReportsCost, W: Write>(
+/// Carries out what a line says, and writes the answer. The lines `list` and `drain` take no memory for it.
+fn answer_call<L: Insertion<u64, u64, u64> + ReportsCost + Drop, W: Write>(
+    alloc: Global,
     map: &mut LruMap<u64, u64, L>,
     line: &[u8],
     writer: &mut W,
@@ -41,37 +33,23 @@ fn answer_command<L: Insertion<u64, u64, u64> + ReportsCost, W: Write>(
     ensures { (text : List ℕ) × LineStep L.rules L.offers L.reported map.old line.now text map.new
         × Writes (W.contents writer.old) (W.contents writer.new) result text }
 {
-    match command_of(line) {
-        Some(Command::Insert(key, value)) => write_insert(writer, map.insert(key, value)),
-        Some(Command::Put(key, value)) => write_put(writer, map, key, value),
-        Some(Command::Update(key, value)) => write_updated(writer, map.update(key, value)),
-        Some(Command::Get(key)) => write_value(writer, get(map, &key)),
-        Some(Command::Peek(key)) => write_value(writer, map.peek(&key).copied()),
-        Some(Command::Remove(key)) => write_value(writer, map.remove(&key)),
-        Some(Command::RemoveEntry(key)) => write_left(writer, map.remove_entry(&key)),
-        Some(Command::Contains(key)) => write_flag(writer, map.contains(&key)),
-        Some(Command::Promote(key)) => write_flag(writer, map.promote(&key)),
-        Some(Command::Demote(key)) => write_flag(writer, map.demote(&key)),
-        Some(Command::PopOldest) => write_left(writer, map.pop_oldest()),
-        Some(Command::PopNewest) => write_left(writer, map.pop_newest()),
-        Some(Command::Reserve(n)) => write_reservation(writer, map.try_reserve(n as usize)),
-        Some(Command::Shrink) => write_shrink(writer, map.shrink_to_fit()),
-        Some(Command::Drain(n)) => write_drain(writer, map, n),
-        Some(Command::Clear) => {
-            map.clear();
-            write_bytes(writer, b"ok")
-        }
-        Some(Command::List) => write_pairs(writer, map.iter()),
-        Some(Command::Stats) => {
-            write_figures(writer, figures_of(map))?;
-            write_cost(writer, map.limiter().reported_cost())
-        }
-        None => write_bytes(writer, b"bad"),
+    let Some(call) = call_of(line) else {
+        return write_bytes(writer, b"bad");
+    };
+    if let Call::List = call {
+        return write_pairs(writer, map.iter());
     }
+    if let Call::Drain { front, back: _ } = call {
+        return write_drain(writer, map, front);
+    }
+    let cost = map.limiter().reported_cost();
+    let answer = make_call(alloc, map, call);
+    write_answer(writer, answer, cost)
 }
 
 /// Carries out what a line says, and writes the answer line.
-fn answer_line<L: Insertion<u64, u64, u64> + ReportsCost, W: Write>(
+fn answer_line<L: Insertion<u64, u64, u64> + ReportsCost + Drop, W: Write>(
+    alloc: Global,
     map: &mut LruMap<u64, u64, L>,
     line: &[u8],
     writer: &mut W,
@@ -80,7 +58,7 @@ fn answer_line<L: Insertion<u64, u64, u64> + ReportsCost, W: Write>(
         (W.contents writer.old) (W.contents writer.new) result }
     ensures sized { IsSized map.new }
 {
-    let carried_out = answer_command(map, line, writer);
+    let carried_out = answer_call(alloc, map, line, writer);
     learn(map);
     carried_out?;
     write_bytes(writer, b"\n")
@@ -94,7 +72,8 @@ fn learn<L: Insertion<u64, u64, u64>>(map: &LruMap<u64, u64, L>)
 }
 
 /// Answers the lines up to the reader's end.
-fn answer_lines<L: Insertion<u64, u64, u64> + ReportsCost, R: BufRead, W: Write>(
+fn answer_lines<L: Insertion<u64, u64, u64> + ReportsCost + Drop, R: BufRead, W: Write>(
+    alloc: Global,
     map: &mut LruMap<u64, u64, L>,
     reader: &mut R,
     writer: &mut W,
@@ -105,8 +84,8 @@ fn answer_lines<L: Insertion<u64, u64, u64> + ReportsCost, R: BufRead, W: Write>
     let mut line = Line::new();
     for _ in 0..u64::MAX {
         match read_line(reader, &mut line)? {
-            Ending::Feed => answer_line(map, line.as_slice(), writer)?,
-            Ending::InputEnd => return answer_line(map, line.as_slice(), writer),
+            Ending::Feed => answer_line(alloc, map, line.as_slice(), writer)?,
+            Ending::InputEnd => return answer_line(alloc, map, line.as_slice(), writer),
             Ending::Nothing => return Ok(()),
         }
     }
@@ -126,7 +105,7 @@ fn answer_with<L: Insertion<u64, u64, u64> + ReportsCost + Drop, R: BufRead, W: 
         (R.remaining reader.old) (R.remaining reader.new) (W.contents writer.old) (W.contents writer.new) result }
 {
     let mut map = LruMap::with_hasher(alloc, limiter, RandomState::default(), entry_bytes);
-    answer_lines(&mut map, reader, writer)
+    answer_lines(alloc, &mut map, reader, writer)
 }
 
 /// Answers the lines on an empty map under the limit.
@@ -172,25 +151,6 @@ fn answer_all<R: BufRead, W: Write>(
     Ok(ReplayEnd::Done)
 }
 
-/// Answers all lines, and flushes what is written, unless a write failed.
-fn answer_and_flush<R: BufRead, W: Write>(
-    alloc: Global,
-    reader: &mut R,
-    writer: &mut W,
-) -> Result<ReplayEnd, ReplayError>
-    ensures { Replays (R.remaining reader.old) (R.remaining reader.new)
-        (W.contents writer.old) (W.contents writer.new) result }
-{
-    let end = answer_all(alloc, reader, writer);
-    if let Err(ReplayError::Write) = end {
-        return end;
-    }
-    match writer.flush() {
-        Ok(()) => end,
-        Err(_) => Err(ReplayError::Write),
-    }
-}
-
 /// Carries out the lines of the reader on an LRU map, and writes the answer lines. The first line names the limiter and
 /// has no answer; docs/REPLAY.md lists the lines and their answers. The output is flushed once, at the end, unless a
 /// write failed.
@@ -217,30 +177,15 @@ pub fn replay<R: BufRead, W: Write>(
     reader: &mut R,
     writer: &mut W,
 ) -> Result<ReplayEnd, ReplayError>
-    // The first line names a limit, and all lines after it were answered: what was written is the text of a
-    // run over them, from the empty map.
-    ensures done { result ≡ Ok ReplayEnd.Done →
-        WritesReplay (R.remaining reader.old) (W.contents writer.old) (W.contents writer.new) }
-    ensures done_at_the_end { result ≡ Ok ReplayEnd.Done →
-        OnSome (R.remaining reader.old) (IsAtEnd (R.remaining reader.new)) }
-    // Otherwise the first line names no limit, or there is none. It alone was read, and that was written.
-    ensures no_limiter { OnOk result (IfSome (R.remaining reader.old)
-        (λ input. (result ≡ Ok ReplayEnd.NoLimiter) ↔ NamesNoLimit (lines_of input))) }
-    ensures no_limiter_text { result ≡ Ok ReplayEnd.NoLimiter →
-        Appends (W.contents writer.old) (W.contents writer.new) no_limiter_text }
-    ensures no_limiter_reads { result ≡ Ok ReplayEnd.NoLimiter →
-        TakesFirst (R.remaining reader.old) (R.remaining reader.new) }
-    // The lines that were read whole are answered, and nothing else is written.
-    ensures read_failed { IsErrOf result ReplayError.Read →
-        WritesSoFar (R.remaining reader.old) (R.remaining reader.new)
-        (W.contents writer.old) (W.contents writer.new) }
-    // What was written is a beginning of what a replay of these lines writes, and of what one of the lines that
-    // were read writes.
-    ensures write_failed { IsErrOf result ReplayError.Write →
-        WritesCut (R.remaining reader.old) (W.contents writer.old) (W.contents writer.new) }
-    ensures write_failed_reads { IsErrOf result ReplayError.Write →
-        WritesCutSoFar (R.remaining reader.old) (R.remaining reader.new)
-        (W.contents writer.old) (W.contents writer.new) }
+    ensures { Replays (R.remaining reader.old) (R.remaining reader.new)
+        (W.contents writer.old) (W.contents writer.new) result }
 {
-    answer_and_flush(alloc, reader, writer)
+    let end = answer_all(alloc, reader, writer);
+    if let Err(ReplayError::Write) = end {
+        return end;
+    }
+    match writer.flush() {
+        Ok(()) => end,
+        Err(_) => Err(ReplayError::Write),
+    }
 }

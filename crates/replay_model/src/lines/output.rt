@@ -2,8 +2,10 @@
 ghost use Rattle.std.specs.Prelude.{Option, [], ◌++◌, decimal};
 ghost use Rattle.replay_model.specs.Output.{Writes, flag_text, value_text, left_text, pair_text, rest_text};
 ghost use Rattle.replay_model.specs.Output.{reservation_text, shrink_text, figures_text, placed_text, cost_text};
-ghost use Rattle.replay_model.specs.Output.{named_text, taken_text, insert_text, updated_text};
+ghost use Rattle.replay_model.specs.Output.{named_text, taken_text, insert_text, updated_text, reply_text, pairs_text};
+ghost use Rattle.replay_model.specs.Replies.{said};
 
+use crate::calls::Answer;
 use crate::lines::figures::Figures;
 use crate::lines::outcome::ReplayError;
 use lru_model::{ReserveError, Updated};
@@ -32,8 +34,48 @@ pub fn write_bytes<W: Write>(writer: &mut W, bytes: &[u8]) -> Result<(), ReplayE
     Err(ReplayError::Write)
 }
 
+/// Writes the text of an answer. The running total follows the figures, if the limiter keeps one.
+pub fn write_answer<W: Write>(
+    writer: &mut W,
+    answer: Answer<u64, u64>,
+    cost: Option<u64>,
+) -> Result<(), ReplayError>
+    ensures { Writes (W.contents writer.old) (W.contents writer.new) result (reply_text cost (said answer)) }
+{
+    match answer {
+        Answer::Flag(flag) => write_flag(writer, flag),
+        Answer::Given { done, out } => write_given(writer, done, out.as_slice()),
+        Answer::Updated(updated) => write_updated(writer, updated),
+        Answer::Value(value) => write_value(writer, value),
+        Answer::Pair(pair) => write_left(writer, pair),
+        Answer::Pairs(pairs) => write_listed(writer, pairs.as_slice()),
+        Answer::Done => write_bytes(writer, b"ok"),
+        Answer::Reserved(reserved) => write_reservation(writer, reserved),
+        Answer::Shrunk(shrunk) => write_shrink(writer, shrunk),
+        Answer::Stats {
+            len,
+            capacity,
+            memory,
+            report,
+        } => {
+            let figures = Figures {
+                len,
+                capacity,
+                memory,
+                moved: report.moved,
+                placed: report.placed,
+                shrunk: report.shrunk,
+            };
+            write_figures(writer, figures)?;
+            write_cost(writer, cost)
+        }
+        Answer::Memory => write_bytes(writer, b"no memory"),
+        Answer::CostDiffers => write_bytes(writer, b"cost differs"),
+    }
+}
+
 /// Writes `true` or `false`.
-pub fn write_flag<W: Write>(writer: &mut W, flag: bool) -> Result<(), ReplayError>
+fn write_flag<W: Write>(writer: &mut W, flag: bool) -> Result<(), ReplayError>
     ensures { Writes (W.contents writer.old) (W.contents writer.new) result (flag_text flag) }
 {
     if flag {
@@ -44,7 +86,7 @@ pub fn write_flag<W: Write>(writer: &mut W, flag: bool) -> Result<(), ReplayErro
 }
 
 /// Writes what an insert returned, and after it the pairs that the map lost.
-pub fn write_given<W: Write>(
+fn write_given<W: Write>(
     writer: &mut W,
     done: Result<bool, AllocError>,
     out: &[(u64, u64)],
@@ -56,10 +98,7 @@ pub fn write_given<W: Write>(
 }
 
 /// Writes whether the key is there, or `no memory`.
-pub fn write_insert<W: Write>(
-    writer: &mut W,
-    done: Result<bool, AllocError>,
-) -> Result<(), ReplayError>
+fn write_insert<W: Write>(writer: &mut W, done: Result<bool, AllocError>) -> Result<(), ReplayError>
     ensures { Writes (W.contents writer.old) (W.contents writer.new) result (insert_text done) }
 {
     match done {
@@ -79,8 +118,19 @@ fn write_passed<W: Write>(writer: &mut W, pairs: &[(u64, u64)]) -> Result<(), Re
     Ok(())
 }
 
+/// Writes the pairs with one space between them, or `-` for none.
+fn write_listed<W: Write>(writer: &mut W, pairs: &[(u64, u64)]) -> Result<(), ReplayError>
+    ensures { Writes (W.contents writer.old) (W.contents writer.new) result (pairs_text pairs.now) }
+{
+    let Some((first, rest)) = pairs.split_first() else {
+        return write_bytes(writer, b"-");
+    };
+    write_pair(writer, first.0, first.1)?;
+    write_passed(writer, rest)
+}
+
 /// Writes the value, or `none`.
-pub fn write_value<W: Write>(writer: &mut W, value: Option<u64>) -> Result<(), ReplayError>
+fn write_value<W: Write>(writer: &mut W, value: Option<u64>) -> Result<(), ReplayError>
     ensures { Writes (W.contents writer.old) (W.contents writer.new) result (value_text value) }
 {
     match value {
@@ -90,7 +140,7 @@ pub fn write_value<W: Write>(writer: &mut W, value: Option<u64>) -> Result<(), R
 }
 
 /// Writes the pair, or `none`.
-pub fn write_left<W: Write>(writer: &mut W, left: Option<(u64, u64)>) -> Result<(), ReplayError>
+fn write_left<W: Write>(writer: &mut W, left: Option<(u64, u64)>) -> Result<(), ReplayError>
     ensures { Writes (W.contents writer.old) (W.contents writer.new) result (left_text left) }
 {
     match left {
@@ -100,7 +150,7 @@ pub fn write_left<W: Write>(writer: &mut W, left: Option<(u64, u64)>) -> Result<
 }
 
 /// Writes that there is room, or why not.
-pub fn write_reservation<W: Write>(
+fn write_reservation<W: Write>(
     writer: &mut W,
     reserved: Result<(), ReserveError>,
 ) -> Result<(), ReplayError>
@@ -115,7 +165,7 @@ pub fn write_reservation<W: Write>(
 }
 
 /// Writes whether the table has fewer buckets now, as `ok` or `kept`, or `no memory`.
-pub fn write_shrink<W: Write>(
+fn write_shrink<W: Write>(
     writer: &mut W,
     shrunk: Result<bool, AllocError>,
 ) -> Result<(), ReplayError>
@@ -129,7 +179,7 @@ pub fn write_shrink<W: Write>(
 }
 
 /// Writes what an update did, and the value that the map does not have then.
-pub fn write_updated<W: Write>(writer: &mut W, updated: Updated<u64>) -> Result<(), ReplayError>
+fn write_updated<W: Write>(writer: &mut W, updated: Updated<u64>) -> Result<(), ReplayError>
     ensures { Writes (W.contents writer.old) (W.contents writer.new) result (updated_text updated) }
 {
     match updated {
@@ -140,7 +190,7 @@ pub fn write_updated<W: Write>(writer: &mut W, updated: Updated<u64>) -> Result<
 }
 
 /// Writes the figures by their names.
-pub fn write_figures<W: Write>(writer: &mut W, figures: Figures) -> Result<(), ReplayError>
+fn write_figures<W: Write>(writer: &mut W, figures: Figures) -> Result<(), ReplayError>
     ensures { Writes (W.contents writer.old) (W.contents writer.new) result (figures_text figures) }
 {
     write_named(writer, b"len ", figures.len as u64)?;
@@ -163,7 +213,7 @@ fn write_placed<W: Write>(writer: &mut W, placed: u64, shrunk: u64) -> Result<()
 }
 
 /// Writes the cost after the figures, if there is one.
-pub fn write_cost<W: Write>(writer: &mut W, cost: Option<u64>) -> Result<(), ReplayError>
+fn write_cost<W: Write>(writer: &mut W, cost: Option<u64>) -> Result<(), ReplayError>
     ensures { Writes (W.contents writer.old) (W.contents writer.new) result (cost_text cost) }
 {
     match cost {

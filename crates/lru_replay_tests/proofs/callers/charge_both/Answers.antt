@@ -9,7 +9,7 @@ pub returns : goal.returns
 returns c =
     let old = c.args.map.now in let new = c.run_summing.new.map in let calls = c.in_ok-calls.calls.items in
     let none : AllByRecursion SetsNoLimiter calls = rw c.in_ok-calls.ensures.items (tt, (tt, tt)) in
-    let law = c.calls_keep_the_budget.ensures.total in
+    let law = c.lists_keep_the_budget.ensures.total in
     follows c.run_summing.result (λ answers run.
     run_holds _ (λ st. st.limiter.cost ≤ old.limiter.limit) old calls _ new c.requires.within
     (law old new calls _ run none c.requires.summed c.requires.within))

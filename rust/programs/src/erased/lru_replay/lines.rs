@@ -5,7 +5,5 @@
 use crate::rattle_std::prelude::*;
 
 mod drain;
-mod figures;
 mod pairs;
-mod put;
 pub(crate) mod replays;

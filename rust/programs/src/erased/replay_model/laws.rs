@@ -14,33 +14,33 @@ use crate::rattle_std::hash::Hash;
 /// Over any calls the count of moved entries and the potential together rise by at most two for each entry that inserts
 /// store, and by one for each entry that shrinks rehash, while neither the count of stored entries nor the count of
 /// rehashed entries has reached `u64::MAX`. So it is under a limiter with a running total.
-pub fn calls_pay_for_moves<K: Eq + Hash, V, L: Insertion<K, V, K>, S: KeyHasher<K>>() {
+pub fn lists_pay_for_moves<K: Eq + Hash, V, L: Insertion<K, V, K>, S: KeyHasher<K>>() {
     laws::runs_pay_for_moves::<K, V, K, L, S>();
 }
 
 /// A list of calls evicts from the old end alone: of the pairs whose keys none of the calls names, those that are left
 /// are the newest, in their order, unless one of the calls is `PopNewest`. So does a list under a limiter with a
 /// running total.
-pub fn calls_evict_the_oldest<K: Eq + Hash, V, L: Insertion<K, V, K>, S: KeyHasher<K>>() {
+pub fn lists_evict_the_oldest<K: Eq + Hash, V, L: Insertion<K, V, K>, S: KeyHasher<K>>() {
     laws::runs_evict_the_oldest::<K, V, K, L, S>();
 }
 
 /// With `ByLength` there are at most `max_length` pairs after each of the calls, if there were no more before, and none
 /// sets another limiter.
-pub fn calls_keep_the_length<K: Eq + Hash, V, S: KeyHasher<K>>() {
+pub fn lists_keep_the_length<K: Eq + Hash, V, S: KeyHasher<K>>() {
     laws::runs_keep_the_length::<K, V, S>();
 }
 
 /// With `ByMemoryUsage` the table uses at most `max_memory_usage` bytes after each of the calls, if it used no more
 /// before, and none sets another limiter.
-pub fn calls_keep_the_memory_usage<K: Eq + Hash, V, S: KeyHasher<K>>() {
+pub fn lists_keep_the_memory_usage<K: Eq + Hash, V, S: KeyHasher<K>>() {
     laws::runs_keep_the_memory_usage::<K, V, S>();
 }
 
 /// With any limiter that has a budget, as `ByCost` and `ByWeight` have, the running total is at most the budget after
 /// each of the calls, if that held before and the total was the sum of the costs of the pairs, and none sets another
 /// limiter.
-pub fn calls_keep_the_budget<K: Eq + Hash, V, L: Budgeted<K, V>, S: KeyHasher<K>>() {
+pub fn lists_keep_the_budget<K: Eq + Hash, V, L: Budgeted<K, V>, S: KeyHasher<K>>() {
     laws::runs_keep_the_budget::<K, V, L, S>();
     laws::runs_keep_sums::<K, V, K, L, S>();
 }

@@ -5,9 +5,9 @@
 use crate::rattle_std::prelude::*;
 
 mod bytes;
-pub mod command;
 pub mod figures;
 pub mod line;
 pub mod outcome;
 pub mod output;
 pub mod taken;
+pub mod words;

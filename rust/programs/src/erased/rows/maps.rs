@@ -71,7 +71,7 @@ fn write_under(out: &mut Text, words: &str, calls: Calls) {
 fn write_on<L: Insertion<u64, u64, u64> + Numbered + Debug>(out: &mut Text, calls: Calls) {
     let mut map = LruMap::with_hasher(calls.alloc, L::of(calls.number), calls.hasher, 16);
     let answers = run_calls(calls.alloc, &mut map, calls_of(calls.alloc, calls.lines));
-    write_answers(out, answers);
+    write_answers(calls.alloc, out, answers);
     if calls.shows_limiter {
         out.shown(map.limiter());
     }
@@ -82,7 +82,7 @@ fn write_summing(out: &mut Text, calls: Calls) {
     let limiter = ByCost::new(calls.number);
     let mut map = LruMap::with_hasher(calls.alloc, limiter, calls.hasher, 16);
     let answers = run_summing(calls.alloc, &mut map, calls_of(calls.alloc, calls.lines));
-    write_answers(out, answers);
+    write_answers(calls.alloc, out, answers);
     if calls.shows_limiter {
         out.shown(map.limiter());
     }

@@ -1,8 +1,9 @@
-use Rattle.replay_model.proofs.EndedReplays.{exactly_no_limiter, cut_of_all}
+use Rattle.replay_model.proofs.EndedReplays.{flush_failed, replays-kept}
 use Rattle.lru_replay.proofs.lines.replays.replay.Goals as goal
 
-pub returns-clause-no_limiter : goal.returns-clause-no_limiter
-returns-clause-no_limiter g c = exactly_no_limiter _ _ _ _ _ c.answer_and_flush.ensures
+pub returns-in-Ok : goal.returns-in-Ok
+returns-in-Ok g c = replays-kept _ _ _ _ _ _ c.flush.ensures.bytes c.answer_all-end.ensures
 
-pub returns-clause-write_failed : goal.returns-clause-write_failed
-returns-clause-write_failed g c is = cut_of_all _ _ _ _ (rw is at c.answer_and_flush.ensures)
+pub returns-in-Err : goal.returns-in-Err
+returns-in-Err g c =
+    flush_failed _ _ _ _ _ (replays-kept _ _ _ _ _ _ c.flush.ensures.bytes c.answer_all-end.ensures)

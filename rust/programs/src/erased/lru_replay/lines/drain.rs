@@ -14,9 +14,9 @@ use crate::rattle_std::io::Write;
 pub fn write_drain<L: Insertion<u64, u64, u64>, W: Write>(
     writer: &mut W,
     map: &mut LruMap<u64, u64, L>,
-    most: u64,
+    most: usize,
 ) -> Result<(), ReplayError> {
-    let count = most.min(map.len() as u64);
+    let count = most.min(map.len());
     let mut any = false;
     let mut written = Ok(());
     for _ in 0..count {

@@ -5,67 +5,49 @@
 use crate::rattle_std::prelude::*;
 
 use crate::erased::schnellru::{ByCost, ByLength, ByMemoryUsage, Insertion, LruMap, RandomState, UnlimitedCompact};
-use crate::programs::lru_replay::calls::steps::get;
+use crate::programs::lru_replay::calls::runs::make_call;
 use crate::programs::lru_replay::lines::drain::write_drain;
-use crate::programs::lru_replay::lines::figures::figures_of;
 use crate::programs::lru_replay::lines::pairs::write_pairs;
-use crate::programs::lru_replay::lines::put::write_put;
-use crate::programs::replay_model::lines::command::{Command, Limit, command_of, limit_of};
 use crate::programs::replay_model::lines::figures::ReportsCost;
 use crate::programs::replay_model::lines::line::{Ending, Line, read_line};
-use crate::programs::replay_model::lines::output::{
-    write_bytes, write_cost, write_figures, write_flag, write_insert, write_left, write_reservation, write_shrink,
-    write_updated, write_value,
-};
-use crate::programs::replay_model::{ReplayEnd, ReplayError};
+use crate::programs::replay_model::lines::output::{write_answer, write_bytes};
+use crate::programs::replay_model::lines::words::{Limit, call_of, limit_of};
+use crate::programs::replay_model::{Call, ReplayEnd, ReplayError};
 use crate::rattle_std::alloc::Global;
 use crate::rattle_std::io::{BufRead, Write};
 
 /// The bytes that the map counts for an entry, unless the first line says otherwise.
 const ENTRY_BYTES: usize = 32;
 
-/// Carries out what a line says, and writes the answer.
-fn answer_command<L: Insertion<u64, u64, u64> + ReportsCost, W: Write>(
+/// Carries out what a line says, and writes the answer. The lines `list` and `drain` take no memory for it.
+fn answer_call<L: Insertion<u64, u64, u64> + ReportsCost, W: Write>(
+    alloc: Global,
     map: &mut LruMap<u64, u64, L>,
     line: &[u8],
     writer: &mut W,
 ) -> Result<(), ReplayError> {
-    match command_of(line) {
-        Some(Command::Insert(key, value)) => write_insert(writer, map.insert(key, value)),
-        Some(Command::Put(key, value)) => write_put(writer, map, key, value),
-        Some(Command::Update(key, value)) => write_updated(writer, map.update(key, value)),
-        Some(Command::Get(key)) => write_value(writer, get(map, &key)),
-        Some(Command::Peek(key)) => write_value(writer, map.peek(&key).copied()),
-        Some(Command::Remove(key)) => write_value(writer, map.remove(&key)),
-        Some(Command::RemoveEntry(key)) => write_left(writer, map.remove_entry(&key)),
-        Some(Command::Contains(key)) => write_flag(writer, map.contains(&key)),
-        Some(Command::Promote(key)) => write_flag(writer, map.promote(&key)),
-        Some(Command::Demote(key)) => write_flag(writer, map.demote(&key)),
-        Some(Command::PopOldest) => write_left(writer, map.pop_oldest()),
-        Some(Command::PopNewest) => write_left(writer, map.pop_newest()),
-        Some(Command::Reserve(n)) => write_reservation(writer, map.try_reserve(n as usize)),
-        Some(Command::Shrink) => write_shrink(writer, map.shrink_to_fit()),
-        Some(Command::Drain(n)) => write_drain(writer, map, n),
-        Some(Command::Clear) => {
-            map.clear();
-            write_bytes(writer, b"ok")
-        }
-        Some(Command::List) => write_pairs(writer, map.iter()),
-        Some(Command::Stats) => {
-            write_figures(writer, figures_of(map))?;
-            write_cost(writer, map.limiter().reported_cost())
-        }
-        None => write_bytes(writer, b"bad"),
+    let Some(call) = call_of(line) else {
+        return write_bytes(writer, b"bad");
+    };
+    if let Call::List = call {
+        return write_pairs(writer, map.iter());
     }
+    if let Call::Drain { front, back: _ } = call {
+        return write_drain(writer, map, front);
+    }
+    let cost = map.limiter().reported_cost();
+    let answer = make_call(alloc, map, call);
+    write_answer(writer, answer, cost)
 }
 
 /// Carries out what a line says, and writes the answer line.
 fn answer_line<L: Insertion<u64, u64, u64> + ReportsCost, W: Write>(
+    alloc: Global,
     map: &mut LruMap<u64, u64, L>,
     line: &[u8],
     writer: &mut W,
 ) -> Result<(), ReplayError> {
-    let carried_out = answer_command(map, line, writer);
+    let carried_out = answer_call(alloc, map, line, writer);
     learn(map);
     carried_out?;
     write_bytes(writer, b"\n")
@@ -78,6 +60,7 @@ fn learn<L: Insertion<u64, u64, u64>>(map: &LruMap<u64, u64, L>) {
 
 /// Answers the lines up to the reader's end.
 fn answer_lines<L: Insertion<u64, u64, u64> + ReportsCost, R: BufRead, W: Write>(
+    alloc: Global,
     map: &mut LruMap<u64, u64, L>,
     reader: &mut R,
     writer: &mut W,
@@ -85,8 +68,8 @@ fn answer_lines<L: Insertion<u64, u64, u64> + ReportsCost, R: BufRead, W: Write>
     let mut line = Line::new();
     for _ in 0..u64::MAX {
         match read_line(reader, &mut line)? {
-            Ending::Feed => answer_line(map, line.as_slice(), writer)?,
-            Ending::InputEnd => return answer_line(map, line.as_slice(), writer),
+            Ending::Feed => answer_line(alloc, map, line.as_slice(), writer)?,
+            Ending::InputEnd => return answer_line(alloc, map, line.as_slice(), writer),
             Ending::Nothing => return Ok(()),
         }
     }
@@ -102,7 +85,7 @@ fn answer_with<L: Insertion<u64, u64, u64> + ReportsCost, R: BufRead, W: Write>(
     writer: &mut W,
 ) -> Result<(), ReplayError> {
     let mut map = LruMap::with_hasher(alloc, limiter, RandomState::default(), entry_bytes);
-    answer_lines(&mut map, reader, writer)
+    answer_lines(alloc, &mut map, reader, writer)
 }
 
 /// Answers the lines on an empty map under the limit.
@@ -138,22 +121,6 @@ fn answer_all<R: BufRead, W: Write>(alloc: Global, reader: &mut R, writer: &mut 
     Ok(ReplayEnd::Done)
 }
 
-/// Answers all lines, and flushes what is written, unless a write failed.
-fn answer_and_flush<R: BufRead, W: Write>(
-    alloc: Global,
-    reader: &mut R,
-    writer: &mut W,
-) -> Result<ReplayEnd, ReplayError> {
-    let end = answer_all(alloc, reader, writer);
-    if let Err(ReplayError::Write) = end {
-        return end;
-    }
-    match writer.flush() {
-        Ok(()) => end,
-        Err(_) => Err(ReplayError::Write),
-    }
-}
-
 /// Carries out the lines of the reader on an LRU map, and writes the answer lines. The first line names the limiter and
 /// has no answer; docs/REPLAY.md lists the lines and their answers. The output is flushed once, at the end, unless a
 /// write failed.
@@ -176,5 +143,12 @@ fn answer_and_flush<R: BufRead, W: Write>(
 /// `Read`: a read failed. The lines that were read whole are answered, and the output is flushed. `Write`: a write or
 /// the flush failed. After a failed write no line is read, and nothing more is written.
 pub fn replay<R: BufRead, W: Write>(alloc: Global, reader: &mut R, writer: &mut W) -> Result<ReplayEnd, ReplayError> {
-    answer_and_flush(alloc, reader, writer)
+    let end = answer_all(alloc, reader, writer);
+    if let Err(ReplayError::Write) = end {
+        return end;
+    }
+    match writer.flush() {
+        Ok(()) => end,
+        Err(_) => Err(ReplayError::Write),
+    }
 }

@@ -5,6 +5,7 @@
 use crate::rattle_std::prelude::*;
 
 use crate::erased::lru_model::{ReserveError, Updated};
+use crate::programs::replay_model::calls::Answer;
 use crate::programs::replay_model::lines::figures::Figures;
 use crate::programs::replay_model::lines::outcome::ReplayError;
 use crate::rattle_std::alloc::AllocError;
@@ -30,13 +31,36 @@ pub fn write_bytes<W: Write>(writer: &mut W, bytes: &[u8]) -> Result<(), ReplayE
     Err(ReplayError::Write)
 }
 
+/// Writes the text of an answer. The running total follows the figures, if the limiter keeps one.
+pub fn write_answer<W: Write>(writer: &mut W, answer: Answer<u64, u64>, cost: Option<u64>) -> Result<(), ReplayError> {
+    match answer {
+        Answer::Flag(flag) => write_flag(writer, flag),
+        Answer::Given { done, out } => write_given(writer, done, out.as_slice()),
+        Answer::Updated(updated) => write_updated(writer, updated),
+        Answer::Value(value) => write_value(writer, value),
+        Answer::Pair(pair) => write_left(writer, pair),
+        Answer::Pairs(pairs) => write_listed(writer, pairs.as_slice()),
+        Answer::Done => write_bytes(writer, b"ok"),
+        Answer::Reserved(reserved) => write_reservation(writer, reserved),
+        Answer::Shrunk(shrunk) => write_shrink(writer, shrunk),
+        Answer::Stats { len, capacity, memory, report } => {
+            let figures =
+                Figures { len, capacity, memory, moved: report.moved, placed: report.placed, shrunk: report.shrunk };
+            write_figures(writer, figures)?;
+            write_cost(writer, cost)
+        }
+        Answer::Memory => write_bytes(writer, b"no memory"),
+        Answer::CostDiffers => write_bytes(writer, b"cost differs"),
+    }
+}
+
 /// Writes `true` or `false`.
-pub fn write_flag<W: Write>(writer: &mut W, flag: bool) -> Result<(), ReplayError> {
+fn write_flag<W: Write>(writer: &mut W, flag: bool) -> Result<(), ReplayError> {
     if flag { write_bytes(writer, b"true") } else { write_bytes(writer, b"false") }
 }
 
 /// Writes what an insert returned, and after it the pairs that the map lost.
-pub fn write_given<W: Write>(
+fn write_given<W: Write>(
     writer: &mut W,
     done: Result<bool, AllocError>,
     out: &[(u64, u64)],
@@ -46,7 +70,7 @@ pub fn write_given<W: Write>(
 }
 
 /// Writes whether the key is there, or `no memory`.
-pub fn write_insert<W: Write>(writer: &mut W, done: Result<bool, AllocError>) -> Result<(), ReplayError> {
+fn write_insert<W: Write>(writer: &mut W, done: Result<bool, AllocError>) -> Result<(), ReplayError> {
     match done {
         Ok(there) => write_flag(writer, there),
         Err(_) => write_bytes(writer, b"no memory"),
@@ -62,8 +86,17 @@ fn write_passed<W: Write>(writer: &mut W, pairs: &[(u64, u64)]) -> Result<(), Re
     Ok(())
 }
 
+/// Writes the pairs with one space between them, or `-` for none.
+fn write_listed<W: Write>(writer: &mut W, pairs: &[(u64, u64)]) -> Result<(), ReplayError> {
+    let Some((first, rest)) = pairs.split_first() else {
+        return write_bytes(writer, b"-");
+    };
+    write_pair(writer, first.0, first.1)?;
+    write_passed(writer, rest)
+}
+
 /// Writes the value, or `none`.
-pub fn write_value<W: Write>(writer: &mut W, value: Option<u64>) -> Result<(), ReplayError> {
+fn write_value<W: Write>(writer: &mut W, value: Option<u64>) -> Result<(), ReplayError> {
     match value {
         Some(value) => write_number(writer, value),
         None => write_bytes(writer, b"none"),
@@ -71,7 +104,7 @@ pub fn write_value<W: Write>(writer: &mut W, value: Option<u64>) -> Result<(), R
 }
 
 /// Writes the pair, or `none`.
-pub fn write_left<W: Write>(writer: &mut W, left: Option<(u64, u64)>) -> Result<(), ReplayError> {
+fn write_left<W: Write>(writer: &mut W, left: Option<(u64, u64)>) -> Result<(), ReplayError> {
     match left {
         Some((key, value)) => write_pair(writer, key, value),
         None => write_bytes(writer, b"none"),
@@ -79,7 +112,7 @@ pub fn write_left<W: Write>(writer: &mut W, left: Option<(u64, u64)>) -> Result<
 }
 
 /// Writes that there is room, or why not.
-pub fn write_reservation<W: Write>(writer: &mut W, reserved: Result<(), ReserveError>) -> Result<(), ReplayError> {
+fn write_reservation<W: Write>(writer: &mut W, reserved: Result<(), ReserveError>) -> Result<(), ReplayError> {
     match reserved {
         Ok(()) => write_bytes(writer, b"ok"),
         Err(ReserveError::TooLarge) => write_bytes(writer, b"too large"),
@@ -89,7 +122,7 @@ pub fn write_reservation<W: Write>(writer: &mut W, reserved: Result<(), ReserveE
 }
 
 /// Writes whether the table has fewer buckets now, as `ok` or `kept`, or `no memory`.
-pub fn write_shrink<W: Write>(writer: &mut W, shrunk: Result<bool, AllocError>) -> Result<(), ReplayError> {
+fn write_shrink<W: Write>(writer: &mut W, shrunk: Result<bool, AllocError>) -> Result<(), ReplayError> {
     match shrunk {
         Ok(true) => write_bytes(writer, b"ok"),
         Ok(false) => write_bytes(writer, b"kept"),
@@ -98,7 +131,7 @@ pub fn write_shrink<W: Write>(writer: &mut W, shrunk: Result<bool, AllocError>) 
 }
 
 /// Writes what an update did, and the value that the map does not have then.
-pub fn write_updated<W: Write>(writer: &mut W, updated: Updated<u64>) -> Result<(), ReplayError> {
+fn write_updated<W: Write>(writer: &mut W, updated: Updated<u64>) -> Result<(), ReplayError> {
     match updated {
         Updated::Replaced(old) => write_named(writer, b"replaced ", old),
         Updated::Rejected(new) => write_named(writer, b"rejected ", new),
@@ -107,7 +140,7 @@ pub fn write_updated<W: Write>(writer: &mut W, updated: Updated<u64>) -> Result<
 }
 
 /// Writes the figures by their names.
-pub fn write_figures<W: Write>(writer: &mut W, figures: Figures) -> Result<(), ReplayError> {
+fn write_figures<W: Write>(writer: &mut W, figures: Figures) -> Result<(), ReplayError> {
     write_named(writer, b"len ", figures.len as u64)?;
     write_named(writer, b" capacity ", figures.capacity as u64)?;
     write_named(writer, b" memory ", figures.memory as u64)?;
@@ -122,7 +155,7 @@ fn write_placed<W: Write>(writer: &mut W, placed: u64, shrunk: u64) -> Result<()
 }
 
 /// Writes the cost after the figures, if there is one.
-pub fn write_cost<W: Write>(writer: &mut W, cost: Option<u64>) -> Result<(), ReplayError> {
+fn write_cost<W: Write>(writer: &mut W, cost: Option<u64>) -> Result<(), ReplayError> {
     match cost {
         Some(cost) => write_named(writer, b" cost ", cost),
         None => write_bytes(writer, b""),
