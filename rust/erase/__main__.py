@@ -35,13 +35,13 @@ CRATES = RUST.parent / "crates"
 PACKAGES = {
     "jeerdurian": [
         "group_table", "lru_limits", "lru_model", "block_device", "ordered_table", "schnellru", "lru_tenants", "lru_caches",
-        "recency", "lru_trace",
+        "lru_theory", "lru_trace",
     ],
     "programs": [
-        "test_helpers", "map_helpers", "replay_model", "lru_theory", "lru_replay", "row_model", "trace", "replay", "pages",
-        "responses", "rows", "group_table_tests", "ordered_table_tests", "lru_limits_tests", "schnellru_tests",
-        "schnellru_memory_tests", "lru_replay_tests", "lru_tenants_tests", "block_device_tests", "lru_caches_tests",
-        "lru_trace_tests",
+        "test_helpers", "map_helpers", "replay_model", "lru_references", "lru_budgets", "lru_replay", "row_model", "trace",
+        "replay", "pages", "responses", "rows", "group_table_tests", "ordered_table_tests", "lru_limits_tests",
+        "schnellru_tests", "schnellru_memory_tests", "lru_references_tests", "lru_replay_tests", "lru_tenants_tests",
+        "block_device_tests", "lru_caches_tests", "lru_trace_tests",
     ],
 }
 # Those that need std.
