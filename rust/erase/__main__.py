@@ -34,13 +34,13 @@ CRATES = RUST.parent / "crates"
 # `lru_c`, the map for C, and `bench_loads`. Two tests are ignored, as places.txt says.
 PACKAGES = {
     "jeerdurian": [
-        "group_table", "lru_limits", "lru_model", "ordered_table", "schnellru", "lru_tenants", "lru_caches", "recency",
+        "group_table", "lru_limits", "lru_model", "ordered_table", "schnellru", "lru_tenants", "lru_caches", "lru_theory",
         "lru_trace",
     ],
     "programs": [
-        "test_helpers", "test_maps", "replay_model", "lru_theory", "lru_replay", "trace", "replay", "example_pages",
-        "example_responses", "rows", "group_table_tests", "lru_limits_tests", "schnellru_tests", "lru_replay_tests",
-        "lru_tenants_tests", "lru_caches_tests", "lru_trace_tests",
+        "test_helpers", "test_maps", "replay_model", "lru_references", "lru_budgets", "lru_replay", "trace", "replay",
+        "example_pages", "example_responses", "rows", "group_table_tests", "lru_limits_tests", "schnellru_tests",
+        "lru_references_tests", "lru_replay_tests", "lru_tenants_tests", "lru_caches_tests", "lru_trace_tests",
     ],
 }
 # Those that need std.

@@ -3,17 +3,15 @@
 //! [`run_calls`] carries out a list of calls on a map of any keys, values, limiter and hasher. [`run_summing`] does so
 //! under a limiter with a running total, and carries out no write that would make the total wrong. [`replay`] reads
 //! lines, each of which spells a call, and writes their answers; `docs/REPLAY.md` lists the lines. All three are runs
-//! of the same steps, which `docs/RUNS.md` explains. [`misses_on_map`] counts the misses of a trace by such a run.
+//! of the same steps, which `docs/RUNS.md` explains.
 //!
 //! The calls, their answers, what a run is and the theorems on runs are in `replay_model`, which needs no map.
 #![tactic(auto)]
 
 mod calls;
 mod lines;
-mod misses;
 
 pub use calls::runs::run_calls;
 pub use calls::summing::run_summing;
 pub use lines::replays::replay;
-pub use misses::misses_on_map;
 pub use replay_model::{Answer, Call, ReplayEnd, ReplayError, laws, status};

@@ -9,6 +9,4 @@ mod callers;
 #[cfg(test)]
 mod examples;
 #[cfg(test)]
-mod misses;
-#[cfg(test)]
 mod refused;

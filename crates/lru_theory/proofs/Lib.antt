@@ -1,5 +1,8 @@
-pub mod KeySteps
-pub mod ReferenceRuns
-pub mod ReferenceSteps
-pub mod BudgetLists
-pub mod BudgetSteps
+pub mod Affordable
+pub mod Bounds
+pub mod EqualKeys
+pub mod Inclusions
+pub mod Lists
+pub mod LongerTraces
+pub mod OtherPolicies
+pub mod Windows

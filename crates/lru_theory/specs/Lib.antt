@@ -1,4 +1,5 @@
 -- What the contracts of `lru_theory` cite.
-pub mod References
-pub mod KeyCalls
-pub mod BudgetReferences
+pub mod Traces
+pub mod Policies
+pub mod Inclusion
+pub mod Budgets

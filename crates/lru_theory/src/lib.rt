@@ -1,106 +1,73 @@
-//! What a larger cache is worth: theorems on runs of references, and of other calls, to a map that is empty at first.
+//! Traces of references to keys: recency lists, reuse distances, and how often an LRU cache of n places misses.
 //!
-//! A reference is a call that inserts a key, or that gets its value and inserts it if it is not there. No call of a run
-//! runs out of memory, and equal keys are the same key (`IsExact`), as numbers are, and texts are not. The functions do
-//! nothing: their contracts are the theorems. `docs/THEORY.md` says each in words.
+//! The functions do nothing: their contracts are the theorems. `docs/THEORY.md` says each in words.
 #![tactic(auto)]
 
-ghost use Rattle.std.specs.Prelude.{◌≡◌, ℕ, ◌+◌, ◌-◌, ◌*◌, ◌≤◌, ◌<◌, List, length, reverse, take, true};
-ghost use Rattle.group_table.specs.Change.{count_up};
-ghost use Rattle.lru_model.specs.Lists.{keys_of};
-ghost use Rattle.lru_model.specs.State.{State};
-ghost use Rattle.recency.specs.Budgets.{cached_within};
-ghost use Rattle.recency.specs.Inclusion.{KeyCall, IsIncluded};
-ghost use Rattle.recency.specs.Policies.{Served};
-ghost use Rattle.recency.specs.Recency.{IsExact, is_in, recency, misses};
-ghost use Rattle.lru_theory.specs.BudgetReferences.{BudgetReferences};
-ghost use Rattle.lru_theory.specs.KeyCalls.{CallsOn};
-ghost use Rattle.lru_theory.specs.References.{References};
+ghost use Rattle.std.specs.Prelude.{◌≡◌, ℕ, ◌+◌, ◌-◌, ◌*◌, ◌≤◌, List, length, take, true};
+ghost use Rattle.lru_theory.specs.Budgets.{cached_within, faults_within};
+ghost use Rattle.lru_theory.specs.Traces.{is_in, recency, misses, cached, faults, past_after, AreEqual};
+ghost use Rattle.lru_theory.specs.Policies.{Loads, Demands, Bypasses, Served};
+ghost use Rattle.lru_theory.specs.Inclusion.{KeyCall, after_calls, IsIncluded, IsSubsequence};
 
-use lru_limits::{ByCost, ByLength, Costed, KeyHasher};
-use lru_model::laws;
-use std::hash::Hash;
+/// An LRU cache of n places that contains the n keys that were referenced last contains them after any trace.
+pub fn a_cache_is_the_newest<K: Eq>()
+    ensures { (n : ℕ) (past trace : List K) →
+        cached K.eq n (take n (recency K.eq past)) trace ≡ take n (recency K.eq (past_after past trace)) }
+{}
 
-/// A run of references leaves the keys that were referenced last, `max_length` of them (`keys`). The map counts the
-/// misses: `placed`, the count of entries that inserts stored, rises by the number of references whose reuse distance
-/// is at least `max_length`, or that are the first to their key (`misses`).
-pub fn references_keep_the_newest<K: Eq + Hash + Drop, V: Drop, S: KeyHasher<K>>()
-    ensures keys { (keys : List K) (old new : State K V ByLength S) →
-        IsExact K.eq → References K.eq S.hash_of keys old new →
-        keys_of new.pairs ≡ take old.limiter (recency K.eq (reverse keys)) }
-    ensures misses { (keys : List K) (old new : State K V ByLength S) →
-        IsExact K.eq → References K.eq S.hash_of keys old new → 0 < old.limiter →
-        new.counts.placed ≡ count_up old.counts.placed (misses K.eq old.limiter (reverse keys)) }
-{
-    laws::inserts_leave_the_newest::<K, V, S>();
-    laws::maps_keep_to_their_length::<K, V, S>();
-    laws::calls_keep_the_length::<K, V, S>();
-    recency::a_cache_is_the_newest::<K>();
-    recency::faults_are_misses::<K>();
-}
+/// Such a cache misses exactly at the references whose reuse distance is at least n, and at the first to each key.
+pub fn faults_are_misses<K: Eq>()
+    ensures { (n : ℕ) (past trace : List K) →
+        faults K.eq n (take n (recency K.eq past)) trace ≡ misses K.eq n past trace }
+{}
 
-/// More capacity never means more misses. After the same references, the keys of the smaller map are the newest keys of
-/// the larger map (`front`), and the larger map has stored no more entries than the smaller map, if both had stored the
-/// same number before, and the smaller length is not 0 (`misses`).
-pub fn more_capacity_never_misses_more<K: Eq + Hash + Drop, V: Drop, S: KeyHasher<K>>()
-    ensures front { (keys : List K) (old small other large : State K V ByLength S) →
-        IsExact K.eq → References K.eq S.hash_of keys old small → References K.eq S.hash_of keys other large →
-        old.limiter ≤ other.limiter →
-        keys_of small.pairs ≡ take old.limiter (keys_of large.pairs) }
-    ensures misses { (keys : List K) (old small other large : State K V ByLength S) →
-        IsExact K.eq → References K.eq S.hash_of keys old small → References K.eq S.hash_of keys other large →
-        old.limiter ≤ other.limiter → 0 < old.limiter → other.counts.placed ≡ old.counts.placed →
-        large.counts.placed ≤ small.counts.placed }
-{
-    references_keep_the_newest::<K, V, S>();
-    recency::more_places_never_miss_more::<K>();
-}
+/// More places never mean more misses.
+pub fn more_places_never_miss_more<K: Eq>()
+    ensures { (n m : ℕ) (past trace : List K) → n ≤ m → misses K.eq m past trace ≤ misses K.eq n past trace }
+{}
 
-/// After the same calls a smaller map is included in a larger map: its keys are keys of the larger map, in the
-/// same order (`included`). So what the smaller map finds, the larger map finds (`finds`). The calls may insert, get,
-/// promote, peek, write, remove, clear, reserve and shrink, in any order. Updates, demotions, pops, drains, trims, gets
-/// by a hash and other limiters are left out.
-pub fn a_smaller_map_is_included<K: Eq + Hash + Drop, V: Drop, S: KeyHasher<K>>()
-    ensures included { (on : List (KeyCall K)) (old small other large : State K V ByLength S) →
-        IsExact K.eq → CallsOn K.eq S.hash_of on old small → CallsOn K.eq S.hash_of on other large →
-        old.limiter ≤ other.limiter →
-        IsIncluded old.limiter other.limiter (keys_of small.pairs) (keys_of large.pairs) }
-    ensures finds { (on : List (KeyCall K)) (old small other large : State K V ByLength S) (key : K) →
-        IsExact K.eq → CallsOn K.eq S.hash_of on old small → CallsOn K.eq S.hash_of on other large →
-        old.limiter ≤ other.limiter →
-        is_in K.eq key (keys_of small.pairs) ≡ true → is_in K.eq key (keys_of large.pairs) ≡ true }
-{
-    laws::inserts_leave_the_newest::<K, V, S>();
-    laws::maps_keep_to_their_length::<K, V, S>();
-    laws::calls_keep_the_length::<K, V, S>();
-    recency::a_smaller_cache_is_included::<K>();
-}
+/// LRU is competitive, from any caches. Take any policy with h places, one that knows the whole trace in advance, and an
+/// LRU cache of k ≥ h places. The policy begins with the keys `first`, pays `paid` times, and each miss of LRU counts:
+///
+/// - If it stores each key that is referenced, and may load keys ahead, LRU misses at most
+///   k / (k + 1 - h) * paid + length first times (`loads`).
+/// - So it is for a demand policy, which pays for its misses alone (`demands`).
+/// - If it need not store the key, LRU misses at most k / (k - h) * paid + length first times (`bypasses`).
+///
+/// A policy that begins with no keys has no additive term.
+pub fn lru_is_competitive<K: Eq>()
+    ensures loads { (k h : ℕ) (past trace first left : List K) (paid : ℕ) → h ≤ k →
+        Served (Loads K.eq h) left first trace paid →
+        (k + 1 - h) * misses K.eq k past trace ≤ k * paid + (k + 1 - h) * length first }
+    ensures demands { (k h : ℕ) (past trace first left : List K) (paid : ℕ) → h ≤ k → length first ≤ h →
+        Served (Demands K.eq h) left first trace paid →
+        (k + 1 - h) * misses K.eq k past trace ≤ k * paid + (k + 1 - h) * length first }
+    ensures bypasses { (k h : ℕ) (past trace first left : List K) (paid : ℕ) → h ≤ k →
+        Served (Bypasses K.eq h) left first trace paid →
+        (k - h) * misses K.eq k past trace ≤ k * paid + (k - h) * length first }
+{}
 
-/// After the same references, the keys of a map with a limit of cost are the newest keys of a map with a larger limit
-/// (`front`): both contain what a cache with that limit contains (`keys`). Each key has one value, as in a cache of
-/// what a function returns, and no value alone costs more than the smaller limit.
-pub fn a_smaller_budget_is_included<K: Eq + Hash + Drop, V: Costed + Drop, S: KeyHasher<K>>()
-    ensures keys { (value_of : K → V) (keys : List K) (old new : State K V ByCost S) →
-        IsExact K.eq → BudgetReferences V.cost K.eq S.hash_of value_of keys old new →
-        keys_of new.pairs ≡ cached_within K.eq (λ key. V.cost (value_of key)) old.limiter.limit (reverse keys) }
-    ensures front { (value_of : K → V) (keys : List K) (old small other large : State K V ByCost S) →
-        IsExact K.eq → BudgetReferences V.cost K.eq S.hash_of value_of keys old small →
-        BudgetReferences V.cost K.eq S.hash_of value_of keys other large → old.limiter.limit ≤ other.limiter.limit →
-        keys_of small.pairs ≡ take (length (keys_of small.pairs)) (keys_of large.pairs) }
-{
-    replay_model::laws::granted_calls_are_exact::<K, V, ByCost, S>();
-    recency::a_larger_budget_never_misses_more::<K>();
-}
+/// After the same calls a smaller cache is included in a larger one, if it was before (`included`): its keys are keys
+/// of the larger cache, in the same order, and the larger cache contains at most m - n more. So what the smaller
+/// cache finds, the larger cache finds (`finds`), and it misses no more often at the references of a trace (`misses`).
+/// The calls may reference keys, make them the newest, remove them or look at them. Pops are left out.
+pub fn a_smaller_cache_is_included<K: Eq>()
+    ensures included { (n m : ℕ) (calls : List (KeyCall K)) (small large : List K) → n ≤ m →
+        IsIncluded K.eq n m small large →
+        IsIncluded K.eq n m (after_calls K.eq n calls small) (after_calls K.eq m calls large) }
+    ensures finds { (key : K) (small large : List K) → IsSubsequence K.eq small large →
+        is_in K.eq key small ≡ true → is_in K.eq key large ≡ true }
+    ensures misses { (n m : ℕ) (trace small large : List K) → n ≤ m → IsIncluded K.eq n m small large →
+        faults K.eq m large trace ≤ faults K.eq n small trace }
+{}
 
-/// LRU is competitive. Take any demand policy with h places that stores each key it misses, one that knows the future
-/// too, from any keys in its cache. If it misses m times at the same references, a new map with `ByLength(k)`, h ≤ k,
-/// stores at most k / (k + 1 - h) * m + k entries.
-pub fn maps_are_competitive<K: Eq + Hash + Drop, V: Drop, S: KeyHasher<K>>()
-    ensures { (keys : List K) (old new : State K V ByLength S) (h missed : ℕ) (first left : List K) →
-        IsExact K.eq → References K.eq S.hash_of keys old new → 0 < old.limiter → old.counts.placed ≡ 0 →
-        h ≤ old.limiter → Served K.eq h first (reverse keys) missed left →
-        (old.limiter + 1 - h) * new.counts.placed ≤ old.limiter * missed + (old.limiter + 1 - h) * old.limiter }
-{
-    references_keep_the_newest::<K, V, S>();
-    recency::lru_is_competitive::<K>();
-}
+/// A larger budget never means more misses. Take two LRU caches with limits of cost, and let the keys of the one with
+/// the smaller limit be the newest keys of the other. Then they are after any trace (`front`), and it misses at least as
+/// often (`misses`). The definitions are definitions of LRU caches if no key alone costs more than the smaller limit.
+pub fn a_larger_budget_never_misses_more<K: Eq>()
+    ensures front { (cost : K → ℕ) (n m some : ℕ) (keys trace : List K) → n ≤ m →
+        let small = cached_within K.eq cost n (take some keys) trace in
+        small ≡ take (length small) (cached_within K.eq cost m keys trace) }
+    ensures misses { (cost : K → ℕ) (n m some : ℕ) (keys trace : List K) → n ≤ m →
+        faults_within K.eq cost m keys trace ≤ faults_within K.eq cost n (take some keys) trace }
+{}

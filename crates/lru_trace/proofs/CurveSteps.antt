@@ -1,17 +1,19 @@
 -- What one reference changes of a curve.
 use Rattle.std.proofs.Common.{◌≡◌, ℕ, zero, suc, ◌+◌, ◌≤◌, ◌<◌, Bool, true, false, cond, List, [], ◌∷◌, length}
-use Rattle.std.proofs.Common.{take}
+use Rattle.std.proofs.Common.{take, map, ◌++◌}
 use Rattle.std.proofs.Common.{set, sum, get_or, Some, None, refl, sym, ap, ◌∙◌, arith}
-use Rattle.std.specs.Prelude.{nat_eq, nat_le, String}
+use Rattle.std.specs.Prelude.{not, ◌||◌, nat_eq, nat_le, String}
 use Rattle.std.specs.Global.{Global}
 use Rattle.std.specs.Prelude.{Result, Ok, Err, OnOk, OnErr}
 use Rattle.std.specs.Set.{remove_key}
-use Rattle.std.proofs.lemmas.Bool.{eqb-true, lt-leb}
-use Rattle.std.proofs.lemmas.List.{take_all, length-set}
+use Rattle.std.proofs.lemmas.Bool.{lt-leb}
+use Rattle.std.proofs.lemmas.Cmp.{nat_eq_equiv}
+use Rattle.std.proofs.lemmas.List.{take_all, length-set, length-append, map-append}
 use Rattle.std.proofs.lemmas.List.Sums.{sum_by-cons}
 use Rattle.std.proofs.lemmas.Map.Made.{length-remove_key}
-use Rattle.recency.specs.Recency.{is_in, since, distance, misses}
-use Rattle.recency.proofs.Lists.{is_in_recency, since_recency}
+use Rattle.lru_theory.specs.Traces.{is_in, since, recency, distance, misses, past_after}
+use Rattle.lru_theory.proofs.LongerTraces.{past_more, misses_more}
+use Rattle.lru_theory.proofs.Lists.{is_in_recency, since_recency}
 use Rattle.lru_trace.specs.Counted.{Counted, IsOf, number_in}
 use Rattle.lru_trace.specs.Slots.{position}
 use Rattle.lru_trace.proofs.Logs.{without_none}
@@ -66,17 +68,14 @@ sum_counted xs d h =
     let small : cond {A = ℕ} (nat_le (length xs) d) 0 1 ≡ 1 = rw (lt-leb (length xs) d h) refl in
     omega (arith, ap sum left, ap sum right, all, small)
 
-exact : (a b : ℕ) → nat_eq a b ≡ true → a ≡ b
-exact = eqb-true
-
-module _ {past : List (List ℕ)} {v : Counted} (of : IsOf past v) where
+module _ {trace : List (List ℕ)} {v : Counted} (of : IsOf trace v) where
   -- more names
   pub of_names : (names : List (String Global × ℕ))
       → ((x : List ℕ) (n : ℕ) → number_in v.names x ≡ Some n → number_in names x ≡ Some n)
-      → IsOf past (record v { names = names })
+      → IsOf trace (record v { names = names })
   of_names names keeps = record {
     numbers = of.numbers;
-    named = named_on (number_in v.names) (number_in names) keeps past of.numbers of.named;
+    named = named_on (number_in v.names) (number_in names) keeps trace of.numbers of.named;
     order = of.order;
     hits = of.hits;
     all = of.all;
@@ -84,22 +83,39 @@ module _ {past : List (List ℕ)} {v : Counted} (of : IsOf past v) where
 
   -- more counts of 0
   pub of_counts : (counts : List ℕ) → ((n : ℕ) → sum (take n counts) ≡ sum (take n v.counts))
-      → IsOf past (record v { counts = counts })
+      → IsOf trace (record v { counts = counts })
   of_counts counts same = record {
     numbers = of.numbers;
     named = of.named;
     order = of.order;
-    hits = λ n. ap (λ m. misses nat_eq n of.numbers + m) (same n) ∙ of.hits n;
+    hits = λ n. ap (λ m. misses nat_eq n [] of.numbers + m) (same n) ∙ of.hits n;
     all = of.all;
   }
 
   module _ (key : List ℕ) (number : ℕ) (is : number_in v.names key ≡ Some number) where
-    is_in_trace : is_in nat_eq number v.recency ≡ is_in nat_eq number of.numbers
-    is_in_trace = ap (is_in nat_eq number) of.order ∙ is_in_recency exact number of.numbers
+    abbrev past : List ℕ
+    past = past_after [] of.numbers
+
+    is_in_trace : is_in nat_eq number v.recency ≡ is_in nat_eq number past
+    is_in_trace = ap (is_in nat_eq number) of.order ∙ is_in_recency nat_eq_equiv number past
+
+    named_more : map (number_in v.names) (trace ++ key ∷ []) ≡ map Some (of.numbers ++ number ∷ [])
+    named_more =
+        map-append (number_in v.names) trace (key ∷ []) ∙ (λ i. of.named i ++ is i ∷ [])
+        ∙ sym (map-append Some of.numbers (number ∷ []))
+
+    order_more : number ∷ remove_key (nat_eq number) v.recency
+        ≡ recency nat_eq (past_after [] (of.numbers ++ number ∷ []))
+    order_more =
+        ap (λ xs. number ∷ remove_key (nat_eq number) xs) of.order
+        ∙ ap (recency nat_eq) (sym (past_more [] of.numbers number))
+
+    longer : length (trace ++ key ∷ []) ≡ length trace + 1
+    longer = omega (arith, length-append trace (key ∷ []))
 
     -- a reference to a key that was referenced
     pub of_found : (d : ℕ) → position number v.recency ≡ Some d → d < length v.counts
-        → IsOf (key ∷ past) (record v {
+        → IsOf (trace ++ key ∷ []) (record v {
           recency = number ∷ remove_key (nat_eq number) v.recency;
           counts = set v.counts d (get_or v.counts d 0 + 1);
           references = v.references + 1;
@@ -107,14 +123,19 @@ module _ {past : List (List ℕ)} {v : Counted} (of : IsOf past v) where
     of_found d at_place within =
         let there = position_some number d v.recency at_place in
         let inside = sym is_in_trace ∙ there.0 in
-        let far : distance nat_eq number of.numbers ≡ d =
-        ap length (sym (since_recency exact number of.numbers) ∙ sym (ap (since nat_eq number) of.order)) ∙ there.1 in
+        let far : distance nat_eq number past ≡ d =
+        ap length (sym (since_recency nat_eq_equiv number past) ∙ sym (ap (since nat_eq number) of.order)) ∙ there.1 in
         record {
-          numbers = number ∷ of.numbers;
-          named = λ i. is i ∷ of.named i;
-          order = ap (λ xs. number ∷ remove_key (nat_eq number) xs) of.order;
-          hits = λ n. rw (inside, far) (omega (arith, of.hits n, counted d n v.counts within, split (nat_le n d)));
-          all = omega (arith, of.all);
+          numbers = of.numbers ++ number ∷ [];
+          named = named_more;
+          order = order_more;
+          hits = λ n.
+              let more : misses nat_eq n [] (of.numbers ++ number ∷ [])
+              ≡ misses nat_eq n [] of.numbers + cond (nat_le n d) 1 0 =
+              misses_more nat_eq n [] of.numbers number
+              ∙ (λ i. misses nat_eq n [] of.numbers + cond (not (inside i) || nat_le n (far i)) 1 0) in
+              omega (arith, more, of.hits n, counted d n v.counts within, split (nat_le n d));
+          all = omega (arith, of.all, longer);
         }
       where
         split : (b : Bool) → cond {A = ℕ} b 1 0 + cond {A = ℕ} b 0 1 ≡ 1
@@ -123,18 +144,23 @@ module _ {past : List (List ℕ)} {v : Counted} (of : IsOf past v) where
 
     -- the first reference to a key
     pub of_first : position number v.recency ≡ None
-        → IsOf (key ∷ past) (record v {
+        → IsOf (trace ++ key ∷ []) (record v {
           recency = number ∷ remove_key (nat_eq number) v.recency;
           references = v.references + 1;
         })
     of_first at_place =
         let outside = sym is_in_trace ∙ position_none number v.recency at_place in
         record {
-          numbers = number ∷ of.numbers;
-          named = λ i. is i ∷ of.named i;
-          order = ap (λ xs. number ∷ remove_key (nat_eq number) xs) of.order;
-          hits = λ n. rw outside (omega (arith, of.hits n));
-          all = omega (arith, of.all);
+          numbers = of.numbers ++ number ∷ [];
+          named = named_more;
+          order = order_more;
+          hits = λ n.
+              let more : misses nat_eq n [] (of.numbers ++ number ∷ []) ≡ misses nat_eq n [] of.numbers + 1 =
+              misses_more nat_eq n [] of.numbers number
+              ∙ (λ i. misses nat_eq n [] of.numbers
+              + cond (not (outside i) || nat_le n (distance nat_eq number past)) 1 0) in
+              omega (arith, more, of.hits n);
+          all = omega (arith, of.all, longer);
         }
 
 -- clauses on a result

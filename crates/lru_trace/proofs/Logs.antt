@@ -13,7 +13,7 @@ use Rattle.std.proofs.lemmas.List.{get_or-set_other, get_or_push, get_or_append_
 use Rattle.std.proofs.lemmas.List.Folds.{list_any-append}
 use Rattle.std.proofs.lemmas.List.Sums.{sum_by-cons}
 use Rattle.std.proofs.lemmas.Option.{same_Some}
-use Rattle.recency.specs.Recency.{is_in, since}
+use Rattle.lru_theory.specs.Traces.{is_in, since}
 use Rattle.lru_trace.specs.Slots.{position, newest, IsLog}
 
 clash : {b : Bool} {A : Type 0} → b ≡ false → b ≡ true → A

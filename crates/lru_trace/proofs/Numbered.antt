@@ -11,7 +11,7 @@ use Rattle.std.proofs.lemmas.Bool.{cases_lt, eq-eqb, eqb-true, le-leb, lt-leb}
 use Rattle.std.proofs.lemmas.List.Sums.{sum_by-cons}
 use Rattle.std.proofs.lemmas.Option.{same_Some}
 use Rattle.std.proofs.lemmas.Slice.Eq.{bytes_eq-Decides}
-use Rattle.recency.specs.Recency.{is_in, since, recency, distance, misses}
+use Rattle.lru_theory.specs.Traces.{is_in, since, recency, distance, misses}
 use Rattle.lru_trace.specs.Counted.{AreNumbered, number_in}
 
 not_none : {A B : Type 0} (x : A) → None ≡ Some x → B
@@ -111,16 +111,16 @@ module _ (number : List ℕ → Option ℕ)
   length_named (y ∷ xs) (k ∷ ns) h = ap suc (length_named xs ns h.1)
 
   -- so both traces miss alike
-  pub misses_named : (n : ℕ) (xs : List (List ℕ)) (ns : List ℕ) → Named number xs ns
-      → misses bytes_eq n xs ≡ misses nat_eq n ns
-  misses_named n [] [] h = refl
-  misses_named n [] (k ∷ ns) h = absurd h
-  misses_named n (y ∷ xs) [] h = absurd h
-  misses_named n (y ∷ xs) (k ∷ ns) h =
-      let far : distance bytes_eq y xs ≡ distance nat_eq k ns =
-      length_named (recency bytes_eq (since bytes_eq y xs)) (recency nat_eq (since nat_eq k ns))
-      (recency_named (since bytes_eq y xs) (since nat_eq k ns) (since_named y k h.0 xs ns h.1)) in
-      rw (misses_named n xs ns h.1, is_in_named y k h.0 xs ns h.1, far) refl
+  pub misses_named : (n : ℕ) (past : List (List ℕ)) (ps : List ℕ) (xs : List (List ℕ)) (ns : List ℕ)
+      → Named number past ps → Named number xs ns → misses bytes_eq n past xs ≡ misses nat_eq n ps ns
+  misses_named n past ps [] [] before h = refl
+  misses_named n past ps [] (k ∷ ns) before h = absurd h
+  misses_named n past ps (y ∷ xs) [] before h = absurd h
+  misses_named n past ps (y ∷ xs) (k ∷ ns) before h =
+      let far : distance bytes_eq y past ≡ distance nat_eq k ps =
+      length_named (recency bytes_eq (since bytes_eq y past)) (recency nat_eq (since nat_eq k ps))
+      (recency_named (since bytes_eq y past) (since nat_eq k ps) (since_named y k h.0 past ps before)) in
+      rw (misses_named n (y ∷ past) (k ∷ ps) xs ns (h.0, before) h.1, is_in_named y k h.0 past ps before, far) refl
 
 -- the place of a key in a list is within the list
 pub position_within : (key : ℕ) (xs : List ℕ) → is_in nat_eq key xs ≡ true → length (since nat_eq key xs) < length xs

@@ -1,6 +1,6 @@
 -- Lines, one after another, from what is left of an input.
 use Rattle.std.proofs.Common.{◌≡◌, ℕ, zero, suc, ◌+◌, ◌-◌, ◌≤◌, ◌<◌, Bool, true, false, cond, List, [], ◌∷◌, ◌++◌}
-use Rattle.std.proofs.Common.{length, take, reverse}
+use Rattle.std.proofs.Common.{length, take}
 use Rattle.std.proofs.Common.{Option, Some, None, refl, sym, ap, ◌∙◌, subst, arith, get_or}
 use Rattle.std.specs.Prelude.{not, nat_lt, IfSome, ◌==◌}
 use Rattle.std.specs.List.{filter}
@@ -8,7 +8,7 @@ use Rattle.std.specs.Io.BufRead.{take_through, drop_through, strip_last}
 use Rattle.std.proofs.lemmas.Bool.{lt-ltb, le-ltb, le-leb}
 use Rattle.std.proofs.lemmas.Str.{IsUtf8-from_is_utf8, is_utf8-from_IsUtf8}
 use Rattle.std.specs.Str.{IsUtf8, is_utf8}
-use Rattle.std.proofs.lemmas.List.{append_assoc, reverse-append}
+use Rattle.std.proofs.lemmas.List.{append_assoc, append-nil}
 use Rattle.lru_trace.specs.Counted.{Counted, IsOf}
 use Rattle.lru_trace.specs.Lines.{lines_of, onto_first, is_key, trace_of, malformed_in}
 
@@ -76,17 +76,15 @@ module _ (rest : List ℕ) (some : nat_lt 0 (length (take_through 10 rest)) ≡ 
   abbrev later : List ℕ
   later = drop_through 10 rest
 
-  trace_key : is_key line ≡ true → (past : List (List ℕ)) → trace_of rest ++ past ≡ trace_of later ++ line ∷ past
-  trace_key is past =
-      ap (λ ls. reverse (filter is_key ls) ++ past) (lines_are rest some)
-      ∙ ap (λ b. reverse (cond b (line ∷ filter is_key (lines_of later)) (filter is_key (lines_of later))) ++ past) is
-      ∙ ap (λ ks. ks ++ past) (reverse-append (line ∷ []) (filter is_key (lines_of later)))
-      ∙ append_assoc (reverse (filter is_key (lines_of later))) (line ∷ []) past
+  trace_key : is_key line ≡ true → trace_of rest ≡ line ∷ trace_of later
+  trace_key is =
+      ap (filter is_key) (lines_are rest some)
+      ∙ ap (λ b. cond b (line ∷ filter is_key (lines_of later)) (filter is_key (lines_of later))) is
 
   trace_other : is_key line ≡ false → trace_of rest ≡ trace_of later
   trace_other is =
-      ap (λ ls. reverse (filter is_key ls)) (lines_are rest some)
-      ∙ ap (λ b. reverse (cond b (line ∷ filter is_key (lines_of later)) (filter is_key (lines_of later)))) is
+      ap (filter is_key) (lines_are rest some)
+      ∙ ap (λ b. cond b (line ∷ filter is_key (lines_of later)) (filter is_key (lines_of later))) is
 
   malformed_is : (t : Bool) → is_key line ≡ t → malformed_in rest ≡ cond t 0 1 + malformed_in later
   malformed_is t is =
@@ -106,7 +104,7 @@ pub record ReadsFrom (input : List ℕ) (left : Option (List ℕ)) (first now : 
   pub known : left ≡ Some rest
   pub lines : malformed_in input ≡ malformed + malformed_in rest
   pub trace : (before : List (List ℕ)) → IsOf before first
-      → (past : List (List ℕ)) × IsOf past now × (trace_of input ++ before ≡ trace_of rest ++ past)
+      → (done : List (List ℕ)) × IsOf done now × (before ++ trace_of input ≡ done ++ trace_of rest)
 
 abbrev pub Reads : Option (List ℕ) → Option (List ℕ) → Counted → Counted → ℕ → Type 0
 Reads None left first now malformed = Unit {0}
@@ -117,7 +115,7 @@ module _ (all left next : Option (List ℕ)) (first now : Counted) (malformed : 
     (on : IfSome left (λ rest. next ≡ Some (drop_through 10 rest))) where
   pub reads_key : (new : Counted) → Reads all left first now malformed → nat_lt 0 (length bytes) ≡ true
       → is_key (strip_last 10 bytes) ≡ true
-      → ((past : List (List ℕ)) → IsOf past now → IsOf (strip_last 10 bytes ∷ past) new)
+      → ((trace : List (List ℕ)) → IsOf trace now → IsOf (trace ++ strip_last 10 bytes ∷ []) new)
       → Reads all next first new malformed
   reads_key new r some key of = go all r
     where
@@ -136,10 +134,11 @@ module _ (all left next : Option (List ℕ)) (first now : Counted) (malformed : 
             lines = omega (arith, r.lines, malformed_is r.rest more true named);
             trace = λ before was.
                 let known = r.trace before was in (
-                  strip_last 10 bytes ∷ known.0,
+                  known.0 ++ strip_last 10 bytes ∷ [],
                   of known.0 known.1,
-                  known.2 ∙ trace_key r.rest more named known.0
-                      ∙ ap (λ b. trace_of (drop_through 10 r.rest) ++ strip_last 10 b ∷ known.0) (sym same),
+                  known.2 ∙ ap (λ ks. known.0 ++ ks) (trace_key r.rest more named)
+                      ∙ ap (λ b. known.0 ++ strip_last 10 b ∷ trace_of (drop_through 10 r.rest)) (sym same)
+                      ∙ sym (append_assoc known.0 (strip_last 10 bytes ∷ []) (trace_of (drop_through 10 r.rest))),
                 );
           }
 
@@ -162,26 +161,27 @@ module _ (all left next : Option (List ℕ)) (first now : Counted) (malformed : 
             lines = omega (arith, r.lines, malformed_is r.rest more false none);
             trace = λ before was.
                 let known = r.trace before was in
-                (known.0, known.1, known.2 ∙ ap (λ ks. ks ++ known.0) (trace_other r.rest more none));
+                (known.0, known.1, known.2 ∙ ap (λ ks. known.0 ++ ks) (trace_other r.rest more none));
           }
 
   -- at the end of the input
   pub reads_all : Reads all left first now malformed → nat_lt 0 (length bytes) ≡ false
-      → IfSome all (λ input. (past : List (List ℕ)) → IsOf past first → IsOf (trace_of input ++ past) now)
+      → IfSome all (λ input. (trace : List (List ℕ)) → IsOf trace first → IsOf (trace ++ trace_of input) now)
       × IfSome all (λ input. malformed ≡ malformed_in input)
   reads_all r none = go all r
     where
       go : (all : Option (List ℕ)) → Reads all left first now malformed
-          → IfSome all (λ input. (past : List (List ℕ)) → IsOf past first → IsOf (trace_of input ++ past) now)
+          → IfSome all (λ input. (trace : List (List ℕ)) → IsOf trace first → IsOf (trace ++ trace_of input) now)
           × IfSome all (λ input. malformed ≡ malformed_in input)
       go None r = (tt, tt)
       go (Some input) r =
           let same : bytes ≡ take_through 10 r.rest = subst (λ o. IfSome o (λ rest. bytes ≡ take_through 10 rest))
           r.known is in
           let empty = no_line r.rest (ap (λ b. nat_lt 0 (length b)) (sym same) ∙ none) in (
-            λ past was.
-                let known = r.trace past was in
-                subst (λ ks. IsOf ks now) (sym (known.2 ∙ ap (λ b. trace_of b ++ known.0) empty)) known.1,
+            λ trace was.
+                let known = r.trace trace was in
+                subst (λ ks. IsOf ks now) (sym (known.2 ∙ ap (λ b. known.0 ++ trace_of b) empty ∙ append-nil known.0))
+                known.1,
             sym (r.lines ∙ ap (λ b. malformed + malformed_in b) empty ∙ omega arith),
           )
 

@@ -1,10 +1,10 @@
 -- The curve of a trace, as its references are counted.
-use Rattle.std.specs.Prelude.{◌≡◌, ℕ, ◌+◌, ◌≤◌, ◌<◌, List, length, map, take, sum, Option, Some, nat_eq, String}
+use Rattle.std.specs.Prelude.{◌≡◌, ℕ, ◌+◌, ◌≤◌, ◌<◌, List, [], length, map, take, sum, Option, Some, nat_eq, String}
 use Rattle.std.specs.Global.{Global}
 use Rattle.std.specs.Map.{lookup}
 use Rattle.std.specs.Str.{bytes_eq}
 use Rattle.std.specs.String.{string_bytes}
-use Rattle.recency.specs.Recency.{recency, misses}
+use Rattle.lru_theory.specs.Traces.{recency, misses, past_after}
 use Rattle.lru_trace.specs.Slots.{Recent}
 
 pub record Counted : Type 0 where
@@ -25,13 +25,13 @@ pub record AreNumbered (names : List (String Global × ℕ)) (n : ℕ) : Type 0 
   pub small : (key : List ℕ) (number : ℕ) → number_in names key ≡ Some number → number < n
   pub apart : (a b : List ℕ) (number : ℕ) → number_in names a ≡ Some number → number_in names b ≡ Some number → a ≡ b
 
--- this is the curve of the trace `past`, whose last reference comes first
-pub record IsOf (past : List (List ℕ)) (curve : Counted) : Type 0 where
+-- this is the curve of the trace
+pub record IsOf (trace : List (List ℕ)) (curve : Counted) : Type 0 where
   pub numbers : List ℕ
-  pub named : map (number_in curve.names) past ≡ map Some numbers
-  pub order : curve.recency ≡ recency nat_eq numbers
-  pub hits : (n : ℕ) → misses nat_eq n numbers + sum (take n curve.counts) ≡ curve.references
-  pub all : curve.references ≡ length past
+  pub named : map (number_in curve.names) trace ≡ map Some numbers
+  pub order : curve.recency ≡ recency nat_eq (past_after [] numbers)
+  pub hits : (n : ℕ) → misses nat_eq n [] numbers + sum (take n curve.counts) ≡ curve.references
+  pub all : curve.references ≡ length trace
 
 -- what is true of every curve
 pub record IsCounted (names : List (String Global × ℕ)) (recent : Recent) (counts : List ℕ) (first references : ℕ)

@@ -1,5 +1,5 @@
 -- The lines of a trace: each spells a key, or none.
-use Rattle.std.specs.Prelude.{ℕ, Bool, not, ◌&&◌, nat_lt, nat_le, List, [], ◌∷◌, length, reverse, ◌==◌, if◌then◌else◌}
+use Rattle.std.specs.Prelude.{ℕ, Bool, not, ◌&&◌, nat_lt, nat_le, List, [], ◌∷◌, length, ◌==◌, if◌then◌else◌}
 use Rattle.std.specs.List.{filter}
 use Rattle.std.specs.Str.{is_utf8}
 
@@ -17,9 +17,9 @@ lines_of (b ∷ bytes) = if b == 10 then [] ∷ lines_of bytes else onto_first b
 abbrev pub is_key : List ℕ → Bool
 is_key line = nat_lt 0 (length line) && (nat_le (length line) 64 && is_utf8 line)
 
--- the trace that the lines of an input spell, the last key first
+-- the trace that the lines of an input spell
 abbrev pub trace_of : List ℕ → List (List ℕ)
-trace_of input = reverse (filter is_key (lines_of input))
+trace_of input = filter is_key (lines_of input)
 
 -- how many of its lines spell no key
 abbrev pub malformed_in : List ℕ → ℕ

@@ -2,7 +2,7 @@
 use Rattle.std.specs.Prelude.{◌≡◌, ℕ, ◌^◌, ◌≤◌, ◌<◌, if◌then◌else◌, List, [], ◌∷◌, ◌++◌, length}
 use Rattle.std.specs.Prelude.{get_or, Option, Some, None, is_some, nat_eq, Vec, vec_len, vec_capacity}
 use Rattle.std.specs.Option.{option_to_list}
-use Rattle.recency.specs.Recency.{is_in, since}
+use Rattle.lru_theory.specs.Traces.{is_in, since}
 
 -- the keys that were referenced, the last one first, how many keys there are, and how many slots are left
 pub record Recent : Type 0 where

@@ -1,8 +1,8 @@
 //! The misses of a trace in LRU caches of every size.
-ghost use Rattle.std.specs.Prelude.{◌≡◌, ◌+◌, ◌-◌, ◌<◌, ◌≤◌, ◌^◌, ℕ, List, [], ◌∷◌, Some, IfOk, OnOk, OnErr, length};
+ghost use Rattle.std.specs.Prelude.{◌≡◌, ◌+◌, ◌-◌, ◌<◌, ◌≤◌, ◌^◌, ℕ, List, [], ◌∷◌, ◌++◌, Some, IfOk, OnOk, OnErr, length};
 ghost use Rattle.std.specs.Prelude.{take, sum};
 ghost use Rattle.std.specs.Str.{bytes_eq};
-ghost use Rattle.recency.specs.Recency.{misses};
+ghost use Rattle.lru_theory.specs.Traces.{misses};
 ghost use Rattle.lru_trace.specs.Counted.{Counted, IsOf, number_in};
 
 use crate::distances::Distances;
@@ -100,7 +100,8 @@ impl Curve {
         requires fits { self.old.references < 2 ^ 64 - 1 }
         requires number { number_in self.old.names key.now ≡ Some number }
         requires spare { length self.old.recency < length self.old.counts }
-        ensures ok { OnOk result ((past : List (List ℕ)) → IsOf past self.old → IsOf (key.now ∷ past) self.new) }
+        ensures ok { OnOk result ((trace : List (List ℕ)) → IsOf trace self.old →
+            IsOf (trace ++ key.now ∷ []) self.new) }
         ensures err { OnErr result (self.new ≡ self.old) }
         ensures references { self.new.references ≤ self.old.references + 1 }
     {
@@ -121,8 +122,9 @@ impl Curve {
     /// `Err`: out of memory. The reference is not counted.
     pub fn refer(&mut self, key: &str) -> Result<(), AllocError>
         requires { self.old.references < 2 ^ 64 - 1 }
-        ensures ok { OnOk result ((past : List (List ℕ)) → IsOf past self.old → IsOf (key.now ∷ past) self.new) }
-        ensures err { OnErr result ((past : List (List ℕ)) → IsOf past self.old → IsOf past self.new) }
+        ensures ok { OnOk result ((trace : List (List ℕ)) → IsOf trace self.old →
+            IsOf (trace ++ key.now ∷ []) self.new) }
+        ensures err { OnErr result ((trace : List (List ℕ)) → IsOf trace self.old → IsOf trace self.new) }
         ensures references { self.new.references ≤ self.old.references + 1 }
     {
         let number = self.number_of(key)?;
@@ -148,7 +150,8 @@ impl Curve {
     ///
     /// Cost: `O(places)`, and at most in proportion to the number of keys.
     pub fn misses(&self, places: usize) -> u64
-        ensures { (past : List (List ℕ)) → IsOf past self.now → result ≡ misses bytes_eq places past }
+        ensures { (trace : List (List ℕ)) → IsOf trace self.now →
+            result ≡ misses bytes_eq places [] trace }
     {
         let mut misses = self.references;
         let places = places.min(self.counts.len());

@@ -1,7 +1,7 @@
 //! Reuse distances of a trace, one reference at a time.
 ghost use Rattle.std.specs.Prelude.{◌≡◌, ◌+◌, ◌^◌, ◌<◌, [], ◌∷◌, IfOk, OnErr, OnOk, false, nat_eq};
 ghost use Rattle.std.specs.Set.{remove_key};
-ghost use Rattle.recency.specs.Recency.{is_in};
+ghost use Rattle.lru_theory.specs.Traces.{is_in};
 ghost use Rattle.lru_trace.specs.Slots.{Recent, position};
 
 use crate::tree::Tree;

@@ -91,7 +91,7 @@ pub fn read_keys<R: BufRead, P: Write>(
 ) -> Result<u64, TraceError>
     requires { curve.old.references ≡ 0 }
     ensures curve { IfOk result (λ malformed. IfSome (R.remaining reader.old)
-        (λ input. (past : List (List ℕ)) → IsOf past curve.old → IsOf (trace_of input ++ past) curve.new)) }
+        (λ input. (trace : List (List ℕ)) → IsOf trace curve.old → IsOf (trace ++ trace_of input) curve.new)) }
     ensures malformed { IfOk result (λ malformed. IfSome (R.remaining reader.old)
         (λ input. malformed ≡ malformed_in input)) }
 {

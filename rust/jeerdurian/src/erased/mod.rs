@@ -12,12 +12,12 @@ pub(crate) mod lru_model;
 #[cfg(feature = "std")]
 #[allow(dropping_copy_types, unused, clippy::all)]
 pub(crate) mod lru_tenants;
+#[allow(dropping_copy_types, unused, clippy::all)]
+pub(crate) mod lru_theory;
 #[cfg(feature = "std")]
 #[allow(dropping_copy_types, unused, clippy::all)]
 pub(crate) mod lru_trace;
 #[allow(dropping_copy_types, unused, clippy::all)]
 pub(crate) mod ordered_table;
-#[allow(dropping_copy_types, unused, clippy::all)]
-pub(crate) mod recency;
 #[allow(dropping_copy_types, unused, clippy::all)]
 pub(crate) mod schnellru;

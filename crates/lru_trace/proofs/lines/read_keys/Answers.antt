@@ -1,4 +1,4 @@
-use Rattle.std.proofs.Common.{◌≡◌, ℕ, ◌∷◌, List, length, true, false, sym, ap, ◌∙◌, subst, arith}
+use Rattle.std.proofs.Common.{◌≡◌, ℕ, [], ◌∷◌, ◌++◌, List, length, true, false, sym, ap, ◌∙◌, subst, arith}
 use Rattle.std.specs.Prelude.{nat_lt}
 use Rattle.std.specs.Io.BufRead.{strip_last}
 use Rattle.lru_trace.specs.Counted.{IsOf}
@@ -33,8 +33,8 @@ loop-lines-preserved g c =
           let key : is_key (strip_last 10 bytes) ≡ true = ap (λ b. is_key (strip_last 10 b))
           (sym c.deref.ensures.value) ∙ is.1 in
           let name = is.0 ∙ ap (strip_last 10) c.deref.ensures.value in
-          let follows = subst (λ k. (past : List (List ℕ)) → IsOf past c.loop-lines.curve → IsOf (k ∷ past)
-          w.refer.new.self) name
+          let follows = subst (λ k. (trace : List (List ℕ)) → IsOf trace c.loop-lines.curve
+          → IsOf (trace ++ k ∷ []) w.refer.new.self) name
           w.in_ok-refer-in-Some.ensures.ok in
           rw (w.curve-is, w.malformed-is) (
             omega (arith, inv.0),

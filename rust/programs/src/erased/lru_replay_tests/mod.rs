@@ -12,6 +12,4 @@ mod callers;
 #[cfg(test)]
 mod examples;
 #[cfg(test)]
-mod misses;
-#[cfg(test)]
 mod refused;

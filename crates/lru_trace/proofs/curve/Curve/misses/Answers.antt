@@ -1,14 +1,14 @@
-use Rattle.std.proofs.Common.{◌≡◌, take, sum, length, min, sym, ap, ◌∙◌, subst, arith}
+use Rattle.std.proofs.Common.{◌≡◌, [], take, sum, length, min, sym, ap, ◌∙◌, subst, arith}
 use Rattle.std.proofs.lemmas.List.{take_all, take_min}
 use Rattle.lru_trace.specs.Counted.{IsOf, number_in}
 use Rattle.lru_trace.proofs.Numbered.{misses_named, named_from}
 use Rattle.lru_trace.proofs.curve.Curve.misses.Goals as goal
 
 pub returns : goal.returns
-returns c = λ past of.
-    let now : IsOf past _ = subst (IsOf past) (sym c.self.view_is) of in
-    let same = misses_named (number_in c.self.inside.numbers.entries) c.self.invariant.numbered.apart c.args.places past
-    now.numbers (named_from (number_in c.self.inside.numbers.entries) past now.numbers now.named) in
+returns c = λ trace of.
+    let now : IsOf trace _ = subst (IsOf trace) (sym c.self.view_is) of in
+    let same = misses_named (number_in c.self.inside.numbers.entries) c.self.invariant.numbered.apart c.args.places [] []
+    trace now.numbers tt (named_from (number_in c.self.inside.numbers.entries) trace now.numbers now.named) in
     let hits = now.hits c.args.places in
     let xs = c.deref.result.now in
     let m : c.min-places.result ≡ min c.args.places (length xs) =

@@ -1,7 +1,7 @@
 use Rattle.std.proofs.Common.{◌≡◌, ◌<◌, false, ◌∷◌, length, get_or, set, ap, ◌∙◌, arith, nat_eq}
 use Rattle.std.specs.Prelude.{vec_len}
 use Rattle.std.proofs.lemmas.List.{length-set}
-use Rattle.recency.specs.Recency.{is_in}
+use Rattle.lru_theory.specs.Traces.{is_in}
 use Rattle.lru_trace.specs.Slots.{newest}
 use Rattle.lru_trace.proofs.Logs.{added_found, added_back, added_marked, is_free, newest_push}
 use Rattle.lru_trace.proofs.distances.Distances.append.Goals as goal

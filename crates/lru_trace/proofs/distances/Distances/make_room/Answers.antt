@@ -5,7 +5,7 @@ use Rattle.std.proofs.Math.Nat.{pow-suc}
 use Rattle.std.proofs.lemmas.Nat.{pow_pos}
 use Rattle.std.proofs.lemmas.List.{take_all}
 use Rattle.std.proofs.lemmas.List.Sums.{sum_by-drop_more}
-use Rattle.recency.specs.Recency.{is_in}
+use Rattle.lru_theory.specs.Traces.{is_in}
 use Rattle.lru_trace.specs.Slots.{newest}
 use Rattle.lru_trace.proofs.Logs.{key_within, absent_before, newest_more, newest_taken, newest_few, all_marks, mark_few}
 use Rattle.lru_trace.proofs.distances.Distances.make_room.Goals.{then-len-marks_behind, else-len-marks_behind}

@@ -2,7 +2,7 @@ use Rattle.std.proofs.Common.{◌≡◌, ◌-◌, Some, None, length, get_or, re
 use Rattle.std.specs.Prelude.{vec_len}
 use Rattle.std.proofs.lemmas.List.{length-set, get_or_read}
 use Rattle.std.specs.Set.{remove_key}
-use Rattle.recency.specs.Recency.{is_in}
+use Rattle.lru_theory.specs.Traces.{is_in}
 use Rattle.lru_trace.specs.Slots.{position, newest}
 use Rattle.lru_trace.proofs.Logs.{unreferenced, without_none, slot_in, position_is, taken_out, freed_found, freed_back}
 use Rattle.lru_trace.proofs.Logs.{freed_marked, freed_absent, is_marked}

@@ -1,0 +1,2 @@
+mod BudgetLists
+mod BudgetSteps

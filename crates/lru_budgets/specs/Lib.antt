@@ -1,0 +1,2 @@
+-- What the contract of `lru_budgets` cites.
+pub mod BudgetReferences

@@ -1,0 +1,4 @@
+pub mod ReferencePairs
+pub mod ReferenceRuns
+pub mod ReferenceSteps
+pub mod StoredCounts

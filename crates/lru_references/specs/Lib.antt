@@ -1,0 +1,2 @@
+-- What the contracts of `lru_references` cite.
+pub mod References

@@ -1,0 +1,41 @@
+-- Calls on LRU caches of several sizes.
+--     eq        when two keys are equal
+use Rattle.std.specs.Prelude.{◌≡◌, ℕ, ◌+◌, ◌-◌, ◌≤◌, Bool, true, if◌then◌else◌, List, [], ◌∷◌, length}
+use Rattle.std.specs.Set.{remove_key}
+use Rattle.lru_theory.specs.Traces.{is_in, refer}
+
+-- What a call does to the keys of a cache: it references a key, makes one the newest if it is there, removes one,
+-- removes all, or changes nothing.
+pub data KeyCall (K : Type 0) : Type 0 where
+  refers : K → KeyCall K
+  promotes : K → KeyCall K
+  removes : K → KeyCall K
+  clears : KeyCall K
+  looks : KeyCall K
+
+module _ {K : Type 0} (eq : K → K → Bool) (n : ℕ) where
+  -- the keys of an LRU cache of n places after a call, the newest first
+  abbrev pub after_call : KeyCall K → List K → List K
+  after_call (refers key) keys = refer eq n key keys
+  after_call (promotes key) keys = if is_in eq key keys then key ∷ remove_key (eq key) keys else keys
+  after_call (removes key) keys = remove_key (eq key) keys
+  after_call clears keys = []
+  after_call looks keys = keys
+
+  -- and after calls, one after another
+  abbrev pub after_calls : List (KeyCall K) → List K → List K
+  after_calls [] keys = keys
+  after_calls (call ∷ calls) keys = after_calls calls (after_call call keys)
+
+module _ {K : Type 0} (eq : K → K → Bool) where
+  -- keys equal to xs, one by one, are among ys, in the same order
+  pub data IsSubsequence : List K → List K → Type 0 where
+    none : (ys : List K) → IsSubsequence [] ys
+    both : (x y : K) (xs ys : List K) → eq x y ≡ true → IsSubsequence xs ys → IsSubsequence (x ∷ xs) (y ∷ ys)
+    skips : (y : K) (xs ys : List K) → IsSubsequence xs ys → IsSubsequence xs (y ∷ ys)
+
+  -- A cache of n places is included in one of m: its keys are keys of the larger cache, in the same order, and the
+  -- larger cache contains at most m - n more.
+  pub record IsIncluded (n m : ℕ) (small large : List K) : Type 0 where
+    pub keys : IsSubsequence small large
+    pub more : length large ≤ length small + (m - n)

@@ -1,4 +1,0 @@
-pub mod Affordable
-pub mod Bounds
-pub mod Inclusions
-pub mod Lists

@@ -1,5 +1,0 @@
-use Rattle.recency.proofs.Lists.{cached_is}
-use Rattle.recency.proofs.a_cache_is_the_newest.Goals as goal
-
-pub returns : goal.returns
-returns g c = cached_is g.K.PartialEq.eq

@@ -1,5 +1,0 @@
-use Rattle.recency.proofs.Lists.{fewer_misses}
-use Rattle.recency.proofs.more_places_never_miss_more.Goals as goal
-
-pub returns : goal.returns
-returns g c = λ n m past h. fewer_misses g.K.PartialEq.eq n m h past
