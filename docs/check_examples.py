@@ -12,7 +12,7 @@ import re
 import sys
 
 ROOT = pathlib.Path(__file__).resolve().parent.parent
-LIBRARIES = ["group_table", "lru_limits", "lru_model", "ordered_table", "schnellru", "replay_model", "lru_replay", "lru_tenants", "lru_caches", "lru_trace"]
+LIBRARIES = ["group_table", "lru_limits", "lru_model", "ordered_table", "schnellru", "lru_replay", "lru_tenants", "lru_caches", "lru_trace"]
 ITEM = re.compile(r"^\s*pub (?:const )?(?:fn|struct|enum|trait|type) (\w+)")
 
 

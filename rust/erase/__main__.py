@@ -38,9 +38,9 @@ PACKAGES = {
         "lru_trace",
     ],
     "programs": [
-        "test_helpers", "test_maps", "replay_model", "lru_references", "lru_budgets", "lru_replay", "trace", "replay",
+        "test_helpers", "test_maps", "lru_replay", "trace", "replay",
         "example_pages", "example_responses", "rows", "group_table_tests", "lru_limits_tests", "schnellru_tests",
-        "lru_references_tests", "lru_replay_tests", "lru_tenants_tests", "lru_caches_tests", "lru_trace_tests",
+        "lru_replay_tests", "lru_tenants_tests", "lru_caches_tests", "lru_trace_tests",
     ],
 }
 # Those that need std.

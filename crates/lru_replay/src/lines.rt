@@ -1,5 +1,12 @@
-//! Runs of calls, as lines from a reader to a writer.
+//! Runs of calls, as lines from a reader to a writer: what lines say, and the texts of answers.
 
+mod bytes;
 mod drain;
+pub mod figures;
+pub mod line;
+pub mod outcome;
+pub mod output;
 mod pairs;
 pub(crate) mod replays;
+pub mod taken;
+pub mod words;

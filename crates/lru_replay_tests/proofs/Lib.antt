@@ -1,1 +1,2 @@
 pub mod Results
+mod Options

@@ -9,4 +9,8 @@ mod callers;
 #[cfg(test)]
 mod examples;
 #[cfg(test)]
+mod misses;
+#[cfg(test)]
+mod references;
+#[cfg(test)]
 mod refused;

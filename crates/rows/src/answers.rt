@@ -1,7 +1,7 @@
 //! The texts of the answers to calls, as the program writes them.
 use crate::text::Text;
-use replay_model::Answer;
-use replay_model::lines::output::write_answer;
+use lru_replay::Answer;
+use lru_replay::lines::output::write_answer;
 use std::alloc::{AllocError, Global};
 
 /// Adds the text of each answer, with a line feed after it.

@@ -1,7 +1,7 @@
 //! Calls on a map, as lines spell them.
 use crate::limiters::{Numbered, number_of};
-use replay_model::Call;
-use replay_model::lines::words;
+use lru_replay::Call;
+use lru_replay::lines::words;
 use std::alloc::Global;
 
 /// The calls that the lines spell, as lines of the program if they are such lines. A line that spells no call asks for

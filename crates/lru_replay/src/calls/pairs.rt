@@ -3,11 +3,11 @@ ghost use Rattle.std.specs.Prelude.{◌≡◌, ◌++◌, ◌+◌, ◌≤◌, ◌
 ghost use Rattle.std.specs.Vec.{vec_len, vec_capacity};
 ghost use Rattle.lru_model.specs.Drains.{newest_given, oldest_given, pops_first};
 ghost use Rattle.lru_model.specs.State.{contents, Leaves, pops};
-ghost use Rattle.replay_model.specs.declared.calls.Call.TheVariants as calls;
-ghost use Rattle.replay_model.specs.CallRuns.{CallStep};
-ghost use Rattle.replay_model.specs.Replies.{said};
+ghost use Rattle.lru_replay.specs.declared.calls.Call.TheVariants as calls;
+ghost use Rattle.lru_replay.specs.CallRuns.{CallStep};
+ghost use Rattle.lru_replay.specs.Replies.{said};
 
-use replay_model::Answer;
+use crate::Answer;
 use schnellru::{Insertion, KeyHasher, Limiter, LruMap};
 use std::alloc::Global;
 use std::hash::Hash;

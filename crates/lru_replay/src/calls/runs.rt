@@ -2,15 +2,15 @@
 ghost use Rattle.std.specs.Prelude.{◌≡◌, IfOk};
 ghost use Rattle.std.specs.Result.{OnErr};
 ghost use Rattle.lru_model.specs.State.{IsMap};
-ghost use Rattle.replay_model.specs.declared.calls.Call.TheVariants as calls;
-ghost use Rattle.replay_model.specs.CallRuns.{IsRun, CallStep};
-ghost use Rattle.replay_model.specs.Replies.{said, all_said};
+ghost use Rattle.lru_replay.specs.declared.calls.Call.TheVariants as calls;
+ghost use Rattle.lru_replay.specs.CallRuns.{IsRun, CallStep};
+ghost use Rattle.lru_replay.specs.Replies.{said, all_said};
 
 use crate::calls::pairs::{drain_pairs, insert_with, list};
 use crate::calls::steps::{
     get, get_by_hash, get_or_insert, insert, peek_by_hash, peek_newest, peek_oldest, stats, write,
 };
-use replay_model::{Answer, Call};
+use crate::{Answer, Call};
 use schnellru::{Insertion, KeyHasher, LruMap};
 use std::alloc::{AllocError, Global};
 use std::hash::Hash;

@@ -2,11 +2,11 @@
 ghost use Rattle.std.specs.Prelude.{◌≡◌, Option, is_some, if◌then◌else◌};
 ghost use Rattle.lru_model.specs.Calls.{promoted, written};
 ghost use Rattle.lru_model.specs.Lists.{lookup, first, last, newest_value};
-ghost use Rattle.replay_model.specs.declared.calls.Call.TheVariants as calls;
-ghost use Rattle.replay_model.specs.Replies.{said};
-ghost use Rattle.replay_model.specs.Steps.{ReplyStep, FindsByHash};
+ghost use Rattle.lru_replay.specs.declared.calls.Call.TheVariants as calls;
+ghost use Rattle.lru_replay.specs.Replies.{said};
+ghost use Rattle.lru_replay.specs.Steps.{ReplyStep, FindsByHash};
 
-use replay_model::Answer;
+use crate::Answer;
 use schnellru::{Insertion, KeyHasher, Limiter, LruMap};
 use std::hash::Hash;
 

@@ -3,11 +3,11 @@ ghost use Rattle.std.specs.Prelude.{◌≡◌, IfOk, true, false};
 ghost use Rattle.std.specs.Result.{OnErr};
 ghost use Rattle.lru_model.specs.State.{contents, IsMap};
 ghost use Rattle.lru_model.specs.Theorems.{IsSummed};
-ghost use Rattle.replay_model.specs.CallRuns.{IsRun, SummingStep, KeepsCost};
-ghost use Rattle.replay_model.specs.Replies.{said, all_said};
+ghost use Rattle.lru_replay.specs.CallRuns.{IsRun, SummingStep, KeepsCost};
+ghost use Rattle.lru_replay.specs.Replies.{said, all_said};
 
 use crate::calls::runs::make_call;
-use replay_model::{Answer, Call};
+use crate::{Answer, Call};
 use schnellru::laws::runs_keep_sums;
 use schnellru::{KeyHasher, LruMap, Summing};
 use std::alloc::{AllocError, Global};

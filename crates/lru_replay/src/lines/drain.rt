@@ -1,10 +1,10 @@
 //! The line `drain`: pairs are taken out, and written as they go.
 ghost use Rattle.std.specs.Prelude.{ℕ, List};
 ghost use Rattle.lru_model.specs.Drains.{Drained};
-ghost use Rattle.replay_model.specs.Output.{Writes, pairs_text};
+ghost use Rattle.lru_replay.specs.Output.{Writes, pairs_text};
 
-use replay_model::ReplayError;
-use replay_model::lines::taken::{end_of_pairs, write_taken};
+use crate::ReplayError;
+use crate::lines::taken::{end_of_pairs, write_taken};
 use schnellru::{Insertion, LruMap};
 use std::io::Write;
 

@@ -1,8 +1,8 @@
 //! The line `list`: the pairs of a map, written one after another.
-ghost use Rattle.replay_model.specs.Output.{Writes, rest_text, pairs_text};
+ghost use Rattle.lru_replay.specs.Output.{Writes, rest_text, pairs_text};
 
-use replay_model::ReplayError;
-use replay_model::lines::output::{write_bytes, write_pair};
+use crate::ReplayError;
+use crate::lines::output::{write_bytes, write_pair};
 use schnellru::{LinkType, Walk};
 use std::io::Write;
 

@@ -1,19 +1,19 @@
 //! A replay, from the lines of a reader to the answer lines of a writer.
 ghost use Rattle.std.specs.Prelude.{ℕ, List};
 ghost use Rattle.lru_model.specs.State.{IsSized};
-ghost use Rattle.replay_model.specs.Maps.{empty};
-ghost use Rattle.replay_model.specs.Output.{Writes};
-ghost use Rattle.replay_model.specs.Replay.{IsTextUnder, Replays};
-ghost use Rattle.replay_model.specs.LineRuns.{LineStep, AnswersLine, IsTextOf, Answers};
+ghost use Rattle.lru_replay.specs.Maps.{empty};
+ghost use Rattle.lru_replay.specs.Output.{Writes};
+ghost use Rattle.lru_replay.specs.Replay.{IsTextUnder, Replays};
+ghost use Rattle.lru_replay.specs.LineRuns.{LineStep, AnswersLine, IsTextOf, Answers};
 
 use crate::calls::runs::make_call;
 use crate::lines::drain::write_drain;
+use crate::lines::figures::ReportsCost;
+use crate::lines::line::{Ending, Line, read_line};
+use crate::lines::output::{write_answer, write_bytes};
 use crate::lines::pairs::write_pairs;
-use replay_model::lines::figures::ReportsCost;
-use replay_model::lines::line::{Ending, Line, read_line};
-use replay_model::lines::output::{write_answer, write_bytes};
-use replay_model::lines::words::{Limit, call_of, limit_of};
-use replay_model::{Call, ReplayEnd, ReplayError};
+use crate::lines::words::{Limit, call_of, limit_of};
+use crate::{Call, ReplayEnd, ReplayError};
 use schnellru::{
     ByCost, ByLength, ByMemoryUsage, Insertion, LruMap, RandomState, UnlimitedCompact,
 };

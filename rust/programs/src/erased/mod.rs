@@ -7,19 +7,12 @@ pub(crate) mod example_responses;
 #[cfg(test)]
 #[allow(dropping_copy_types, unused, clippy::all)]
 pub(crate) mod group_table_tests;
-#[allow(dropping_copy_types, unused, clippy::all)]
-pub(crate) mod lru_budgets;
 #[cfg(test)]
 #[allow(dropping_copy_types, unused, clippy::all)]
 pub(crate) mod lru_caches_tests;
 #[cfg(test)]
 #[allow(dropping_copy_types, unused, clippy::all)]
 pub(crate) mod lru_limits_tests;
-#[allow(dropping_copy_types, unused, clippy::all)]
-pub(crate) mod lru_references;
-#[cfg(test)]
-#[allow(dropping_copy_types, unused, clippy::all)]
-pub(crate) mod lru_references_tests;
 #[allow(dropping_copy_types, unused, clippy::all)]
 pub(crate) mod lru_replay;
 #[cfg(test)]
@@ -33,8 +26,6 @@ pub(crate) mod lru_tenants_tests;
 pub(crate) mod lru_trace_tests;
 #[allow(dropping_copy_types, unused, clippy::all)]
 pub(crate) mod replay;
-#[allow(dropping_copy_types, unused, clippy::all)]
-pub(crate) mod replay_model;
 #[allow(dropping_copy_types, unused, clippy::all)]
 pub(crate) mod rows;
 #[cfg(test)]

@@ -1,7 +1,7 @@
 use Rattle.std.proofs.Common.{◌≤◌}
 use Rattle.std.specs.List.{AllByRecursion}
-use Rattle.replay_model.specs.CallRuns.{SetsNoLimiter}
-use Rattle.replay_model.proofs.CallRuns.{run_holds}
+use Rattle.lru_replay.specs.CallRuns.{SetsNoLimiter}
+use Rattle.lru_replay.proofs.CallRuns.{run_holds}
 use Rattle.lru_replay_tests.proofs.Results.{follows}
 use Rattle.lru_replay_tests.proofs.callers.charge_both.Goals as goal
 

@@ -1,8 +1,8 @@
 use Rattle.std.proofs.Common.{◌≡◌, ◌≤◌, true, nat_eq, length, subst}
 use Rattle.std.proofs.lemmas.Bool.{eqb-true}
 use Rattle.std.specs.List.{AllByRecursion}
-use Rattle.replay_model.specs.CallRuns.{SetsNoLimiter, NamesAmong}
-use Rattle.replay_model.proofs.CallRuns.{run_holds}
+use Rattle.lru_replay.specs.CallRuns.{SetsNoLimiter, NamesAmong}
+use Rattle.lru_replay.proofs.CallRuns.{run_holds}
 use Rattle.lru_replay_tests.proofs.Results.{follows}
 use Rattle.lru_replay_tests.proofs.callers.put_both.Goals as goal
 

@@ -1,9 +1,16 @@
 // Erased from crates/lru_replay/src/lines.rt: do not edit.
-//! Runs of calls, as lines from a reader to a writer.
+//! Runs of calls, as lines from a reader to a writer: what lines say, and the texts of answers.
 
 #[allow(unused_imports)]
 use crate::rattle_std::prelude::*;
 
+mod bytes;
 mod drain;
+pub mod figures;
+pub mod line;
+pub mod outcome;
+pub mod output;
 mod pairs;
 pub(crate) mod replays;
+pub mod taken;
+pub mod words;

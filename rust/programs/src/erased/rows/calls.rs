@@ -3,8 +3,8 @@
 #[allow(unused_imports)]
 use crate::rattle_std::prelude::*;
 
-use crate::programs::replay_model::Call;
-use crate::programs::replay_model::lines::words;
+use crate::programs::lru_replay::Call;
+use crate::programs::lru_replay::lines::words;
 use crate::programs::rows::limiters::{Numbered, number_of};
 use crate::rattle_std::alloc::Global;
 

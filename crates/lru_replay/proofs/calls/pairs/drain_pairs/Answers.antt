@@ -2,7 +2,7 @@ use Rattle.std.proofs.Common.{◌≡◌, ◌-◌, ◌<◌, ◌≤◌, ◌++◌, 
 use Rattle.lru_model.specs.Drains.{pops_first, oldest_given}
 use Rattle.lru_model.specs.State.{contents, Leaves, pops}
 use Rattle.lru_model.proofs.CallerLemmas.{leaves_trans}
-use Rattle.replay_model.proofs.Pops.{from_newest, from_oldest, length-many, many_enough, all_enough}
+use Rattle.lru_replay.proofs.Pops.{from_newest, from_oldest, length-many, many_enough, all_enough}
 use Rattle.lru_replay.proofs.calls.pairs.drain_pairs.Goals as goal
 
 pub returns : goal.returns

@@ -3,7 +3,7 @@ use Rattle.lru_model.specs.Calls.{pop_first}
 use Rattle.lru_model.specs.Drains.{pops_first, newest_given}
 use Rattle.lru_model.specs.State.{contents, Leaves}
 use Rattle.lru_model.proofs.CallerLemmas.{leaves_trans}
-use Rattle.replay_model.proofs.Pops.{from_newest, newest_pair, many-more, all-more}
+use Rattle.lru_replay.proofs.Pops.{from_newest, newest_pair, many-more, all-more}
 use Rattle.lru_replay.proofs.calls.pairs.take_newest.Goals as goal
 
 pub loop-preserved : goal.loop-preserved

@@ -2,7 +2,7 @@ use Rattle.std.proofs.Common.{◌≡◌, ◌++◌, arith, ap, sym, ◌∙◌, su
 use Rattle.lru_model.specs.State.{contents, Leaves, pop, pops}
 use Rattle.lru_model.specs.Drains.{oldest_given}
 use Rattle.lru_model.proofs.CallerLemmas.{leaves_trans}
-use Rattle.replay_model.proofs.Pops.{from_oldest, oldest_pair, many-more, all-more}
+use Rattle.lru_replay.proofs.Pops.{from_oldest, oldest_pair, many-more, all-more}
 use Rattle.lru_replay.proofs.calls.pairs.take_oldest.Goals as goal
 
 pub loop-preserved : goal.loop-preserved

@@ -1,6 +1,6 @@
 use Rattle.std.proofs.Common.{◌∷◌, [], arith, sym, ap, ◌∙◌, length}
 use Rattle.std.proofs.lemmas.List.{length-append}
-use Rattle.replay_model.proofs.CallRuns.{next_run, next_items, whole_run}
+use Rattle.lru_replay.proofs.CallRuns.{next_run, next_items, whole_run}
 use Rattle.lru_replay.proofs.calls.runs.run_calls.Goals as goal
 
 pub loop-call-preserved : goal.loop-call-preserved

@@ -2,8 +2,8 @@
 use Rattle.std.proofs.Common.{◌≡◌, ◌≤◌, ◌++◌, length, vec_len, vec_capacity}
 use Rattle.std.specs.Vec.Iter.{into_iter_items, into_iter_len}
 use Rattle.lru_model.specs.State.{IsMap}
-use Rattle.replay_model.specs.CallRuns.{IsRun, CallStep}
-use Rattle.replay_model.specs.Replies.{all_said}
+use Rattle.lru_replay.specs.CallRuns.{IsRun, CallStep}
+use Rattle.lru_replay.specs.Replies.{all_said}
 use Rattle.lru_replay.proofs.calls.runs.run_calls.Given as goal
 
 abbrev pub invariant-loop-call : goal.invariant-loop-call

@@ -3,8 +3,8 @@ use Rattle.std.specs.Prelude.{unwrap_or}
 use Rattle.std.specs.Option.{option_copied_mut}
 use Rattle.lru_model.specs.Calls.{promoted, written}
 use Rattle.lru_model.proofs.CallerLemmas.{given-found, given-tag, given-promoted, none-found}
-use Rattle.replay_model.specs.Steps.{found, not_found}
-use Rattle.replay_model.proofs.Options.{OnSome-some}
+use Rattle.lru_replay.specs.Steps.{found, not_found}
+use Rattle.lru_replay.proofs.Options.{OnSome-some}
 use Rattle.lru_replay.proofs.calls.steps.get_by_hash.Goals as goal
 
 pub returns-in-Some-clause-found : goal.returns-in-Some-clause-found

@@ -1,6 +1,6 @@
 use Rattle.std.proofs.Common.{rules, true, false, Ok, Err, ap, refl}
-use Rattle.replay_model.specs.Replies.{value}
-use Rattle.replay_model.proofs.MadeValues.{made-value, made-flag}
+use Rattle.lru_replay.specs.Replies.{value}
+use Rattle.lru_replay.proofs.MadeValues.{made-value, made-flag}
 use Rattle.lru_replay.proofs.calls.steps.get_or_insert.Goals as goal
 
 pub returns-in-Ok-true : goal.returns-in-Ok-true

@@ -1,6 +1,6 @@
 use Rattle.std.proofs.Common.{rules, refl}
 use Rattle.lru_model.proofs.CallerLemmas.{given-found, given-tag, none-found}
-use Rattle.replay_model.specs.Steps.{found, not_found}
+use Rattle.lru_replay.specs.Steps.{found, not_found}
 use Rattle.lru_replay.proofs.calls.steps.peek_by_hash.Goals as goal
 
 pub returns-in-Some : goal.returns-in-Some

@@ -1,5 +1,5 @@
-use Rattle.replay_model.specs.Replies.{said}
-use Rattle.replay_model.proofs.SummedCalls.{call_summed}
+use Rattle.lru_replay.specs.Replies.{said}
+use Rattle.lru_replay.proofs.SummedCalls.{call_summed}
 use Rattle.lru_replay.proofs.calls.summing.make_summing_call.Goals as goal
 
 pub returns-clause-account : goal.returns-clause-account

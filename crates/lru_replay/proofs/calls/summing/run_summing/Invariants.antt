@@ -3,8 +3,8 @@ use Rattle.std.proofs.Common.{◌≡◌, ◌≤◌, ◌++◌, length, vec_len, v
 use Rattle.std.specs.Vec.Iter.{into_iter_items, into_iter_len}
 use Rattle.lru_model.specs.State.{IsMap}
 use Rattle.lru_model.specs.Theorems.{IsSummed}
-use Rattle.replay_model.specs.CallRuns.{IsRun, SummingStep}
-use Rattle.replay_model.specs.Replies.{all_said}
+use Rattle.lru_replay.specs.CallRuns.{IsRun, SummingStep}
+use Rattle.lru_replay.specs.Replies.{all_said}
 use Rattle.lru_replay.proofs.calls.summing.run_summing.Given as goal
 
 abbrev pub invariant-loop-call : goal.invariant-loop-call

@@ -5,9 +5,9 @@ use Rattle.lru_model.specs.State.{contents, Leaves}
 use Rattle.lru_model.specs.Calls.{left_of, pop_first}
 use Rattle.lru_model.specs.Drains.{pops_first, newest_given}
 use Rattle.lru_model.proofs.CallerLemmas.{leaves_trans}
-use Rattle.replay_model.specs.Output.{Writes, taken_text}
-use Rattle.replay_model.proofs.DrainedPairs.{spaced, spaced-more, spaced-end, some-more}
-use Rattle.replay_model.proofs.Pops.{from_newest, many-more, all-more, many_enough, all_enough}
+use Rattle.lru_replay.specs.Output.{Writes, taken_text}
+use Rattle.lru_replay.proofs.DrainedPairs.{spaced, spaced-more, spaced-end, some-more}
+use Rattle.lru_replay.proofs.Pops.{from_newest, many-more, all-more, many_enough, all_enough}
 use Rattle.lru_replay.proofs.lines.drain.write_drain.Goals as goal
 
 pub loop-preserved : goal.loop-preserved

@@ -3,8 +3,8 @@ use Rattle.std.proofs.Common.{◌≡◌, ℕ, not, List}
 use Rattle.lru_model.specs.Lists.{is_empty}
 use Rattle.lru_model.specs.State.{contents, Leaves}
 use Rattle.lru_model.specs.Drains.{pops_first, newest_given}
-use Rattle.replay_model.specs.Output.{Writes}
-use Rattle.replay_model.proofs.DrainedPairs.{spaced}
+use Rattle.lru_replay.specs.Output.{Writes}
+use Rattle.lru_replay.proofs.DrainedPairs.{spaced}
 use Rattle.lru_replay.proofs.lines.drain.write_drain.Given as goal
 
 abbrev pub invariant-loop : goal.invariant-loop

@@ -1,5 +1,5 @@
 use Rattle.std.proofs.lemmas.Result.{err_from_is_err_and}
-use Rattle.replay_model.proofs.WrittenTexts.{writes_after, failed_front}
+use Rattle.lru_replay.proofs.WrittenTexts.{writes_after, failed_front}
 use Rattle.lru_replay.proofs.lines.pairs.write_pairs.Goals as goal
 
 pub returns-in_err-write_pair : goal.returns-in_err-write_pair

@@ -2,8 +2,8 @@ use Rattle.std.proofs.Common.{◌++◌, ◌∷◌, [], ap, sym, ◌∙◌, subst
 use Rattle.std.proofs.lemmas.Result.{err_from_is_err_and}
 use Rattle.std.specs.Io.KnownBytes.{Appends}
 use Rattle.std.proofs.KnownBytes.{Appends-trans}
-use Rattle.replay_model.specs.Output.{rest_text}
-use Rattle.replay_model.proofs.WrittenTexts.{failed}
+use Rattle.lru_replay.specs.Output.{rest_text}
+use Rattle.lru_replay.proofs.WrittenTexts.{failed}
 use Rattle.lru_replay.proofs.lines.pairs.write_rest.Goals as goal
 
 pub returns-in_err-write_bytes : goal.returns-in_err-write_bytes

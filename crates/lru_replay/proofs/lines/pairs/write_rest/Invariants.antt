@@ -1,7 +1,7 @@
 -- What is gone from the pairs was written.
 use Rattle.std.proofs.Common.{◌≡◌, ℕ, List, ◌++◌}
 use Rattle.std.specs.Io.KnownBytes.{Appends}
-use Rattle.replay_model.specs.Output.{rest_text}
+use Rattle.lru_replay.specs.Output.{rest_text}
 use Rattle.lru_replay.proofs.lines.pairs.write_rest.Given as goal
 
 abbrev pub invariant-loop-key : goal.invariant-loop-key

@@ -1,8 +1,8 @@
 use Rattle.std.proofs.Common.{◌∙◌}
 use Rattle.std.proofs.lemmas.Result.{err_from_is_err_and}
-use Rattle.replay_model.proofs.EndedReplays.{first_failed, no_limiter, no_limiter_cut, done_first, done_others}
-use Rattle.replay_model.proofs.EndedReplays.{others_failed}
-use Rattle.replay_model.proofs.HeldBytes.{whole_limit, none_held}
+use Rattle.lru_replay.proofs.EndedReplays.{first_failed, no_limiter, no_limiter_cut, done_first, done_others}
+use Rattle.lru_replay.proofs.EndedReplays.{others_failed}
+use Rattle.lru_replay.proofs.HeldBytes.{whole_limit, none_held}
 use Rattle.lru_replay.proofs.lines.replays.answer_all.Goals as goal
 
 pub returns-in_err-ending : goal.returns-in_err-ending

@@ -2,15 +2,15 @@ use Rattle.std.proofs.Common.{◌≡◌, ℕ, inl, inr, refl, sym, ap, ◌∙◌
 use Rattle.std.specs.Prelude.{nat_eq}
 use Rattle.lru_limits.specs.Rules.{Rules, Offers}
 use Rattle.lru_model.specs.Drains.{Drained}
-use Rattle.replay_model.specs.declared.calls.Call.{Call}
-use Rattle.replay_model.specs.declared.calls.Call.TheVariants as calls
-use Rattle.replay_model.specs.CallRuns.{CallStep, StoresPairs}
-use Rattle.replay_model.specs.Grammar.{SpellsCall}
-use Rattle.replay_model.specs.LineRuns.{AnswersCall, StoresFirst}
-use Rattle.replay_model.specs.Maps.{Map, hash_of}
-use Rattle.replay_model.specs.Output.{pairs_text, reply_text}
-use Rattle.replay_model.specs.Replies.{Reply, listed, said}
-use Rattle.replay_model.proofs.SpelledWords.{has_line}
+use Rattle.lru_replay.specs.declared.calls.Call.{Call}
+use Rattle.lru_replay.specs.declared.calls.Call.TheVariants as calls
+use Rattle.lru_replay.specs.CallRuns.{CallStep, StoresPairs}
+use Rattle.lru_replay.specs.Grammar.{SpellsCall}
+use Rattle.lru_replay.specs.LineRuns.{AnswersCall, StoresFirst}
+use Rattle.lru_replay.specs.Maps.{Map, hash_of}
+use Rattle.lru_replay.specs.Output.{pairs_text, reply_text}
+use Rattle.lru_replay.specs.Replies.{Reply, listed, said}
+use Rattle.lru_replay.proofs.SpelledWords.{has_line}
 use Rattle.lru_replay.proofs.lines.replays.answer_call.Goals as goal
 
 -- of the calls that store pairs, the others write them as they come

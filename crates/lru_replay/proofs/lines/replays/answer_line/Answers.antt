@@ -1,6 +1,6 @@
 use Rattle.std.proofs.Common.{[], ◌∷◌}
 use Rattle.std.proofs.lemmas.Result.{err_from_is_err_and}
-use Rattle.replay_model.proofs.WrittenTexts.{writes_after, failed_front}
+use Rattle.lru_replay.proofs.WrittenTexts.{writes_after, failed_front}
 use Rattle.lru_replay.proofs.lines.replays.answer_line.Goals as goal
 
 pub returns-in_err-carried_out-clause-step : goal.returns-in_err-carried_out-clause-step

@@ -1,8 +1,8 @@
 use Rattle.std.proofs.Common.{[], ◌∙◌, Ok, Err, refl}
 use Rattle.std.proofs.KnownBytes.{Appends-nil, Consumes-nil}
 use Rattle.std.proofs.lemmas.Result.{err_from_is_err_and}
-use Rattle.replay_model.proofs.AnsweredLines.{line_answered, last_answered, line_cut, read_failed, all_answered}
-use Rattle.replay_model.proofs.HeldBytes.{whole_answer}
+use Rattle.lru_replay.proofs.AnsweredLines.{line_answered, last_answered, line_cut, read_failed, all_answered}
+use Rattle.lru_replay.proofs.HeldBytes.{whole_answer}
 use Rattle.lru_replay.proofs.lines.replays.answer_lines.Goals as goal
 
 pub loop-init : goal.loop-init

@@ -1,5 +1,5 @@
 -- The lines so far were read whole, and the text of a run over them was written.
-use Rattle.replay_model.proofs.AnsweredLines.{RunsSoFar}
+use Rattle.lru_replay.proofs.AnsweredLines.{RunsSoFar}
 use Rattle.lru_replay.proofs.lines.replays.answer_lines.Given as goal
 
 abbrev pub invariant-loop : goal.invariant-loop

@@ -1,4 +1,4 @@
-use Rattle.replay_model.proofs.EndedReplays.{flush_failed, replays-kept}
+use Rattle.lru_replay.proofs.EndedReplays.{flush_failed, replays-kept}
 use Rattle.lru_replay.proofs.lines.replays.replay.Goals as goal
 
 pub returns-in-Ok : goal.returns-in-Ok

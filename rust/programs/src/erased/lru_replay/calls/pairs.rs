@@ -5,7 +5,7 @@
 use crate::rattle_std::prelude::*;
 
 use crate::erased::schnellru::{Insertion, KeyHasher, Limiter, LruMap};
-use crate::programs::replay_model::Answer;
+use crate::programs::lru_replay::Answer;
 use crate::rattle_std::alloc::Global;
 use crate::rattle_std::hash::Hash;
 

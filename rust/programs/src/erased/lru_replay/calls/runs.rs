@@ -9,7 +9,7 @@ use crate::programs::lru_replay::calls::pairs::{drain_pairs, insert_with, list};
 use crate::programs::lru_replay::calls::steps::{
     get, get_by_hash, get_or_insert, insert, peek_by_hash, peek_newest, peek_oldest, stats, write,
 };
-use crate::programs::replay_model::{Answer, Call};
+use crate::programs::lru_replay::{Answer, Call};
 use crate::rattle_std::alloc::{AllocError, Global};
 use crate::rattle_std::hash::Hash;
 

@@ -5,8 +5,8 @@
 use crate::rattle_std::prelude::*;
 
 use crate::erased::schnellru::{Insertion, LruMap};
-use crate::programs::replay_model::ReplayError;
-use crate::programs::replay_model::lines::taken::{end_of_pairs, write_taken};
+use crate::programs::lru_replay::ReplayError;
+use crate::programs::lru_replay::lines::taken::{end_of_pairs, write_taken};
 use crate::rattle_std::io::Write;
 
 /// Takes out at most `most` of the newest pairs, and writes each. Then it drops the others. If a write fails, nothing

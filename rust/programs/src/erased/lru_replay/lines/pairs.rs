@@ -5,8 +5,8 @@
 use crate::rattle_std::prelude::*;
 
 use crate::erased::schnellru::{LinkType, Walk};
-use crate::programs::replay_model::ReplayError;
-use crate::programs::replay_model::lines::output::{write_bytes, write_pair};
+use crate::programs::lru_replay::ReplayError;
+use crate::programs::lru_replay::lines::output::{write_bytes, write_pair};
 use crate::rattle_std::io::Write;
 
 /// Writes the pairs with one space between them, or `-` for none.

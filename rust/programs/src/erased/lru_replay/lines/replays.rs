@@ -7,12 +7,12 @@ use crate::rattle_std::prelude::*;
 use crate::erased::schnellru::{ByCost, ByLength, ByMemoryUsage, Insertion, LruMap, RandomState, UnlimitedCompact};
 use crate::programs::lru_replay::calls::runs::make_call;
 use crate::programs::lru_replay::lines::drain::write_drain;
+use crate::programs::lru_replay::lines::figures::ReportsCost;
+use crate::programs::lru_replay::lines::line::{Ending, Line, read_line};
+use crate::programs::lru_replay::lines::output::{write_answer, write_bytes};
 use crate::programs::lru_replay::lines::pairs::write_pairs;
-use crate::programs::replay_model::lines::figures::ReportsCost;
-use crate::programs::replay_model::lines::line::{Ending, Line, read_line};
-use crate::programs::replay_model::lines::output::{write_answer, write_bytes};
-use crate::programs::replay_model::lines::words::{Limit, call_of, limit_of};
-use crate::programs::replay_model::{Call, ReplayEnd, ReplayError};
+use crate::programs::lru_replay::lines::words::{Limit, call_of, limit_of};
+use crate::programs::lru_replay::{Call, ReplayEnd, ReplayError};
 use crate::rattle_std::alloc::Global;
 use crate::rattle_std::io::{BufRead, Write};
 

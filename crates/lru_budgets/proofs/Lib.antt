@@ -1,2 +1,0 @@
-mod BudgetLists
-mod BudgetSteps

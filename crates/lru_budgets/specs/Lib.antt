@@ -1,2 +1,0 @@
--- What the contract of `lru_budgets` cites.
-pub mod BudgetReferences

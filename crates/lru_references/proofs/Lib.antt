@@ -1,4 +1,0 @@
-pub mod ReferencePairs
-pub mod ReferenceRuns
-pub mod ReferenceSteps
-pub mod StoredCounts

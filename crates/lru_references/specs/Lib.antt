@@ -1,2 +1,0 @@
--- What the contracts of `lru_references` cite.
-pub mod References

@@ -1,0 +1,77 @@
+-- What a call of a run is to the map: a step of it, a write, another limiter, or a look that changes nothing.
+use Rattle.std.proofs.Common.{◌≡◌, ℕ, Bool, Some, None, option_map, refl, subst, inl, inr, ◌⊎◌}
+use Rattle.lru_limits.specs.Rules.{Rules, Offers}
+use Rattle.lru_model.proofs.CallerLemmas.{value_removed}
+use Rattle.lru_model.proofs.PassingLemmas.{plain_insert}
+use Rattle.lru_model.specs.Calls.{written}
+use Rattle.lru_model.specs.Runs.{Step, inserts, makes_newest, updates, gets, demotes, removes, pops_oldest}
+use Rattle.lru_model.specs.Runs.{pops_newest, drains, clears, reserves, shrinks, trims, NamesOnly, AnyStep}
+use Rattle.lru_model.specs.Runs.{calls as any_call, writes, sets_limiter as sets}
+use Rattle.lru_model.specs.State.{State}
+use Rattle.lru_replay.specs.CallRuns.{CallStep, NamesAmong}
+use Rattle.lru_replay.specs.Replies.{Reply}
+use Rattle.lru_replay.specs.Steps.{ReplyStep}
+use Rattle.lru_replay.specs.declared.calls.Call.{Call}
+use Rattle.lru_replay.specs.declared.calls.Call.TheVariants as calls
+
+module _ {K V S H : Type 0} (rules : Rules K V S) (offers : Offers K V S K) (eq : K → K → Bool)
+    (hash_of : H → K → ℕ) (old new : State K V S H) where
+  -- a step names no keys but those that the call names
+  abbrev pub Names : Call K V S → AnyStep rules offers eq hash_of old new → Type 0
+  Names call step = (test : K → Bool) → NamesAmong eq test call → NamesOnly rules offers eq hash_of test old new step
+
+  pub data Kind (call : Call K V S) : Type 0 where
+    calls_map : (step : Step rules offers eq hash_of old new) → Names call (any_call step) → Kind call
+    stays : new ≡ old → Kind call
+    writes_value : (key : K) (v : V) → call ≡ calls.Write key v → new ≡ written (eq key) v old → Kind call
+    sets_limiter : (s : S) → call ≡ calls.SetLimiter s → new ≡ record old { limiter = s } → Kind call
+
+module _ {K V S H : Type 0} {rules : Rules K V S} {offers : Offers K V S K} {eq : K → K → Bool}
+    {hash_of : H → K → ℕ} {old new : State K V S H} where
+  step_kind : (call : Call K V S) (reply : Reply K V) → ReplyStep rules offers eq hash_of old call reply new
+      → Kind rules offers eq hash_of old new call
+  step_kind (calls.Insert k v) reply (result, h, is) = calls_map (inserts k v result h) (λ test among. among)
+  step_kind (calls.InsertWith k v) reply (result, out, h, is) =
+      calls_map (inserts k v result (plain_insert h)) (λ test among. among)
+  step_kind (calls.GetOrInsert k v) reply (result, h, is) = calls_map (makes_newest v k result h) (λ test among. among)
+  step_kind (calls.Update k v) reply (result, h, is) = calls_map (updates k v result h) (λ test among. among)
+  step_kind (calls.Get k) reply (is, e) = calls_map (gets (eq k) e) (λ test among. among)
+  step_kind (calls.Promote k) reply (is, e) = calls_map (gets (eq k) e) (λ test among. among)
+  step_kind (calls.Demote k) reply (is, e) = calls_map (demotes (eq k) e) (λ test among. among)
+  step_kind (calls.GetByHash hash k) reply (Some w, h, is, e) = calls_map (gets (eq k) e) (λ test among. among)
+  step_kind (calls.GetByHash hash k) reply (None, h, is, e) = stays e
+  step_kind (calls.PeekByHash hash k) reply (result, h, is, e) = stays e
+  step_kind (calls.Write k v) reply (is, e) = writes_value k v refl e
+  step_kind (calls.Remove k) reply (result, h, is) = calls_map (removes (eq k) result h) (λ test among. among)
+  step_kind (calls.RemoveEntry k) reply (result, h, is) =
+      let removed = value_removed rules (eq k) old result new h in
+      calls_map (removes (eq k) (option_map (λ p. p.1) result) removed) (λ test among. among)
+  step_kind calls.PopOldest reply (result, h, is) = calls_map (pops_oldest result h) (λ test among. tt)
+  step_kind calls.PopNewest reply (result, h, is) = calls_map (pops_newest result h) (λ test among. among)
+  step_kind (calls.Reserve n) reply (result, h, is) = calls_map (reserves n result h) (λ test among. tt)
+  step_kind calls.Shrink reply (result, h, is) = calls_map (shrinks result h) (λ test among. tt)
+  step_kind calls.Trim reply (is, h) = calls_map (trims h) (λ test among. tt)
+  step_kind calls.Clear reply (is, e) = calls_map (clears e) (λ test among. tt)
+  step_kind (calls.Drain front back) reply (pairs, h, is) = calls_map (drains front back pairs h) (λ test among. tt)
+  step_kind calls.Stats reply (figures, h, is, e) = stays e
+  step_kind (calls.SetLimiter s) reply (is, e) = sets_limiter s refl e
+  step_kind call reply h = stays h.1
+
+  pub kind_of : (call : Call K V S) (reply : Reply K V) → CallStep rules offers eq hash_of old call reply new
+      → Kind rules offers eq hash_of old new call
+  kind_of call reply (inl step) = step_kind call reply step
+  kind_of call reply (inr (stores, is, e)) = stays e
+
+  -- so it is one of any steps of the map, or nothing changes
+  pub named_step : (call : Call K V S) → Kind rules offers eq hash_of old new call
+      → ((step : AnyStep rules offers eq hash_of old new) × Names rules offers eq hash_of old new call step)
+      ⊎ (new ≡ old)
+  named_step call (calls_map step names) = inl (any_call step, names)
+  named_step call (stays e) = inr e
+  named_step call (writes_value key v is e) =
+      inl (writes (eq key) v e, λ test among. subst (NamesAmong eq test) is among)
+  named_step call (sets_limiter s is e) = inl (sets s e, λ test among. tt)
+
+  pub any_step : (call : Call K V S) → Kind rules offers eq hash_of old new call
+      → AnyStep rules offers eq hash_of old new ⊎ (new ≡ old)
+  any_step call kind = elim (named_step call kind) [ inl named ↦ inl named.0 | inr same ↦ inr same ]

@@ -1,0 +1,17 @@
+use Rattle.std.proofs.Common.{refl, true}
+use Rattle.lru_model.proofs.CallerLemmas.{offers_if-determined, offers_if-finds}
+use Rattle.lru_replay.proofs.SmallBudgets.{few_buckets, other_within, run_stays_small}
+use Rattle.lru_replay.proofs.laws.small_budgets_are_alike.Goals as goal
+
+pub returns : goal.returns
+returns g c = record {
+  alike = λ old other new last calls replies answers small uses alike none plain run ran wants.
+      let law = c.runs_keep_the_memory_usage.ensures in
+      let also = other_within old other alike uses small in
+      c.small_calls_are_alike.ensures.alike old other new last calls replies answers
+      (offers_if-determined (λ _ _ _. true))
+      (offers_if-finds (λ _ _ _. true)) alike (few_buckets old old small (uses, refl)) plain
+      (run_stays_small _ _ g.K.PartialEq.eq _ law.usage law.limiter old calls replies new run none uses small)
+      (run_stays_small _ _ g.K.PartialEq.eq _ law.usage law.limiter other calls answers last ran none also.0 also.1)
+      wants;
+}

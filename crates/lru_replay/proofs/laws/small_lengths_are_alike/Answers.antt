@@ -1,0 +1,21 @@
+use Rattle.std.proofs.Common.{nat_lt}
+use Rattle.lru_model.proofs.CallerLemmas.{offers_if-determined, offers_if-finds}
+use Rattle.lru_replay.proofs.SmallGrowth.{small_of, small_alike}
+use Rattle.lru_replay.proofs.SmallLengths.{other_short, run_stays_short}
+use Rattle.lru_replay.proofs.laws.small_lengths_are_alike.Goals as goal
+
+pub returns : goal.returns
+returns g c = record {
+  alike = λ old other new last calls replies answers few within sized buckets alike none reserves plain run ran wants.
+      let law = c.runs_keep_the_length.ensures in
+      let eq = g.K.PartialEq.eq in
+      let also = other_short old other alike few within in
+      let small = small_of old sized buckets in
+      c.small_calls_are_alike.ensures.alike old other new last calls replies answers
+      (offers_if-determined (λ most _ _. nat_lt 0 most))
+      (offers_if-finds (λ most _ _. nat_lt 0 most)) alike buckets plain
+      (run_stays_short eq _ law.length law.limiter old calls replies new run none reserves few within small)
+      (run_stays_short eq _ law.length law.limiter other calls answers last ran none reserves also.0 also.1
+      (small_alike old other alike small))
+      wants;
+}

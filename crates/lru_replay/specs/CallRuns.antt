@@ -1,0 +1,96 @@
+-- Runs of calls: a step for each call, each from the state that the one before left.
+use Rattle.std.specs.Prelude.{◌≡◌, ◌≤◌, ℕ, Bool, List, [], ◌∷◌, ◌⊎◌, MatchOption, Some}
+use Rattle.group_table.specs.Probe.{hash_tag}
+use Rattle.lru_limits.specs.Rules.{Rules, Offers}
+use Rattle.lru_model.specs.Lists.{lookup_entry}
+use Rattle.lru_model.specs.Runs.{AreAmong}
+use Rattle.lru_model.specs.Sizes.{usage}
+use Rattle.lru_model.specs.State.{State, Contents, contents}
+use Rattle.lru_replay.specs.declared.calls.Call.{Call}
+use Rattle.lru_replay.specs.declared.calls.Call.TheVariants as calls
+use Rattle.lru_replay.specs.Replies.{Reply, no_memory, cost_differs}
+use Rattle.lru_replay.specs.Steps.{ReplyStep}
+
+-- Steps one after another, one reply a call. What holds of each state in between is Holds.
+module _ {S C R : Type 0} (IsStep : S → C → R → S → Type 0) (Holds : S → Type 0) where
+  abbrev pub IsRun : S → List C → List R → S → Type 0
+  IsRun old [] [] new = new ≡ old
+  IsRun old (call ∷ calls) (reply ∷ replies) new =
+      (mid : S) × IsStep old call reply mid × Holds mid × IsRun mid calls replies new
+  IsRun old [] (reply ∷ replies) new = ⊥
+  IsRun old (call ∷ calls) [] new = ⊥
+
+module _ {K V S : Type 0} where
+  -- the pairs that the call gives are stored, which takes memory
+  abbrev pub StoresPairs : Call K V S → Type 0
+  StoresPairs (calls.InsertWith key v) = Unit {0}
+  StoresPairs calls.List = Unit {0}
+  StoresPairs (calls.Drain front back) = Unit {0}
+  StoresPairs call = ⊥
+
+  -- a step, or no memory is found to store pairs, and nothing changes
+  abbrev pub StepIfMemory : {A : Type 0} → (A → Call K V S → Reply K V → A → Type 0) → A → Call K V S → Reply K V → A
+      → Type 0
+  StepIfMemory IsStep old call reply new = IsStep old call reply new
+      ⊎ (StoresPairs call × (reply ≡ no_memory) × (new ≡ old))
+
+  -- a search by a hash is by the hash of its key, or by a hash of another tag
+  abbrev pub HasPlainSearch : (K → ℕ) → Call K V S → Type 0
+  HasPlainSearch hash_of (calls.GetByHash hash key) = hash_tag (hash_of key) ≡ hash_tag hash → hash_of key ≡ hash
+  HasPlainSearch hash_of (calls.PeekByHash hash key) = hash_tag (hash_of key) ≡ hash_tag hash → hash_of key ≡ hash
+  HasPlainSearch hash_of call = Unit {0}
+
+  -- the call names only keys that pass the test, and does not pop the newest pair
+  abbrev pub NamesAmong : (K → K → Bool) → (K → Bool) → Call K V S → Type 0
+  NamesAmong eq test (calls.Insert key v) = AreAmong (eq key) test
+  NamesAmong eq test (calls.InsertWith key v) = AreAmong (eq key) test
+  NamesAmong eq test (calls.GetOrInsert key v) = AreAmong (eq key) test
+  NamesAmong eq test (calls.Update key v) = AreAmong (eq key) test
+  NamesAmong eq test (calls.Get key) = AreAmong (eq key) test
+  NamesAmong eq test (calls.Promote key) = AreAmong (eq key) test
+  NamesAmong eq test (calls.Demote key) = AreAmong (eq key) test
+  NamesAmong eq test (calls.GetByHash hash key) = AreAmong (eq key) test
+  NamesAmong eq test (calls.Write key v) = AreAmong (eq key) test
+  NamesAmong eq test (calls.Remove key) = AreAmong (eq key) test
+  NamesAmong eq test (calls.RemoveEntry key) = AreAmong (eq key) test
+  NamesAmong eq test calls.PopNewest = ⊥
+  NamesAmong eq test call = Unit {0}
+
+  -- the call sets no other limiter
+  abbrev pub SetsNoLimiter : Call K V S → Type 0
+  SetsNoLimiter (calls.SetLimiter s) = ⊥
+  SetsNoLimiter call = Unit {0}
+
+  -- the call reserves no growth
+  abbrev pub ReservesNothing : Call K V S → Type 0
+  ReservesNothing (calls.Reserve n) = ⊥
+  ReservesNothing call = Unit {0}
+
+module _ {K V S : Type 0} (eq : K → K → Bool) (cost : K → V → ℕ) (account : S → ℕ) where
+  -- a write keeps the cost of its pair, and another limiter has the same running total
+  abbrev pub KeepsCost : Contents K V S → Call K V S → Type 0
+  KeepsCost old (calls.Write key v) =
+      MatchOption (lookup_entry (eq key) old.pairs) (Unit {0}) (λ there. cost there.0 v ≡ cost there.0 there.1)
+  KeepsCost old (calls.SetLimiter s) = account s ≡ account old.limiter
+  KeepsCost old call = Unit {0}
+
+  -- a step that keeps the cost, or the reply that the cost differs, and nothing changes
+  abbrev pub StepIfKept : {A : Type 0} → (A → Contents K V S) → (A → Call K V S → Reply K V → A → Type 0) → A
+      → Call K V S → Reply K V → A → Type 0
+  StepIfKept of IsStep old call reply new = (KeepsCost (of old) call × IsStep old call reply new)
+      ⊎ ((KeepsCost (of old) call → ⊥) × (reply ≡ cost_differs) × (new ≡ old))
+
+module _ {K V S H : Type 0} (rules : Rules K V S) (offers : Offers K V S K) (eq : K → K → Bool)
+    (hash_of : H → K → ℕ) where
+  -- a step of a map, or no memory is found to store pairs
+  abbrev pub CallStep : State K V S H → Call K V S → Reply K V → State K V S H → Type 0
+  CallStep = StepIfMemory (ReplyStep rules offers eq hash_of)
+
+  module _ (cost : K → V → ℕ) (account : S → ℕ) where
+    -- a step of a map that keeps the cost, or the reply that the cost differs
+    abbrev pub SummingStep : State K V S H → Call K V S → Reply K V → State K V S H → Type 0
+    SummingStep = StepIfKept eq cost account contents CallStep
+
+-- the limit by memory usage is at most the bytes of a table of 16 buckets
+abbrev pub HasSmallBudget : {K V H : Type 0} → State K V ℕ H → Type 0
+HasSmallBudget st = (bytes : ℕ) × (usage st.entry_bytes 16 ≡ Some bytes) × (st.limiter ≤ bytes)

@@ -1,0 +1,14 @@
+pub mod Maps
+pub mod Limits
+pub mod Figures
+pub mod Replies
+pub mod Steps
+pub mod CallRuns
+pub mod ListRuns
+pub mod Grammar
+pub mod Lines
+pub mod Output
+pub mod LineRuns
+pub mod Replay
+pub mod References
+pub mod BudgetReferences

@@ -1,0 +1,79 @@
+-- A run over lines, under a limiter: each line is a step of the map and has a text.
+use Rattle.std.specs.Prelude.{◌≡◌, ℕ, nat_eq, List, ◌⊎◌, flat_map, Option, OnSome, IfSome, Result, Ok, Err}
+use Rattle.std.specs.Io.KnownBytes.{Appends, IsAtEnd}
+use Rattle.lru_limits.specs.Rules.{Rules, Offers}
+use Rattle.lru_model.specs.State.{IsSized}
+use Rattle.lru_replay.specs.declared.calls.Call.{Call}
+use Rattle.lru_replay.specs.declared.calls.Call.TheVariants as calls
+use Rattle.lru_replay.specs.declared.lines.outcome.ReplayError.{ReplayError}
+use Rattle.lru_replay.specs.declared.lines.outcome.ReplayError.TheVariants as errors
+use Rattle.lru_replay.specs.CallRuns.{IsRun}
+use Rattle.lru_replay.specs.Grammar.{SpellsCall}
+use Rattle.lru_replay.specs.Lines.{lines_of, fed, TakesLines}
+use Rattle.lru_replay.specs.Maps.{Map, hash_of}
+use Rattle.lru_replay.specs.Output.{reply_text, bad_text, Writes, Begins}
+use Rattle.lru_replay.specs.Replies.{Reply, no_memory}
+use Rattle.lru_replay.specs.Steps.{ReplyStep}
+
+-- The line of the call lists the pairs that its insert passes on before it writes them. The list takes memory.
+abbrev pub StoresFirst : {S : Type 0} → Call ℕ ℕ S → Type 0
+StoresFirst (calls.InsertWith k v) = Unit {0}
+StoresFirst call = ⊥
+
+module _ {S : Type 0} (rules : Rules ℕ ℕ S) (offers : Offers ℕ ℕ S ℕ) where
+  -- the call is carried out, or no memory is found to store pairs, and nothing changes
+  abbrev pub AnswersCall : Map S → Call ℕ ℕ S → Reply ℕ ℕ → Map S → Type 0
+  AnswersCall old call reply new = ReplyStep rules offers nat_eq hash_of old call reply new
+      ⊎ (StoresFirst call × (reply ≡ no_memory) × (new ≡ old))
+
+module _ {S : Type 0} (rules : Rules ℕ ℕ S) (offers : Offers ℕ ℕ S ℕ) (reported : S → Option ℕ) where
+  -- the call is carried out, and the text is the text of the reply
+  abbrev pub TextStep : Map S → Call ℕ ℕ S → List ℕ → Map S → Type 0
+  TextStep old call text new = (reply : Reply ℕ ℕ) × AnswersCall rules offers old call reply new
+      × (text ≡ reply_text (reported old.limiter) reply)
+
+  -- The line spells a call, which is carried out, or it spells none, is bad, and changes nothing.
+  abbrev pub LineStep : Map S → List ℕ → List ℕ → Map S → Type 0
+  LineStep old line text new = ((call : Call ℕ ℕ S) × SpellsCall line call × TextStep old call text new)
+      ⊎ (((call : Call ℕ ℕ S) → SpellsCall line call → ⊥) × (text ≡ bad_text) × (new ≡ old))
+
+  -- The line is answered, and its text is written with a line feed, or a beginning of that if a write failed.
+  abbrev pub AnswersLine : Map S → List ℕ → Map S → Option (List ℕ) → Option (List ℕ) → Result (Unit {0}) ReplayError
+      → Type 0
+  AnswersLine before line after old new result =
+      (text : List ℕ) × LineStep before line text after × Writes old new result (fed text)
+
+  -- A run over the lines, in which each line leaves a map whose table is sound. The text contains what each line
+  -- writes, with a line feed, one after another.
+  abbrev pub IsLineRun : Map S → List (List ℕ) → List ℕ → Map S → Type 0
+  IsLineRun old lines text new =
+      (texts : List (List ℕ)) × IsRun LineStep IsSized old lines texts new × (text ≡ flat_map fed texts)
+
+  -- some run over the lines, from this map, has the text
+  abbrev pub IsTextOf : Map S → List (List ℕ) → List ℕ → Type 0
+  IsTextOf old lines text = (new : Map S) × IsLineRun old lines text new
+
+-- Below, IsText says which texts lines have, and Wrote what was written of a text. A reader had the bytes `from` left,
+-- if they are known, and has `to` left now. A writer's bytes were `old` and are `new`.
+module _ (IsText : List (List ℕ) → List ℕ → Type 0) (from : Option (List ℕ)) where
+  -- of a text of all the lines
+  abbrev pub OfAll : (List ℕ → Type 0) → Type 0
+  OfAll Wrote = IfSome from (λ input. (text : List ℕ) × IsText (lines_of input) text × Wrote text)
+
+  -- some lines were read whole, and a part of the next: of a text of the whole ones
+  abbrev pub OfRead : Option (List ℕ) → (List ℕ → Type 0) → Type 0
+  OfRead to Wrote = (lines : List (List ℕ)) × (text part : List ℕ)
+      × IsText lines text × TakesLines from to lines part × Wrote text
+
+module _ (IsText IsTextSoFar : List (List ℕ) → List ℕ → Type 0) (from to old new : Option (List ℕ)) where
+  -- a beginning was written of a text of all the lines, which were read, or of those that were read whole
+  abbrev pub BeginsText : Type 0
+  BeginsText = (OfAll IsText from (Begins old new) × OnSome from (IsAtEnd to))
+      ⊎ OfRead IsTextSoFar from to (Begins old new)
+
+-- what was read and written, by how the answers to the lines ended
+abbrev pub Answers : (List (List ℕ) → List ℕ → Type 0) → Option (List ℕ) → Option (List ℕ) → Option (List ℕ)
+    → Option (List ℕ) → Result (Unit {0}) ReplayError → Type 0
+Answers IsText from to old new (Ok _) = OfAll IsText from (Appends old new) × OnSome from (IsAtEnd to)
+Answers IsText from to old new (Err errors.Read) = OfRead IsText from to (Appends old new)
+Answers IsText from to old new (Err errors.Write) = BeginsText IsText IsText from to old new

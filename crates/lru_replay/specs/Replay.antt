@@ -1,0 +1,90 @@
+-- A whole replay: what is written of an input, at its end and if a read or a write fails.
+use Rattle.std.specs.Prelude.{◌≡◌, ℕ, List, [], ◌∷◌, ◌⊎◌, Option, OnSome, IfSome, Result, Ok, Err}
+use Rattle.std.specs.Io.KnownBytes.{Appends, IsAtEnd}
+use Rattle.lru_limits.specs.Limiters.{length_rules, length_offers, memory_rules, no_rules, all_offers}
+use Rattle.lru_limits.specs.declared.limiters.unlimited_compact.UnlimitedCompact.{UnlimitedCompact}
+use Rattle.lru_replay.specs.declared.lines.words.Limit.{Limit}
+use Rattle.lru_replay.specs.declared.lines.words.Limit.TheVariants as limits
+use Rattle.lru_replay.specs.declared.lines.outcome.ReplayEnd.{ReplayEnd}
+use Rattle.lru_replay.specs.declared.lines.outcome.ReplayEnd.TheVariants as ends
+use Rattle.lru_replay.specs.declared.lines.outcome.ReplayError.{ReplayError}
+use Rattle.lru_replay.specs.declared.lines.outcome.ReplayError.TheVariants as errors
+use Rattle.lru_model.specs.Sizes.{max_of_32_bits, max_of_64_bits}
+use Rattle.lru_replay.specs.Grammar.{SpellsLimit}
+use Rattle.lru_replay.specs.Limits.{cost_rules, cost_offers, no_cost, cost_reported}
+use Rattle.lru_replay.specs.Lines.{lines_of, TakesFirst}
+use Rattle.lru_replay.specs.Maps.{empty}
+use Rattle.lru_replay.specs.Output.{no_limiter_text, Begins}
+use Rattle.lru_replay.specs.LineRuns.{IsTextOf, OfAll, OfRead, BeginsText}
+
+-- the bytes that the map counts for an entry, unless the first line says otherwise
+abbrev pub plain_entry_bytes : ℕ
+plain_entry_bytes = 32
+
+-- The lines are answered by this text, from the empty map under the limit.
+abbrev pub IsTextUnder : Limit → List (List ℕ) → List ℕ → Type 0
+IsTextUnder (limits.Length most) =
+    IsTextOf length_rules length_offers no_cost (empty most plain_entry_bytes max_of_32_bits)
+IsTextUnder (limits.Memory budget entry_bytes) =
+    IsTextOf memory_rules all_offers no_cost (empty budget entry_bytes max_of_32_bits)
+IsTextUnder (limits.Cost most) =
+    IsTextOf cost_rules cost_offers cost_reported
+    (empty (record { limit = most; cost = 0 }) plain_entry_bytes max_of_64_bits)
+IsTextUnder limits.Compact =
+    IsTextOf {S = UnlimitedCompact} no_rules all_offers no_cost (empty (record {}) plain_entry_bytes max_of_32_bits)
+
+-- The first line names a limit, and the others are answered by this text, from the empty map under that limit.
+abbrev pub IsReplay : List (List ℕ) → List ℕ → Type 0
+IsReplay lines text = (limit : Limit) × (first : List ℕ) × (others : List (List ℕ))
+    × (lines ≡ first ∷ others) × SpellsLimit first limit × IsTextUnder limit others text
+
+-- The first line names no limit, or there is none.
+abbrev pub NamesNoLimit : List (List ℕ) → Type 0
+NamesNoLimit lines = (limit : Limit) (first : List ℕ) (others : List (List ℕ)) → lines ≡ first ∷ others
+    → SpellsLimit first limit → ⊥
+
+-- what is written of these lines if nothing fails
+abbrev pub IsOutput : List (List ℕ) → List ℕ → Type 0
+IsOutput lines text = IsReplay lines text ⊎ (NamesNoLimit lines × (text ≡ no_limiter_text))
+
+-- what is written of some of the lines: nothing if there are none, and else what `IsText` says
+abbrev pub SoFar : (List (List ℕ) → List ℕ → Type 0) → List (List ℕ) → List ℕ → Type 0
+SoFar IsText [] text = text ≡ []
+SoFar IsText (first ∷ others) text = IsText (first ∷ others) text
+
+-- What a replay read and wrote, by how it ended. As in `LineRuns`, a reader had the bytes `from` left, if they are known,
+-- and has `to` left now. A writer's bytes were `old` and are `new`.
+module _ (from to old new : Option (List ℕ)) where
+  -- The first line names a limit, a replay of all the lines was written, and nothing is left to read.
+  pub record Finished : Type 0 where
+    pub named : IfSome from (λ input. NamesNoLimit (lines_of input) → ⊥)
+    pub replay : OfAll IsReplay from (Appends old new)
+    pub at_end : OnSome from (IsAtEnd to)
+
+  -- The first line names no limit, or there is none. It alone was read, and that was written.
+  pub record HasNoLimit : Type 0 where
+    pub unnamed : IfSome from (λ input. NamesNoLimit (lines_of input))
+    pub reads : TakesFirst from to
+    pub writes : Appends old new no_limiter_text
+
+  -- A read failed: the text of the lines that were read whole was written, and nothing else.
+  abbrev pub ReadFailed : Type 0
+  ReadFailed = OfRead (SoFar IsReplay) from to (Appends old new)
+
+  -- A write failed: a beginning was written of what a replay of these lines writes, and of what a replay of all lines
+  -- writes, or of those that were read whole.
+  pub record WriteFailed : Type 0 where
+    pub cut : OfAll IsOutput from (Begins old new)
+    pub reads : BeginsText IsOutput (SoFar IsOutput) from to old new
+
+  abbrev pub Replays : Result ReplayEnd ReplayError → Type 0
+  Replays (Ok ends.Done) = Finished
+  Replays (Ok ends.NoLimiter) = HasNoLimit
+  Replays (Err errors.Read) = ReadFailed
+  Replays (Err errors.Write) = WriteFailed
+
+-- 0 if the lines were carried out, 1 if none names a limit, and 2 if a read or a write failed
+abbrev pub status_of : Result ReplayEnd ReplayError → ℕ
+status_of (Ok ends.Done) = 0
+status_of (Ok ends.NoLimiter) = 1
+status_of (Err e) = 2

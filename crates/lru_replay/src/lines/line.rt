@@ -1,0 +1,177 @@
+//! The lines of the input, one at a time, in a fixed array.
+ghost use Rattle.std.specs.Prelude.{◌≡◌, ℕ, ◌<◌, ◌≤◌, List, [], ◌∷◌, ◌++◌, length, take, MatchBool, IfOk, IfErr, OnErr};
+ghost use Rattle.lru_replay.specs.Lines.{TakesPiece, TakesLine, TakesPart};
+
+use crate::lines::bytes::index_of;
+use crate::lines::outcome::ReplayError;
+use std::io::{BufRead, ErrorKind};
+use std::marker::Model;
+
+/// The bytes of the longest line with a meaning: `insert` with two numbers of 20 digits.
+const LONGEST: usize = 48;
+
+/// How many bytes of a line are held: one more than the longest line with a meaning, so that longer lines are noticed.
+pub const HELD: usize = LONGEST + 1;
+
+/// The first `HELD` bytes of a line.
+#[derive(Drop)]
+pub struct Line {
+    bytes: [u8; HELD],
+    len: usize,
+}
+
+impl Model for Line {
+    ghost use Rattle.std.specs.Prelude.{ℕ, ◌≤◌, List, take};
+    ghost use Rattle.lru_replay.specs.declared.lines.line.TheConstants.{HELD};
+
+    ghost Value = { List ℕ };
+
+    ghost view = { λ l. take l.len l.bytes };
+
+    ghost invariant = { λ l. l.len ≤ HELD };
+}
+
+impl Line {
+    /// Returns an empty line.
+    pub fn new() -> Line
+        ensures { result ≡ [] }
+    {
+        Line {
+            bytes: [0; HELD],
+            len: 0,
+        }
+    }
+
+    /// Returns the bytes that are held.
+    pub fn as_slice(&self) -> &[u8]
+        ensures { result.now ≡ self.now }
+    {
+        &self.bytes[..self.len]
+    }
+
+    fn clear(&mut self)
+        ensures { self.new ≡ [] }
+    {
+        self.len = 0;
+    }
+
+    fn is_empty(&self) -> bool
+        ensures { MatchBool result (self.now ≡ []) (0 < length self.now) }
+    {
+        self.len == 0
+    }
+
+    fn len(&self) -> usize
+        ensures { result ≡ length self.now }
+    {
+        self.len
+    }
+
+    fn push(&mut self, byte: u8)
+        requires { length self.old < HELD }
+        ensures { self.new ≡ self.old ++ byte ∷ [] }
+    {
+        self.bytes[self.len] = byte;
+        self.len += 1;
+    }
+
+    /// Adds the bytes that fit at the end.
+    fn extend(&mut self, piece: &[u8])
+        requires { length self.old ≤ HELD }
+        ensures { self.new ≡ take HELD (self.old ++ piece.now) }
+    {
+        for byte in piece {
+            if self.len() == HELD {
+                break;
+            }
+            self.push(*byte);
+        }
+    }
+}
+
+/// What one look at the reader's buffer gave of a line.
+#[derive(Clone, Copy)]
+pub enum Piece {
+    /// A part of the line, and more may follow.
+    Part,
+    /// The rest of the line, and its line feed.
+    Last,
+    /// Nothing: the reader's end.
+    End,
+}
+
+/// Takes what the reader's buffer contains of the line. An interrupted look gives no byte.
+fn take_piece<R: BufRead>(reader: &mut R, line: &mut Line) -> Result<Piece, ReplayError>
+    requires { length line.old ≤ HELD }
+    ensures ok { IfOk result (λ piece. (bytes : List ℕ)
+        × TakesPiece (R.remaining reader.old) (R.remaining reader.new) piece bytes
+        × (line.new ≡ take HELD (line.old ++ bytes))) }
+    ensures err { OnErr result (TakesPart (R.remaining reader.old) (R.remaining reader.new) []) }
+{
+    let available = match reader.fill_buf() {
+        Ok(available) => available,
+        Err(e) => {
+            return if e.kind() == ErrorKind::Interrupted {
+                Ok(Piece::Part)
+            } else {
+                Err(ReplayError::Read)
+            };
+        }
+    };
+    let len = available.len();
+    let at = index_of(available, b'\n');
+    line.extend(&available[..at]);
+    if len == 0 {
+        reader.consume(0);
+        return Ok(Piece::End);
+    }
+    if at == len {
+        reader.consume(at);
+        return Ok(Piece::Part);
+    }
+    reader.consume(at + 1);
+    Ok(Piece::Last)
+}
+
+/// How a line ended.
+#[derive(Clone, Copy)]
+pub enum Ending {
+    /// By its line feed.
+    Feed,
+    /// By the input's end, which came after at least one byte.
+    InputEnd,
+    /// There was no line: nothing was left of the input.
+    Nothing,
+}
+
+/// Reads the next line, and holds its first bytes: a line of any length is read to its end, in constant memory. An
+/// interrupted look at the reader's buffer is repeated.
+///
+/// # Errors
+///
+/// `ReplayError::Read` if the reader fails.
+pub fn read_line<R: BufRead>(reader: &mut R, line: &mut Line) -> Result<Ending, ReplayError>
+    ensures ok { IfOk result (λ ending. (bytes : List ℕ)
+        × TakesLine (R.remaining reader.old) (R.remaining reader.new) ending bytes
+        × (line.new ≡ take HELD bytes)) }
+    ensures err { OnErr result ((bytes : List ℕ)
+        × TakesPart (R.remaining reader.old) (R.remaining reader.new) bytes) }
+    ensures failed { IfErr result (λ e. e ≡ ReplayError.Read) }
+{
+    line.clear();
+    for _ in 0..u64::MAX {
+        match take_piece(reader, line) {
+            Ok(Piece::Part) => {}
+            Ok(Piece::Last) => return Ok(Ending::Feed),
+            Ok(Piece::End) => {
+                return if line.is_empty() {
+                    Ok(Ending::Nothing)
+                } else {
+                    Ok(Ending::InputEnd)
+                };
+            }
+            Err(_) => return Err(ReplayError::Read),
+        }
+    }
+    Err(ReplayError::Read)
+}

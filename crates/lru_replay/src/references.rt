@@ -1,0 +1,175 @@
+//! Programs that make references: what they leave of a map with `ByLength`, and how often they miss. The functions do
+//! nothing: their contracts are the theorems. `docs/THEORY.md` says each in words.
+ghost use Rattle.std.specs.Prelude.{◌≡◌, ℕ, ◌+◌, ◌-◌, ◌*◌, ◌^◌, ◌≤◌, ◌<◌, Bool, [], ◌∷◌, ◌++◌, List, length, take, true};
+ghost use Rattle.std.specs.Prelude.{Some, None, Ok, Result};
+ghost use Rattle.std.specs.List.{IsDistinct};
+ghost use Rattle.group_table.specs.Change.{count_up};
+ghost use Rattle.lru_limits.specs.Admissions.{Terms};
+ghost use Rattle.lru_model.specs.Calls.{promoted, written};
+ghost use Rattle.lru_model.specs.GetOrInserts.{MakesNewest};
+ghost use Rattle.lru_model.specs.IfMade.{MakesNewestIfMade};
+ghost use Rattle.lru_model.specs.Inserts.{Insert};
+ghost use Rattle.lru_model.specs.Kept.{KeepsToLength};
+ghost use Rattle.lru_model.specs.Lists.{keys_of, lookup};
+ghost use Rattle.lru_model.specs.State.{State, IsSized};
+ghost use Rattle.lru_model.specs.TryInserts.{TryInsert};
+ghost use Rattle.lru_theory.specs.Inclusion.{KeyCall, IsIncluded};
+ghost use Rattle.lru_theory.specs.Policies.{Loads, Demands, Bypasses, Served};
+ghost use Rattle.lru_theory.specs.Traces.{AreEqual, is_in, recency, misses, past_after};
+ghost use Rattle.lru_replay.specs.References.{Reference, Referenced, Did};
+
+use lru_limits::{ByLength, Insertion, KeyHasher, Limiter};
+use lru_model::laws;
+use std::hash::Hash;
+
+/// Each of these calls makes a reference if it returns `Ok`: an insert (`inserts`), an insert that evicts nothing
+/// (`tries`), a get that finds the key, whatever is written through the loan (`gets`), and a promotion of a key that is
+/// there (`promotes`). So if a get returns `None`, an insert makes the reference. A reference to a key is one to each key
+/// that is equal (`equal`).
+pub fn calls_make_references<K: Eq + Hash + Drop, V: Drop, S: KeyHasher<K>>()
+    ensures inserts { (key : K) (value : V) (kept : Bool) (old new : State K V ByLength S) →
+        KeepsToLength old → IsSized new →
+        Insert ⟦<ByLength as Limiter<K, V>>⟧.rules ⟦<ByLength as Insertion<K, V, K>>⟧.offers K.eq S.hash_of key value
+        old (Ok kept) new →
+        Reference K.eq key old new }
+    ensures tries { (terms : Terms K V ByLength) (key : K) (value : V) (old new : State K V ByLength S) →
+        KeepsToLength old → IsSized new →
+        TryInsert terms ⟦<ByLength as Limiter<K, V>>⟧.rules key value old ⟦<ByLength as Insertion<K, V, K>>⟧.offers
+        K.eq S.hash_of (Ok tt) new →
+        Reference K.eq key old new }
+    ensures gets { (names : K → Bool) (key : K) (value left : V) (old : State K V ByLength S) →
+        names ≡ K.eq key → length old.pairs ≤ old.limiter → IsSized old → lookup names old.pairs ≡ Some value →
+        Reference K.eq key old (written names left (promoted names old)) }
+    ensures promotes { (names : K → Bool) (key : K) (value : V) (old : State K V ByLength S) →
+        names ≡ K.eq key → length old.pairs ≤ old.limiter → IsSized old → lookup names old.pairs ≡ Some value →
+        Reference K.eq key old (promoted names old) }
+    ensures equal { (key other : K) (old new : State K V ByLength S) →
+        K.eq other key ≡ true → Reference K.eq other old new → Reference K.eq key old new }
+{
+    laws::inserts_leave_the_newest::<K, V, S>();
+    laws::maps_keep_to_their_length::<K, V, S>();
+    laws::calls_keep_the_length::<K, V, S>();
+}
+
+/// So do `ensure_newest` and `get_or_insert`, whose closure is `make`.
+pub fn gets_that_insert_make_references<
+    K: Eq + Hash + Drop,
+    V: Drop,
+    F: FnOnce() -> V,
+    S: KeyHasher<K>,
+>()
+    ensures { (make : F) (key : K) (kept : Bool) (old new : State K V ByLength S) → KeepsToLength old → IsSized new →
+        MakesNewest ⟦<ByLength as Limiter<K, V>>⟧.rules ⟦<ByLength as Insertion<K, V, K>>⟧.offers K.eq S.hash_of
+        (F.post make) key old (Ok kept) new →
+        Reference K.eq key old new }
+{
+    laws::inserts_leave_the_newest::<K, V, S>();
+    laws::maps_keep_to_their_length::<K, V, S>();
+    laws::calls_keep_the_length::<K, V, S>();
+}
+
+/// And so do their fallible forms.
+pub fn gets_that_insert_if_made_make_references<
+    K: Eq + Hash + Drop,
+    V: Drop,
+    E,
+    F: FnOnce() -> Result<V, E>,
+    S: KeyHasher<K>,
+>()
+    ensures { (make : F) (key : K) (kept : Bool) (old new : State K V ByLength S) → KeepsToLength old → IsSized new →
+        MakesNewestIfMade ⟦<ByLength as Limiter<K, V>>⟧.rules ⟦<ByLength as Insertion<K, V, K>>⟧.offers K.eq S.hash_of
+        (F.post make) key old (Ok kept) new →
+        Reference K.eq key old new }
+{
+    laws::inserts_leave_the_newest::<K, V, S>();
+    laws::maps_keep_to_their_length::<K, V, S>();
+    laws::calls_keep_the_length::<K, V, S>();
+}
+
+/// A reference more in a program that made those of a trace: one that found its key (`hits`), and one that did not
+/// (`misses`). The map still keeps to its length (`keeps`).
+pub fn programs_make_references<K: Eq + Hash + Drop, V: Drop, S: KeyHasher<K>>()
+    ensures hits { (trace : List K) (missed : ℕ) (key : K) (value : V) (old mid new : State K V ByLength S) →
+        Referenced K.eq old trace missed mid → lookup (K.eq key) mid.pairs ≡ Some value → Reference K.eq key mid new →
+        Referenced K.eq old (trace ++ key ∷ []) missed new }
+    ensures misses { (trace : List K) (missed : ℕ) (key : K) (old mid new : State K V ByLength S) →
+        Referenced K.eq old trace missed mid → lookup (K.eq key) mid.pairs ≡ None → Reference K.eq key mid new →
+        Referenced K.eq old (trace ++ key ∷ []) (missed + 1) new }
+    ensures keeps { (trace : List K) (missed : ℕ) (old new : State K V ByLength S) →
+        Referenced K.eq old trace missed new → KeepsToLength old → KeepsToLength new }
+{}
+
+/// A program that makes the references of a trace leaves the keys that were referenced last, `max_length` of them
+/// (`keys`). It misses exactly at the references whose reuse distance is at least `max_length`, and at the first to each
+/// key (`misses`); the keys before count as referenced, the oldest first. The map counts the misses (`stored`): `placed`,
+/// the count of entries that inserts stored, rises by as many.
+pub fn references_keep_the_newest<K: Eq + Hash + Drop, V: Drop, S: KeyHasher<K>>()
+    ensures keys { (trace : List K) (missed : ℕ) (old new : State K V ByLength S) →
+        IsDistinct K.eq (keys_of old.pairs) → length old.pairs ≤ old.limiter →
+        Referenced K.eq old trace missed new →
+        AreEqual K.eq (keys_of new.pairs) (take old.limiter (recency K.eq (past_after (keys_of old.pairs) trace))) }
+    ensures misses { (trace : List K) (missed : ℕ) (old new : State K V ByLength S) →
+        IsDistinct K.eq (keys_of old.pairs) → length old.pairs ≤ old.limiter →
+        Referenced K.eq old trace missed new →
+        missed ≡ misses K.eq old.limiter (keys_of old.pairs) trace }
+    ensures stored { (trace : List K) (missed : ℕ) (old new : State K V ByLength S) →
+        Referenced K.eq old trace missed new → 0 < old.limiter → IsSized old →
+        new.counts.placed ≡ count_up old.counts.placed missed }
+{}
+
+/// More capacity never means more misses, whichever calls make the references of one trace on two maps. If the keys of
+/// the smaller map are the newest keys of the larger one, they are so after the trace (`front`). If the smaller map is
+/// included in the larger one, which is less, it misses at least as often (`misses`).
+pub fn more_capacity_never_misses_more<K: Eq + Hash + Drop, V: Drop, S: KeyHasher<K>>()
+    ensures front { (trace : List K) (missed other_missed : ℕ) (old small other large : State K V ByLength S) →
+        Referenced K.eq old trace missed small → Referenced K.eq other trace other_missed large →
+        old.limiter ≤ other.limiter → AreEqual K.eq (keys_of old.pairs) (take old.limiter (keys_of other.pairs)) →
+        AreEqual K.eq (keys_of small.pairs) (take old.limiter (keys_of large.pairs)) }
+    ensures misses { (trace : List K) (missed other_missed : ℕ) (old small other large : State K V ByLength S) →
+        Referenced K.eq old trace missed small → Referenced K.eq other trace other_missed large →
+        old.limiter ≤ other.limiter →
+        IsIncluded K.eq old.limiter other.limiter (keys_of old.pairs) (keys_of other.pairs) →
+        other_missed ≤ missed }
+{}
+
+/// After the same calls a smaller map is included in a larger map, if it was before: its keys are keys of the larger
+/// map, in the same order (`included`). So what the smaller map finds, the larger map finds (`finds`). The calls may
+/// reference keys, get, promote, look, write, remove, clear, reserve and shrink, in any order.
+pub fn a_smaller_map_is_included<K: Eq + Hash + Drop, V: Drop, S: KeyHasher<K>>()
+    ensures included { (calls : List (KeyCall K)) (old small other large : State K V ByLength S) →
+        Did K.eq old calls small → Did K.eq other calls large → old.limiter ≤ other.limiter →
+        IsIncluded K.eq old.limiter other.limiter (keys_of old.pairs) (keys_of other.pairs) →
+        IsIncluded K.eq old.limiter other.limiter (keys_of small.pairs) (keys_of large.pairs) }
+    ensures finds { (key : K) (calls : List (KeyCall K)) (old small other large : State K V ByLength S) →
+        Did K.eq old calls small → Did K.eq other calls large → old.limiter ≤ other.limiter →
+        IsIncluded K.eq old.limiter other.limiter (keys_of old.pairs) (keys_of other.pairs) →
+        is_in K.eq key (keys_of small.pairs) ≡ true → is_in K.eq key (keys_of large.pairs) ≡ true }
+{}
+
+/// LRU is competitive, whichever calls make the references. Take any policy with h places, one that knows the whole trace
+/// in advance. It begins with the keys `first`, and pays `paid` times for the same references. A map with `ByLength(k)`,
+/// h ≤ k, whatever it contains before, misses at most k / (k + 1 - h) * paid + length first times if the policy stores
+/// each key, and may load keys ahead (`loads`) or loads on demand alone (`demands`), and at most k / (k - h) * paid +
+/// length first times if it need not store a key (`bypasses`).
+pub fn maps_are_competitive<K: Eq + Hash + Drop, V: Drop, S: KeyHasher<K>>()
+    ensures loads { (trace : List K) (missed : ℕ) (old new : State K V ByLength S) (h paid : ℕ) (first left : List K) →
+        IsDistinct K.eq (keys_of old.pairs) → length old.pairs ≤ old.limiter →
+        Referenced K.eq old trace missed new → h ≤ old.limiter →
+        Served (Loads K.eq h) left first trace paid →
+        (old.limiter + 1 - h) * missed ≤ old.limiter * paid + (old.limiter + 1 - h) * length first }
+    ensures demands { (trace : List K) (missed : ℕ) (old new : State K V ByLength S) (h paid : ℕ)
+        (first left : List K) →
+        IsDistinct K.eq (keys_of old.pairs) → length old.pairs ≤ old.limiter →
+        Referenced K.eq old trace missed new → h ≤ old.limiter → length first ≤ h →
+        Served (Demands K.eq h) left first trace paid →
+        (old.limiter + 1 - h) * missed ≤ old.limiter * paid + (old.limiter + 1 - h) * length first }
+    ensures bypasses { (trace : List K) (missed : ℕ) (old new : State K V ByLength S) (h paid : ℕ)
+        (first left : List K) →
+        IsDistinct K.eq (keys_of old.pairs) → length old.pairs ≤ old.limiter →
+        Referenced K.eq old trace missed new → h ≤ old.limiter →
+        Served (Bypasses K.eq h) left first trace paid →
+        (old.limiter - h) * missed ≤ old.limiter * paid + (old.limiter - h) * length first }
+{
+    references_keep_the_newest::<K, V, S>();
+    lru_theory::lru_is_competitive::<K>();
+}

@@ -1,8 +1,0 @@
-use Rattle.replay_model.proofs.LineLaws.{lines_keep}
-use Rattle.replay_model.proofs.laws.lines_keep_sums.Goals as goal
-
-pub returns : goal.returns
-returns g c = record {
-  sums = λ reported old new lines texts run summed. lines_keep g.L.Limiter.rules g.L.Insertion.offers reported
-      (λ old new step sized summed. c.calls_keep_sums.ensures old new step summed) old lines texts new run summed;
-}

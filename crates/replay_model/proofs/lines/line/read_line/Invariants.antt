@@ -1,9 +1,0 @@
--- The bytes of the line so far.
-use Rattle.std.proofs.Common.{◌≡◌, ℕ, List, take}
-use Rattle.replay_model.specs.declared.lines.line.TheConstants.{HELD}
-use Rattle.replay_model.specs.Lines.{TakesPart}
-use Rattle.replay_model.proofs.lines.line.read_line.Given as goal
-
-abbrev pub invariant-loop : goal.invariant-loop
-invariant-loop g l = (bytes : List ℕ) × TakesPart (g.R.Read.remaining l.initial.reader)
-    (g.R.Read.remaining l.reader) bytes × (l.line ≡ take HELD bytes)

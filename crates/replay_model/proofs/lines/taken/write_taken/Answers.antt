@@ -1,9 +1,0 @@
-use Rattle.std.proofs.Common.{subst}
-use Rattle.replay_model.specs.Output.{Writes, taken_text}
-use Rattle.replay_model.proofs.WrittenTexts.{writes_after}
-use Rattle.replay_model.proofs.lines.taken.write_taken.Goals as goal
-
-pub returns : goal.returns
-returns g c begun text begins =
-    let wrote = subst (λ r. Writes begun (g.W.Write.contents c.args.writer.now) r text) c.in_ok-before.was begins in
-    writes_after begun _ _ text (taken_text c.args.any c.args.taken) c.write_next.result wrote c.write_next.ensures

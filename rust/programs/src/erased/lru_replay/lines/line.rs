@@ -1,0 +1,127 @@
+// Erased from crates/lru_replay/src/lines/line.rt: do not edit.
+//! The lines of the input, one at a time, in a fixed array.
+
+#[allow(unused_imports)]
+use crate::rattle_std::prelude::*;
+
+use crate::programs::lru_replay::lines::bytes::index_of;
+use crate::programs::lru_replay::lines::outcome::ReplayError;
+use crate::rattle_std::io::{BufRead, ErrorKind};
+
+/// The bytes of the longest line with a meaning: `insert` with two numbers of 20 digits.
+const LONGEST: usize = 48;
+
+/// How many bytes of a line are held: one more than the longest line with a meaning, so that longer lines are noticed.
+pub const HELD: usize = LONGEST + 1;
+
+/// The first `HELD` bytes of a line.
+
+pub struct Line {
+    bytes: [u8; HELD],
+    len: usize,
+}
+
+impl Line {
+    /// Returns an empty line.
+    pub fn new() -> Line {
+        Line { bytes: [0; HELD], len: 0 }
+    }
+
+    /// Returns the bytes that are held.
+    pub fn as_slice(&self) -> &[u8] {
+        &(*at!(self.bytes, ..self.len))
+    }
+
+    fn clear(&mut self) {
+        self.len = 0;
+    }
+
+    fn is_empty(&self) -> bool {
+        self.len == 0
+    }
+
+    fn len(&self) -> usize {
+        self.len
+    }
+
+    fn push(&mut self, byte: u8) {
+        (*at_mut!(self.bytes, self.len)) = byte;
+        self.len += 1;
+    }
+
+    /// Adds the bytes that fit at the end.
+    fn extend(&mut self, piece: &[u8]) {
+        for byte in piece {
+            if self.len() == HELD {
+                break;
+            }
+            self.push(*byte);
+        }
+    }
+}
+
+/// What one look at the reader's buffer gave of a line.
+#[derive(Clone, Copy)]
+pub enum Piece {
+    /// A part of the line, and more may follow.
+    Part,
+    /// The rest of the line, and its line feed.
+    Last,
+    /// Nothing: the reader's end.
+    End,
+}
+
+/// Takes what the reader's buffer contains of the line. An interrupted look gives no byte.
+fn take_piece<R: BufRead>(reader: &mut R, line: &mut Line) -> Result<Piece, ReplayError> {
+    let available = match reader.fill_buf() {
+        Ok(available) => available,
+        Err(e) => {
+            return if e.kind() == ErrorKind::Interrupted { Ok(Piece::Part) } else { Err(ReplayError::Read) };
+        }
+    };
+    let len = available.len();
+    let at = index_of(available, b'\n');
+    line.extend(&(*at!(available, ..at)));
+    if len == 0 {
+        reader.consume(0);
+        return Ok(Piece::End);
+    }
+    if at == len {
+        reader.consume(at);
+        return Ok(Piece::Part);
+    }
+    reader.consume(at + 1);
+    Ok(Piece::Last)
+}
+
+/// How a line ended.
+#[derive(Clone, Copy)]
+pub enum Ending {
+    /// By its line feed.
+    Feed,
+    /// By the input's end, which came after at least one byte.
+    InputEnd,
+    /// There was no line: nothing was left of the input.
+    Nothing,
+}
+
+/// Reads the next line, and holds its first bytes: a line of any length is read to its end, in constant memory. An
+/// interrupted look at the reader's buffer is repeated.
+///
+/// # Errors
+///
+/// `ReplayError::Read` if the reader fails.
+pub fn read_line<R: BufRead>(reader: &mut R, line: &mut Line) -> Result<Ending, ReplayError> {
+    line.clear();
+    for _ in 0..u64::MAX {
+        match take_piece(reader, line) {
+            Ok(Piece::Part) => {}
+            Ok(Piece::Last) => return Ok(Ending::Feed),
+            Ok(Piece::End) => {
+                return if line.is_empty() { Ok(Ending::Nothing) } else { Ok(Ending::InputEnd) };
+            }
+            Err(_) => return Err(ReplayError::Read),
+        }
+    }
+    Err(ReplayError::Read)
+}

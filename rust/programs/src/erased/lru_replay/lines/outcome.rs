@@ -1,0 +1,56 @@
+// Erased from crates/lru_replay/src/lines/outcome.rt: do not edit.
+//! How a replay ends, and the exit status of each end.
+
+#[allow(unused_imports)]
+use crate::rattle_std::prelude::*;
+
+/// How a replay ends if no read and no write fails.
+///
+/// ```text
+/// assert_eq!(rt; status(&Ok(ReplayEnd::NoLimiter)), 1);
+/// ```
+#[derive(Clone, Copy, Debug, PartialEq, Eq)]
+pub enum ReplayEnd {
+    /// All lines were carried out.
+    Done,
+    /// The first line names no limiter, or there is no line.
+    NoLimiter,
+}
+
+/// What cuts a replay off. As a number, a failed read is 1 and a failed write 2.
+///
+/// ```text
+/// let (read, write) = (ReplayError::Read, ReplayError::Write);
+/// let text = format!(in alloc; "{read}, {write}")?;
+/// assert_eq!(rt; text.as_str(), "read failed, write failed");
+/// ```
+#[derive(Clone, Copy, Debug, PartialEq, Eq)]
+pub enum ReplayError {
+    /// A read failed, or the reader gave `u64::MAX` reads without an end.
+    Read = 1,
+    /// A write or the flush failed; a write that takes 0 bytes is one.
+    Write = 2,
+}
+
+impl ::core::fmt::Display for ReplayError {
+    fn fmt(&self, f: &mut ::core::fmt::Formatter<'_>) -> ::core::fmt::Result {
+        match self {
+            ReplayError::Read => write!(f, "read failed"),
+            ReplayError::Write => write!(f, "write failed"),
+        }
+    }
+}
+
+/// Returns the exit status: 0 if the lines were carried out, 1 if the first line names no limiter, and 2 if a read or a
+/// write failed.
+///
+/// ```text
+/// assert_eq!(rt; status(&Ok(ReplayEnd::NoLimiter)), 1);
+/// ```
+pub fn status(end: &Result<ReplayEnd, ReplayError>) -> u8 {
+    match end {
+        Ok(ReplayEnd::Done) => 0,
+        Ok(ReplayEnd::NoLimiter) => 1,
+        Err(_) => 2,
+    }
+}

@@ -1,0 +1,52 @@
+// Erased from crates/lru_replay_tests/src/misses.rt: do not edit.
+//! The misses that maps count, compared with the curve of `lru_trace`, which counts those for all lengths in one pass.
+
+#[allow(unused_imports)]
+use crate::rattle_std::prelude::*;
+
+use crate::erased::lru_trace::Curve;
+use crate::erased::schnellru::{ByLength, LruMap, RandomState, laws};
+use crate::programs::lru_replay_tests::callers::read_through;
+use crate::programs::test_helpers::{Random, check};
+use crate::rattle_std::alloc::{AllocError, Global};
+use crate::rattle_std::test::Fail;
+
+/// Counts the misses of a trace in a new map with this maximum length.
+fn misses_on_map(alloc: Global, texts: &[String], length: u32) -> Result<u64, AllocError> {
+    laws::maps_keep_to_their_length::<String, u64, RandomState>();
+    let mut map: LruMap<String, u64> = LruMap::new(alloc, ByLength::new(length), [1, 2, 3, 4], 40);
+    read_through(&mut map, texts, &|_| 0)
+}
+
+/// Makes a reference to a text, for the map and for the curve. Out of memory, one of them lacks it.
+fn refer(alloc: Global, texts: &mut Vec<String>, curve: &mut Curve, key: u64) {
+    if curve.references() == u64::MAX {
+        return;
+    }
+    if let Ok(text) = format!(in alloc; "{key}") {
+        let _ = curve.refer(text.as_str());
+        let _ = texts.push(text);
+    }
+}
+
+/// Whether a map of this length, up to 999, misses as often as the curve says.
+fn agrees(alloc: Global, curve: &Curve, texts: &[String], length: u32) -> bool {
+    length <= 999 && misses_on_map(alloc, texts, length) == Ok(curve.misses(length as usize))
+}
+
+#[test]
+fn curves_and_maps_agree() {
+    let run = |rt: HostRuntime| -> Result<(), Fail> {
+        let mut curve = Curve::new(rt.alloc())?;
+        let (mut random, mut texts) = (Random::new(1), Vec::new(rt.alloc()));
+        for _ in 0..3000u32 {
+            let key = random.below(200).wrapping_mul(random.below(3)) / 2;
+            refer(rt.alloc(), &mut texts, &mut curve, key);
+        }
+        for length in [0, 1, 2, 3, 10, 50, 100, 150, 199, 400] {
+            check!(rt; agrees(rt.alloc(), &curve, &texts, length));
+        }
+        Ok(())
+    };
+    run(HostRuntime).passes();
+}
