@@ -30,6 +30,7 @@ pub mod SmallTotals
 pub mod ReferencePairs
 pub mod ReferenceRuns
 pub mod ReferenceSteps
+pub mod KeySteps
 pub mod StoredCounts
 pub mod BudgetLists
 pub mod BudgetSteps

@@ -4,7 +4,6 @@ use Rattle.std.specs.Prelude.{nat_eq}
 use Rattle.lru_limits.specs.Rules.{Rules, Offers}
 use Rattle.lru_model.specs.Runs.{Step}
 use Rattle.lru_model.specs.State.{IsSized}
-use Rattle.lru_replay.specs.declared.calls.Call.{Call}
 use Rattle.lru_replay.specs.CallRuns.{IsRun}
 use Rattle.lru_replay.specs.LineRuns.{AnswersCall, LineStep}
 use Rattle.lru_replay.specs.Maps.{Map, hash_of}

@@ -1,10 +1,10 @@
 -- The same references, or calls, on two maps.
-use Rattle.std.proofs.Common.{◌≡◌, ℕ, ◌≤◌, Bool, List, take, sym, ap, subst, arith}
+use Rattle.std.proofs.Common.{ℕ, ◌≤◌, Bool, List, take, subst, arith}
 use Rattle.std.specs.Cmp.{IsEquivalence}
 use Rattle.lru_model.specs.Lists.{keys_of}
 use Rattle.lru_model.specs.State.{State}
 use Rattle.lru_theory.specs.Inclusion.{KeyCall, IsIncluded, after_calls}
-use Rattle.lru_theory.specs.Traces.{AreEqual, cached, faults}
+use Rattle.lru_theory.specs.Traces.{AreEqual, cached}
 use Rattle.lru_theory.proofs.EqualKeys.{equal_trans, equal_sym, cached_equal, taken_equal}
 use Rattle.lru_theory.proofs.Inclusions.{all_calls, included_faults, included_equal}
 use Rattle.lru_theory.proofs.Lists.{cached_taken}

@@ -1,5 +1,5 @@
 -- Programs that make references, one after another.
-use Rattle.std.proofs.Common.{◌≡◌, ℕ, ◌+◌, ◌≤◌, ◌<◌, Bool, true, false, cond, List, [], ◌∷◌, ◌++◌, length, take}
+use Rattle.std.proofs.Common.{◌≡◌, ℕ, ◌+◌, ◌≤◌, ◌<◌, Bool, cond, List, [], ◌∷◌, ◌++◌, length, take}
 use Rattle.std.proofs.Common.{Some, None, refl, sym, ap, ◌∙◌, subst, arith}
 use Rattle.std.proofs.lemmas.List.{take_all}
 use Rattle.std.proofs.lemmas.Map.Entries.{length-keys_of}
@@ -11,11 +11,11 @@ use Rattle.lru_model.specs.Kept.{KeepsToLength}
 use Rattle.lru_model.specs.Lists.{keys_of, lookup}
 use Rattle.lru_model.specs.State.{State, IsSized}
 use Rattle.lru_theory.specs.Inclusion.{KeyCall, after_call, after_calls}
-use Rattle.lru_theory.specs.Traces.{AreEqual, is_in, recency, misses, refer, cached, faults, fault, past_after}
+use Rattle.lru_theory.specs.Traces.{AreEqual, recency, misses, refer, cached, faults, fault, past_after}
 use Rattle.lru_theory.proofs.EqualKeys.{equal_refl, equal_trans, is_in_equal, refer_equal, call_equal, recency_distinct}
 use Rattle.lru_theory.proofs.Lists.{cached_is, faults_is}
 use Rattle.lru_theory.proofs.LongerTraces.{cached_more, faults_more, called_more}
-use Rattle.lru_replay.specs.References.{Does, Reference, Reads, Referenced, begins, refers, reads, Did, nothing}
+use Rattle.lru_replay.specs.References.{Reference, Referenced, begins, refers, reads, Did, nothing}
 use Rattle.lru_replay.specs.References.{does_more}
 use Rattle.lru_replay.proofs.StoredCounts.{there, absent, value_there}
 

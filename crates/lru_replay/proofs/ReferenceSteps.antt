@@ -1,5 +1,5 @@
 -- What makes a reference: one lemma for each way.
-use Rattle.std.proofs.Common.{◌≡◌, ℕ, ◌^◌, ◌≤◌, ◌<◌, Bool, true, false, cond, List, [], ◌∷◌, ◌++◌, length, take}
+use Rattle.std.proofs.Common.{◌≡◌, ℕ, ◌≤◌, ◌<◌, Bool, true, cond, List, ◌∷◌, length, take}
 use Rattle.std.proofs.Common.{Option, Some, None, Result, Ok, Err, refl, sym, ap, ◌∙◌, subst, arith}
 use Rattle.std.proofs.lemmas.Bool.{lt-ltb}
 use Rattle.std.proofs.lemmas.List.{take_all}
@@ -27,11 +27,10 @@ use Rattle.lru_model.specs.Kept.{LeavesTheNewest, KeepsToLength, stored_key}
 use Rattle.lru_model.specs.Lists.{keys_of, lookup, lookup_entry, without, after, front}
 use Rattle.lru_model.specs.Runs.{Step, inserts, gets, reserves}
 use Rattle.lru_model.specs.State.{State, IsSized}
-use Rattle.lru_theory.specs.Inclusion.{refers, looks, after_call}
-use Rattle.lru_theory.specs.Traces.{AreEqual, is_in, refer, fault}
+use Rattle.lru_theory.specs.Traces.{AreEqual, refer, fault}
 use Rattle.lru_theory.proofs.EqualKeys.{equal_refl, both_equal, taken_equal, equal_trans}
-use Rattle.lru_replay.specs.References.{Does, Reference}
-use Rattle.lru_replay.proofs.StoredCounts.{keys_without, keys_taken, there, absent, value_there, insert_counts, same_count}
+use Rattle.lru_replay.specs.References.{Reference}
+use Rattle.lru_replay.proofs.StoredCounts.{keys_without, keys_taken, there, value_there, insert_counts, same_count}
 
 -- What is proved of each call of the map.
 pub record Known {K H : Type 0} (V : Type 0) (eq : K → K → Bool) (hash_of : H → K → ℕ) : Type 0 where
@@ -142,7 +141,7 @@ module _ {K V H : Type 0} {eq : K → K → Bool} {hash_of : H → K → ℕ} (l
   makes_if_made makes key old flag new keeps sized (as_made (Err e) h is) = absurd cc
 
   -- a reservation
-  reserve_is : (n : ℕ) (old : State K V ℕ H) (result : Result (Unit {0}) ReserveError) (new : State K V ℕ H)
+  pub reserve_is : (n : ℕ) (old : State K V ℕ H) (result : Result (Unit {0}) ReserveError) (new : State K V ℕ H)
       → Reserve length_rules n old result new
       → (new.pairs ≡ old.pairs) × (new.limiter ≡ old.limiter) × (new.counts.placed ≡ old.counts.placed)
   reserve_is n old result new (unchanged why e) =

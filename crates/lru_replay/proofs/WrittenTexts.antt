@@ -1,14 +1,12 @@
 -- Writing one text after another.
-use Rattle.std.proofs.Common.{◌≡◌, ℕ, Bool, ◌+◌, ◌-◌, ◌/◌, ◌%◌, ◌<◌, ◌≤◌, ◌^◌, List, [], ◌∷◌, ◌++◌, length, set, take}
+use Rattle.std.proofs.Common.{◌≡◌, ℕ, ◌+◌, ◌-◌, ◌/◌, ◌%◌, ◌<◌, ◌≤◌, ◌^◌, List, [], ◌∷◌, ◌++◌, length, set, take}
 use Rattle.std.proofs.Common.{drop, refl, sym, ap, ◌∙◌, subst, arith, Option, Result, Ok, Err, decimal, append_assoc}
 use Rattle.std.proofs.lemmas.List.{drop-set, length-append, take-append-drop, take_rest}
 use Rattle.std.proofs.lemmas.Fmt.{decimal_step}
-use Rattle.std.specs.declared.alloc.AllocError.{AllocError}
 use Rattle.std.specs.Io.KnownBytes.{Appends}
 use Rattle.std.proofs.KnownBytes.{Appends-trans}
 use Rattle.lru_replay.specs.declared.lines.outcome.ReplayError.{ReplayError}
-use Rattle.lru_replay.specs.Output.{Writes, Begins, Fails, rest_text, pair_text, insert_text, reply_text}
-use Rattle.lru_replay.specs.Replies.{insert_reply}
+use Rattle.lru_replay.specs.Output.{Writes, Begins, Fails, rest_text, pair_text}
 
 -- a beginning of the next text, after one that was written
 pub begins_after : (a b c : Option (List ℕ)) (t u : List ℕ) → Appends a b t → Begins b c u → Begins a c (t ++ u)

@@ -1,22 +1,26 @@
 //! Programs that make references: what they leave of a map with `ByLength`, and how often they miss. The functions do
 //! nothing: their contracts are the theorems. `docs/THEORY.md` says each in words.
 ghost use Rattle.std.specs.Prelude.{◌≡◌, ℕ, ◌+◌, ◌-◌, ◌*◌, ◌^◌, ◌≤◌, ◌<◌, Bool, [], ◌∷◌, ◌++◌, List, length, take, true};
-ghost use Rattle.std.specs.Prelude.{Some, None, Ok, Result};
+ghost use Rattle.std.specs.Prelude.{Some, None, Ok, Option, Result};
+ghost use Rattle.std.specs.declared.alloc.AllocError.{AllocError};
 ghost use Rattle.std.specs.List.{IsDistinct};
 ghost use Rattle.group_table.specs.Change.{count_up};
 ghost use Rattle.lru_limits.specs.Admissions.{Terms};
-ghost use Rattle.lru_model.specs.Calls.{promoted, written};
+ghost use Rattle.lru_model.specs.Calls.{promoted, written, Remove, cleared};
 ghost use Rattle.lru_model.specs.GetOrInserts.{MakesNewest};
 ghost use Rattle.lru_model.specs.IfMade.{MakesNewestIfMade};
 ghost use Rattle.lru_model.specs.Inserts.{Insert};
 ghost use Rattle.lru_model.specs.Kept.{KeepsToLength};
 ghost use Rattle.lru_model.specs.Lists.{keys_of, lookup};
+ghost use Rattle.lru_model.specs.Reservations.{Reserve};
+ghost use Rattle.lru_model.specs.Shrinks.{Shrink};
 ghost use Rattle.lru_model.specs.State.{State, IsSized};
 ghost use Rattle.lru_model.specs.TryInserts.{TryInsert};
+ghost use Rattle.lru_model.specs.declared.results.ReserveError.{ReserveError};
 ghost use Rattle.lru_theory.specs.Inclusion.{KeyCall, IsIncluded};
 ghost use Rattle.lru_theory.specs.Policies.{Loads, Demands, Bypasses, Served};
 ghost use Rattle.lru_theory.specs.Traces.{AreEqual, is_in, recency, misses, past_after};
-ghost use Rattle.lru_replay.specs.References.{Reference, Referenced, Did};
+ghost use Rattle.lru_replay.specs.References.{Does, Reference, Referenced, Did};
 
 use lru_limits::{ByLength, Insertion, KeyHasher, Limiter};
 use lru_model::laws;
@@ -80,6 +84,30 @@ pub fn gets_that_insert_if_made_make_references<
         MakesNewestIfMade ⟦<ByLength as Limiter<K, V>>⟧.rules ⟦<ByLength as Insertion<K, V, K>>⟧.offers K.eq S.hash_of
         (F.post make) key old (Ok kept) new →
         Reference K.eq key old new }
+{
+    laws::inserts_leave_the_newest::<K, V, S>();
+    laws::maps_keep_to_their_length::<K, V, S>();
+    laws::calls_keep_the_length::<K, V, S>();
+}
+
+/// What a call that makes no reference does to the keys: a get or a promotion of a key, which may not be there
+/// (`promotes`), a removal (`removes`), a clear (`clears`), a reservation, a shrink, a write, and a call that changes
+/// nothing (`reserves`, `shrinks`, `writes`, `looks`).
+pub fn calls_change_the_keys<K: Eq + Hash + Drop, V: Drop, S: KeyHasher<K>>()
+    ensures promotes { (names : K → Bool) (key : K) (old new : State K V ByLength S) →
+        names ≡ K.eq key → IsSized new → new ≡ promoted names old → Does K.eq (KeyCall.promotes key) old new }
+    ensures removes { (names : K → Bool) (key : K) (result : Option V) (old new : State K V ByLength S) →
+        names ≡ K.eq key → IsSized new → Remove ⟦<ByLength as Limiter<K, V>>⟧.rules names old result new →
+        Does K.eq (KeyCall.removes key) old new }
+    ensures clears { (old new : State K V ByLength S) →
+        IsSized new → new ≡ cleared ⟦<ByLength as Limiter<K, V>>⟧.rules old → Does K.eq KeyCall.clears old new }
+    ensures reserves { (n : ℕ) (result : Result (Unit {0}) ReserveError) (old new : State K V ByLength S) →
+        IsSized new → Reserve ⟦<ByLength as Limiter<K, V>>⟧.rules n old result new → Does K.eq KeyCall.looks old new }
+    ensures shrinks { (result : Result Bool AllocError) (old new : State K V ByLength S) →
+        IsSized new → Shrink old result new → Does K.eq KeyCall.looks old new }
+    ensures writes { (names : K → Bool) (value : V) (old : State K V ByLength S) →
+        Does K.eq KeyCall.looks old (written names value old) }
+    ensures looks { (st : State K V ByLength S) → Does K.eq KeyCall.looks st st }
 {
     laws::inserts_leave_the_newest::<K, V, S>();
     laws::maps_keep_to_their_length::<K, V, S>();

@@ -1,5 +1,4 @@
-use Rattle.std.proofs.Common.{sym, subst}
-use Rattle.lru_model.specs.Calls.{promoted}
+use Rattle.std.proofs.Common.{subst}
 use Rattle.lru_model.proofs.CallerLemmas.{read_back}
 use Rattle.lru_replay.specs.References.{Reference}
 use Rattle.lru_replay.proofs.ReferenceSteps.{Known, insert_refers, tries_refers}

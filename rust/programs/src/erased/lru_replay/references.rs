@@ -33,6 +33,15 @@ pub fn gets_that_insert_if_made_make_references<K: Eq + Hash, V, E, F: FnOnce() 
     laws::calls_keep_the_length::<K, V, S>();
 }
 
+/// What a call that makes no reference does to the keys: a get or a promotion of a key, which may not be there
+/// (`promotes`), a removal (`removes`), a clear (`clears`), a reservation, a shrink, a write, and a call that changes
+/// nothing (`reserves`, `shrinks`, `writes`, `looks`).
+pub fn calls_change_the_keys<K: Eq + Hash, V, S: KeyHasher<K>>() {
+    laws::inserts_leave_the_newest::<K, V, S>();
+    laws::maps_keep_to_their_length::<K, V, S>();
+    laws::calls_keep_the_length::<K, V, S>();
+}
+
 /// A reference more in a program that made those of a trace: one that found its key (`hits`), and one that did not
 /// (`misses`). The map still keeps to its length (`keeps`).
 pub fn programs_make_references<K: Eq + Hash, V, S: KeyHasher<K>>() {}

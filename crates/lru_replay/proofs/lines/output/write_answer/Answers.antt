@@ -1,5 +1,5 @@
 use Rattle.std.proofs.lemmas.Result.{err_from_is_err_and}
-use Rattle.lru_replay.specs.Output.{cost_text, figures_text}
+use Rattle.lru_replay.specs.Output.{cost_text}
 use Rattle.lru_replay.proofs.WrittenTexts.{writes_after, failed_front}
 use Rattle.lru_replay.proofs.lines.output.write_answer.Goals as goal
 
