@@ -6,7 +6,7 @@ ghost use Rattle.std.specs.String.{string_eq};
 ghost use Rattle.group_table.specs.Sizes.{full_capacity};
 ghost use Rattle.lru_limits.specs.Texts.{names_text};
 ghost use Rattle.lru_model.specs.Lists.{lookup, lookup_entry, without, IsFront};
-ghost use Rattle.lru_model.specs.State.{buckets, contents};
+ghost use Rattle.lru_model.specs.State.{buckets, contents, room};
 ghost use Rattle.lru_model.specs.Calls.{promoted};
 ghost use Rattle.lru_model.specs.Callbacks.{CalledWith};
 ghost use Rattle.lru_model.specs.Exact.{EndsAsAsked, EndsExactly, WasRefused};
@@ -143,6 +143,19 @@ fn put_within(map: &mut LruMap<String, u64>, key: String, value: u64) -> Result<
     map.insert(key, value)
 }
 
+/// Puts a pair into a map whose table is within its limit by bytes, and leaves it so.
+fn put_within_bytes(
+    map: &mut LruMap<String, u64, ByMemoryUsage>,
+    key: String,
+    value: u64,
+) -> Result<bool, AllocError>
+    requires { UsesAtMost map.old.limiter map.old }
+    ensures { UsesAtMost map.new.limiter map.new }
+{
+    laws::calls_keep_the_memory_usage::<String, u64, RandomState>();
+    map.insert(key, value)
+}
+
 /// Removes a key and inserts another one. The limiter still holds the sum of the bytes of the texts, and they are
 /// within its limit.
 fn exchange(
@@ -249,6 +262,23 @@ fn shrink_within(map: &mut LruMap<String, u64>) -> Result<bool, AllocError>
 {
     laws::shrinks_leave_a_tight_table::<String, u64, ByLength, RandomState>();
     map.shrink_to_fit()
+}
+
+/// Shrinks the table, and then reserves growth for n entries. Returns whether there is growth for them. The entries, their
+/// order and the count of stored entries stay.
+fn resize(map: &mut LruMap<String, u64>, n: usize) -> bool
+    ensures pairs { map.new.pairs ≡ map.old.pairs }
+    ensures placed { map.new.counts.placed ≡ map.old.counts.placed }
+    ensures room { result ≡ true → n ≤ room map.new }
+{
+    laws::shrinks_keep_the_list::<String, u64, ByLength, RandomState>();
+    laws::reservations_keep_the_list::<String, u64, ByLength, RandomState>();
+    laws::reservations_make_room::<String, u64, ByLength, RandomState>();
+    let _ = map.shrink_to_fit();
+    match map.try_reserve(n) {
+        Ok(()) => true,
+        Err(_) => false,
+    }
 }
 
 /// Inserts an entry, and passes what leaves to the callback. If the insert returns true, nothing is lost: the entries
