@@ -1,0 +1,175 @@
+//! What the own tests of the crate `lru`, and the random calls of `peers.sh`, do not show of the door: keys that lie,
+//! callbacks that panic, iterators that are forgotten, the ends of the capacity, types of no size, and later calls.
+#![cfg(feature = "lru")]
+
+mod common;
+
+use common::{Builder, Item, Key, Value, any, told, world};
+use jeerdurian::lru;
+use std::cell::Cell;
+use std::hash::BuildHasher;
+
+type Payload = [u8; 3];
+
+/// A cache as its lives below use it.
+trait Cache {
+    fn make(capacity: usize) -> Self;
+    fn call(&mut self, kind: u64, n: u64);
+    /// The numbers of its keys and values, from the front, and from the back.
+    fn ids(&self) -> [Vec<(u64, u64)>; 2];
+    fn len(&self) -> usize;
+}
+
+fn id<'a>((key, value): (&'a Key<Payload>, &'a Value<Payload>)) -> (u64, u64) {
+    (key.id, value.id)
+}
+
+impl Cache for lru::LruCache<Key<Payload>, Value<Payload>, Builder> {
+    fn make(capacity: usize) -> Self {
+        lru::LruCache::with_hasher(capacity, Builder)
+    }
+
+    fn call(&mut self, kind: u64, n: u64) {
+        let key = || Item::new(n);
+        match kind {
+            0..=29 => _ = self.put(key(), Item::new(n)),
+            30..=39 => _ = self.push(key(), Item::new(n)),
+            40..=49 => _ = self.get_or_insert(key(), || Item::new(any(9))),
+            50..=59 => _ = self.get_mut(&key()).map(|value| value.number += 1),
+            60..=69 => _ = self.pop_entry(&key()),
+            70..=73 => self.resize(n as usize),
+            74..=77 => _ = (self.promote(&key()), self.demote(&Item::new(n + 1)), self.get_key_value(&key()).is_some()),
+            78..=81 => _ = (self.pop_lru(), self.pop_mru()),
+            82..=85 => _ = self.iter_mut().collect::<Vec<_>>().iter_mut().map(|it| it.1.number = it.0.number).count(),
+            86 => _ = self.iter_mut().next(),
+            87 => *self = self.clone(),
+            88 => _ = std::mem::replace(self, Cache::make(20)).into_iter().nth(2),
+            89 => self.clear(),
+            _ => _ = self.contains(&key()),
+        }
+    }
+
+    fn ids(&self) -> [Vec<(u64, u64)>; 2] {
+        [self.iter().map(id).collect(), self.iter().rev().map(id).collect()]
+    }
+
+    fn len(&self) -> usize {
+        self.len()
+    }
+}
+
+/// A cache's life. If nothing panics, nothing leaks.
+fn life<C: Cache>(seed: u64, lies: u64, panics: u64) {
+    world(|it| *it = Default::default());
+    let mut random = seed.wrapping_mul(0x9e37_79b9_7f4a_7c15) | 1;
+    let mut next = |n: u64| {
+        random ^= random << 13;
+        random ^= random >> 7;
+        random ^= random << 17;
+        (random >> 20) % n
+    };
+    let mut cache = C::make(next(40) as usize);
+    for _ in 0..400 {
+        let (kind, n) = (next(100), next(60));
+        world(|it| (it.lies, it.panics) = (lies * (next(1 << 40) | 1), panics));
+        told(|| cache.call(kind, n));
+        world(|it| (it.lies, it.panics) = (0, 0));
+        let [ids, mut back] = cache.ids();
+        back.reverse();
+        assert_eq!((cache.len(), &ids), (back.len(), &back));
+        world(|it| assert!(ids.iter().all(|(key, value)| it.live.contains(key) && it.live.contains(value))));
+    }
+    drop(cache);
+    if panics == 0 {
+        assert_eq!(world(|it| it.live.len()), 0, "seed {seed}");
+    }
+}
+
+fn lives<C: Cache>() {
+    std::panic::set_hook(Box::new(|_| {}));
+    for seed in 0..100 {
+        life::<C>(seed, 0, 0);
+        life::<C>(seed, 1, 0);
+        life::<C>(seed, 1, 30);
+    }
+}
+
+#[test]
+fn lru_survives_lies_and_panics() {
+    lives::<lru::LruCache<Key<Payload>, Value<Payload>, Builder>>();
+}
+
+#[test]
+fn capacities_at_the_ends() {
+    let mut none = lru::LruCache::new(0);
+    assert_eq!((none.put(1, 1), none.push(1, 1), none.get_or_insert(1, || 1).copied()), (None, None, None));
+    assert!(none.is_empty());
+    let mut one = lru::LruCache::new(1);
+    assert_eq!((one.push(1, 1), one.push(1, 2), one.push(2, 3)), (None, Some((1, 1)), Some((1, 2))));
+    let mut most = lru::LruCache::new(usize::MAX);
+    assert_eq!(
+        (most.put(1, 1), most.cap(), lru::LruCache::<u8, u8>::unbounded().cap()),
+        (None, usize::MAX, usize::MAX)
+    );
+    most.resize(0);
+    assert!(most.is_empty());
+}
+
+#[test]
+fn types_of_no_size() {
+    let mut units = lru::LruCache::unbounded();
+    (0..9).for_each(|_| _ = units.put((), ()));
+    assert_eq!((units.len(), units.pop_lru()), (1, Some(((), ()))));
+    let mut keys = lru::LruCache::new(3);
+    (0..9).for_each(|n| _ = keys.put(n, ()));
+    assert!(keys.iter_mut().rev().map(|(n, _)| *n).eq([6, 7, 8]));
+}
+
+#[test]
+fn calls_of_later_versions_of_lru() {
+    let mut cache = lru::LruCache::new(3);
+    (1..=3).for_each(|n| _ = cache.put(n, 10 * n));
+    assert_eq!((cache.promote(&1), cache.demote(&3), cache.promote(&9), cache.demote(&9)), (true, true, false, false));
+    assert_eq!((cache.peek_mru(), cache.peek_lru()), (Some((&1, &10)), Some((&3, &30))));
+    assert_eq!(cache.get_key_value(&2), Some((&2, &20)));
+    assert_eq!(cache.get_key_value(&9), None);
+    let mut copy = cache.clone();
+    assert_eq!(
+        (copy.pop_mru(), copy.pop_mru(), copy.pop_mru(), copy.pop_mru()),
+        (Some((2, 20)), Some((1, 10)), Some((3, 30)), None)
+    );
+    assert_eq!((copy.cap(), cache.len()), (3, 3));
+}
+
+#[test]
+fn a_panic_of_a_closure_changes_nothing() {
+    let mut cache = lru::LruCache::new(1);
+    cache.put(1, 1);
+    let panics = std::panic::AssertUnwindSafe(|| cache.get_or_insert(2, || panic!("no value")).copied());
+    assert!(std::panic::catch_unwind(panics).is_err());
+    assert_eq!((cache.len(), cache.peek(&1)), (1, Some(&1)));
+}
+
+#[test]
+fn auto_traits_variance_and_bounds() {
+    fn both<T: Send + Sync + Unpin>() {}
+    fn send<T: Send>() {}
+    both::<(lru::LruCache<u8, String>, lru::Iter<u8, u8>, lru::IterMut<u8, u8>, lru::IntoIter<u8, u8>)>();
+    send::<(lru::LruCache<u8, Cell<u8>>, lru::IterMut<u8, Cell<u8>>, lru::IntoIter<u8, Cell<u8>>)>();
+    fn shorter<'a>(it: lru::Iter<'static, u8, u8>) -> lru::Iter<'a, u8, u8> {
+        it
+    }
+    _ = shorter;
+    // A struct that contains a cache needs no bounds.
+    struct Holds<K, V, S>(lru::LruCache<K, V, S>);
+    impl<K, V, S> Holds<K, V, S> {
+        fn len(&self) -> usize {
+            self.0.iter().count()
+        }
+    }
+    let hasher = jeerdurian::RandomState::default();
+    assert_eq!(
+        (hasher.hash_one(1), Holds(lru::LruCache::<u8, u8, _>::with_hasher(1, hasher)).len()),
+        (hasher.hash_one(1), 0)
+    );
+}
