@@ -1,8 +1,8 @@
 #!/usr/bin/env bash
 # Compares the doors `lru` and `hashlink` with the crates `lru` 0.7.8 and `hashlink` 0.8.0.
 #
-#     rust/peers.sh REGISTRY [CALLS [SEED]]           the crates' own tests and examples, unmodified, against the doors, and
-#                                                     random calls on both, 1,000,000 of each crate; each call is compared
+#     rust/peers.sh REGISTRY [CALLS [SEED]]           the crates' own tests and examples, unmodified, on the doors;
+#                                                     then 1,000,000 random calls of each crate, each compared
 #     rust/peers.sh REGISTRY times [SIZES [LOAD..]]   nanoseconds an operation, the best of PROCESSES (7)
 #
 # REGISTRY is a folder of unpacked crates, as Debian's packages librust-lru-dev and librust-hashlink-dev install it.
@@ -15,7 +15,12 @@ out=$(mktemp -d)
 trap 'rm -rf "$out"' EXIT
 export CARGO_TARGET_DIR=${PEERS_TARGET_DIR:-$out/target}
 mkdir "$out/.cargo"
-printf '[source.crates-io]\nreplace-with = "folder"\n[source.folder]\ndirectory = "%s"\n' "$registry" >"$out/.cargo/config.toml"
+cat >"$out/.cargo/config.toml" <<TOML
+[source.crates-io]
+replace-with = "folder"
+[source.folder]
+directory = "$registry"
+TOML
 
 # Makes the package `compare`, with the program that calls and times both.
 compare() {
@@ -43,7 +48,7 @@ hashbrown = "0.12"
 scoped_threadpool = { path = "$doors/compare/peers/scoped_threadpool" }
 [workspace]
 TOML
-    { printf '#![no_std]\nextern crate alloc;\nextern crate std;\npub use jeerdurian::%s::*;\n' "$1" && cat; } >"$out/$1/src/lib.rs"
+    { echo "#![no_std] extern crate alloc; extern crate std; pub use jeerdurian::$1::*;" && cat; } >"$out/$1/src/lib.rs"
 }
 
 # The lines of the documentation in a source, which contain the examples.
@@ -62,14 +67,26 @@ tests_of_lru() {
     cd "$doors"
 }
 
+tests_of_hashlink() {
+    package hashlink </dev/null
+    mkdir "$out/hashlink/tests"
+    cp "$registry/hashlink-0.8.0/tests/lru_cache.rs" "$out/hashlink/tests"
+    cd "$out/hashlink"
+    cargo test --offline
+    cd "$doors"
+}
+
 case "${1-}" in
 times)
     shift
     compare --release
-    for _ in $(seq "${PROCESSES:-7}"); do "$CARGO_TARGET_DIR/release/times" "${ROUNDS:-3}" "$@"; done | python3 compare/best.py
+    for _ in $(seq "${PROCESSES:-7}"); do
+        "$CARGO_TARGET_DIR/release/times" "${ROUNDS:-3}" "$@"
+    done | python3 compare/peers/ratios.py
     ;;
 *)
     tests_of_lru
+    tests_of_hashlink
     compare --bin calls
     "$CARGO_TARGET_DIR/debug/calls" "$@"
     ;;

@@ -122,6 +122,16 @@ mod lru_here {
     include!("lru_calls.rs");
 }
 
+mod hashlink_there {
+    use hashlink as krate;
+    include!("hashlink_calls.rs");
+}
+
+mod hashlink_here {
+    use jeerdurian::hashlink as krate;
+    include!("hashlink_calls.rs");
+}
+
 struct Random(u64);
 
 impl Random {
@@ -188,4 +198,6 @@ fn main() {
     compare::<lru_there::Entries, lru_here::Entries>("lru", calls, &mut random);
     compare::<lru_there::Texts, lru_here::Texts>("lru, String by str", calls / 10, &mut random);
     compare::<lru_there::Bytes, lru_here::Bytes>("lru, Box<[u8]> by [u8]", calls / 10, &mut random);
+    compare::<hashlink_there::Entries, hashlink_here::Entries>("hashlink", calls, &mut random);
+    compare::<hashlink_there::Texts, hashlink_here::Texts>("hashlink, String by str", calls / 10, &mut random);
 }

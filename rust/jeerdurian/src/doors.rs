@@ -1,10 +1,16 @@
 //! What the doors `lru` and `hashlink` share: the map below them, and the calls that both crates have.
 
 use crate::Unlimited;
-use crate::erased::lru_limits::KeyHasher;
+use crate::erased::lru_limits::{KeyHasher, LookupKey};
 use crate::erased::ordered_table::OrderedTable;
+#[cfg(feature = "hashlink")]
+use crate::erased::ordered_table::Walk;
 use crate::erased::schnellru as proved;
+#[cfg(feature = "hashlink")]
+use crate::iter::WalkMut;
 use crate::rattle_std::alloc::{AllocError, Global};
+#[cfg(feature = "hashlink")]
+use core::fmt::{self, Debug, Formatter};
 use core::hash::{BuildHasher, Hash};
 
 /// The table of a cache. Its links are as wide as memory, so they bound no cache.
@@ -27,10 +33,16 @@ fn out_of_memory<K, V>() -> ! {
     alloc::alloc::handle_alloc_error(core::alloc::Layout::new::<(K, V)>())
 }
 
+/// Returns the hash of the key that `key` names.
+#[inline]
+pub(crate) fn hash_of<K: Hash + Eq, V, S: BuildHasher>(map: &Map<K, V, S>, key: &impl LookupKey<K>) -> u64 {
+    KeyHasher::<K>::hash_named(map.hasher(), key)
+}
+
 /// Returns the bucket of a key, or its hash if the key is not there.
 #[inline]
 pub(crate) fn bucket_or_hash<K: Hash + Eq, V, S: BuildHasher>(map: &Map<K, V, S>, key: &K) -> Result<usize, u64> {
-    let hash = map.hasher().hash_named(key);
+    let hash = hash_of(map, key);
     map.entries.find(hash, key).ok_or(hash)
 }
 
@@ -41,16 +53,23 @@ pub(crate) fn replace<K, V, S>(map: &mut Map<K, V, S>, b: usize, value: V) -> V 
     core::mem::replace(&mut map.entries.pair_mut(b).value, value)
 }
 
-/// Inserts a key that has this hash and is not there, as the newest.
+/// Inserts a key that has this hash and is not there, as the newest. Lends its entry.
 ///
 /// A key that lies may be there all the same. Then it is there twice, as after an insert into an `LruMap`.
 #[inline]
-pub(crate) fn insert_absent<K: Hash + Eq, V, S: BuildHasher>(map: &mut Map<K, V, S>, hash: u64, key: K, value: V) {
+pub(crate) fn insert_absent<K: Hash + Eq, V, S: BuildHasher>(
+    map: &mut Map<K, V, S>,
+    hash: u64,
+    key: K,
+    value: V,
+) -> (&mut K, &mut V) {
     match map.insert_new(hash, key, value, &mut |_, _| {}) {
         Ok(true) => {}
         Ok(false) => panic!("capacity overflow"),
         Err(AllocError) => out_of_memory::<K, V>(),
     }
+    let pair = map.entries.pair_mut(map.entries.newest());
+    (&mut pair.key, &mut pair.value)
 }
 
 /// The entries of a table that was a map's, the oldest first.
@@ -80,18 +99,68 @@ impl<K, V> DoubleEndedIterator for Taken<K, V> {
     }
 }
 
+/// Shows the entries that are left, the oldest first.
+#[cfg(feature = "hashlink")]
+impl<K: Debug, V: Debug> Debug for Taken<K, V> {
+    fn fmt(&self, f: &mut Formatter<'_>) -> fmt::Result {
+        f.debug_list().entries(self.0.iter().rev()).finish()
+    }
+}
+
+/// A walk, from the other end. Unlike `Rev`, it shows what is left.
+#[cfg(feature = "hashlink")]
+#[derive(Clone)]
+pub(crate) struct OldestFirst<T>(pub(crate) T);
+
+#[cfg(feature = "hashlink")]
+impl<T: DoubleEndedIterator> Iterator for OldestFirst<T> {
+    type Item = T::Item;
+
+    #[inline]
+    fn next(&mut self) -> Option<T::Item> {
+        self.0.next_back()
+    }
+
+    #[inline]
+    fn size_hint(&self) -> (usize, Option<usize>) {
+        self.0.size_hint()
+    }
+}
+
+#[cfg(feature = "hashlink")]
+impl<T: DoubleEndedIterator> DoubleEndedIterator for OldestFirst<T> {
+    #[inline]
+    fn next_back(&mut self) -> Option<T::Item> {
+        self.0.next()
+    }
+}
+
+#[cfg(feature = "hashlink")]
+impl<K: Debug, V: Debug> Debug for OldestFirst<Walk<'_, K, V, usize>> {
+    fn fmt(&self, f: &mut Formatter<'_>) -> fmt::Result {
+        f.debug_list().entries(self.0.clone().rev()).finish()
+    }
+}
+
+#[cfg(feature = "hashlink")]
+impl<K: Debug, V: Debug> Debug for OldestFirst<WalkMut<'_, K, V, usize>> {
+    fn fmt(&self, f: &mut Formatter<'_>) -> fmt::Result {
+        f.debug_list().entries(self.0.left()).finish()
+    }
+}
+
 /// Defines the iterators of a cache, and the calls whose names and results are the same in both crates.
 ///
-/// `$first` names the entry that an iterator returns first, and `$ordered` makes an iterator that begins with it, of type
-/// `Ordered<T>`, from one that begins with the newest entry. `LruCache` has the fields `map` and `cap`.
+/// `$first` names the entry that an iterator returns first, and `$ordered` makes an iterator that begins with it, of
+/// type `Ordered<T>`, from one that begins with the newest entry. `LruCache` has the fields `map` and `cap`.
 macro_rules! shared_calls {
-    ($first:literal, $ordered:path, $pop:ident, $pop_entry:ident, $pop_lru:ident) => {
+    ($first:literal, $ordered:path, $promote:ident, $pop:ident, $pop_entry:ident, $pop_lru:ident) => {
         #[doc = concat!("An iterator over the entries of a cache, the ", $first, " first.")]
         pub struct Iter<'a, K, V> {
             walk: Ordered<Walk<'a, K, V, usize>>,
         }
 
-        #[doc = concat!("An iterator over the entries of a cache, the ", $first, " first, that lends the values for writing.")]
+        #[doc = concat!("An iterator that lends the values of a cache for writing, the ", $first, " entry first.")]
         pub struct IterMut<'a, K, V> {
             walk: Ordered<WalkMut<'a, K, V, usize>>,
         }
@@ -174,6 +243,15 @@ macro_rules! shared_calls {
                 self.map.peek_mut(&Borrowed(k))
             }
 
+            /// Makes the entry of a key the newest. Returns whether the key is there. Cost: `O(1)` expected.
+            #[inline]
+            pub fn $promote<Q: Hash + Eq + ?Sized>(&mut self, k: &Q) -> bool
+            where
+                K: Borrow<Q>,
+            {
+                self.map.promote(&Borrowed(k))
+            }
+
             /// Removes a key, and returns its value. Cost: `O(1)` expected.
             #[inline]
             pub fn $pop<Q: Hash + Eq + ?Sized>(&mut self, k: &Q) -> Option<V>
@@ -202,7 +280,7 @@ macro_rules! shared_calls {
         impl<K: Hash + Eq + Clone, V: Clone, S: BuildHasher + Clone> Clone for LruCache<K, V, S> {
             /// Clones the entries in order, and the hasher, into a table of the same size.
             fn clone(&self) -> Self {
-                LruCache { map: clone_map(&self.map), cap: self.cap }
+                LruCache { map: $crate::doors::clone_map(&self.map), cap: self.cap }
             }
         }
 

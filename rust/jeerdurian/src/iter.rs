@@ -174,6 +174,16 @@ impl<'a, K, V, N: LinkType> WalkMut<'a, K, V, N> {
         WalkMut { entries, front, back, left }
     }
 
+    /// Returns the entries that are left, from the back.
+    #[cfg(feature = "hashlink")]
+    pub(crate) fn left(&self) -> impl Iterator<Item = (&K, &V)> {
+        let newer = |&(b, left): &(usize, usize)| (left > 1).then(|| (self.entries.newer_unless_first(b), left - 1));
+        core::iter::successors((self.left > 0).then_some((self.back, self.left)), newer).map(|(b, _)| {
+            let pair = self.entries.pair(b);
+            (&pair.key, &pair.value)
+        })
+    }
+
     #[inline]
     fn lend(&mut self, b: usize) -> (&'a K, &'a mut V) {
         let pair: *mut Pair<K, V> = self.entries.pair_mut(b);

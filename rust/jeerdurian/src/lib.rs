@@ -45,6 +45,8 @@ pub mod caches;
 mod doors;
 mod fallible;
 mod hasher;
+#[cfg(feature = "hashlink")]
+pub mod hashlink;
 mod iter;
 mod keys;
 mod limiter;

@@ -1,13 +1,13 @@
-//! What the own tests of the crate `lru`, and the random calls of `peers.sh`, do not show of the door: keys that lie,
-//! callbacks that panic, iterators that are forgotten, the ends of the capacity, types of no size, and later calls.
-#![cfg(feature = "lru")]
+//! What the own tests of the crates `lru` and `hashlink`, and the random calls of `peers.sh`, do not show of the doors:
+//! keys that lie, callbacks that panic, iterators that are forgotten, extreme capacities, types of no size.
+#![cfg(all(feature = "lru", feature = "hashlink"))]
 
 mod common;
 
 use common::{Builder, Item, Key, Value, any, told, world};
+use jeerdurian::hashlink::{self, lru_cache::Entry, lru_cache::RawEntryMut};
 use jeerdurian::lru;
 use std::cell::Cell;
-use std::hash::BuildHasher;
 
 type Payload = [u8; 3];
 
@@ -46,6 +46,48 @@ impl Cache for lru::LruCache<Key<Payload>, Value<Payload>, Builder> {
             88 => _ = std::mem::replace(self, Cache::make(20)).into_iter().nth(2),
             89 => self.clear(),
             _ => _ = self.contains(&key()),
+        }
+    }
+
+    fn ids(&self) -> [Vec<(u64, u64)>; 2] {
+        [self.iter().map(id).collect(), self.iter().rev().map(id).collect()]
+    }
+
+    fn len(&self) -> usize {
+        self.len()
+    }
+}
+
+impl Cache for hashlink::LruCache<Key<Payload>, Value<Payload>, Builder> {
+    fn make(capacity: usize) -> Self {
+        hashlink::LruCache::with_hasher(capacity, Builder)
+    }
+
+    fn call(&mut self, kind: u64, n: u64) {
+        let key = || Item::new(n);
+        match kind {
+            0..=39 => _ = self.insert(key(), Item::new(n)),
+            40..=49 => _ = self.entry(key()).and_modify(|it| it.number += 1).or_insert_with(|| Item::new(any(9))),
+            50..=59 => match self.entry(key()) {
+                Entry::Occupied(mut entry) if n < 30 => _ = (entry.to_front(), entry.replace_entry(Item::new(n))),
+                Entry::Occupied(entry) => _ = entry.remove(),
+                Entry::Vacant(entry) => entry.insert(Item::new(n)).number += 1,
+            },
+            60..=69 => match self.raw_entry_mut().from_hash(any(1 << 60), |_| any(3) == 1) {
+                RawEntryMut::Occupied(mut entry) => {
+                    _ = (entry.to_front(), entry.get_mut().number += 1, entry.to_back())
+                }
+                RawEntryMut::Vacant(entry) => entry.insert(key(), Item::new(n)).1.number += 1,
+            },
+            70..=73 => self.set_capacity(n as usize),
+            74..=77 => _ = self.raw_entry_mut().from_key(&key()).or_insert_with(|| (key(), Item::new(n))),
+            78..=81 => _ = (self.remove_lru(), self.remove_entry(&key())),
+            82..=85 => _ = self.iter_mut().collect::<Vec<_>>().iter_mut().map(|it| it.1.number = it.0.number).count(),
+            86 => _ = self.drain().nth(n as usize % 9),
+            87 => *self = self.clone(),
+            88 => _ = std::mem::replace(self, Cache::make(20)).into_iter().nth(2),
+            89 => self.clear(),
+            _ => _ = self.contains_key(&key()),
         }
     }
 
@@ -100,6 +142,11 @@ fn lru_survives_lies_and_panics() {
 }
 
 #[test]
+fn hashlink_survives_lies_and_panics() {
+    lives::<hashlink::LruCache<Key<Payload>, Value<Payload>, Builder>>();
+}
+
+#[test]
 fn capacities_at_the_ends() {
     let mut none = lru::LruCache::new(0);
     assert_eq!((none.put(1, 1), none.push(1, 1), none.get_or_insert(1, || 1).copied()), (None, None, None));
@@ -116,6 +163,33 @@ fn capacities_at_the_ends() {
 }
 
 #[test]
+fn an_entry_passes_the_capacity_of_hashlink_by_one() {
+    let mut none = hashlink::LruCache::new(0);
+    assert_eq!((none.insert(1, 1), none.len()), (None, 0));
+    assert_eq!((*none.entry(1).or_insert(1), none.insert(1, 2), none.len()), (1, Some(1), 0));
+    let mut one = hashlink::LruCache::new(1);
+    one.extend([(1, 1), (2, 2)]);
+    one.entry(3).or_insert(3);
+    assert!(one.iter().eq([(&2, &2), (&3, &3)]));
+    one.insert(4, 4);
+    assert!(one.iter().eq([(&3, &3), (&4, &4)]));
+    let mut most = hashlink::LruCache::new_unbounded();
+    assert_eq!((most.insert(1, 1), most.capacity(), most.entry(1).key()), (None, usize::MAX, &1));
+}
+
+#[test]
+fn a_forgotten_drain_leaves_an_empty_cache() {
+    let mut cache = hashlink::LruCache::new(9);
+    cache.extend((0..9).map(|n| (n, n.to_string())));
+    let mut drain = cache.drain();
+    assert_eq!((drain.next(), drain.next_back()), (Some((0, "0".into())), Some((8, "8".into()))));
+    std::mem::forget(drain);
+    assert!(cache.is_empty() && cache.iter().next().is_none());
+    cache.extend((0..20).map(|n| (n, n.to_string())));
+    assert_eq!(cache.len(), 9);
+}
+
+#[test]
 fn types_of_no_size() {
     let mut units = lru::LruCache::unbounded();
     (0..9).for_each(|_| _ = units.put((), ()));
@@ -123,6 +197,9 @@ fn types_of_no_size() {
     let mut keys = lru::LruCache::new(3);
     (0..9).for_each(|n| _ = keys.put(n, ()));
     assert!(keys.iter_mut().rev().map(|(n, _)| *n).eq([6, 7, 8]));
+    let mut entries = hashlink::LruCache::new(1);
+    (0..9).for_each(|_| *entries.entry(()).or_insert(()) = ());
+    assert_eq!((entries.len(), entries.drain().collect::<Vec<_>>()), (1, vec![((), ())]));
 }
 
 #[test]
@@ -156,20 +233,26 @@ fn auto_traits_variance_and_bounds() {
     fn send<T: Send>() {}
     both::<(lru::LruCache<u8, String>, lru::Iter<u8, u8>, lru::IterMut<u8, u8>, lru::IntoIter<u8, u8>)>();
     send::<(lru::LruCache<u8, Cell<u8>>, lru::IterMut<u8, Cell<u8>>, lru::IntoIter<u8, Cell<u8>>)>();
+    both::<(
+        hashlink::LruCache<u8, String>,
+        hashlink::Iter<u8, u8>,
+        hashlink::IterMut<u8, u8>,
+        hashlink::IntoIter<u8, u8>,
+    )>();
+    both::<(hashlink::Drain<u8, u8>, Entry<u8, u8, u8>, RawEntryMut<u8, u8, u8>)>();
+    send::<(hashlink::LruCache<u8, Cell<u8>>, hashlink::IterMut<u8, Cell<u8>>, Entry<u8, Cell<u8>, u8>)>();
     fn shorter<'a>(it: lru::Iter<'static, u8, u8>) -> lru::Iter<'a, u8, u8> {
         it
     }
     _ = shorter;
     // A struct that contains a cache needs no bounds.
-    struct Holds<K, V, S>(lru::LruCache<K, V, S>);
+    struct Holds<K, V, S>(lru::LruCache<K, V, S>, hashlink::LruCache<K, V, S>);
     impl<K, V, S> Holds<K, V, S> {
-        fn len(&self) -> usize {
-            self.0.iter().count()
+        fn counts(&mut self) -> [usize; 4] {
+            [self.0.iter().count(), self.1.iter_mut().count(), self.1.capacity(), self.1.drain().len()]
         }
     }
-    let hasher = jeerdurian::RandomState::default();
-    assert_eq!(
-        (hasher.hash_one(1), Holds(lru::LruCache::<u8, u8, _>::with_hasher(1, hasher)).len()),
-        (hasher.hash_one(1), 0)
-    );
+    let mut holds = Holds(lru::LruCache::new(1), hashlink::LruCache::new(1));
+    _ = (holds.0.put(1, 1), holds.1.insert(1, 1));
+    assert_eq!((holds.counts(), holds.1.is_empty()), ([1, 1, 1, 1], true));
 }
