@@ -1,17 +1,17 @@
 //! What the doors `lru` and `hashlink` share: the map below them, and the calls that both crates have.
 
+#[cfg(feature = "hashlink")]
+mod oldest_first;
+
 use crate::Unlimited;
 use crate::erased::lru_limits::{KeyHasher, LookupKey};
 use crate::erased::ordered_table::OrderedTable;
-#[cfg(feature = "hashlink")]
-use crate::erased::ordered_table::Walk;
 use crate::erased::schnellru as proved;
-#[cfg(feature = "hashlink")]
-use crate::iter::WalkMut;
 use crate::rattle_std::alloc::{AllocError, Global};
-#[cfg(feature = "hashlink")]
-use core::fmt::{self, Debug, Formatter};
 use core::hash::{BuildHasher, Hash};
+
+#[cfg(feature = "hashlink")]
+pub(crate) use oldest_first::OldestFirst;
 
 /// The table of a cache. Its links are as wide as memory, so they bound no cache.
 pub(crate) type Table<K, V> = OrderedTable<K, V, usize>;
@@ -96,56 +96,6 @@ impl<K, V> DoubleEndedIterator for Taken<K, V> {
         }
         let b = self.0.newest();
         Some(self.0.take(b))
-    }
-}
-
-/// Shows the entries that are left, the oldest first.
-#[cfg(feature = "hashlink")]
-impl<K: Debug, V: Debug> Debug for Taken<K, V> {
-    fn fmt(&self, f: &mut Formatter<'_>) -> fmt::Result {
-        f.debug_list().entries(self.0.iter().rev()).finish()
-    }
-}
-
-/// A walk, from the other end. Unlike `Rev`, it shows what is left.
-#[cfg(feature = "hashlink")]
-#[derive(Clone)]
-pub(crate) struct OldestFirst<T>(pub(crate) T);
-
-#[cfg(feature = "hashlink")]
-impl<T: DoubleEndedIterator> Iterator for OldestFirst<T> {
-    type Item = T::Item;
-
-    #[inline]
-    fn next(&mut self) -> Option<T::Item> {
-        self.0.next_back()
-    }
-
-    #[inline]
-    fn size_hint(&self) -> (usize, Option<usize>) {
-        self.0.size_hint()
-    }
-}
-
-#[cfg(feature = "hashlink")]
-impl<T: DoubleEndedIterator> DoubleEndedIterator for OldestFirst<T> {
-    #[inline]
-    fn next_back(&mut self) -> Option<T::Item> {
-        self.0.next()
-    }
-}
-
-#[cfg(feature = "hashlink")]
-impl<K: Debug, V: Debug> Debug for OldestFirst<Walk<'_, K, V, usize>> {
-    fn fmt(&self, f: &mut Formatter<'_>) -> fmt::Result {
-        f.debug_list().entries(self.0.clone().rev()).finish()
-    }
-}
-
-#[cfg(feature = "hashlink")]
-impl<K: Debug, V: Debug> Debug for OldestFirst<WalkMut<'_, K, V, usize>> {
-    fn fmt(&self, f: &mut Formatter<'_>) -> fmt::Result {
-        f.debug_list().entries(self.0.left()).finish()
     }
 }
 

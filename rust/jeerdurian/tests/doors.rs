@@ -129,7 +129,7 @@ fn life<C: Cache>(seed: u64, lies: u64, panics: u64) {
 
 fn lives<C: Cache>() {
     std::panic::set_hook(Box::new(|_| {}));
-    for seed in 0..100 {
+    for seed in 0..60 {
         life::<C>(seed, 0, 0);
         life::<C>(seed, 1, 0);
         life::<C>(seed, 1, 30);
@@ -173,6 +173,8 @@ fn an_entry_passes_the_capacity_of_hashlink_by_one() {
     assert!(one.iter().eq([(&2, &2), (&3, &3)]));
     one.insert(4, 4);
     assert!(one.iter().eq([(&3, &3), (&4, &4)]));
+    assert_eq!(one.entry(4).key(), &4);
+    assert_eq!(one.len(), 1);
     let mut most = hashlink::LruCache::new_unbounded();
     assert_eq!((most.insert(1, 1), most.capacity(), most.entry(1).key()), (None, usize::MAX, &1));
 }
