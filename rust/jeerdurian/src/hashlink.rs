@@ -15,7 +15,7 @@
 //! ```
 //!
 //! A value moves when the table grows, so an address of it that unsafe code kept is wrong then. `hashlink` 0.8.0
-//! accepts a program that shares a `Cell` between threads. Here it is refused:
+//! accepts a program that shares a `Cell` between threads. Here it does not compile:
 //!
 //! ```compile_fail,E0277
 //! let mut cache = jeerdurian::hashlink::LruCache::new(1);

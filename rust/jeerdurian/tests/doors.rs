@@ -180,6 +180,27 @@ fn an_entry_passes_the_capacity_of_hashlink_by_one() {
 }
 
 #[test]
+fn entries_of_hashlink_are_found_moved_and_replaced() {
+    let mut cache = hashlink::LruCache::new(3);
+    (1..=3).for_each(|n| *cache.entry(n).or_insert(0) += n);
+    assert_eq!(cache.peek_mut(&1), Some(&mut 1));
+    assert_eq!(keys(&cache), [1, 2, 3]);
+    let Entry::Occupied(mut entry) = cache.entry(3) else { panic!("a vacant entry") };
+    entry.to_front();
+    assert_eq!(entry.replace_key(), 3);
+    assert_eq!(keys(&cache), [3, 1, 2]);
+    assert_eq!((cache.insert(3, 9), cache.contains_key(&1)), (Some(3), true));
+    assert_eq!(keys(&cache), [2, 3, 1]);
+    cache.set_capacity(2);
+    assert_eq!((cache.insert(4, 4), cache.capacity(), cache.len()), (None, 2, 2));
+    assert_eq!(keys(&cache), [1, 4]);
+}
+
+fn keys(cache: &hashlink::LruCache<u8, u8>) -> Vec<u8> {
+    cache.iter().map(|(key, _)| *key).collect()
+}
+
+#[test]
 fn a_forgotten_drain_leaves_an_empty_cache() {
     let mut cache = hashlink::LruCache::new(9);
     cache.extend((0..9).map(|n| (n, n.to_string())));
@@ -208,6 +229,8 @@ fn types_of_no_size() {
 fn calls_of_later_versions_of_lru() {
     let mut cache = lru::LruCache::new(3);
     (1..=3).for_each(|n| _ = cache.put(n, 10 * n));
+    assert_eq!((cache.get_or_insert(1, || 0).copied(), cache.put(2, 20)), (Some(10), Some(20)));
+    assert!(cache.iter().map(|(n, _)| *n).eq([2, 1, 3]));
     assert_eq!((cache.promote(&1), cache.demote(&3), cache.promote(&9), cache.demote(&9)), (true, true, false, false));
     assert_eq!((cache.peek_mru(), cache.peek_lru()), (Some((&1, &10)), Some((&3, &30))));
     assert_eq!(cache.get_key_value(&2), Some((&2, &20)));
