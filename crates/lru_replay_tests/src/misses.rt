@@ -3,7 +3,7 @@ ghost use Rattle.std.specs.Prelude.{◌≡◌, ◌≤◌, [], IfOk};
 ghost use Rattle.std.specs.String.{string_eq};
 ghost use Rattle.lru_theory.specs.Traces.{misses};
 
-use crate::callers::read_through;
+use crate::references::read_through;
 use lru_trace::Curve;
 use schnellru::{ByLength, LruMap, RandomState, laws};
 use std::alloc::{AllocError, Global};

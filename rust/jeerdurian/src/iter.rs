@@ -6,7 +6,6 @@ use crate::erased::schnellru as proved;
 use crate::limiter::{Calls, Limiter};
 use crate::map::LruMap;
 use core::hash::{BuildHasher, Hash};
-use core::iter::FusedIterator;
 
 /// An iterator over the entries of a map, the newest first. Proved: it returns each entry once, in the order of use.
 pub struct Iter<'a, K, V, L: Limiter<K, V>> {
@@ -81,9 +80,11 @@ macro_rules! passes_on {
 
         impl<$($parameters)*> ExactSizeIterator for $name $($bounds)* {}
 
-        impl<$($parameters)*> FusedIterator for $name $($bounds)* {}
+        impl<$($parameters)*> core::iter::FusedIterator for $name $($bounds)* {}
     };
 }
+#[cfg(any(feature = "lru", feature = "hashlink"))]
+pub(crate) use passes_on;
 
 passes_on!(['a, K, V, L: Limiter<K, V>] Iter<'a, K, V, L>, (&'a K, &'a V), walk);
 passes_on!(['a, K, V, L: Limiter<K, V>] Keys<'a, K, V, L>, &'a K, walk);
@@ -152,7 +153,7 @@ impl<'a, K, V, L: Limiter<K, V>> IterMut<'a, K, V, L> {
 passes_on!(['a, K, V, L: Limiter<K, V>] IterMut<'a, K, V, L>, (&'a K, &'a mut V), walk);
 
 /// Where a walk that lends is: the buckets of the first and of the last entry that is left, and how many are left.
-struct WalkMut<'a, K, V, N: LinkType> {
+pub(crate) struct WalkMut<'a, K, V, N: LinkType> {
     entries: &'a mut OrderedTable<K, V, N>,
     front: usize,
     back: usize,
@@ -160,7 +161,7 @@ struct WalkMut<'a, K, V, N: LinkType> {
 }
 
 impl<'a, K, V, N: LinkType> WalkMut<'a, K, V, N> {
-    fn new(entries: &'a mut OrderedTable<K, V, N>) -> Self {
+    pub(crate) fn new(entries: &'a mut OrderedTable<K, V, N>) -> Self {
         let left = entries.len();
         if left == 0 {
             return WalkMut { entries, front: 0, back: 0, left };
@@ -171,6 +172,16 @@ impl<'a, K, V, N: LinkType> WalkMut<'a, K, V, N> {
         entries.promote(front);
         let back = entries.oldest();
         WalkMut { entries, front, back, left }
+    }
+
+    /// Returns the entries that are left, from the back.
+    #[cfg(feature = "hashlink")]
+    pub(crate) fn left(&self) -> impl Iterator<Item = (&K, &V)> {
+        let newer = |&(b, left): &(usize, usize)| (left > 1).then(|| (self.entries.newer_unless_first(b), left - 1));
+        core::iter::successors((self.left > 0).then_some((self.back, self.left)), newer).map(|(b, _)| {
+            let pair = self.entries.pair(b);
+            (&pair.key, &pair.value)
+        })
     }
 
     #[inline]

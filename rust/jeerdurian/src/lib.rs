@@ -41,11 +41,17 @@ mod erased;
 
 #[cfg(feature = "std")]
 pub mod caches;
+#[cfg(any(feature = "lru", feature = "hashlink"))]
+mod doors;
 mod fallible;
 mod hasher;
+#[cfg(feature = "hashlink")]
+pub mod hashlink;
 mod iter;
 mod keys;
 mod limiter;
+#[cfg(feature = "lru")]
+pub mod lru;
 mod map;
 mod more;
 #[cfg(feature = "std")]

@@ -167,6 +167,8 @@ impl<P> PartialEq for Key<P> {
     }
 }
 
+impl<P> Eq for Key<P> {}
+
 /// What a key to insert is made of, by `Into`.
 #[derive(Clone, Copy)]
 pub struct Seed(pub u64);

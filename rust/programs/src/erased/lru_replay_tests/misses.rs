@@ -6,7 +6,7 @@ use crate::rattle_std::prelude::*;
 
 use crate::erased::lru_trace::Curve;
 use crate::erased::schnellru::{ByLength, LruMap, RandomState, laws};
-use crate::programs::lru_replay_tests::callers::read_through;
+use crate::programs::lru_replay_tests::references::read_through;
 use crate::programs::test_helpers::{Random, check};
 use crate::rattle_std::alloc::{AllocError, Global};
 use crate::rattle_std::test::Fail;
