@@ -47,3 +47,14 @@ fn example_pages() {
 fn rows() {
     writes_its_output("rows", env!("CARGO_BIN_EXE_rows"));
 }
+
+#[test]
+fn arguments() {
+    for binary in [env!("CARGO_BIN_EXE_replay"), env!("CARGO_BIN_EXE_trace")] {
+        let help = Command::new(binary).arg("--help").stdin(Stdio::null()).output().unwrap();
+        assert!(help.status.success() && String::from_utf8_lossy(&help.stdout).contains(" < "));
+        let unknown = Command::new(binary).arg("-x").stdin(Stdio::null()).output().unwrap();
+        assert_eq!((unknown.status.code(), unknown.stdout.as_slice()), (Some(4), &b""[..]));
+        assert!(String::from_utf8_lossy(&unknown.stderr).contains("unknown argument -x"));
+    }
+}

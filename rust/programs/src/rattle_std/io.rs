@@ -39,6 +39,18 @@ pub fn write_line(line: core::fmt::Arguments<'_>) -> Result<()> {
     output.write_all(b"\n")
 }
 
+/// What `print!(rt; ..)` does.
+pub fn write_text(text: core::fmt::Arguments<'_>) -> Result<()> {
+    std::io::stdout().lock().write_fmt(text)
+}
+
+/// What `eprintln!(rt; ..)` does.
+pub fn write_error(line: core::fmt::Arguments<'_>) -> Result<()> {
+    let mut errors = std::io::stderr().lock();
+    errors.write_fmt(line)?;
+    errors.write_all(b"\n")
+}
+
 impl From<AllocError> for Error {
     fn from(_: AllocError) -> Error {
         Error::from(ErrorKind::OutOfMemory)

@@ -22,6 +22,20 @@ macro_rules! println {
     };
 }
 
+/// `print!(rt; ..)`, which returns whether the text was written.
+macro_rules! print {
+    ($rt:expr; $($text:tt)*) => {
+        $crate::rattle_std::io::write_text(::core::format_args!($($text)*))
+    };
+}
+
+/// `eprintln!(rt; ..)`, which returns whether the line was written.
+macro_rules! eprintln {
+    ($rt:expr; $($line:tt)*) => {
+        $crate::rattle_std::io::write_error(::core::format_args!($($line)*))
+    };
+}
+
 /// `format!(in alloc; ..)`, which may fail.
 macro_rules! format {
     (in $alloc:expr; $($text:tt)*) => {

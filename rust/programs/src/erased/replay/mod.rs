@@ -5,13 +5,44 @@
 use crate::rattle_std::prelude::*;
 
 use crate::programs::lru_replay::{replay, status};
+use crate::rattle_std::env;
 use crate::rattle_std::io::{self, BufReader, BufWriter};
 use crate::rattle_std::process::ExitCode;
 
 /// The exit status if there is no memory for a buffer, so that nothing was read.
 const NO_BUFFER: u8 = 3;
 
+/// The exit status after an argument that the program does not know. Nothing was read.
+const UNKNOWN: u8 = 4;
+
+/// What `replay --help` prints.
+const HELP: &str = "\
+replay < LINES
+    Makes calls on one LRU map, and writes an answer line for each. Keys and values are numbers.
+
+The first line is the limit of the map:
+    length N      at most N entries
+    memory N E    a table of at most N bytes, with E bytes for an entry
+    cost N        values whose sum is at most N
+    compact       none
+
+Each other line is a call:
+    insert K V   put K V   update K V   get K   peek K   contains K   promote K   demote K
+    remove K   remove-entry K   pop-oldest   pop-newest   reserve N   shrink   clear   drain N
+    list   stats
+
+Exit status: 0 after the last line, 1 if the first line is no limit, 2 if a read or a write failed,
+3 without memory for the buffers, 4 after an unknown argument.
+";
+
 pub(crate) fn main(rt: HostRuntime) -> ExitCode {
+    let argument = match env::args(&rt) {
+        Ok(mut arguments) => arguments.nth(1),
+        Err(_) => return ExitCode::from(UNKNOWN),
+    };
+    if let Some(argument) = argument {
+        return answer(&rt, argument.as_str());
+    }
     let Ok(mut reader) = BufReader::new(rt.alloc(), rt.reader()) else {
         return ExitCode::from(NO_BUFFER);
     };
@@ -22,4 +53,14 @@ pub(crate) fn main(rt: HostRuntime) -> ExitCode {
     // After a failed write the buffer still contains bytes. Its drop would write them again.
     let (_output, _unwritten) = writer.into_parts();
     ExitCode::from(status(&end))
+}
+
+/// Answers an argument: prints the help, or says that the argument is unknown.
+fn answer(rt: &HostRuntime, argument: &str) -> ExitCode {
+    if argument == "--help" {
+        let _ = print!(rt; "{HELP}");
+        return ExitCode::SUCCESS;
+    }
+    let _ = eprintln!(rt; "replay: unknown argument {argument}; try --help");
+    ExitCode::from(UNKNOWN)
 }

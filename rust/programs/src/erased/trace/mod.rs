@@ -6,13 +6,38 @@
 use crate::rattle_std::prelude::*;
 
 use crate::erased::lru_trace::{Progress, status, trace};
+use crate::rattle_std::env;
 use crate::rattle_std::io::{self, BufReader, BufWriter, IsTerminal};
 use crate::rattle_std::process::ExitCode;
 
 /// The exit status if there is no memory for a buffer, so that nothing was read.
 const NO_BUFFER: u8 = 3;
 
+/// The exit status after an argument that the program does not know. Nothing was read.
+const UNKNOWN: u8 = 4;
+
+/// What `trace --help` prints.
+const HELP: &str = "\
+trace < KEYS
+    Prints how often an LRU cache of each size misses the keys that were referenced.
+
+The first line has sizes with a space between each two, such as 1 10 100 1000. Each other line is a key, of 1 to 64
+bytes; an empty or longer line is only counted.
+
+The output is a line for each named size, and then a bar for each power of two: the part of the references that miss.
+
+Exit status: 0 after the report, 1 if the first line has no sizes, 2 if a read or a write failed, 3 without memory,
+4 after an unknown argument.
+";
+
 pub(crate) fn main(rt: HostRuntime) -> ExitCode {
+    let argument = match env::args(&rt) {
+        Ok(mut arguments) => arguments.nth(1),
+        Err(_) => return ExitCode::from(UNKNOWN),
+    };
+    if let Some(argument) = argument {
+        return answer(&rt, argument.as_str());
+    }
     let Ok(mut reader) = BufReader::new(rt.alloc(), rt.reader()) else {
         return ExitCode::from(NO_BUFFER);
     };
@@ -26,4 +51,14 @@ pub(crate) fn main(rt: HostRuntime) -> ExitCode {
     // After a failed write the buffer still contains bytes. Its drop would write them again.
     let (_output, _unwritten) = writer.into_parts();
     ExitCode::from(status(&end))
+}
+
+/// Answers an argument: prints the help, or says that the argument is unknown.
+fn answer(rt: &HostRuntime, argument: &str) -> ExitCode {
+    if argument == "--help" {
+        let _ = print!(rt; "{HELP}");
+        return ExitCode::SUCCESS;
+    }
+    let _ = eprintln!(rt; "trace: unknown argument {argument}; try --help");
+    ExitCode::from(UNKNOWN)
 }
