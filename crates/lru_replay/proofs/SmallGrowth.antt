@@ -86,7 +86,7 @@ module _ {K V S H : Type 0} where
     exact = omega (arith, (facts sized.table).exact few, sized.taken);
   }
 
-  -- and that of a map that looks alike
+  -- and so is the table of a map that looks alike
   pub small_alike : (st other : State K V S H) → LookAlike st other → IsSmall st → IsSmall other
   small_alike st other alike small = record {
     few = omega (arith, small.few, alike.table);

@@ -26,8 +26,8 @@ module _ {K V H : Type 0} (eq : K → K → Bool) where
     pub does : Does looks old new
     pub stored : new.counts.placed ≡ old.counts.placed
 
-  -- From the map `old` the program made the references of a trace, one after another, and left the map `new`. So many
-  -- of them, `missed`, did not find their key. Between references it may have read.
+  -- From the map `old` the program made the references of a trace, one after another, and left the map `new`. The number
+  -- `missed` counts those that did not find their key. Between references it may have read.
   pub data Referenced (old : State K V ℕ H) : (trace : List K) (missed : ℕ) (new : State K V ℕ H) → Type 0 where
     begins : Referenced old [] 0 old
     refers : (key : K) (trace : List K) (missed : ℕ) (mid new : State K V ℕ H) → Referenced old trace missed mid →
