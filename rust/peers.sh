@@ -25,6 +25,7 @@ TOML
 # Makes the package `compare`, with the program that calls and times both.
 compare() {
     mkdir "$out/compare"
+    cp compare/operations.rs "$out"
     cp compare/peers/*.rs "$out/compare"
     sed "s|JEERDURIAN|$doors/jeerdurian|" compare/peers/Cargo.toml.in >"$out/compare/Cargo.toml"
     (cd "$out/compare" && cargo build --offline "$@") >"$out/log" 2>&1 || { cat "$out/log"; exit 1; }
@@ -82,7 +83,7 @@ times)
     compare --release
     for _ in $(seq "${PROCESSES:-7}"); do
         "$CARGO_TARGET_DIR/release/times" "${ROUNDS:-3}" "$@"
-    done | python3 compare/peers/ratios.py
+    done | python3 compare/best.py --pairs
     ;;
 *)
     tests_of_lru

@@ -1,5 +1,7 @@
 #!/usr/bin/env python3
-"""Prints the least time of each load and engine, of the runs of `loads` that it reads, and its ratio to the first engine."""
+"""Prints the least time of each load and engine, of the runs that it reads, and its ratio to the first engine. With
+`--pairs` the engines come in pairs, a crate and its door, and the ratio of a door is that to its crate."""
+import math
 import sys
 
 engines, best = [], {}
@@ -11,9 +13,11 @@ for line in sys.stdin:
     row = [float(it) for it in words[2:]]
     at = words[0], words[1]
     best[at] = [min(a, b) for a, b in zip(best.get(at, row), row)]
+width = 2 if "--pairs" in sys.argv else len(engines)
 print("ns an operation", *engines, sep="\t")
-product = [1.0] * len(engines)
+ratios = []
 for (load, size), row in best.items():
-    print(f"{load:20}{size:>8}", *(f"{it:8.2f} {it / row[0]:5.2f}x" for it in row))
-    product = [p * it / row[0] for p, it in zip(product, row)]
-print(f"{'geometric mean':28}", *(f"{'':8} {p ** (1 / len(best)):5.2f}x" for p in product))
+    ratios.append([it / row[i // width * width] for i, it in enumerate(row)])
+    print(f"{load:20}{size:>8}", *(f"{it:8.2f} {ratio:5.2f}x" for it, ratio in zip(row, ratios[-1])))
+means = [math.exp(sum(map(math.log, them)) / len(them)) for them in zip(*ratios)]
+print(f"{'geometric mean':28}", *(f"{'':8} {it:5.2f}x" for it in means))

@@ -103,13 +103,7 @@ impl Cache for hashlink::LruCache<Key<Payload>, Value<Payload>, Builder> {
 /// A cache's life. If nothing panics, nothing leaks.
 fn life<C: Cache>(seed: u64, lies: u64, panics: u64) {
     world(|it| *it = Default::default());
-    let mut random = seed.wrapping_mul(0x9e37_79b9_7f4a_7c15) | 1;
-    let mut next = |n: u64| {
-        random ^= random << 13;
-        random ^= random >> 7;
-        random ^= random << 17;
-        (random >> 20) % n
-    };
+    let mut next = common::numbers(seed);
     let mut cache = C::make(next(40) as usize);
     for _ in 0..400 {
         let (kind, n) = (next(100), next(60));

@@ -63,13 +63,7 @@ where
     Limit<N>: for<'a> Limiter<Key<P>, Value<P>, KeyToInsert<'a> = Key<P>>,
 {
     world(|it| *it = Default::default());
-    let mut random = seed.wrapping_mul(0x9e37_79b9_7f4a_7c15) | 1;
-    let mut next = |n: u64| {
-        random ^= random << 13;
-        random ^= random >> 7;
-        random ^= random << 17;
-        (random >> 20) % n
-    };
+    let mut next = common::numbers(seed);
     let (most, bytes) = (next(60) as usize, if next(3) == 0 { 3000 } else { usize::MAX });
     let mut map = Map::<P, N>::with_hasher(Limit::new(most, bytes), common::Builder);
     for _ in 0..400 {

@@ -320,3 +320,14 @@ pub fn told<R>(f: impl FnOnce() -> R) -> Option<R> {
         },
     }
 }
+
+/// Returns random numbers below each n that it gets, from this seed on.
+pub fn numbers(seed: u64) -> impl FnMut(u64) -> u64 {
+    let mut random = seed.wrapping_mul(0x9e37_79b9_7f4a_7c15) | 1;
+    move |n| {
+        random ^= random << 13;
+        random ^= random >> 7;
+        random ^= random << 17;
+        (random >> 20) % n
+    }
+}
