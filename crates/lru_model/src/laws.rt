@@ -22,7 +22,8 @@ ghost use Rattle.lru_model.specs.Exact.{IsDetermined, NeverRunsOut, EndsExactly,
 ghost use Rattle.lru_model.specs.Exact.{EndsAsAsked, WasRefused};
 ghost use Rattle.lru_model.specs.Exact.{Ending, EndsAlike, LookAlike, AlwaysGrants, HasTables};
 ghost use Rattle.lru_model.specs.Theorems.{PaysByStoring, CountsPlacings, Stores, KeepsValues, IsRefusedGrowth};
-ghost use Rattle.lru_model.specs.Theorems.{EvictsOldest, SaysWhether};
+ghost use Rattle.lru_model.specs.Theorems.{EvictsOldest};
+ghost use Rattle.lru_model.specs.Kept.{AcceptsNew, IsAdded};
 
 use lru_limits::{Insertion, KeyHasher, Limiter, LookupKey};
 use std::hash::Hash;
@@ -65,21 +66,6 @@ pub fn inserts_evict_the_oldest<
         new.pairs }
 {}
 
-/// An insert returns true if and only if its key is there afterwards. The key is the newest then, and the limiter is
-/// not over its limit.
-pub fn inserts_say_whether<
-    K: Eq + Hash,
-    V,
-    I: LookupKey<K>,
-    L: Insertion<K, V, I>,
-    S: KeyHasher<K>,
->()
-    ensures { (key : I) (value : V) (old : State K V L S) (result : Result Bool AllocError) (new : State K V L S) →
-        IsDistinct K.eq (keys_of old.pairs) →
-        Insert L.rules L.offers I.names S.hash_of key value old result new →
-        SaysWhether L.rules (I.names key) result new }
-{}
-
 /// The entries that an insert passes to its callback, together with those that are left, are at most one more than
 /// there were. So a callback that keeps them needs space for one entry more than the map contains. An insert with such
 /// a callback is an insert like any other (`step`).
@@ -92,45 +78,6 @@ pub fn inserts_pass_few<K: Eq + Hash, V, I: LookupKey<K>, L: Insertion<K, V, I>,
         (passed : List (K × V)) (new : State K V L S) →
         InsertPasses L.rules L.offers I.names S.hash_of key value old result passed new →
         Insert L.rules L.offers I.names S.hash_of key value old result new }
-{}
-
-/// If an insert returns true, the newest entry is what the limiter returned for the new key, or what it left of the
-/// entry that was there. So under a limiter that stores values as they come, a look-up of the key returns the value.
-pub fn inserts_store_the_value<
-    K: Eq + Hash,
-    V,
-    I: LookupKey<K>,
-    L: Insertion<K, V, I>,
-    S: KeyHasher<K>,
->()
-    ensures stores { (key : I) (value : V) (old new : State K V L S) →
-        Insert L.rules L.offers I.names S.hash_of key value old (Ok true) new →
-        IfSome (first new.pairs) (Stores L.rules L.offers I.names key value old) }
-    ensures found { (key : I) (value : V) (old new : State K V L S) →
-        KeepsValues L.offers → IsDistinct K.eq (keys_of old.pairs) →
-        Insert L.rules L.offers I.names S.hash_of key value old (Ok true) new →
-        lookup (I.names key) new.pairs ≡ Some value }
-{}
-
-/// If an insert runs out of memory, `on_insert` did, or the table had no growth left. The entries that stay are the
-/// newest of the old ones.
-pub fn inserts_run_out_without_growth<
-    K: Eq + Hash,
-    V,
-    I: LookupKey<K>,
-    L: Insertion<K, V, I>,
-    S: KeyHasher<K>,
->()
-    ensures out_of_memory { (key : I) (value : V) (old : State K V L S) (result : Result Bool AllocError)
-        (new : State K V L S) →
-        IsErr result →
-        Insert L.rules L.offers I.names S.hash_of key value old result new →
-        IsOutOfMemory L.rules L.offers I.names S.hash_of key value old new }
-    ensures keeps { (key : I) (value : V) (old : State K V L S) (result : Result Bool AllocError)
-        (new : State K V L S) →
-        IsErr result →
-        Insert L.rules L.offers I.names S.hash_of key value old result new →
-        IsFront new.pairs old.pairs }
 {}
 
 /// An insert into a table of up to 16 buckets has one possible result for each outcome of its allocations: what it
@@ -230,8 +177,16 @@ pub fn inserts_grow_little<
 {}
 
 /// If there are entries and no growth left, and a search for the new key meets a deleted bucket first, the new entry
-/// fills that bucket: the limiter is not queried and nothing moves. No other insertion into the table ends so.
-pub fn deleted_buckets_serve<K: Eq + Hash, V, L: Limiter<K, V>, S: KeyHasher<K>>()
+/// fills that bucket: the limiter is not queried and nothing moves (`served`). No other insertion into the table ends so
+/// (`only`). So an insert of a new key, which the limiter accepts without being over its limit, adds the entry to all
+/// the others in the same table (`added`).
+pub fn deleted_buckets_serve<
+    K: Eq + Hash,
+    V,
+    I: LookupKey<K>,
+    L: Insertion<K, V, I>,
+    S: KeyHasher<K>,
+>()
     ensures served { (pair : K × V) (old : State K V L S) (outcome : Outcome) (new : State K V L S) →
         HasPairsButNoGrowth old →
         FirstFreeIs deleted (S.hash_of old.hasher pair.0) old.table.marks →
@@ -243,6 +198,13 @@ pub fn deleted_buckets_serve<K: Eq + Hash, V, L: Limiter<K, V>, S: KeyHasher<K>>
         Place L.rules S.hash_of pair old placed new →
         IsPlaced pair (buckets old) 0 0 old new →
         FirstFreeIs deleted (S.hash_of old.hasher pair.0) old.table.marks }
+    ensures added { (key : I) (value : V) (pair : K × V) (old : State K V L S) (result : Result Bool AllocError)
+        (new : State K V L S) →
+        HasPairsButNoGrowth old → lookup_entry (I.names key) old.pairs ≡ None →
+        FirstFreeIs deleted (S.hash_of old.hasher pair.0) old.table.marks →
+        AcceptsNew L.rules L.offers I.names key value (contents old) pair →
+        Insert L.rules L.offers I.names S.hash_of key value old result new →
+        IsAdded L.rules L.offers I.names key value pair old result new }
 {}
 
 /// An insert pays for the entries that it moves: the count of moved entries and the potential together rise by at most

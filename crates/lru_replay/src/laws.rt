@@ -61,7 +61,7 @@ pub fn lists_keep_the_length<K: Eq + Hash + Drop, V: Drop, S: KeyHasher<K>>()
         IsRun (CallStep ⟦<ByLength as Limiter<K, V>>⟧.rules ⟦<ByLength as Insertion<K, V, K>>⟧.offers K.eq
         S.hash_of) (λ st. length st.pairs ≤ old.limiter) old calls replies new }
 {
-    laws::runs_keep_the_length::<K, V, S>();
+    laws::runs_keep_the_length::<K, V, ByLength, S>();
 }
 
 /// With `ByMemoryUsage` the table uses at most `max_memory_usage` bytes after each of the calls, if it used no more
@@ -75,7 +75,7 @@ pub fn lists_keep_the_memory_usage<K: Eq + Hash + Drop, V: Drop, S: KeyHasher<K>
         IsRun (CallStep ⟦<ByMemoryUsage as Limiter<K, V>>⟧.rules ⟦<ByMemoryUsage as Insertion<K, V, K>>⟧.offers K.eq
         S.hash_of) (λ st. UsesAtMost old.limiter st) old calls replies new }
 {
-    laws::runs_keep_the_memory_usage::<K, V, S>();
+    laws::runs_keep_the_memory_usage::<K, V, ByMemoryUsage, S>();
 }
 
 /// With any limiter that has a budget, as `ByCost` and `ByWeight` have, the running total is at most the budget after
@@ -163,7 +163,7 @@ pub fn small_budgets_are_alike<K: Eq + Hash + Drop, V: Drop, S: KeyHasher<K>>()
         map memory_report replies ≡ map memory_report answers →
         (replies ≡ answers) × LookAlike new last }
 {
-    laws::runs_keep_the_memory_usage::<K, V, S>();
+    laws::runs_keep_the_memory_usage::<K, V, ByMemoryUsage, S>();
     small_calls_are_alike::<K, V, ByMemoryUsage, S>();
 }
 
@@ -182,7 +182,7 @@ pub fn small_lengths_are_alike<K: Eq + Hash + Drop, V: Drop, S: KeyHasher<K>>()
         map memory_report replies ≡ map memory_report answers →
         (replies ≡ answers) × LookAlike new last }
 {
-    laws::runs_keep_the_length::<K, V, S>();
+    laws::runs_keep_the_length::<K, V, ByLength, S>();
     small_calls_are_alike::<K, V, ByLength, S>();
 }
 

@@ -52,7 +52,7 @@ pub fn calls_make_references<K: Eq + Hash + Drop, V: Drop, S: KeyHasher<K>>()
 {
     laws::inserts_leave_the_newest::<K, V, S>();
     laws::maps_keep_to_their_length::<K, V, S>();
-    laws::calls_keep_the_length::<K, V, S>();
+    laws::calls_keep_the_length::<K, V, ByLength, S>();
 }
 
 /// So do `ensure_newest` and `get_or_insert`, whose closure is `make`.
@@ -69,7 +69,7 @@ pub fn gets_that_insert_make_references<
 {
     laws::inserts_leave_the_newest::<K, V, S>();
     laws::maps_keep_to_their_length::<K, V, S>();
-    laws::calls_keep_the_length::<K, V, S>();
+    laws::calls_keep_the_length::<K, V, ByLength, S>();
 }
 
 /// And so do their fallible forms.
@@ -87,7 +87,7 @@ pub fn gets_that_insert_if_made_make_references<
 {
     laws::inserts_leave_the_newest::<K, V, S>();
     laws::maps_keep_to_their_length::<K, V, S>();
-    laws::calls_keep_the_length::<K, V, S>();
+    laws::calls_keep_the_length::<K, V, ByLength, S>();
 }
 
 /// What a call that makes no reference does to the keys: a get or a promotion of a key, which may not be there
@@ -111,7 +111,7 @@ pub fn calls_change_the_keys<K: Eq + Hash + Drop, V: Drop, S: KeyHasher<K>>()
 {
     laws::inserts_leave_the_newest::<K, V, S>();
     laws::maps_keep_to_their_length::<K, V, S>();
-    laws::calls_keep_the_length::<K, V, S>();
+    laws::calls_keep_the_length::<K, V, ByLength, S>();
 }
 
 /// A reference more in a program that made those of a trace: one that found its key (`hits`), and one that did not

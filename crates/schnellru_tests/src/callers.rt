@@ -139,7 +139,7 @@ fn put_within(map: &mut LruMap<String, u64>, key: String, value: u64) -> Result<
     requires { length map.old.pairs ≤ map.old.limiter }
     ensures { length map.new.pairs ≤ map.new.limiter }
 {
-    laws::calls_keep_the_length::<String, u64, RandomState>();
+    laws::calls_keep_the_length::<String, u64, ByLength, RandomState>();
     map.insert(key, value)
 }
 
@@ -152,7 +152,7 @@ fn put_within_bytes(
     requires { UsesAtMost map.old.limiter map.old }
     ensures { UsesAtMost map.new.limiter map.new }
 {
-    laws::calls_keep_the_memory_usage::<String, u64, RandomState>();
+    laws::calls_keep_the_memory_usage::<String, u64, ByMemoryUsage, RandomState>();
     map.insert(key, value)
 }
 

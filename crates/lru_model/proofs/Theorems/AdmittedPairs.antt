@@ -54,7 +54,7 @@ module _ {K V S : Type 0} (terms : Terms K V S) (rules : Rules K V S) (offers : 
       → lookup_entry (eq key) old.pairs ≡ None → 0 < room old
       → Insert rules offers eq hash_of key value old result new → Adds old result new
   adds old result new place absent some step =
-      let added = is_added rules offers eq key value (key, value) old result new (accepts_new (contents old) place)
+      let added = is_added rules offers eq key value (key, value) old result new _ (accepts_new (contents old) place)
       absent some step in
       record {
         answer = added.answer;

@@ -1,5 +1,5 @@
 -- A limit by a budget, as `ByCost` and `ByWeight` have: each call of a map keeps it, and so does a run of calls.
-use Rattle.std.proofs.Common.{◌≡◌, ℕ, ◌≤◌, Bool, false, Option, Some, None, Result, refl, sym}
+use Rattle.std.proofs.Common.{◌≡◌, ℕ, ◌≤◌, Bool, false, Result, refl, sym}
 use Rattle.std.proofs.Common.{ap, ◌∙◌, subst, arith, ◌⊎◌, inl, inr}
 use Rattle.std.proofs.lemmas.Bool.Decides.{nat_tests}
 use Rattle.std.specs.Prelude.{nat_lt}
@@ -7,45 +7,28 @@ use Rattle.std.specs.declared.alloc.AllocError.{AllocError}
 use Rattle.lru_limits.specs.Rules.{Rules, Offers}
 use Rattle.lru_limits.specs.Laws.{IsAccount}
 use Rattle.lru_limits.specs.Budgeted.{IsBudgeted}
+use Rattle.lru_limits.specs.Limits.{IsFixed}
 use Rattle.lru_model.specs.GetOrInserts.{MakesNewest, got, inserted}
-use Rattle.lru_model.specs.Lists.{last, lookup_entry}
-use Rattle.lru_model.specs.State.{State, contents, IsWithin, notified_of}
+use Rattle.lru_model.specs.State.{State, contents, IsWithin}
 use Rattle.lru_model.specs.Runs.{Step, makes_newest}
 use Rattle.lru_model.specs.Runs.{StepOrWrite, StepOrKeptWrite, Run, ends, goes_on}
 use Rattle.lru_model.specs.Theorems.{IsSummed}
-use Rattle.lru_model.proofs.Theorems.Moves.{KeepsOffers}
-use Rattle.lru_model.proofs.Theorems.Runs.{step_changes, step_summed, kept_summed}
+use Rattle.lru_model.proofs.Theorems.RunLimits.{step_keeps_number, run_keeps_number}
+use Rattle.lru_model.proofs.Theorems.Runs.{step_summed, kept_summed}
 use Rattle.lru_model.proofs.Theorems.StepTotals.{step_total}
 use Rattle.lru_model.proofs.Theorems.Sums.{total, total-is}
 
 module _ {K V S : Type 0} {rules : Rules K V S} {offers : Offers K V S K} {account budget : S → ℕ}
     {accepts : S → K → V → Bool} {made : ℕ → S} {rebudgeted : ℕ → S → S}
     (laws : IsBudgeted rules offers account budget accepts made rebudgeted) where
-  notified_budget : (pair : Option (K × V)) (s : S) → budget (notified_of rules pair s) ≡ budget s
-  notified_budget None s = refl
-  notified_budget (Some pair) s = laws.removed s pair.0 pair.1
-
   -- no call sets the budget
-  pub keeps_budget : {names : K → K → Bool} → KeepsOffers rules offers names
-      (λ c d. budget d.limiter ≡ budget c.limiter)
-  keeps_budget = record {
-    keeps = record {
-      way = record {
-        self = λ c. refl;
-        trans = λ p q. q ∙ p;
-        asked = λ bytes c. laws.grown c.limiter bytes;
-        popped = λ c. notified_budget (last c.pairs) c.limiter;
-      };
-      left = λ test c. notified_budget (lookup_entry test c.pairs) c.limiter;
-      dropped = λ newer older pair s. laws.removed s pair.0 pair.1;
-      first = λ test c. refl;
-      last = λ test c. refl;
-      cleared = λ c. laws.cleared c.limiter;
-    };
-    came = λ i v c s pair a offer. laws.offered c.limiter _ i v s (Some pair) offer;
-    turned_down = λ i v c s offer. laws.offered c.limiter _ i v s None offer;
-    exchanged = λ i v c pair found. laws.replaced c.limiter _ pair.0 i pair.1 v;
-    rewritten = λ i v c pair found. laws.replaced c.limiter _ pair.0 i pair.1 v;
+  fixed : IsFixed rules offers budget
+  fixed = record {
+    offered = laws.offered;
+    replaced = laws.replaced;
+    removed = laws.removed;
+    cleared = laws.cleared;
+    grown = laws.grown;
   }
 
   -- a limiter that is not over its limit is within its budget
@@ -75,7 +58,7 @@ module _ {K V S : Type 0} {rules : Rules K V S} {offers : Offers K V S K} {accou
 
     pub step_budget : (old new : State K V S H) → Step rules offers names hash_of old new
         → budget new.limiter ≡ budget old.limiter
-    step_budget old new s = (step_changes keeps_budget old new s).3.moves
+    step_budget = step_keeps_number names hash_of fixed
 
     pub step_keeps_total : (old new : State K V S H) → Step rules offers names hash_of old new
         → IsSummed cost account old → account old.limiter ≤ budget old.limiter
@@ -100,10 +83,7 @@ module _ {K V S : Type 0} {rules : Rules K V S} {offers : Offers K V S K} {accou
 
   pub run_budget : {H : Type 0} {names : K → K → Bool} {hash_of : H → K → ℕ} (new old : State K V S H)
       → Run (StepOrWrite rules offers names hash_of) new old → budget new.limiter ≡ budget old.limiter
-  run_budget new old ends = refl
-  run_budget new old (goes_on mid (inl s) sized r) = run_budget new mid r ∙ (step_changes keeps_budget old mid s).3.moves
-  run_budget new old (goes_on mid (inr (test, value, e)) sized r) =
-      run_budget new mid r ∙ ap (λ st. budget st.limiter) e
+  run_budget {names = names} {hash_of} = run_keeps_number names hash_of fixed
 
 -- a get that inserts is a step
 pub made-step : {K V S H : Type 0} {rules : Rules K V S} {offers : Offers K V S K} {names : K → K → Bool}

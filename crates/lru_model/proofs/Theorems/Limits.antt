@@ -3,8 +3,7 @@ use Rattle.std.proofs.Common.{◌≡◌, ℕ, suc, ◌+◌, ◌≤◌, ◌⊎◌
 use Rattle.std.proofs.Common.{Option, Some, None, Result, refl, sym, ap, ◌∙◌, subst, arith}
 use Rattle.std.specs.declared.alloc.AllocError.{AllocError}
 use Rattle.lru_limits.specs.Rules.{Rules, Offers}
-use Rattle.lru_limits.specs.Admissions.{offers_if}
-use Rattle.lru_limits.specs.Stores.{plain}
+use Rattle.lru_limits.specs.Limits.{IsFixed}
 use Rattle.lru_model.specs.Sizes.{usage}
 use Rattle.lru_model.specs.Lists.{last, lookup_entry, without, set_entry}
 use Rattle.lru_model.specs.State.{State, buckets, contents, IsWithin, notified_of}
@@ -44,32 +43,33 @@ module _ {K V : Type 0} (names : K → Bool) where
       go true h e = omega arith
       go false h e = omega (arith, h e)
 
-pub notified_plain : {K V S : Type 0} (over grants : S → ℕ → Bool) (pair : Option (K × V)) (s : S)
-    → notified_of (plain over grants) pair s ≡ s
-notified_plain over grants None s = refl
-notified_plain over grants (Some pair) s = refl
+module _ {K V S : Type 0} {rules : Rules K V S} {offers : Offers K V S K} {number : S → ℕ}
+    (fixed : IsFixed rules offers number) where
+  pub notified_fixed : (pair : Option (K × V)) (s : S) → number (notified_of rules pair s) ≡ number s
+  notified_fixed None s = refl
+  notified_fixed (Some pair) s = fixed.removed s pair.0 pair.1
 
-module _ {K V S : Type 0} {over grants : S → ℕ → Bool} {admits : S → K → V → Bool} {names : K → K → Bool} where
-  -- a limiter that ignores its notifications stays as it is
-  pub keeps_limiter : KeepsOffers (plain over grants) (offers_if admits) names (λ c d. d.limiter ≡ c.limiter)
-  keeps_limiter = record {
+  -- no call changes a number that no callback changes
+  pub keeps_number : {names : K → K → Bool} → KeepsOffers rules offers names
+      (λ c d. number d.limiter ≡ number c.limiter)
+  keeps_number = record {
     keeps = record {
       way = record {
         self = λ c. refl;
         trans = λ p q. q ∙ p;
-        asked = λ bytes c. refl;
-        popped = λ c. notified_plain over grants (last c.pairs) c.limiter;
+        asked = λ bytes c. fixed.grown c.limiter bytes;
+        popped = λ c. notified_fixed (last c.pairs) c.limiter;
       };
-      left = λ test c. notified_plain over grants (lookup_entry test c.pairs) c.limiter;
-      dropped = λ newer older pair s. refl;
+      left = λ test c. notified_fixed (lookup_entry test c.pairs) c.limiter;
+      dropped = λ newer older pair s. fixed.removed s pair.0 pair.1;
       first = λ test c. refl;
       last = λ test c. refl;
-      cleared = λ c. refl;
+      cleared = λ c. fixed.cleared c.limiter;
     };
-    came = λ i v c s pair a offer. offer.limiter;
-    turned_down = λ i v c s offer. offer.limiter;
-    exchanged = λ i v c pair found. refl;
-    rewritten = λ i v c pair found. refl;
+    came = λ i v c s pair a offer. fixed.offered c.limiter _ i v s (Some pair) offer;
+    turned_down = λ i v c s offer. fixed.offered c.limiter _ i v s None offer;
+    exchanged = λ i v c pair found. fixed.replaced c.limiter _ pair.0 i pair.1 v;
+    rewritten = λ i v c pair found. fixed.replaced c.limiter _ pair.0 i pair.1 v;
   }
 
 module _ {K V : Type 0} (f : K × V → ℕ) where
@@ -134,26 +134,27 @@ length-update {names = names} {i} {old = old} result (rejected pair found y r l)
     omega (arith, ap (λ st. length st.pairs) l.is, length-without (names i) old.pairs)
 length-update result (not_there a r e) = omega (arith, ap (λ st. length st.pairs) e)
 
--- if the limiter is not over with at most its number of pairs, no more are left
-pub length_at_most : {K V H : Type 0} (rules : Rules K V ℕ) (old new : State K V ℕ H)
-    → ((n : ℕ) → rules.is_over_the_limit old.limiter n ≡ false → n ≤ old.limiter) → new.limiter ≡ old.limiter
+-- if a map that is not over the limit has at most `most` pairs, no more are left
+pub length_at_most : {K V S H : Type 0} (rules : Rules K V S) (most : S → ℕ) (old new : State K V S H)
+    → ((s : S) (n : ℕ) → rules.is_over_the_limit s n ≡ false → n ≤ most s) → most new.limiter ≡ most old.limiter
     → IsWithin rules (contents new) ⊎ (total (λ _. 1) new.pairs ≤ total (λ _. 1) old.pairs)
-    → length old.pairs ≤ old.limiter
-    → length new.pairs ≤ old.limiter
-length_at_most rules old new within same (inl (inl e)) few = omega (arith, ap length e)
-length_at_most rules old new within same (inl (inr e)) few = within (length new.pairs)
-    (ap (λ s. rules.is_over_the_limit s (length new.pairs)) (sym same) ∙ e)
-length_at_most rules old new within same (inr e) few =
+    → length old.pairs ≤ most old.limiter
+    → length new.pairs ≤ most old.limiter
+length_at_most rules most old new within same (inl (inl e)) few = omega (arith, ap length e)
+length_at_most rules most old new within same (inl (inr e)) few =
+    omega (arith, same, within new.limiter (length new.pairs) e)
+length_at_most rules most old new within same (inr e) few =
     omega (arith, e, few, total-one old.pairs, total-one new.pairs)
 
--- if it grants no more bytes than its number, a table uses no more
-pub uses_at_most : {K V H : Type 0} (rules : Rules K V ℕ) (P : ℕ → Type 0) (more anew : ℕ) (old new : State K V ℕ H)
-    → ((bytes : ℕ) → (rules.on_grow old.limiter bytes).allowed ≡ true → bytes ≤ old.limiter)
-    → ((s : ℕ) → P s → s ≡ old.limiter) → Tables rules P more anew old new → UsesAtMost old.limiter old
-    → UsesAtMost old.limiter new
-uses_at_most rules P more anew old new within same t uses = go t.count
+-- if at most `most` bytes are permitted, a table uses no more
+pub uses_at_most : {K V S H : Type 0} (rules : Rules K V S) (most : S → ℕ) (P : S → Type 0) (more anew : ℕ)
+    (old new : State K V S H)
+    → ((s : S) (bytes : ℕ) → (rules.on_grow s bytes).allowed ≡ true → bytes ≤ most s)
+    → ((s : S) → P s → most s ≡ most old.limiter) → Tables rules P more anew old new
+    → UsesAtMost (most old.limiter) old → UsesAtMost (most old.limiter) new
+uses_at_most rules most P more anew old new within same t uses = go t.count
   where
-    go : IsNextCount rules P old (buckets new) → UsesAtMost old.limiter new
+    go : IsNextCount rules P old (buckets new) → UsesAtMost (most old.limiter) new
     go (inl few) = let fewer = usage_fewer old.entry_bytes (buckets new) (buckets old) uses.0 few uses.1 in (
       fewer.0,
       ap (λ bytes. usage bytes (buckets new)) t.entry_bytes
@@ -164,6 +165,5 @@ uses_at_most rules P more anew old new within same t uses = go t.count
       p.bytes,
       ap (λ bytes. usage bytes (buckets new)) t.entry_bytes
           ∙ p.usable,
-      within p.bytes (ap (λ s. (rules.on_grow s p.bytes).allowed) (sym (same p.limiter p.holds))
-          ∙ p.granted),
+      omega (arith, within p.limiter p.bytes p.granted, same p.limiter p.holds),
     )

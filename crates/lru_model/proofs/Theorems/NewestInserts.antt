@@ -1,5 +1,5 @@
 -- With a maximum length an insert leaves the newest pairs, up to that length.
-use Rattle.std.proofs.Common.{◌≡◌, ◌≢◌, ℕ, zero, suc, ◌+◌, ◌-◌, ◌<◌, ◌≤◌, Bool, true, List, []}
+use Rattle.std.proofs.Common.{◌≡◌, ◌≢◌, ℕ, zero, suc, ◌+◌, ◌-◌, ◌<◌, ◌≤◌, Bool, List, []}
 use Rattle.std.proofs.Common.{◌∷◌, length, take, Option, Some, None, Result, Ok, Err, refl, sym, ap, ◌∙◌, subst, arith}
 use Rattle.std.proofs.lemmas.Bool.{lt-ltb, le-ltb}
 use Rattle.std.proofs.lemmas.List.{take_all, length-take, nil_from_length}
@@ -10,6 +10,7 @@ use Rattle.std.specs.Prelude.{not, IsErr, nat_lt, option_map, unwrap_or}
 use Rattle.std.specs.declared.alloc.AllocError.{AllocError}
 use native.Mathlib.Decide.{dec_lt}
 use Rattle.lru_limits.specs.Stores.{ReturnsPairIf}
+use Rattle.lru_limits.specs.Limits.{length-limits}
 use Rattle.lru_limits.specs.Limiters.{length_rules, length_offers}
 use Rattle.lru_model.specs.Sizes.{no_table}
 use Rattle.lru_model.specs.Lists.{is_empty, last, lookup_entry, without, without_last}
@@ -29,9 +30,9 @@ use Rattle.lru_model.proofs.PairLists.Emptiness.{is_empty-some}
 use Rattle.lru_model.proofs.TableSizes.ReachedTables.{has_table_of_half}
 use Rattle.lru_model.proofs.Theorems.Fronts.{without_none}
 use Rattle.lru_model.proofs.Theorems.GrantedGrowth.{insert_in_list, insert_with_room, place_granted}
-use Rattle.lru_model.proofs.Theorems.Limits.{notified_plain, keeps_limiter, length-without_found}
-use Rattle.lru_model.proofs.Theorems.RunLimits.{step_stays_short}
-use Rattle.lru_model.proofs.Theorems.Runs.{any_step_same, step_changes}
+use Rattle.lru_model.proofs.Theorems.Limits.{notified_fixed, length-without_found}
+use Rattle.lru_model.proofs.Theorems.RunLimits.{step_keeps_number, step_stays_short}
+use Rattle.lru_model.proofs.Theorems.Runs.{any_step_same}
 
 module _ {X : Type 0} where
   -- all but the last of n + 1 elements are the first n
@@ -65,7 +66,7 @@ module _ {K V : Type 0} where
       go (yes full) = rw (lt-ltb most (length pairs + 1) full)
           (λ j. record {
             pairs = but_last (most - 1) pairs (omega (arith, full, few, some)) j;
-            limiter = notified_plain (λ n length. nat_lt n length) (λ _ _. true) (last pairs) most j;
+            limiter = notified_fixed (length-limits {K = K} {V = V}).fixed (last pairs) most j;
           })
       go (no loose) = rw (le-ltb most (length pairs + 1) (omega (arith, loose)))
           (ap (λ xs. record { pairs = xs; limiter = most }) (sym (take_all (most - 1) pairs (omega (arith, loose)))))
@@ -203,10 +204,10 @@ module _ {K V H : Type 0} (eq : K → K → Bool) (old new : State K V ℕ H) wh
   pub keeps_on : {hash_of : H → K → ℕ} → KeepsToLength old → IsSized new
       → Step length_rules length_offers eq hash_of old new → KeepsToLength new
   keeps_on {hash_of} keeps sized step =
-      let stays = (step_changes keeps_limiter old new step).3.moves in
+      let stays = step_keeps_number eq hash_of length-limits.fixed old new step in
       let same = any_step_same old new (calls step) in
       record {
-        within = rw stays (step_stays_short eq hash_of old new step keeps.within);
+        within = rw stays (step_stays_short eq hash_of length-limits old new step keeps.within);
         half = rw stays keeps.half;
         links = same.1 ∙ keeps.links;
         entry = rw same.2 keeps.entry;
@@ -234,12 +235,12 @@ module _ {K V H : Type 0} (eq : K → K → Bool) (old : State K V ℕ H) (keeps
   pub leaves_newest_of : {hash_of : H → K → ℕ} (inserted : List (K × V)) (new : State K V ℕ H)
       → InsertsAll length_rules length_offers eq hash_of old inserted new → LeavesNewestOf inserted new
   leaves_newest_of inserted new no_insert = record { keeps_on = keeps; limiter = refl; pairs = refl }
-  leaves_newest_of _ _ (one_insert_more {pairs} {before} run key value kept new step sized) =
+  leaves_newest_of {hash_of} _ _ (one_insert_more {pairs} {before} run key value kept new step sized) =
       let was = leaves_newest_of pairs before run in
       let call = inserts key value (Ok kept) step in
       record {
         keeps_on = keeps_on eq before new was.keeps_on sized call;
-        limiter = (step_changes keeps_limiter before new call).3.moves ∙ was.limiter;
+        limiter = step_keeps_number eq hash_of length-limits.fixed before new call ∙ was.limiter;
         pairs = (leaves_newest eq key value before (Ok kept) new was.keeps_on step).newest
             ∙ (λ j. take (was.limiter j) ((stored_key (eq key) key (was.pairs j), value) ∷ without (eq key)
             (was.pairs j)))

@@ -1,14 +1,14 @@
 -- A limit by length and one by memory usage, over runs of calls and writes.
 use Rattle.std.proofs.Common.{◌≡◌, ℕ, ◌≤◌, Bool, length, refl, sym, ap, ◌∙◌, subst, arith, inl, inr}
 use Rattle.std.proofs.lemmas.Map.{length-set_value}
-use Rattle.std.proofs.lemmas.Bool.Decides.{nat_tests}
 use Rattle.lru_limits.specs.Rules.{Rules, Offers}
-use Rattle.lru_limits.specs.Limiters.{length_rules, length_offers, memory_rules, all_offers}
+use Rattle.lru_limits.specs.Limits.{IsFixed, LimitsLength, LimitsMemory}
 use Rattle.lru_model.specs.State.{State}
 use Rattle.lru_model.specs.Runs.{Step}
 use Rattle.lru_model.specs.Runs.{StepOrWrite, StepOrKeptWrite, Run, ends, goes_on}
 use Rattle.lru_model.specs.Theorems.{UsesAtMost}
-use Rattle.lru_model.proofs.Theorems.Limits.{keeps_limiter, length_at_most, uses_at_most}
+use Rattle.lru_model.specs.Calls.{written}
+use Rattle.lru_model.proofs.Theorems.Limits.{keeps_number, length_at_most, uses_at_most}
 use Rattle.lru_model.proofs.Theorems.StepTotals.{step_total}
 use Rattle.lru_model.proofs.Theorems.Runs.{step_changes}
 
@@ -36,56 +36,57 @@ module _ {K V S H I : Type 0} (rules : Rules K V S) (offers : Offers K V S I) (n
   kept_written old (goes_on mid (inr (test, value, same, e)) sized run) =
       goes_on mid (inr (test, value, e)) sized (kept_written mid run)
 
--- a limiter that no call changes stays as it is
-pub run_keeps_limiter : {K V S H : Type 0} (rules : Rules K V S) (offers : Offers K V S K) (names : K → K → Bool)
-    (hash_of : H → K → ℕ) → ((old new : State K V S H) → Step rules offers names hash_of old new
-    → new.limiter ≡ old.limiter) → (new old : State K V S H) → Run (StepOrWrite rules offers names hash_of) new old
-    → new.limiter ≡ old.limiter
-run_keeps_limiter rules offers names hash_of keeps new old ends = refl
-run_keeps_limiter rules offers names hash_of keeps new old (goes_on mid (inl step) sized r) =
-    run_keeps_limiter rules offers names hash_of keeps new mid r ∙ keeps old mid step
-run_keeps_limiter rules offers names hash_of keeps new old (goes_on mid (inr (test, value, e)) sized r) =
-    run_keeps_limiter rules offers names hash_of keeps new mid r ∙ ap (λ st. st.limiter) e
+module _ {K V S H : Type 0} {rules : Rules K V S} {offers : Offers K V S K} {most : S → ℕ} (names : K → K → Bool)
+    (hash_of : H → K → ℕ) where
+  -- a number that no callback changes stays as it is
+  module _ (fixed : IsFixed rules offers most) where
+    pub step_keeps_number : (old new : State K V S H) → Step rules offers names hash_of old new
+        → most new.limiter ≡ most old.limiter
+    step_keeps_number old new step = (step_changes (keeps_number fixed) old new step).3.moves
 
-module _ {K V H : Type 0} (names : K → K → Bool) (hash_of : H → K → ℕ) where
-  -- a limit by length
-  pub step_stays_short : (old new : State K V ℕ H) → Step length_rules length_offers names hash_of old new
-      → length old.pairs ≤ old.limiter → length new.pairs ≤ old.limiter
-  step_stays_short old new step = length_at_most length_rules old new (λ n e. grind (arith, nat_tests))
-      (step_changes keeps_limiter old new step).3.moves (step_total (λ _. 1) step)
+    pub run_keeps_number : (new old : State K V S H) → Run (StepOrWrite rules offers names hash_of) new old
+        → most new.limiter ≡ most old.limiter
+    run_keeps_number new old ends = refl
+    run_keeps_number new old (goes_on mid (inl step) sized r) =
+        run_keeps_number new mid r ∙ step_keeps_number old mid step
+    run_keeps_number new old (goes_on mid (inr (test, value, e)) sized r) =
+        run_keeps_number new mid r ∙ ap (λ st. most st.limiter) e
 
-  pub run_stays_short : (new old : State K V ℕ H)
-      → Run (StepOrWrite length_rules length_offers names hash_of) new old
-      → length old.pairs ≤ old.limiter → length new.pairs ≤ old.limiter
-  run_stays_short new old ends few = few
-  run_stays_short new old (goes_on mid (inr (test, value, e)) sized r) few =
-      let same = ap (λ st. st.limiter) e in
-      let as_many = ap (λ st. length st.pairs) e ∙ length-set_value test old.pairs value in
-      subst (λ most. length new.pairs ≤ most) same
-      (run_stays_short new mid r (omega (arith, same, as_many, few)))
-  run_stays_short new old (goes_on mid (inl s) sized r) few =
-      let same = (step_changes keeps_limiter old mid s).3.moves in
-      subst (λ most. length new.pairs ≤ most) same
-      (run_stays_short new mid r
-      (subst (λ most. length mid.pairs ≤ most) (sym same) (step_stays_short old mid s few)))
+    -- So what each call and each write keeps within this number, runs keep within it.
+    run_keeps : (P : ℕ → State K V S H → Type 0)
+        → ((old new : State K V S H) → Step rules offers names hash_of old new → P (most old.limiter) old
+        → P (most old.limiter) new)
+        → ((n : ℕ) (test : K → Bool) (value : V) (old : State K V S H) → P n old → P n (written test value old))
+        → (new old : State K V S H) → Run (StepOrWrite rules offers names hash_of) new old → P (most old.limiter) old
+        → P (most old.limiter) new
+    run_keeps P keeps writes new old ends h = h
+    run_keeps P keeps writes new old (goes_on mid (inl step) sized r) h =
+        let same = step_keeps_number old mid step in
+        subst (λ n. P n new) same (run_keeps P keeps writes new mid r
+        (subst (λ n. P n mid) (sym same) (keeps old mid step h)))
+    run_keeps P keeps writes new old (goes_on mid (inr (test, value, e)) sized r) h =
+        let same = ap (λ st. most st.limiter) e in
+        subst (λ n. P n new) same (run_keeps P keeps writes new mid r
+        (subst (λ n. P n mid) (sym same) (subst (P (most old.limiter)) (sym e) (writes _ test value old h))))
 
-  -- a limit by memory usage
-  pub step_uses_at_most : (old new : State K V ℕ H) → Step memory_rules all_offers names hash_of old new
-      → UsesAtMost old.limiter old → UsesAtMost old.limiter new
-  step_uses_at_most old new s = uses_at_most memory_rules _ _ _ old new
-      (λ bytes e. grind (arith, nat_tests)) (λ s p. p.1) (step_changes keeps_limiter old new s).3.tables
+  module _ (limits : LimitsLength rules offers most) where
+    pub step_stays_short : (old new : State K V S H) → Step rules offers names hash_of old new
+        → length old.pairs ≤ most old.limiter → length new.pairs ≤ most old.limiter
+    step_stays_short old new step = length_at_most rules most old new limits.within
+        (step_keeps_number limits.fixed old new step) (step_total (λ _. 1) step)
 
-  pub run_uses_at_most : (new old : State K V ℕ H)
-      → Run (StepOrWrite memory_rules all_offers names hash_of) new old
-      → UsesAtMost old.limiter old → UsesAtMost old.limiter new
-  run_uses_at_most new old ends uses = uses
-  run_uses_at_most new old (goes_on mid (inr (test, value, e)) sized r) uses =
-      let same = ap (λ st. st.limiter) e in
-      subst (λ most. UsesAtMost most new) same
-      (run_uses_at_most new mid r
-      (subst (λ most. UsesAtMost most mid) (sym same) (subst (UsesAtMost old.limiter) (sym e) uses)))
-  run_uses_at_most new old (goes_on mid (inl s) sized r) uses =
-      let same = (step_changes keeps_limiter old mid s).3.moves in
-      subst (λ most. UsesAtMost most new) same
-      (run_uses_at_most new mid r
-      (subst (λ most. UsesAtMost most mid) (sym same) (step_uses_at_most old mid s uses)))
+    pub run_stays_short : (new old : State K V S H) → Run (StepOrWrite rules offers names hash_of) new old
+        → length old.pairs ≤ most old.limiter → length new.pairs ≤ most old.limiter
+    run_stays_short = run_keeps limits.fixed (λ n st. length st.pairs ≤ n) step_stays_short
+        (λ n test value old few. omega (arith, few, length-set_value test old.pairs value))
+
+  module _ (limits : LimitsMemory rules offers most) where
+    pub step_uses_at_most : (old new : State K V S H) → Step rules offers names hash_of old new
+        → UsesAtMost (most old.limiter) old → UsesAtMost (most old.limiter) new
+    step_uses_at_most old new step = uses_at_most rules most _ _ _ old new limits.within (λ s p. p.1)
+        (step_changes (keeps_number limits.fixed) old new step).3.tables
+
+    pub run_uses_at_most : (new old : State K V S H) → Run (StepOrWrite rules offers names hash_of) new old
+        → UsesAtMost (most old.limiter) old → UsesAtMost (most old.limiter) new
+    run_uses_at_most = run_keeps limits.fixed (λ n st. UsesAtMost n st) step_uses_at_most
+        (λ n test value old uses. uses)

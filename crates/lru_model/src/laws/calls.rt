@@ -3,15 +3,14 @@
 
 ghost use Rattle.std.specs.Prelude.{◌≡◌, ℕ, ◌+◌, ◌≤◌, ◌⊎◌, Bool, true, length, Ok};
 ghost use Rattle.std.specs.List.{IsDistinct};
+ghost use Rattle.lru_limits.specs.Limits.{LimitsLength, LimitsMemory};
 ghost use Rattle.lru_model.specs.Lists.{keys_of, IsFront};
 ghost use Rattle.lru_model.specs.State.{State, IsSized, IsMap};
 ghost use Rattle.lru_model.specs.Runs.{Step, AnyStep, StepAmong};
 ghost use Rattle.lru_model.specs.Shrinks.{Shrink};
 ghost use Rattle.lru_model.specs.Theorems.{PaysByStoring, PaysForMoves, UsesAtMost, IsSummed, others};
 
-use lru_limits::{
-    Budgeted, ByLength, ByMemoryUsage, Insertion, KeyHasher, Limiter, LookupKey, Summing,
-};
+use lru_limits::{Budgeted, Insertion, KeyHasher, LookupKey, Summing};
 use std::hash::Hash;
 
 /// After each call no two keys are equal (`keys`). If the table is sound after the call, as clause `map` of each call
@@ -52,26 +51,26 @@ pub fn calls_pay_for_moves<
         IsSized old → PaysByStoring old new ⊎ Shrink old (Ok true) new }
 {}
 
-/// With `ByLength` each call leaves the limiter as it is, and at most `max_length` entries, if there were no more
-/// before.
-pub fn calls_keep_the_length<K: Eq + Hash + Drop, V: Drop, S: KeyHasher<K>>()
-    ensures limiter { (old new : State K V ByLength S) →
-        Step ⟦<ByLength as Limiter<K, V>>⟧.rules ⟦<ByLength as Insertion<K, V, K>>⟧.offers K.eq S.hash_of old new →
-        new.limiter ≡ old.limiter }
-    ensures length { (old new : State K V ByLength S) →
-        Step ⟦<ByLength as Limiter<K, V>>⟧.rules ⟦<ByLength as Insertion<K, V, K>>⟧.offers K.eq S.hash_of old new →
-        length old.pairs ≤ old.limiter → length new.pairs ≤ old.limiter }
+/// With a limiter that limits the length to `most` entries (`LimitsLength`), as `ByLength` does, each call leaves that
+/// limit as it is, and at most `most` entries, if there were no more before. `length-limits`, `storing-length` and
+/// `both-first_length` of `lru_limits` say which limiters do.
+pub fn calls_keep_the_length<K: Eq + Hash, V, L: Insertion<K, V, K>, S: KeyHasher<K>>()
+    ensures limit { (most : L → ℕ) → LimitsLength L.rules L.offers most → (old new : State K V L S) →
+        Step L.rules L.offers K.eq S.hash_of old new → most new.limiter ≡ most old.limiter }
+    ensures length { (most : L → ℕ) → LimitsLength L.rules L.offers most → (old new : State K V L S) →
+        Step L.rules L.offers K.eq S.hash_of old new →
+        length old.pairs ≤ most old.limiter → length new.pairs ≤ most old.limiter }
 {}
 
-/// With `ByMemoryUsage` each call leaves the limiter as it is, and a table of at most `max_memory_usage` bytes, if it
-/// had no more before.
-pub fn calls_keep_the_memory_usage<K: Eq + Hash + Drop, V: Drop, S: KeyHasher<K>>()
-    ensures limiter { (old new : State K V ByMemoryUsage S) →
-        Step ⟦<ByMemoryUsage as Limiter<K, V>>⟧.rules ⟦<ByMemoryUsage as Insertion<K, V, K>>⟧.offers K.eq
-        S.hash_of old new → new.limiter ≡ old.limiter }
-    ensures usage { (old new : State K V ByMemoryUsage S) →
-        Step ⟦<ByMemoryUsage as Limiter<K, V>>⟧.rules ⟦<ByMemoryUsage as Insertion<K, V, K>>⟧.offers K.eq
-        S.hash_of old new → UsesAtMost old.limiter old → UsesAtMost old.limiter new }
+/// With a limiter that permits tables of at most `most` bytes (`LimitsMemory`), as `ByMemoryUsage` does, alone, in
+/// `Storing` or in `Both`, each call leaves that limit as it is, and a table of at most `most` bytes, if it had no more
+/// before.
+pub fn calls_keep_the_memory_usage<K: Eq + Hash, V, L: Insertion<K, V, K>, S: KeyHasher<K>>()
+    ensures limit { (most : L → ℕ) → LimitsMemory L.rules L.offers most → (old new : State K V L S) →
+        Step L.rules L.offers K.eq S.hash_of old new → most new.limiter ≡ most old.limiter }
+    ensures usage { (most : L → ℕ) → LimitsMemory L.rules L.offers most → (old new : State K V L S) →
+        Step L.rules L.offers K.eq S.hash_of old new →
+        UsesAtMost (most old.limiter) old → UsesAtMost (most old.limiter) new }
 {}
 
 /// With any limiter that has a budget, as `ByCost` and `ByWeight` have, each call leaves the budget as it is, and a

@@ -1,15 +1,14 @@
 //! What is proved of runs, which are calls one after another. Each law is the law of one call (`calls`), by induction.
 
 ghost use Rattle.std.specs.Prelude.{◌≡◌, ℕ, ◌≤◌, Bool, length};
+ghost use Rattle.lru_limits.specs.Limits.{LimitsLength, LimitsMemory};
 ghost use Rattle.lru_model.specs.Lists.{IsFront};
 ghost use Rattle.lru_model.specs.State.{State, IsSized, IsMap, empty_map};
 ghost use Rattle.lru_model.specs.Runs.{StepOrWrite, StepOrKeptWrite, AnyStep, StepAmong, Run};
 ghost use Rattle.lru_model.specs.RunEvictions.{EachStep, InsertEvictsOldest};
 ghost use Rattle.lru_model.specs.Theorems.{PaysForMoves, UsesAtMost, IsSummed, others};
 
-use lru_limits::{
-    Budgeted, ByLength, ByMemoryUsage, Insertion, KeyHasher, Limiter, LookupKey, Summing,
-};
+use lru_limits::{Budgeted, Insertion, KeyHasher, Limiter, LookupKey, Summing};
 use std::hash::Hash;
 
 /// After any calls, whatever is written through the references that they lend, no two keys are equal, and inserts moved
@@ -72,28 +71,24 @@ pub fn each_insert_of_a_run_evicts_the_oldest<
         EachStep (InsertEvictsOldest L.rules L.offers I.names S.hash_of) run }
 {}
 
-/// With `ByLength` there are at most `max_length` entries after any calls and writes of values, if there were no more
-/// before. The limiter stays as it is.
-pub fn runs_keep_the_length<K: Eq + Hash + Drop, V: Drop, S: KeyHasher<K>>()
-    ensures length { (old new : State K V ByLength S) →
-        Run (StepOrWrite ⟦<ByLength as Limiter<K, V>>⟧.rules ⟦<ByLength as Insertion<K, V, K>>⟧.offers K.eq
-        S.hash_of) new old →
-        length old.pairs ≤ old.limiter → length new.pairs ≤ old.limiter }
-    ensures limiter { (old new : State K V ByLength S) →
-        Run (StepOrWrite ⟦<ByLength as Limiter<K, V>>⟧.rules ⟦<ByLength as Insertion<K, V, K>>⟧.offers K.eq
-        S.hash_of) new old → new.limiter ≡ old.limiter }
+/// With a limiter that limits the length to `most` entries, as `calls_keep_the_length` demands, there are at most `most`
+/// entries after any calls and writes of values, if there were no more before. The limit stays as it is.
+pub fn runs_keep_the_length<K: Eq + Hash, V, L: Insertion<K, V, K>, S: KeyHasher<K>>()
+    ensures limit { (most : L → ℕ) → LimitsLength L.rules L.offers most → (old new : State K V L S) →
+        Run (StepOrWrite L.rules L.offers K.eq S.hash_of) new old → most new.limiter ≡ most old.limiter }
+    ensures length { (most : L → ℕ) → LimitsLength L.rules L.offers most → (old new : State K V L S) →
+        Run (StepOrWrite L.rules L.offers K.eq S.hash_of) new old →
+        length old.pairs ≤ most old.limiter → length new.pairs ≤ most old.limiter }
 {}
 
-/// With `ByMemoryUsage` the table uses at most `max_memory_usage` bytes after any calls and writes of values, if it
-/// used no more before. The limiter stays as it is.
-pub fn runs_keep_the_memory_usage<K: Eq + Hash + Drop, V: Drop, S: KeyHasher<K>>()
-    ensures usage { (old new : State K V ByMemoryUsage S) →
-        Run (StepOrWrite ⟦<ByMemoryUsage as Limiter<K, V>>⟧.rules ⟦<ByMemoryUsage as Insertion<K, V, K>>⟧.offers K.eq
-        S.hash_of) new old →
-        UsesAtMost old.limiter old → UsesAtMost old.limiter new }
-    ensures limiter { (old new : State K V ByMemoryUsage S) →
-        Run (StepOrWrite ⟦<ByMemoryUsage as Limiter<K, V>>⟧.rules ⟦<ByMemoryUsage as Insertion<K, V, K>>⟧.offers K.eq
-        S.hash_of) new old → new.limiter ≡ old.limiter }
+/// With a limiter that permits tables of at most `most` bytes, as `calls_keep_the_memory_usage` demands, the table uses
+/// at most `most` bytes after any calls and writes of values, if it used no more before. The limit stays as it is.
+pub fn runs_keep_the_memory_usage<K: Eq + Hash, V, L: Insertion<K, V, K>, S: KeyHasher<K>>()
+    ensures limit { (most : L → ℕ) → LimitsMemory L.rules L.offers most → (old new : State K V L S) →
+        Run (StepOrWrite L.rules L.offers K.eq S.hash_of) new old → most new.limiter ≡ most old.limiter }
+    ensures usage { (most : L → ℕ) → LimitsMemory L.rules L.offers most → (old new : State K V L S) →
+        Run (StepOrWrite L.rules L.offers K.eq S.hash_of) new old →
+        UsesAtMost (most old.limiter) old → UsesAtMost (most old.limiter) new }
 {}
 
 /// With any limiter that has a budget the running total is at most the budget after any calls, and any writes of values

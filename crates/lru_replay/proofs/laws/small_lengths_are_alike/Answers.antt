@@ -1,4 +1,5 @@
 use Rattle.std.proofs.Common.{nat_lt}
+use Rattle.lru_limits.specs.Limits.{length-limits}
 use Rattle.lru_model.proofs.CallerLemmas.{offers_if-determined, offers_if-finds}
 use Rattle.lru_replay.proofs.SmallGrowth.{small_of, small_alike}
 use Rattle.lru_replay.proofs.SmallLengths.{other_short, run_stays_short}
@@ -14,8 +15,8 @@ returns g c = record {
       c.small_calls_are_alike.ensures.alike old other new last calls replies answers
       (offers_if-determined (λ most _ _. nat_lt 0 most))
       (offers_if-finds (λ most _ _. nat_lt 0 most)) alike buckets plain
-      (run_stays_short eq _ law.length law.limiter old calls replies new run none reserves few within small)
-      (run_stays_short eq _ law.length law.limiter other calls answers last ran none reserves also.0 also.1
+      (run_stays_short eq _ (law.length (λ most. most) length-limits) (law.limit (λ most. most) length-limits) old calls replies new run none reserves few within small)
+      (run_stays_short eq _ (law.length (λ most. most) length-limits) (law.limit (λ most. most) length-limits) other calls answers last ran none reserves also.0 also.1
       (small_alike old other alike small))
       wants;
 }

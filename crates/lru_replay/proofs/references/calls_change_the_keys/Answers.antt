@@ -1,3 +1,4 @@
+use Rattle.lru_limits.specs.Limits.{length-limits}
 use Rattle.lru_replay.proofs.KeySteps.{promotes_does, removes_does, clears_does, reserves_does, shrinks_does}
 use Rattle.lru_replay.proofs.KeySteps.{writes_does, looks_does}
 use Rattle.lru_replay.proofs.ReferenceSteps.{Known}
@@ -10,7 +11,7 @@ returns g c =
       newest = c.inserts_leave_the_newest.ensures.newest;
       goes_on = c.maps_keep_to_their_length.ensures.goes_on;
       written = c.maps_keep_to_their_length.ensures.written;
-      limiter = c.calls_keep_the_length.ensures.limiter;
+      limiter = c.calls_keep_the_length.ensures.limit (λ most. most) length-limits;
     } in
     record {
       promotes = λ names key old new same sized e. promotes_does laws known names key old new same sized e;

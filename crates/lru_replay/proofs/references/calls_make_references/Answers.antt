@@ -1,5 +1,6 @@
 use Rattle.std.proofs.Common.{subst}
 use Rattle.lru_model.proofs.CallerLemmas.{read_back}
+use Rattle.lru_limits.specs.Limits.{length-limits}
 use Rattle.lru_replay.specs.References.{Reference}
 use Rattle.lru_replay.proofs.ReferenceSteps.{Known, insert_refers, tries_refers}
 use Rattle.lru_replay.proofs.ReferenceSteps.{got_refers, equal_refers}
@@ -12,7 +13,7 @@ returns g c =
       newest = c.inserts_leave_the_newest.ensures.newest;
       goes_on = c.maps_keep_to_their_length.ensures.goes_on;
       written = c.maps_keep_to_their_length.ensures.written;
-      limiter = c.calls_keep_the_length.ensures.limiter;
+      limiter = c.calls_keep_the_length.ensures.limit (λ most. most) length-limits;
     } in
     record {
       inserts = λ key value kept old new keeps sized h. insert_refers laws known key value old kept new keeps sized h;

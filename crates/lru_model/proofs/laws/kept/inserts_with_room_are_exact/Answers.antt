@@ -8,7 +8,7 @@ returns-clause-list g c = λ key value old result new some step.
 
 pub returns-clause-added : goal.returns-clause-added
 returns-clause-added g c = λ key value pair old result new some absent accepts step.
-    is_added g.L.Limiter.rules g.L.Insertion.offers g.I.LookupKey.names key value pair old result new accepts absent
+    is_added g.L.Limiter.rules g.L.Insertion.offers g.I.LookupKey.names key value pair old result new _ accepts absent
     some step
 
 pub returns-clause-passed : goal.returns-clause-passed
