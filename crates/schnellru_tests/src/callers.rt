@@ -1,12 +1,15 @@
 //! Callers of a map whose own contracts rest on those of its calls: the code of docs/CALLING.md.
 ghost use Rattle.std.specs.Prelude.{◌≡◌, ◌≤◌, ◌<◌, ◌⊎◌, ℕ, ◌+◌, ◌*◌, ◌/◌, ◌∷◌, ◌++◌, List, length, reverse, take, nat_eq};
 ghost use Rattle.std.specs.Prelude.{Some, None, Ok, IfOk, IsOk, OnOk, OnErr, true, is_some, sum_by, string_len};
-ghost use Rattle.std.specs.List.{All};
+ghost use Rattle.std.specs.List.{All, IsDistinct};
 ghost use Rattle.std.specs.String.{string_eq};
+ghost use Rattle.group_table.specs.Bucket.{deleted};
 ghost use Rattle.group_table.specs.Sizes.{full_capacity};
 ghost use Rattle.lru_limits.specs.Texts.{names_text};
-ghost use Rattle.lru_model.specs.Lists.{lookup, lookup_entry, without, IsFront};
-ghost use Rattle.lru_model.specs.State.{buckets, contents, room};
+ghost use Rattle.lru_model.specs.Lists.{keys_of, lookup, lookup_entry, without, IsFront};
+ghost use Rattle.lru_model.specs.Place.{HasPairsButNoGrowth};
+ghost use Rattle.lru_model.specs.Sizes.{usage, max_of_32_bits};
+ghost use Rattle.lru_model.specs.State.{buckets, contents, count_up, room, FirstFreeIs};
 ghost use Rattle.lru_model.specs.Calls.{promoted};
 ghost use Rattle.lru_model.specs.Callbacks.{CalledWith};
 ghost use Rattle.lru_model.specs.Exact.{EndsAsAsked, EndsExactly, WasRefused};
@@ -16,7 +19,7 @@ ghost use Rattle.lru_model.specs.RunEvictions.{EachStep, InsertEvictsOldest};
 ghost use Rattle.lru_model.specs.Theorems.{KeepsValues, PaysForMoves, UsesAtMost, others};
 
 use schnellru::{
-    ByCost, ByLength, ByMemoryUsage, Insertion, KeyHasher, Limiter, LruMap, MoveReport,
+    Both, ByCost, ByLength, ByMemoryUsage, Insertion, KeyHasher, Limiter, LruMap, MoveReport,
     RandomState, ReserveError, UnlimitedCompact, laws,
 };
 use std::alloc::{AllocError, Global};
@@ -143,16 +146,19 @@ fn put_within(map: &mut LruMap<String, u64>, key: String, value: u64) -> Result<
     map.insert(key, value)
 }
 
-/// Puts a pair into a map whose table is within its limit by bytes, and leaves it so.
-fn put_within_bytes(
-    map: &mut LruMap<String, u64, ByMemoryUsage>,
+/// The same under two limits, by length and by the bytes of the table.
+fn put_within_both(
+    map: &mut LruMap<String, u64, Both<ByLength, ByMemoryUsage>>,
     key: String,
     value: u64,
 ) -> Result<bool, AllocError>
-    requires { UsesAtMost map.old.limiter map.old }
-    ensures { UsesAtMost map.new.limiter map.new }
+    requires length { length map.old.pairs ≤ map.old.limiter.0 }
+    requires usage { UsesAtMost map.old.limiter.1 map.old }
+    ensures length { length map.new.pairs ≤ map.new.limiter.0 }
+    ensures usage { UsesAtMost map.new.limiter.1 map.new }
 {
-    laws::calls_keep_the_memory_usage::<String, u64, ByMemoryUsage, RandomState>();
+    laws::calls_keep_the_length::<String, u64, Both<ByLength, ByMemoryUsage>, RandomState>();
+    laws::calls_keep_the_memory_usage::<String, u64, Both<ByLength, ByMemoryUsage>, RandomState>();
     map.insert(key, value)
 }
 
@@ -175,8 +181,8 @@ fn exchange(
     map.insert(new, text)
 }
 
-/// Inserts a pair, pops it, and inserts another one. Each of the inserts evicts only from the old end, and all of them
-/// pay for the entries that they move.
+/// Inserts a pair, pops it, and inserts another one. Each of the inserts evicts only from the old end, all of them pay
+/// for the entries that they move, and no two keys are equal then.
 fn put_two(
     map: &mut LruMap<String, u64>,
     first: String,
@@ -189,7 +195,9 @@ fn put_two(
         ⟦<ByLength as Insertion<String, u64, String>>⟧.offers string_eq ⟦<RandomState as KeyHasher<String>>⟧.hash_of)
         run) }
     ensures paid { OnOk result (PaysForMoves map.old map.new) }
+    ensures keys { OnOk result (IsDistinct string_eq (keys_of map.new.pairs)) }
 {
+    laws::runs_keep_maps::<String, u64, String, ByLength, RandomState>();
     laws::each_insert_of_a_run_evicts_the_oldest::<String, u64, String, ByLength, RandomState>();
     laws::runs_pay_for_moves::<String, u64, String, ByLength, RandomState>();
     // Nothing at run time: it shows the proof that the table is sound.
@@ -246,6 +254,25 @@ fn put_exactly<K: Eq + Hash + Drop, V: Drop, L: Insertion<K, V, K>, S: KeyHasher
     map.insert(key, value)
 }
 
+/// Puts a pair of a new key into a full table, in which a search for the key first meets a bucket whose entry was
+/// removed. The entry fills that bucket, and all the others stay.
+fn put_into_deleted(
+    map: &mut LruMap<String, u64>,
+    key: String,
+    value: u64,
+) -> Result<bool, AllocError>
+    requires absent { lookup_entry (string_eq key) map.old.pairs ≡ None }
+    requires within { length map.old.pairs < map.old.limiter }
+    requires full { HasPairsButNoGrowth map.old }
+    requires first { FirstFreeIs deleted (⟦<RandomState as KeyHasher<String>>⟧.hash_of map.old.hasher key)
+        map.old.table.marks }
+    ensures added { (result ≡ Ok true) × (map.new.pairs ≡ (key, value) ∷ map.old.pairs) }
+    ensures table { buckets map.new ≡ buckets map.old }
+{
+    laws::deleted_buckets_serve::<String, u64, String, ByLength, RandomState>();
+    map.insert(key, value)
+}
+
 /// Removes a key, which is not there then.
 fn forget(map: &mut LruMap<String, u64>, key: &str) -> Option<u64>
     ensures { lookup_entry (names_text key.now) map.new.pairs ≡ None }
@@ -256,10 +283,14 @@ fn forget(map: &mut LruMap<String, u64>, key: &str) -> Option<u64>
     map.remove(&key)
 }
 
-/// Shrinks the table. A table of at most n bytes has at most n bytes then, whatever the result is.
+/// Shrinks the table. A table of at most n bytes has at most n bytes then, whatever the result is. If the result is
+/// true, all entries are counted as rehashed.
 fn shrink_within(map: &mut LruMap<String, u64>) -> Result<bool, AllocError>
-    ensures { (n : ℕ) → UsesAtMost n map.old → UsesAtMost n map.new }
+    ensures usage { (n : ℕ) → UsesAtMost n map.old → UsesAtMost n map.new }
+    ensures counted { result ≡ Ok true →
+        map.new.counts.shrunk ≡ count_up map.old.counts.shrunk (length map.old.pairs) }
 {
+    laws::shrinks_pay_for_moves::<String, u64, ByLength, RandomState>();
     laws::shrinks_leave_a_tight_table::<String, u64, ByLength, RandomState>();
     map.shrink_to_fit()
 }
@@ -279,6 +310,19 @@ fn resize(map: &mut LruMap<String, u64>, n: usize) -> bool
         Ok(()) => true,
         Err(_) => false,
     }
+}
+
+/// Returns the greatest usage within the bytes that the table uses, which is that number of bytes.
+fn usage_again(map: &LruMap<String, u64>, entry_bytes: usize) -> usize
+    requires links { map.now.max ≡ max_of_32_bits }
+    requires entry { map.now.entry_bytes ≡ entry_bytes }
+    ensures { usage map.now.entry_bytes (buckets map.now) ≡ Some result }
+{
+    laws::usages_are_their_budgets::<String, u64, ByLength, RandomState>();
+    // Nothing at run time: it shows the proof that the table is sound.
+    let _len = map.len();
+    let bytes = map.memory_usage();
+    LruMap::<String, u64>::memory_usage_for_memory_budget(bytes, entry_bytes)
 }
 
 /// Inserts an entry, and passes what leaves to the callback. If the insert returns true, nothing is lost: the entries

@@ -11,5 +11,6 @@ returns c =
     (goes_on new (calls (inserts c.args.second c.args.value c.insert-2.result c.insert-2.ensures.step))
     c.insert-2.ensures.map.sized ends)) in record {
       oldest = (run, c.each_insert_of_a_run_evicts_the_oldest.ensures old new run);
+      keys = (c.runs_keep_maps.ensures.map old new run c.len-len.ensures.map).distinct;
       paid = c.runs_pay_for_moves.ensures.rise old new run c.len-len.ensures.map.sized;
     }

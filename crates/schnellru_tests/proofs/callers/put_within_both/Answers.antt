@@ -1,0 +1,23 @@
+use Rattle.std.proofs.Common.{◌≤◌, length, nat_lt, true, sym, subst}
+use Rattle.lru_limits.specs.Admissions.{never_changes, offers_if-terms}
+use Rattle.lru_limits.specs.Limits.{length-limits, memory-limits, both-first_length, both-second_memory}
+use Rattle.lru_model.specs.Runs.Step.{inserts}
+use Rattle.lru_model.specs.Theorems.{UsesAtMost}
+use Rattle.schnellru_tests.proofs.callers.put_within_both.Goals as goal
+
+pub returns : goal.returns
+returns c =
+    let old = c.args.map.now in let new = c.insert.new.self in
+    let step = inserts c.args.key c.args.value c.insert.result c.insert.ensures.step in
+    let short = both-first_length _ _ _ (never_changes (λ _ _ _. true)) (offers_if-terms (λ most _ _. nat_lt 0 most))
+    length-limits in
+    let small = both-second_memory _ _ (never_changes (λ most _ _. nat_lt 0 most)) _ (offers_if-terms (λ _ _ _. true))
+    memory-limits in
+    let length_law = c.calls_keep_the_length.ensures in
+    let usage_law = c.calls_keep_the_memory_usage.ensures in
+    record {
+      length = subst (λ most. length new.pairs ≤ most) (sym (length_law.limit _ short old new step))
+          (length_law.length _ short old new step c.requires.length);
+      usage = subst (λ most. UsesAtMost most new) (sym (usage_law.limit _ small old new step))
+          (usage_law.usage _ small old new step c.requires.usage);
+    }
