@@ -1,30 +1,26 @@
 #!/usr/bin/env bash
-# Proves and builds crates/lru_c, and runs the tests of the C header. It prints one line.
+# Runs the tests of the C header with a library: test.sh LIBLRU. It prints one line.
 #
-# It needs rt and a compiler of C. With clang, 10,000,000 random calls on each kind of map are compared with a plain list
+# It needs a compiler of C. With clang, 10,000,000 random calls on each kind of map are compared with a plain list
 # under the address sanitizer; with valgrind, 160,000. What is missing is named in the line.
 set -euo pipefail
+library=$(realpath "$1")
 cd "$(dirname "$0")"
 out=$(mktemp -d)
 trap 'rm -rf "$out"' EXIT
-kit=$(dirname "$(dirname "$(readlink -f "$(command -v rt)")")")
 quiet() { "$@" >"$out/log" 2>&1 || { cat "$out/log"; echo "failed: $*"; exit 1; }; }
 has() { command -v "$1" >/dev/null; }
 
-build() { (cd ../crates/lru_c && rt lib); }
-quiet build
-cp ../crates/lru_c/out/liblru_c.a "$kit/c/liblibc_c.a" "$out"
-libraries=("$out/liblru_c.a" "$out/liblibc_c.a")
 flags=(-O2 -g -Wall -Wextra -Wpedantic -Werror)
 wrapped=-Wl,--wrap=malloc
 done=() missing=()
 
 for compiler in gcc clang; do
     has "$compiler" || { missing+=("$compiler"); continue; }
-    quiet "$compiler" -std=c11 "${flags[@]}" c/example.c "${libraries[@]}" -o "$out/example"
+    quiet "$compiler" -std=c11 "${flags[@]}" c/example.c "$library" -o "$out/example"
     quiet "$out/example"
     for name in random_calls random_bytes; do
-        quiet "$compiler" -std=c11 "${flags[@]}" "c/$name.c" "${libraries[@]}" "$wrapped" -o "$out/$name"
+        quiet "$compiler" -std=c11 "${flags[@]}" "c/$name.c" "$library" "$wrapped" -o "$out/$name"
         quiet "$out/$name" 100000
     done
     done+=("$compiler")
@@ -36,7 +32,7 @@ for compiler in g++ clang++; do
 done
 if has clang; then
     for name in random_calls random_bytes; do
-        quiet clang -std=c11 "${flags[@]}" -fsanitize=address,undefined "c/$name.c" "${libraries[@]}" "$wrapped" \
+        quiet clang -std=c11 "${flags[@]}" -fsanitize=address,undefined "c/$name.c" "$library" "$wrapped" \
             -o "$out/sanitized"
         quiet "$out/sanitized" 625000
     done

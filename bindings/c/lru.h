@@ -1,13 +1,13 @@
 /* Maps that remember the order of use and evict the least recently used entries: `struct lru`, from numbers to numbers
  * under a maximum length, and `struct lru_bytes`, from byte strings to byte strings under a budget of bytes.
  *
- * Link liblru_c.a and after it liblibc_c.a, the kit's C runtime, through which the map calls malloc, realloc and
- * free. docs/FROM_C.md shows how.
+ * Link it by -llru after `make -C bindings install`, which docs/FROM_C.md shows. The map calls malloc, realloc and free.
  *
  * What is proved. Each function meets its contract in crates/lru_c/src/exports.rt or crates/lru_c/src/bytes/exports.rt,
  * for every input: it is safe, it ends, and it does to the map what the comment here says, unless the comment says
- * "tested". A map is a list of entries with distinct keys, the most recently used first. That it keeps to its maximum
- * length or its budget over many calls follows from laws of the map in crates/lru_model; no contract of a handle says
+ * "tested". A map is a list of entries with distinct keys, the most recently used first. The map of a `struct lru` never
+ * has more entries than its maximum length: this is an invariant of the handle. That the map of a `struct lru_bytes`
+ * keeps to its budget over many calls follows from laws of the map in crates/lru_model; no contract of this handle says
  * it. Nothing is proved of what C and its compiler do.
  *
  * What the caller must guarantee, since nothing checks it:
@@ -138,7 +138,7 @@ struct lru_pair lru_peek_newest(struct lru *lru);
  * how many it copied. The other places of `entries` and the map stay as they are. */
 size_t lru_copy_newest(struct lru *lru, struct lru_entry *entries, size_t count);
 
-/* Returns the number of entries. */
+/* Returns the number of entries, which is at most the maximum length. */
 size_t lru_len(struct lru *lru);
 
 /* Returns the maximum length. */

@@ -2,3 +2,4 @@ pub mod Addresses
 pub mod ByteCopies
 pub mod FilledSlots
 pub mod NotedPairs
+pub mod Within

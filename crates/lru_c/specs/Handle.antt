@@ -1,5 +1,5 @@
 -- What a handle owns.
-use Rattle.std.specs.Prelude.{ℕ, Option, None, Some}
+use Rattle.std.specs.Prelude.{◌≤◌, ℕ, length, Option, None, Some}
 use Rattle.std.specs.Borrow.{Fml, RattleType, u32, u64}
 use Rattle.std.specs.Box.Ownership.{box_owns}
 use Rattle.std.specs.declared.alloc.Global.{Global}
@@ -24,6 +24,10 @@ use Rattle.schnellru.specs.contracts.map.LruMap as lru_map
 -- a map of numbers under a maximum length, as contracts see it
 abbrev pub Map : Type 0
 Map = State ℕ ℕ ℕ Mixer
+
+-- it has at most as many entries as its maximum length
+abbrev pub IsWithinLength : Map → Type 0
+IsWithinLength map = length map.pairs ≤ map.limiter
 
 -- the hash of a key
 abbrev pub hash_of : Mixer → ℕ → ℕ

@@ -2,7 +2,7 @@
 //!
 //! On a handle without a map, `lru_new` makes a map, and `lru_clone` drops the map of the copy. Every other call
 //! changes nothing, and returns that there is nothing.
-ghost use Rattle.std.specs.Prelude.{◌≡◌, ◌+◌, ℕ, nat_eq, length, is_some, is_ok, Option, Some, None};
+ghost use Rattle.std.specs.Prelude.{◌≡◌, ◌≤◌, ◌+◌, ℕ, nat_eq, length, is_some, is_ok, Option, Some, None};
 ghost use Rattle.std.specs.Prelude.{Result, Bool, true, false, ⊤};
 ghost use Rattle.std.specs.declared.alloc.AllocError.{AllocError};
 ghost use Rattle.lru_limits.specs.Limiters.{length_rules, length_offers};
@@ -251,10 +251,11 @@ pub extern "C" fn lru_copy_newest(alloc: Global, lru: &mut Lru, entries: &mut [E
     }
 }
 
-/// Returns the number of entries.
+/// Returns the number of entries, which is at most the maximum length.
 #[unsafe(no_mangle)]
 pub extern "C" fn lru_len(alloc: Global, lru: &mut Lru) -> usize
-    ensures { OnMap (result ≡ 0) (λ old new. (result ≡ length old.pairs) × (new ≡ old)) lru.old.map lru.new.map }
+    ensures { OnMap (result ≡ 0) (λ old new. (result ≡ length old.pairs) × (result ≤ old.limiter) × (new ≡ old))
+        lru.old.map lru.new.map }
 {
     match lru.take(alloc) {
         Some(map) => {

@@ -1,6 +1,6 @@
 //! What C keeps of a map.
-ghost use Rattle.std.specs.Prelude.{◌≡◌, None, Some, option_map};
-ghost use Rattle.lru_c.specs.Handle.{map_row, maybe_row, owns_boxed};
+ghost use Rattle.std.specs.Prelude.{◌≡◌, None, Some, IfSome, option_map};
+ghost use Rattle.lru_c.specs.Handle.{map_row, maybe_row, owns_boxed, IsWithinLength};
 
 use crate::raw_box::RawBox;
 use schnellru::LruMap;
@@ -12,41 +12,38 @@ use std::ptr::null_mut;
 /// The map of a handle.
 pub type Map = LruMap<u64, u64>;
 
-/// A handle: a map on the heap, or none. C sees an address, which is null if there is no map.
-///
-/// Nothing drops a handle, since its map cannot be freed without an allocator. Each call takes the map out and puts it
-/// back.
+// A map on the heap, or none: an address, which is null if there is no map.
 #[repr(C)]
-pub struct Lru {
+pub(crate) struct Slot {
     start: *mut u8,
     pub ghost map: { maybe_row.Denot } by { maybe_row.coded },
 }
 
-impl Model for Lru {
+impl Model for Slot {
     ghost also_owns = { λ lru. owns_boxed map_row lru.start lru.map };
 }
 
-impl Lru {
+impl Slot {
     // Returns a handle without a map.
-    fn vacant() -> Lru
+    fn vacant() -> Slot
         ensures { result.map ≡ None }
     {
-        Lru { start: null_mut() }
+        Slot { start: null_mut() }
     }
 
     // Forgets a handle without a map.
     fn forget(self)
         requires { self.map ≡ None }
     {
-        let Lru { start: _ } = self;
+        let Slot { start: _ } = self;
     }
 
     // Returns a handle of the map.
-    fn from_raw(map: RawBox<Map, Global>) -> Lru
+    fn from_raw(map: RawBox<Map, Global>) -> Slot
         ensures { result.map ≡ Some map.value }
     {
         let RawBox { start, mark: _ } = map;
-        Lru {
+        Slot {
             start: start as *mut u8,
         }
     }
@@ -55,7 +52,7 @@ impl Lru {
     fn into_raw(self) -> Option<RawBox<Map, Global>>
         ensures { option_map (λ map. map.value) result ≡ self.map }
     {
-        let Lru { start } = self;
+        let Slot { start } = self;
         if start.is_null() {
             None
         } else {
@@ -66,24 +63,70 @@ impl Lru {
         }
     }
 
-    /// Takes the map out of the handle.
+    // Takes the map out of the handle.
     #[inline]
-    pub fn take(&mut self, alloc: Global) -> Option<Box<Map>>
+    fn take(&mut self, alloc: Global) -> Option<Box<Map>>
         ensures map { option_map (λ map. map.value) result ≡ self.old.map }
         ensures none { self.new.map ≡ None }
     {
-        match replace(self, Lru::vacant()).into_raw() {
+        match replace(self, Slot::vacant()).into_raw() {
             Some(map) => Some(map.into_box(alloc)),
             None => None,
         }
     }
 
-    /// Puts a map into a handle that has none.
+    // Puts a map into a handle that has none.
     #[inline]
-    pub fn put(&mut self, map: Box<Map>)
+    fn put(&mut self, map: Box<Map>)
         requires { self.old.map ≡ None }
         ensures { self.new.map ≡ Some map.value }
     {
-        replace(self, Lru::from_raw(RawBox::from_box(map))).forget();
+        replace(self, Slot::from_raw(RawBox::from_box(map))).forget();
+    }
+}
+
+/// A handle: a map on the heap, or none. The map has at most as many entries as its maximum length. A contract sees the
+/// map; C sees an address, which is null if there is no map.
+///
+/// Nothing drops a handle, since its map cannot be freed without an allocator. Each call takes the map out and puts it
+/// back.
+#[repr(C)]
+pub struct Lru {
+    pub(crate) slot: Slot,
+}
+
+impl Model for Lru {
+    ghost use Rattle.std.specs.Prelude.{IfSome};
+    ghost use Rattle.lru_c.specs.Handle.{IsWithinLength};
+    ghost use Rattle.lru_c.specs.declared.handle.Slot.{Slot};
+
+    ghost Value = { Slot };
+
+    ghost view = { λ lru. lru.slot };
+
+    ghost inverse = { λ slot. record { slot = slot } };
+
+    ghost invariant = { λ lru. IfSome lru.slot.map IsWithinLength };
+}
+
+impl Lru {
+    /// Takes the map out of the handle.
+    #[inline]
+    pub fn take(&mut self, alloc: Global) -> Option<Box<Map>>
+        ensures map { option_map (λ map. map.value) result ≡ self.old.map }
+        ensures within { IfSome result (λ map. IsWithinLength map.value) }
+        ensures none { self.new.map ≡ None }
+    {
+        self.slot.take(alloc)
+    }
+
+    /// Puts a map into a handle that has none.
+    #[inline]
+    pub fn put(&mut self, map: Box<Map>)
+        requires none { self.old.map ≡ None }
+        requires within { IsWithinLength map.value }
+        ensures { self.new.map ≡ Some map.value }
+    {
+        self.slot.put(map)
     }
 }

@@ -34,6 +34,8 @@
 --     nothing_written      a run of calls is one of calls and writes
 --     no_cost_written      and one of calls and writes that keep the cost
 --     kept_written         a run of calls and writes that keep the cost is one of calls and writes
+--     step_keeps_number    no call changes a number that no callback of the limiter changes
+--     step_stays_short     a call leaves at most as many pairs as a limit by length, if there were no more before
 --     any_step_same        no call changes what builds the hashers, how far links reach, and what a bucket takes
 --     lookup-entry, no_pair      a look-up returns the value of the pair that is found, and none if no pair is
 --     without_none         if no pair is named, the others are all
@@ -54,7 +56,8 @@ pub use Rattle.lru_model.proofs.States.RemovedPairs.{value_removed}
 pub use Rattle.lru_model.proofs.TableSizes.ReachedTables.{has_tables}
 pub use Rattle.lru_model.proofs.Theorems.NextTables.{tables_of_next}
 pub use Rattle.lru_model.proofs.TableSizes.Growth.{usage_bytes}
-pub use Rattle.lru_model.proofs.Theorems.RunLimits.{nothing_written, no_cost_written, kept_written}
+pub use Rattle.lru_model.proofs.Theorems.RunLimits.{nothing_written, no_cost_written, kept_written, step_keeps_number}
+pub use Rattle.lru_model.proofs.Theorems.RunLimits.{step_stays_short}
 pub use Rattle.lru_model.proofs.Theorems.Runs.{any_step_same}
 pub use Rattle.lru_model.proofs.Theorems.StoringLimiters.{plain-changes_none, by_weight-changes_none}
 pub use Rattle.lru_model.proofs.Theorems.StoringLimiters.{by_cost-changes_none, offers_if-accepts, weighs-accepts}

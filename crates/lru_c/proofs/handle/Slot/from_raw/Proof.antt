@@ -20,12 +20,12 @@ use Rattle.std.specs.contracts.impls.GlobalAllocator.TheImpl.{ghosts}
 use Rattle.std.specs.contracts.alloc.Global as global
 use Rattle.lru_c.specs.Handle.{Map, map_row}
 use Rattle.lru_c.specs.contracts.raw_box.RawBox as raw_box
-use Rattle.lru_c.specs.contracts.handle.Lru as lru
-use Rattle.lru_c.specs.contracts.handle.Lru.from_raw as f
+use Rattle.lru_c.specs.contracts.handle.Slot as lru
+use Rattle.lru_c.specs.contracts.handle.Slot.from_raw as f
 use Rattle.lru_c.proofs.Addresses.{Address, address_val, address_good, address_made, marked_val, marked_good}
 use Rattle.lru_c.proofs.Addresses.{marked_told, ptr_good}
-use Rattle.lru_c.proofs.handle.Lru.from_raw.Statement.{statement}
-use Rattle.lru_c.proofs.handle.Lru.from_raw.Code as code
+use Rattle.lru_c.proofs.handle.Slot.from_raw.Statement.{statement}
+use Rattle.lru_c.proofs.handle.Slot.from_raw.Code as code
 
 abbrev stays : Stays f.ended.signature.params f.ended.kept
 stays = (stay_dropped (plain (λ _. raw_box.the_row map_row global.the_row ghosts)) yes, tt)

@@ -14,11 +14,11 @@ use types.ByLocal.{alloc_all, pass_all, free_all, look_at, sets}
 use types.Part.{agg}
 use Rattle.std.proofs.raw_atomic.Walks.{proved, leaves}
 use Rattle.lru_c.specs.Handle.{Map}
-use Rattle.lru_c.specs.contracts.handle.Lru as lru
-use Rattle.lru_c.specs.contracts.handle.Lru.vacant as f
+use Rattle.lru_c.specs.contracts.handle.Slot as lru
+use Rattle.lru_c.specs.contracts.handle.Slot.vacant as f
 use Rattle.lru_c.proofs.Addresses.{Address, address_val, address_good, address_made}
-use Rattle.lru_c.proofs.handle.Lru.vacant.Statement.{statement}
-use Rattle.lru_c.proofs.handle.Lru.vacant.Code as code
+use Rattle.lru_c.proofs.handle.Slot.vacant.Statement.{statement}
+use Rattle.lru_c.proofs.handle.Slot.vacant.Code as code
 
 abbrev stays : Stays f.ended.signature.params f.ended.kept
 stays = tt

@@ -26,13 +26,13 @@ use Rattle.std.specs.contracts.alloc.Global as global
 use Rattle.std.specs.contracts.impls.GlobalAllocator.TheImpl.{ghosts}
 use Rattle.std.specs.contracts.option.Option as option
 use Rattle.lru_c.specs.Handle.{Map, map_row, c_heap}
-use Rattle.lru_c.specs.contracts.handle.Lru as lru
+use Rattle.lru_c.specs.contracts.handle.Slot as lru
 use Rattle.lru_c.specs.contracts.raw_box.RawBox as raw_box
-use Rattle.lru_c.specs.contracts.handle.Lru.into_raw as f
+use Rattle.lru_c.specs.contracts.handle.Slot.into_raw as f
 use Rattle.lru_c.proofs.Addresses.{Marked, address_val, address_good, marked_val, marked_good}
 use Rattle.lru_c.proofs.Addresses.{marked_made, ptr_good, null_or_box}
-use Rattle.lru_c.proofs.handle.Lru.into_raw.Statement.{statement}
-use Rattle.lru_c.proofs.handle.Lru.into_raw.Code as code
+use Rattle.lru_c.proofs.handle.Slot.into_raw.Statement.{statement}
+use Rattle.lru_c.proofs.handle.Slot.into_raw.Code as code
 
 address_told : (x : lru.the_row.Denot) (vs : List Val) → Is lru.the_row x vs → vs ≡ address_val x.start ∷ []
 address_told x vs is = is.0.1.0 ∙ ap (λ (ws : List Val). vstruct (of_list (ws ++ [])) ∷ []) is.0.1.1.0
