@@ -10,3 +10,4 @@ pub mod Admissions
 pub mod Budget
 pub mod Budgeted
 pub mod Both
+pub mod Bytes

@@ -1,6 +1,6 @@
 // Erased from crates/lru_model/src/laws.rt: do not edit.
 //! What is proved of inserts and other single calls, of what inserts keep (`kept`), of shrinks (`shrinks`), of each
-//! call (`calls`) and of calls one after another (`runs`). Each theorem is the contract of a function that does
+//! call (`calls`), of calls one after another (`runs`), and of both with `ByBytes` (`bytes`). Each theorem is the contract of a function that does
 //! nothing.
 
 #[allow(unused_imports)]
@@ -9,12 +9,14 @@ use crate::rattle_std::prelude::*;
 use crate::erased::lru_limits::{Insertion, KeyHasher, Limiter, LookupKey};
 use crate::rattle_std::hash::Hash;
 
+mod bytes;
 mod calls;
 mod kept;
 mod placings;
 mod runs;
 mod shrinks;
 
+pub use bytes::{calls_keep_the_bytes, runs_keep_the_bytes};
 pub use calls::{
     calls_add_one_pair, calls_evict_the_oldest, calls_keep_maps, calls_keep_sums, calls_keep_the_budget,
     calls_keep_the_length, calls_keep_the_memory_usage, calls_pay_for_moves,
