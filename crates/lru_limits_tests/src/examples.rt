@@ -71,13 +71,13 @@ fn of_running_totals(rt: HostRuntime) -> Result<(), Fail> {
 #[test]
 fn of_bytes(rt: HostRuntime) -> Result<(), Fail> {
     let alloc = rt.alloc();
-    let text = String::with_capacity(alloc, 17)?;
-    check!(rt; (text.owned_bytes(), 7u64.owned_bytes()) == (48, 0));
     let mut limiter = ByBytes::new(200);
+    let block: Vec<u8> = Vec::with_capacity(alloc, 17)?;
+    check!(rt; (block.owned_bytes(), 7u64.owned_bytes()) == (48, 0));
     check!(rt; all!(
-        Limiter::<u64, String>::on_grow(&mut limiter, 152),
-        limiter.on_insert(alloc, 0, 1u64, String::with_capacity(alloc, 17)?)?.is_some(),
-        !Limiter::<u64, String>::on_grow(&mut limiter, 153),
+        Limiter::<u64, Vec<u8>>::on_grow(&mut limiter, 152),
+        limiter.on_insert(alloc, 0, 1u64, block)?.is_some(),
+        !Limiter::<u64, Vec<u8>>::on_grow(&mut limiter, 153),
         (limiter.owned(), limiter.table()) == (48, 152),
         limiter.owned() == 48,
         limiter.table() == 152,

@@ -25,9 +25,10 @@ use crate::rattle_std::hash::Hash;
 ///
 /// ```text
 /// let mut limiter = ByBytes::new(200);
-/// assert!(rt; Limiter::<u64, String>::on_grow(&mut limiter, 152));
-/// assert!(rt; limiter.on_insert(alloc, 0, 1u64, String::with_capacity(alloc, 17)?)?.is_some());
-/// assert!(rt; !Limiter::<u64, String>::on_grow(&mut limiter, 153));
+/// assert!(rt; Limiter::<u64, Vec<u8>>::on_grow(&mut limiter, 152));
+/// let block: Vec<u8> = Vec::with_capacity(alloc, 17)?;
+/// assert!(rt; limiter.on_insert(alloc, 0, 1u64, block)?.is_some());
+/// assert!(rt; !Limiter::<u64, Vec<u8>>::on_grow(&mut limiter, 153));
 /// assert_eq!(rt; (limiter.owned(), limiter.table()), (48, 152));
 /// ```
 ///

@@ -13,8 +13,8 @@ use crate::rattle_std::mem::size_of;
 /// allocator of GNU takes at most, unless a block is so large that it is mapped page by page.
 ///
 /// ```text
-/// let text = String::with_capacity(alloc, 17)?;
-/// assert_eq!(rt; (text.owned_bytes(), 7u64.owned_bytes()), (48, 0));
+/// let block: Vec<u8> = Vec::with_capacity(alloc, 17)?;
+/// assert_eq!(rt; (block.owned_bytes(), 7u64.owned_bytes()), (48, 0));
 /// ```
 pub trait OwnedBytes {
     /// Returns the bytes that the value owns.
