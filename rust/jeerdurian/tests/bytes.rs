@@ -60,7 +60,7 @@ fn memory_stays_within_the_limit_between_calls() {
             750..850 => drop(map.update(random.key(), random.value())),
             850..900 => {
                 let value = random.value();
-                drop(map.get_or_insert(random.key(), || value));
+                let _ = map.get_or_insert(random.key(), || value);
             }
             900..950 => drop(map.try_insert(random.key(), random.value())),
             950..990 => drop(map.pop_oldest()),
