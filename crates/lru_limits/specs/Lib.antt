@@ -11,3 +11,4 @@ pub mod Budget
 pub mod Budgeted
 pub mod Both
 pub mod Limits
+pub mod Bytes

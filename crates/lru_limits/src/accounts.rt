@@ -1,17 +1,21 @@
-//! Costs, limiters with a running total of them, and two limiters by cost.
+//! Costs, limiters with a running total of them, two limiters by cost, and one by bytes.
 ghost use Rattle.std.specs.Prelude.{◌≡◌, ◌+◌, ℕ, Some, None, if◌then◌else◌, string_len, vec_len};
 ghost use Rattle.lru_limits.specs.Budget.{can_add};
 ghost use Rattle.lru_limits.specs.Laws.{IsAccount};
 
 mod budgeted;
+mod by_bytes;
 mod by_cost;
 mod by_weight;
+mod owned_bytes;
 
 use crate::keys::LookupKey;
 use crate::limiter::Insertion;
 pub use budgeted::Budgeted;
+pub use by_bytes::ByBytes;
 pub use by_cost::ByCost;
 pub use by_weight::ByWeight;
+pub use owned_bytes::OwnedBytes;
 use std::hash::Hash;
 
 /// A value with a cost. An unsigned number of up to 64 bits costs itself, a text its bytes, and a vector the number of

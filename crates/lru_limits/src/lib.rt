@@ -7,7 +7,8 @@
 //! - [`Both`]: two limiters for one map, which say in advance what they accept by [`Admission`].
 //! - [`Storing`]: an adapter for a limiter of your own that stores each entry as it comes.
 //! - [`Costed`], [`Summing`], [`ByCost`], [`ByWeight`]: limiters with a running total of the costs of the entries.
-//! - [`Budgeted`]: such a limiter, made from a budget that can be changed.
+//! - [`OwnedBytes`], [`ByBytes`]: a limiter of the memory that a map takes: its table and what its entries own.
+//! - [`Budgeted`]: a limiter with a running total, made from a budget that can be changed.
 //! - [`RandomState`] and [`DefaultHasher`]: the hasher, with four seeds.
 //!
 //! `docs/LIMITERS.md` shows how to write a limiter and a look-up key of your own.
@@ -20,7 +21,7 @@ mod keys;
 mod limiter;
 mod limiters;
 
-pub use accounts::{Budgeted, ByCost, ByWeight, Costed, Summing};
+pub use accounts::{Budgeted, ByBytes, ByCost, ByWeight, Costed, OwnedBytes, Summing};
 pub use admission::Admission;
 pub use group_table::LinkType;
 pub use hasher::{DefaultHasher, RandomState};

@@ -2,6 +2,8 @@
 #![tactic(auto)]
 
 #[cfg(test)]
+mod body;
+#[cfg(test)]
 mod both;
 #[cfg(test)]
 mod bounds;

@@ -37,4 +37,6 @@ pub mod NextTables
 pub mod GetOrInserts
 pub mod KeySearches
 pub mod BudgetLimits
+pub mod ByteLimits
+pub mod ByteSteps
 pub mod NewestInserts

@@ -25,3 +25,4 @@ pub mod Retains
 pub mod TryInserts
 pub mod PaidPlacings
 pub mod Updates
+pub mod Bytes

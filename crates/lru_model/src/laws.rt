@@ -1,5 +1,5 @@
 //! What is proved of inserts and other single calls, of what inserts keep (`kept`), of shrinks (`shrinks`), of each
-//! call (`calls`) and of calls one after another (`runs`). Each theorem is the contract of a function that does
+//! call (`calls`), of calls one after another (`runs`), and of both with `ByBytes` (`bytes`). Each theorem is the contract of a function that does
 //! nothing.
 
 ghost use Rattle.std.specs.Prelude.{◌≡◌, ◌≢◌, ℕ, ◌≤◌, ◌<◌, ◌+◌, ◌*◌, ◌/◌, ◌⊎◌, ◌∷◌, Bool, false, Option, Some, None};
@@ -28,12 +28,14 @@ ghost use Rattle.lru_model.specs.Kept.{AcceptsNew, IsAdded};
 use lru_limits::{Insertion, KeyHasher, Limiter, LookupKey};
 use std::hash::Hash;
 
+mod bytes;
 mod calls;
 mod kept;
 mod placings;
 mod runs;
 mod shrinks;
 
+pub use bytes::{calls_keep_the_bytes, runs_keep_the_bytes};
 pub use calls::{
     calls_add_one_pair, calls_evict_the_oldest, calls_keep_maps, calls_keep_sums,
     calls_keep_the_budget, calls_keep_the_length, calls_keep_the_memory_usage, calls_pay_for_moves,

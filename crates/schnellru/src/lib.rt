@@ -23,9 +23,9 @@ mod map;
 mod walk;
 
 pub use lru_limits::{
-    Admission, Both, Budgeted, ByCost, ByLength, ByMemoryUsage, ByWeight, Costed, DefaultHasher,
-    Insertion, KeyHasher, Limiter, LinkType, LookupKey, RandomState, Storing, Summing, Unlimited,
-    UnlimitedCompact,
+    Admission, Both, Budgeted, ByBytes, ByCost, ByLength, ByMemoryUsage, ByWeight, Costed,
+    DefaultHasher, Insertion, KeyHasher, Limiter, LinkType, LookupKey, OwnedBytes, RandomState,
+    Storing, Summing, Unlimited, UnlimitedCompact,
 };
 pub use lru_model::{GetOrInsertError, Inserted, MoveReport, ReserveError, Updated, laws};
 pub use map::LruMap;

@@ -60,7 +60,7 @@ pub mod tenants;
 pub mod trace;
 
 pub use erased::lru_limits::{
-    ByCost, ByLength, ByMemoryUsage, ByWeight, Costed, DefaultHasher, Unlimited, UnlimitedCompact,
+    ByBytes, ByCost, ByLength, ByMemoryUsage, ByWeight, Costed, DefaultHasher, OwnedBytes, Unlimited, UnlimitedCompact,
 };
 pub use erased::lru_model::{GetOrInsertError, Inserted, MoveReport, ReserveError, Updated};
 pub use fallible::Fallible;

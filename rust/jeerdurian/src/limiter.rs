@@ -2,7 +2,7 @@
 
 use crate::erased::lru_limits as proved;
 use crate::erased::lru_limits::{
-    ByCost, ByLength, ByMemoryUsage, ByWeight, Costed, LinkType, Unlimited, UnlimitedCompact,
+    ByBytes, ByCost, ByLength, ByMemoryUsage, ByWeight, Costed, LinkType, OwnedBytes, Unlimited, UnlimitedCompact,
 };
 use crate::keys::Offered;
 use crate::rattle_std::alloc::{AllocError, Global};
@@ -187,6 +187,7 @@ macro_rules! with_bounds {
     };
 }
 
+with_bounds!([K: PartialEq + Hash + OwnedBytes, V: OwnedBytes] ByBytes, u32);
 with_bounds!([K: PartialEq + Hash, V: Costed] ByCost, usize);
 with_bounds!([K: PartialEq + Hash + Costed, V: Costed, const OVERHEAD: u64] ByWeight<OVERHEAD>, usize);
 
@@ -284,5 +285,16 @@ impl<T> Costed for alloc::vec::Vec<T> {
     #[inline]
     fn cost(&self) -> u64 {
         self.len() as u64
+    }
+}
+
+impl<T: OwnedBytes> OwnedBytes for alloc::vec::Vec<T> {
+    /// Its block, however much of it is in use, and what its items own.
+    fn owned_bytes(&self) -> u64 {
+        let block = match self.capacity().saturating_mul(size_of::<T>()) as u64 {
+            0 => 0,
+            bytes => bytes.saturating_add(31) / 16 * 16,
+        };
+        self.iter().fold(block, |sum, item| sum.saturating_add(item.owned_bytes()))
     }
 }

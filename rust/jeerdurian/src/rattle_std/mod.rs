@@ -75,6 +75,7 @@ pub mod prelude {
     pub use super::string::MadeByAlloc;
     pub use super::unwinding::{if_unwound, leak};
     pub use super::vec::Vec;
+    pub use ::alloc::boxed::Box;
     pub use ::alloc::string::String;
     pub(crate) use {at, at_mut, format, full, nowhere, prove, vec};
 }

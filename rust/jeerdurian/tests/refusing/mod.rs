@@ -37,6 +37,7 @@ unsafe impl GlobalAlloc for Refusing {
 static ALLOCATOR: Refusing = Refusing;
 
 /// Calls `f` with the n-th request refused. Returns its result, and whether that request was made.
+#[allow(dead_code)]
 pub fn refused<R>(n: u64, f: impl FnOnce() -> R) -> (R, bool) {
     REFUSED.set(n);
     let result = f();

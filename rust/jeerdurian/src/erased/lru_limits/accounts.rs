@@ -1,19 +1,23 @@
 // Erased from crates/lru_limits/src/accounts.rt: do not edit.
-//! Costs, limiters with a running total of them, and two limiters by cost.
+//! Costs, limiters with a running total of them, two limiters by cost, and one by bytes.
 
 #[allow(unused_imports)]
 use crate::rattle_std::prelude::*;
 
 mod budgeted;
+mod by_bytes;
 mod by_cost;
 mod by_weight;
+mod owned_bytes;
 
 use crate::erased::lru_limits::keys::LookupKey;
 use crate::erased::lru_limits::limiter::Insertion;
 use crate::rattle_std::hash::Hash;
 pub use budgeted::Budgeted;
+pub use by_bytes::ByBytes;
 pub use by_cost::ByCost;
 pub use by_weight::ByWeight;
+pub use owned_bytes::OwnedBytes;
 
 /// A value with a cost. An unsigned number of up to 64 bits costs itself, a text its bytes, and a vector the number of
 /// its items.

@@ -23,8 +23,8 @@ pub use storing::Storing;
 pub use unlimited::Unlimited;
 pub use unlimited_compact::UnlimitedCompact;
 
-/// A map has links of 32 bits under `ByLength`, `ByMemoryUsage` and `UnlimitedCompact`, and of 64 bits under
+/// A map has links of 32 bits under `ByLength`, `ByMemoryUsage`, `ByBytes` and `UnlimitedCompact`, and of 64 bits under
 /// `Unlimited`, `ByCost` and `ByWeight`. Under `Storing` it has the links of the limiter inside, and under `Both` the
-/// links of the first limiter. The function does nothing: its contract is the law, which leaves out `ByWeight` and
-/// `Both`.
+/// links of the first limiter. The function does nothing: its contract is the law, which leaves out `ByBytes`,
+/// `ByWeight` and `Both`.
 pub fn limiters_fix_their_links<K, V, C: Costed, L: Limiter<K, V>>() {}

@@ -1,6 +1,6 @@
 // Erased from crates/lru_model/src/laws.rt: do not edit.
 //! What is proved of inserts and other single calls, of what inserts keep (`kept`), of shrinks (`shrinks`), of each
-//! call (`calls`) and of calls one after another (`runs`). Each theorem is the contract of a function that does
+//! call (`calls`), of calls one after another (`runs`), and of both with `ByBytes` (`bytes`). Each theorem is the contract of a function that does
 //! nothing.
 
 #[allow(unused_imports)]
@@ -9,12 +9,14 @@ use crate::rattle_std::prelude::*;
 use crate::erased::lru_limits::{Insertion, KeyHasher, Limiter, LookupKey};
 use crate::rattle_std::hash::Hash;
 
+mod bytes;
 mod calls;
 mod kept;
 mod placings;
 mod runs;
 mod shrinks;
 
+pub use bytes::{calls_keep_the_bytes, runs_keep_the_bytes};
 pub use calls::{
     calls_add_one_pair, calls_evict_the_oldest, calls_keep_maps, calls_keep_sums, calls_keep_the_budget,
     calls_keep_the_length, calls_keep_the_memory_usage, calls_pay_for_moves,
@@ -31,22 +33,10 @@ pub use shrinks::{shrinks_keep_the_list, shrinks_leave_a_tight_table, shrinks_pa
 /// rejected.
 pub fn inserts_evict_the_oldest<K: Eq + Hash, V, I: LookupKey<K>, L: Insertion<K, V, I>, S: KeyHasher<K>>() {}
 
-/// An insert returns true if and only if its key is there afterwards. The key is the newest then, and the limiter is
-/// not over its limit.
-pub fn inserts_say_whether<K: Eq + Hash, V, I: LookupKey<K>, L: Insertion<K, V, I>, S: KeyHasher<K>>() {}
-
 /// The entries that an insert passes to its callback, together with those that are left, are at most one more than
 /// there were. So a callback that keeps them needs space for one entry more than the map contains. An insert with such
 /// a callback is an insert like any other (`step`).
 pub fn inserts_pass_few<K: Eq + Hash, V, I: LookupKey<K>, L: Insertion<K, V, I>, S: KeyHasher<K>>() {}
-
-/// If an insert returns true, the newest entry is what the limiter returned for the new key, or what it left of the
-/// entry that was there. So under a limiter that stores values as they come, a look-up of the key returns the value.
-pub fn inserts_store_the_value<K: Eq + Hash, V, I: LookupKey<K>, L: Insertion<K, V, I>, S: KeyHasher<K>>() {}
-
-/// If an insert runs out of memory, `on_insert` did, or the table had no growth left. The entries that stay are the
-/// newest of the old ones.
-pub fn inserts_run_out_without_growth<K: Eq + Hash, V, I: LookupKey<K>, L: Insertion<K, V, I>, S: KeyHasher<K>>() {}
 
 /// An insert into a table of up to 16 buckets has one possible result for each outcome of its allocations: what it
 /// returns, the entries and the limiter follow from the entries and the limiter before. If the limiter's offers are
@@ -73,8 +63,10 @@ pub fn granted_inserts_are_exact<K: Eq + Hash, V, I: LookupKey<K>, L: Insertion<
 pub fn inserts_grow_little<K: Eq + Hash, V, I: LookupKey<K>, L: Insertion<K, V, I>, S: KeyHasher<K>>() {}
 
 /// If there are entries and no growth left, and a search for the new key meets a deleted bucket first, the new entry
-/// fills that bucket: the limiter is not queried and nothing moves. No other insertion into the table ends so.
-pub fn deleted_buckets_serve<K: Eq + Hash, V, L: Limiter<K, V>, S: KeyHasher<K>>() {}
+/// fills that bucket: the limiter is not queried and nothing moves (`served`). No other insertion into the table ends so
+/// (`only`). So an insert of a new key, which the limiter accepts without being over its limit, adds the entry to all
+/// the others in the same table (`added`).
+pub fn deleted_buckets_serve<K: Eq + Hash, V, I: LookupKey<K>, L: Insertion<K, V, I>, S: KeyHasher<K>>() {}
 
 /// An insert pays for the entries that it moves: the count of moved entries and the potential together rise by at most
 /// 2 for the entry that it stores. So inserts move at most twice as many entries as they store, plus those that shrinks

@@ -14,8 +14,8 @@ mod map;
 mod walk;
 
 pub use crate::erased::lru_limits::{
-    Admission, Both, Budgeted, ByCost, ByLength, ByMemoryUsage, ByWeight, Costed, DefaultHasher, Insertion, KeyHasher,
-    Limiter, LinkType, LookupKey, RandomState, Storing, Summing, Unlimited, UnlimitedCompact,
+    Admission, Both, Budgeted, ByBytes, ByCost, ByLength, ByMemoryUsage, ByWeight, Costed, DefaultHasher, Insertion,
+    KeyHasher, Limiter, LinkType, LookupKey, OwnedBytes, RandomState, Storing, Summing, Unlimited, UnlimitedCompact,
 };
 pub use crate::erased::lru_model::{GetOrInsertError, Inserted, MoveReport, ReserveError, Updated, laws};
 pub use crate::erased::ordered_table::{Keys, Values, Walk};

@@ -4,8 +4,8 @@
 use crate::rattle_std::prelude::*;
 
 use crate::erased::lru_limits::{
-    Budgeted, ByCost, ByLength, ByMemoryUsage, ByWeight, Costed, Insertion, KeyHasher, Limiter, LookupKey, RandomState,
-    Storing, Summing, Unlimited, UnlimitedCompact,
+    Budgeted, ByBytes, ByCost, ByLength, ByMemoryUsage, ByWeight, Costed, Insertion, KeyHasher, Limiter, LookupKey,
+    OwnedBytes, RandomState, Storing, Summing, Unlimited, UnlimitedCompact,
 };
 use crate::programs::test_helpers::{all, check};
 use crate::rattle_std::hash::{BuildHasher, Hash, Hasher};
@@ -71,6 +71,29 @@ fn of_running_totals() {
         let mut limiter = <ByCost as Budgeted<u64, u64>>::with_budget(3);
         Budgeted::<u64, u64>::set_budget(&mut limiter, 5);
         check!(rt; Budgeted::<u64, u64>::budget(&limiter) == 5);
+        Ok(())
+    };
+    run(HostRuntime).passes();
+}
+
+#[test]
+fn of_bytes() {
+    let run = |rt: HostRuntime| -> Result<(), Fail> {
+        let alloc = rt.alloc();
+        let mut limiter = ByBytes::new(200);
+        let block: Vec<u8> = Vec::with_capacity(alloc, 17)?;
+        check!(rt; (block.owned_bytes(), 7u64.owned_bytes()) == (48, 0));
+        check!(rt; all!(
+            Limiter::<u64, Vec<u8>>::on_grow(&mut limiter, 152),
+            limiter.on_insert(alloc, 0, 1u64, block)?.is_some(),
+            !Limiter::<u64, Vec<u8>>::on_grow(&mut limiter, 153),
+            (limiter.owned(), limiter.table()) == (48, 152),
+            limiter.owned() == 48,
+            limiter.table() == 152,
+            limiter.limit() == 200,
+            limiter.with_limit(300).limit() == 300,
+            limiter.with_table(0).table() == 0
+        ));
         Ok(())
     };
     run(HostRuntime).passes();

@@ -5,6 +5,8 @@
 use crate::rattle_std::prelude::*;
 
 #[cfg(test)]
+mod body;
+#[cfg(test)]
 mod both;
 #[cfg(test)]
 mod bounds;

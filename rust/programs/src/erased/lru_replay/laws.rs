@@ -28,13 +28,13 @@ pub fn lists_evict_the_oldest<K: Eq + Hash, V, L: Insertion<K, V, K>, S: KeyHash
 /// With `ByLength` there are at most `max_length` pairs after each of the calls, if there were no more before, and none
 /// sets another limiter.
 pub fn lists_keep_the_length<K: Eq + Hash, V, S: KeyHasher<K>>() {
-    laws::runs_keep_the_length::<K, V, S>();
+    laws::runs_keep_the_length::<K, V, ByLength, S>();
 }
 
 /// With `ByMemoryUsage` the table uses at most `max_memory_usage` bytes after each of the calls, if it used no more
 /// before, and none sets another limiter.
 pub fn lists_keep_the_memory_usage<K: Eq + Hash, V, S: KeyHasher<K>>() {
-    laws::runs_keep_the_memory_usage::<K, V, S>();
+    laws::runs_keep_the_memory_usage::<K, V, ByMemoryUsage, S>();
 }
 
 /// With any limiter that has a budget, as `ByCost` and `ByWeight` have, the running total is at most the budget after
@@ -71,14 +71,14 @@ pub fn small_calls_are_alike<K: Eq + Hash, V, L: Insertion<K, V, K>, S: KeyHashe
 /// With `ByMemoryUsage` and a limit of at most the bytes of a table of 16 buckets, this holds of the runs that
 /// `run_calls` ensures, if the first map is within its limit, and no call sets another limiter.
 pub fn small_budgets_are_alike<K: Eq + Hash, V, S: KeyHasher<K>>() {
-    laws::runs_keep_the_memory_usage::<K, V, S>();
+    laws::runs_keep_the_memory_usage::<K, V, ByMemoryUsage, S>();
     small_calls_are_alike::<K, V, ByMemoryUsage, S>();
 }
 
 /// With `ByLength` and a limit of at most 14 it holds of these runs, too, if the first map is within its limit and has
 /// at most 16 buckets, and no call sets another limiter or reserves growth.
 pub fn small_lengths_are_alike<K: Eq + Hash, V, S: KeyHasher<K>>() {
-    laws::runs_keep_the_length::<K, V, S>();
+    laws::runs_keep_the_length::<K, V, ByLength, S>();
     small_calls_are_alike::<K, V, ByLength, S>();
 }
 

@@ -16,21 +16,21 @@ use crate::rattle_std::hash::Hash;
 pub fn calls_make_references<K: Eq + Hash, V, S: KeyHasher<K>>() {
     laws::inserts_leave_the_newest::<K, V, S>();
     laws::maps_keep_to_their_length::<K, V, S>();
-    laws::calls_keep_the_length::<K, V, S>();
+    laws::calls_keep_the_length::<K, V, ByLength, S>();
 }
 
 /// So do `ensure_newest` and `get_or_insert`, whose closure is `make`.
 pub fn gets_that_insert_make_references<K: Eq + Hash, V, F: FnOnce() -> V, S: KeyHasher<K>>() {
     laws::inserts_leave_the_newest::<K, V, S>();
     laws::maps_keep_to_their_length::<K, V, S>();
-    laws::calls_keep_the_length::<K, V, S>();
+    laws::calls_keep_the_length::<K, V, ByLength, S>();
 }
 
 /// And so do their fallible forms.
 pub fn gets_that_insert_if_made_make_references<K: Eq + Hash, V, E, F: FnOnce() -> Result<V, E>, S: KeyHasher<K>>() {
     laws::inserts_leave_the_newest::<K, V, S>();
     laws::maps_keep_to_their_length::<K, V, S>();
-    laws::calls_keep_the_length::<K, V, S>();
+    laws::calls_keep_the_length::<K, V, ByLength, S>();
 }
 
 /// What a call that makes no reference does to the keys: a get or a promotion of a key, which may not be there
@@ -39,7 +39,7 @@ pub fn gets_that_insert_if_made_make_references<K: Eq + Hash, V, E, F: FnOnce() 
 pub fn calls_change_the_keys<K: Eq + Hash, V, S: KeyHasher<K>>() {
     laws::inserts_leave_the_newest::<K, V, S>();
     laws::maps_keep_to_their_length::<K, V, S>();
-    laws::calls_keep_the_length::<K, V, S>();
+    laws::calls_keep_the_length::<K, V, ByLength, S>();
 }
 
 /// A reference more in a program that made those of a trace: one that found its key (`hits`), and one that did not

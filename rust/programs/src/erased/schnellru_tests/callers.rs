@@ -5,8 +5,8 @@
 use crate::rattle_std::prelude::*;
 
 use crate::erased::schnellru::{
-    ByCost, ByLength, ByMemoryUsage, Insertion, KeyHasher, Limiter, LruMap, MoveReport, RandomState, ReserveError,
-    UnlimitedCompact, laws,
+    Both, ByCost, ByLength, ByMemoryUsage, Insertion, KeyHasher, Limiter, LruMap, MoveReport, RandomState,
+    ReserveError, UnlimitedCompact, laws,
 };
 use crate::rattle_std::alloc::{AllocError, Global};
 use crate::rattle_std::hash::Hash;
@@ -99,13 +99,18 @@ fn keep_all(alloc: Global, texts: &[String]) -> Result<LruMap<String, u64>, Allo
 
 /// Puts a pair into a map that is within its length, and leaves it so.
 fn put_within(map: &mut LruMap<String, u64>, key: String, value: u64) -> Result<bool, AllocError> {
-    laws::calls_keep_the_length::<String, u64, RandomState>();
+    laws::calls_keep_the_length::<String, u64, ByLength, RandomState>();
     map.insert(key, value)
 }
 
-/// Puts a pair into a map whose table is within its limit by bytes, and leaves it so.
-fn put_within_bytes(map: &mut LruMap<String, u64, ByMemoryUsage>, key: String, value: u64) -> Result<bool, AllocError> {
-    laws::calls_keep_the_memory_usage::<String, u64, RandomState>();
+/// The same under two limits, by length and by the bytes of the table.
+fn put_within_both(
+    map: &mut LruMap<String, u64, Both<ByLength, ByMemoryUsage>>,
+    key: String,
+    value: u64,
+) -> Result<bool, AllocError> {
+    laws::calls_keep_the_length::<String, u64, Both<ByLength, ByMemoryUsage>, RandomState>();
+    laws::calls_keep_the_memory_usage::<String, u64, Both<ByLength, ByMemoryUsage>, RandomState>();
     map.insert(key, value)
 }
 
@@ -123,9 +128,10 @@ fn exchange(
     map.insert(new, text)
 }
 
-/// Inserts a pair, pops it, and inserts another one. Each of the inserts evicts only from the old end, and all of them
-/// pay for the entries that they move.
+/// Inserts a pair, pops it, and inserts another one. Each of the inserts evicts only from the old end, all of them pay
+/// for the entries that they move, and no two keys are equal then.
 fn put_two(map: &mut LruMap<String, u64>, first: String, second: String, value: u64) -> Result<(), AllocError> {
+    laws::runs_keep_maps::<String, u64, String, ByLength, RandomState>();
     laws::each_insert_of_a_run_evicts_the_oldest::<String, u64, String, ByLength, RandomState>();
     laws::runs_pay_for_moves::<String, u64, String, ByLength, RandomState>();
     // Nothing at run time: it shows the proof that the table is sound.
@@ -169,6 +175,13 @@ fn put_exactly<K: Eq + Hash, V, L: Insertion<K, V, K>, S: KeyHasher<K>>(
     map.insert(key, value)
 }
 
+/// Puts a pair of a new key into a full table, in which a search for the key first meets a bucket whose entry was
+/// removed. The entry fills that bucket, and all the others stay.
+fn put_into_deleted(map: &mut LruMap<String, u64>, key: String, value: u64) -> Result<bool, AllocError> {
+    laws::deleted_buckets_serve::<String, u64, String, ByLength, RandomState>();
+    map.insert(key, value)
+}
+
 /// Removes a key, which is not there then.
 fn forget(map: &mut LruMap<String, u64>, key: &str) -> Option<u64> {
     laws::removed_keys_are_absent::<String, u64, &str, ByLength, RandomState>();
@@ -177,8 +190,10 @@ fn forget(map: &mut LruMap<String, u64>, key: &str) -> Option<u64> {
     map.remove(&key)
 }
 
-/// Shrinks the table. A table of at most n bytes has at most n bytes then, whatever the result is.
+/// Shrinks the table. A table of at most n bytes has at most n bytes then, whatever the result is. If the result is
+/// true, all entries are counted as rehashed.
 fn shrink_within(map: &mut LruMap<String, u64>) -> Result<bool, AllocError> {
+    laws::shrinks_pay_for_moves::<String, u64, ByLength, RandomState>();
     laws::shrinks_leave_a_tight_table::<String, u64, ByLength, RandomState>();
     map.shrink_to_fit()
 }
@@ -194,6 +209,15 @@ fn resize(map: &mut LruMap<String, u64>, n: usize) -> bool {
         Ok(()) => true,
         Err(_) => false,
     }
+}
+
+/// Returns the greatest usage within the bytes that the table uses, which is that number of bytes.
+fn usage_again(map: &LruMap<String, u64>, entry_bytes: usize) -> usize {
+    laws::usages_are_their_budgets::<String, u64, ByLength, RandomState>();
+    // Nothing at run time: it shows the proof that the table is sound.
+    let _len = map.len();
+    let bytes = map.memory_usage();
+    LruMap::<String, u64>::memory_usage_for_memory_budget(bytes, entry_bytes)
 }
 
 /// Inserts an entry, and passes what leaves to the callback. If the insert returns true, nothing is lost: the entries

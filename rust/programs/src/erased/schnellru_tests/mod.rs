@@ -9,6 +9,8 @@
 use crate::rattle_std::prelude::*;
 
 #[cfg(test)]
+mod bytes;
+#[cfg(test)]
 mod callers;
 #[cfg(test)]
 mod counts;

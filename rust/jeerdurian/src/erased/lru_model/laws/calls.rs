@@ -5,7 +5,7 @@
 #[allow(unused_imports)]
 use crate::rattle_std::prelude::*;
 
-use crate::erased::lru_limits::{Budgeted, ByLength, ByMemoryUsage, Insertion, KeyHasher, Limiter, LookupKey, Summing};
+use crate::erased::lru_limits::{Budgeted, Insertion, KeyHasher, LookupKey, Summing};
 use crate::rattle_std::hash::Hash;
 
 /// After each call no two keys are equal (`keys`). If the table is sound after the call, as clause `map` of each call
@@ -22,13 +22,15 @@ pub fn calls_keep_sums<K: Eq + Hash, V, I: LookupKey<K>, L: Summing<K, V, I>, S:
 /// entry as rehashed, and the entries that it stores pay alone, even if that count has reached `u64::MAX` (`stored`).
 pub fn calls_pay_for_moves<K: Eq + Hash, V, I: LookupKey<K>, L: Insertion<K, V, I>, S: KeyHasher<K>>() {}
 
-/// With `ByLength` each call leaves the limiter as it is, and at most `max_length` entries, if there were no more
-/// before.
-pub fn calls_keep_the_length<K: Eq + Hash, V, S: KeyHasher<K>>() {}
+/// With a limiter that limits the length to `most` entries (`LimitsLength`), as `ByLength` does, each call leaves that
+/// limit as it is, and at most `most` entries, if there were no more before. `length-limits`, `storing-length` and
+/// `both-first_length` of `lru_limits` say which limiters do.
+pub fn calls_keep_the_length<K: Eq + Hash, V, L: Insertion<K, V, K>, S: KeyHasher<K>>() {}
 
-/// With `ByMemoryUsage` each call leaves the limiter as it is, and a table of at most `max_memory_usage` bytes, if it
-/// had no more before.
-pub fn calls_keep_the_memory_usage<K: Eq + Hash, V, S: KeyHasher<K>>() {}
+/// With a limiter that permits tables of at most `most` bytes (`LimitsMemory`), as `ByMemoryUsage` does, alone, in
+/// `Storing` or in `Both`, each call leaves that limit as it is, and a table of at most `most` bytes, if it had no more
+/// before.
+pub fn calls_keep_the_memory_usage<K: Eq + Hash, V, L: Insertion<K, V, K>, S: KeyHasher<K>>() {}
 
 /// With any limiter that has a budget, as `ByCost` and `ByWeight` have, each call leaves the budget as it is, and a
 /// running total of at most the budget, if that held before and the total was the sum of the costs of the entries.

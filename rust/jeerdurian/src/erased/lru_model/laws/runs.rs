@@ -4,7 +4,7 @@
 #[allow(unused_imports)]
 use crate::rattle_std::prelude::*;
 
-use crate::erased::lru_limits::{Budgeted, ByLength, ByMemoryUsage, Insertion, KeyHasher, Limiter, LookupKey, Summing};
+use crate::erased::lru_limits::{Budgeted, Insertion, KeyHasher, Limiter, LookupKey, Summing};
 use crate::rattle_std::hash::Hash;
 
 /// After any calls, whatever is written through the references that they lend, no two keys are equal, and inserts moved
@@ -37,13 +37,13 @@ pub fn each_insert_of_a_run_evicts_the_oldest<
 >() {
 }
 
-/// With `ByLength` there are at most `max_length` entries after any calls and writes of values, if there were no more
-/// before. The limiter stays as it is.
-pub fn runs_keep_the_length<K: Eq + Hash, V, S: KeyHasher<K>>() {}
+/// With a limiter that limits the length to `most` entries, as `calls_keep_the_length` demands, there are at most `most`
+/// entries after any calls and writes of values, if there were no more before. The limit stays as it is.
+pub fn runs_keep_the_length<K: Eq + Hash, V, L: Insertion<K, V, K>, S: KeyHasher<K>>() {}
 
-/// With `ByMemoryUsage` the table uses at most `max_memory_usage` bytes after any calls and writes of values, if it
-/// used no more before. The limiter stays as it is.
-pub fn runs_keep_the_memory_usage<K: Eq + Hash, V, S: KeyHasher<K>>() {}
+/// With a limiter that permits tables of at most `most` bytes, as `calls_keep_the_memory_usage` demands, the table uses
+/// at most `most` bytes after any calls and writes of values, if it used no more before. The limit stays as it is.
+pub fn runs_keep_the_memory_usage<K: Eq + Hash, V, L: Insertion<K, V, K>, S: KeyHasher<K>>() {}
 
 /// With any limiter that has a budget the running total is at most the budget after any calls, and any writes of values
 /// that cost what the values before them cost, if that held before and the total was the sum of the costs of the

@@ -1,0 +1,276 @@
+//! The limiter by the bytes of the table and of what the entries own, together.
+ghost use Rattle.std.specs.Prelude.{◌≡◌, ◌+◌, Some, None, if◌then◌else◌};
+ghost use Rattle.lru_limits.specs.Admissions.{offers_of-terms, offers_of-lawful};
+ghost use Rattle.lru_limits.specs.Budget.{can_add};
+ghost use Rattle.lru_limits.specs.Bytes.{both_own, left_for_entries, by_bytes, bytes_offers, bytes_terms, bytes-sums};
+
+use crate::accounts::{OwnedBytes, Summing, sum_with};
+use crate::admission::Admission;
+use crate::keys::LookupKey;
+use crate::limiter::{Insertion, Limiter};
+use std::alloc::{AllocError, Global};
+use std::hash::Hash;
+use std::marker::Model;
+
+/// Limits the bytes of the table and of what the entries own, together: `ByBytes::new(200 << 20)` is 200 MiB. A contract
+/// sees it as its limit, the bytes that the entries own, and the bytes of the table.
+///
+/// It permits a table if the table fits beside what the entries own, and rejects an entry or a new value whose entry
+/// does not fit beside the table. So after each call of the map `memory_usage` and what the entries own are together at
+/// most the limit (`calls_keep_the_bytes` of `lru_model`), if each value that is written through a reference owns what
+/// it owned before. While the table grows, the old table exists, too: at its peak the map takes the limit and the bytes
+/// of the old table.
+///
+/// `shrink_to_fit` does not notify the limiter, which counts the larger table until the table grows again.
+/// `map.set_limiter(map.limiter().with_table(map.memory_usage() as u64))` makes it count the smaller one.
+///
+/// ```
+/// let mut limiter = ByBytes::new(200);
+/// assert!(rt; Limiter::<u64, Vec<u8>>::on_grow(&mut limiter, 152));
+/// let block: Vec<u8> = Vec::with_capacity(alloc, 17)?;
+/// assert!(rt; limiter.on_insert(alloc, 0, 1u64, block)?.is_some());
+/// assert!(rt; !Limiter::<u64, Vec<u8>>::on_grow(&mut limiter, 153));
+/// assert_eq!(rt; (limiter.owned(), limiter.table()), (48, 152));
+/// ```
+///
+/// Cost: each callback reads the owned bytes of each key and value that it gets once, and takes no memory.
+#[derive(Clone, Copy, Debug)]
+pub struct ByBytes {
+    limit: u64,
+    owned: u64,
+    table: u64,
+}
+
+impl Model for ByBytes {
+    ghost use Rattle.lru_limits.specs.Bytes.{Bytes};
+
+    ghost Value = { Bytes };
+
+    ghost view = { λ b. record { limit = b.limit; owned = b.owned; table = b.table } };
+
+    ghost inverse = { λ b. record { limit = b.limit; owned = b.owned; table = b.table } };
+}
+
+impl ByBytes {
+    /// Makes a limiter of a map without a table and without entries.
+    ///
+    /// ```
+    /// let mut limiter = ByBytes::new(200);
+    /// ```
+    pub const fn new(limit: u64) -> ByBytes
+        ensures { result ≡ record { limit = limit; owned = 0; table = 0 } }
+    {
+        ByBytes {
+            limit,
+            owned: 0,
+            table: 0,
+        }
+    }
+
+    /// Returns the same limiter with another limit.
+    ///
+    /// `map.set_limiter(map.limiter().with_limit(n))` sets the limit of a map, and evicts what is over it. If the table
+    /// alone is over it, all entries are evicted.
+    ///
+    /// ```
+    /// assert_eq!(rt; limiter.with_limit(300).limit(), 300);
+    /// ```
+    pub const fn with_limit(&self, limit: u64) -> ByBytes
+        ensures { result ≡ record self.now { limit = limit } }
+    {
+        ByBytes {
+            limit,
+            owned: self.owned,
+            table: self.table,
+        }
+    }
+
+    /// Returns the same limiter for a table of this number of bytes.
+    ///
+    /// ```
+    /// assert_eq!(rt; limiter.with_table(0).table(), 0);
+    /// ```
+    pub const fn with_table(&self, table: u64) -> ByBytes
+        ensures { result ≡ record self.now { table = table } }
+    {
+        ByBytes {
+            limit: self.limit,
+            owned: self.owned,
+            table,
+        }
+    }
+
+    /// Returns the limit.
+    ///
+    /// ```
+    /// assert_eq!(rt; limiter.limit(), 200);
+    /// ```
+    pub const fn limit(&self) -> u64
+        ensures { result ≡ self.now.limit }
+    {
+        self.limit
+    }
+
+    /// Returns the bytes that the entries own.
+    ///
+    /// ```
+    /// assert_eq!(rt; limiter.owned(), 48);
+    /// ```
+    pub const fn owned(&self) -> u64
+        ensures { result ≡ self.now.owned }
+    {
+        self.owned
+    }
+
+    /// Returns the bytes of the greatest table that the map may have: the one that the limiter permitted last.
+    ///
+    /// ```
+    /// assert_eq!(rt; limiter.table(), 152);
+    /// ```
+    pub const fn table(&self) -> u64
+        ensures { result ≡ self.now.table }
+    {
+        self.table
+    }
+
+    // Returns the bytes that entries may own beside the table.
+    #[inline]
+    const fn left(&self) -> u64
+        ensures { result ≡ left_for_entries self.now }
+    {
+        self.limit.saturating_sub(self.table)
+    }
+}
+
+// Returns the bytes that an entry owns.
+#[inline]
+fn bytes_of_pair<K: OwnedBytes, V: OwnedBytes>(key: &K, value: &V) -> u64
+    ensures { result ≡ both_own K.owned V.owned key.now value.now }
+{
+    key.owned_bytes().saturating_add(value.owned_bytes())
+}
+
+impl<K: OwnedBytes, V: OwnedBytes> Limiter<K, V> for ByBytes {
+    type LinkType = u32;
+
+    ghost rules = { by_bytes (both_own K.owned V.owned) };
+
+    #[inline]
+    fn is_over_the_limit(&self, _length: usize) -> bool {
+        self.owned > self.left()
+    }
+
+    #[inline]
+    fn on_removed(&mut self, key: &mut K, value: &mut V) {
+        self.owned = self.owned.saturating_sub(bytes_of_pair(&*key, &*value));
+    }
+
+    #[inline]
+    fn on_cleared(&mut self) {
+        self.owned = 0;
+    }
+
+    #[inline]
+    fn on_grow(&mut self, new_memory_usage: usize) -> bool {
+        let bytes = new_memory_usage as u64;
+        let fits = self.owned <= self.limit && bytes <= self.limit - self.owned;
+        if fits {
+            self.table = bytes;
+        }
+        fits
+    }
+}
+
+impl<K: OwnedBytes + Eq + Hash + Drop, V: OwnedBytes + Drop> Insertion<K, V, K> for ByBytes {
+    ghost offers = { bytes_offers (both_own K.owned V.owned) };
+
+    #[inline]
+    fn on_insert(
+        &mut self,
+        _alloc: Global,
+        _length: usize,
+        key: K,
+        value: V,
+    ) -> Result<Option<(K, V)>, AllocError> {
+        match sum_with(self.left(), self.owned, bytes_of_pair(&key, &value)) {
+            Some(sum) => {
+                self.owned = sum;
+                Ok(Some((key, value)))
+            }
+            None => Ok(None),
+        }
+    }
+
+    #[inline]
+    fn on_replace(
+        &mut self,
+        _length: usize,
+        old_key: &mut K,
+        _new_key: K,
+        old_value: &mut V,
+        new_value: &mut V,
+    ) -> bool {
+        let others = self
+            .owned
+            .saturating_sub(bytes_of_pair(&*old_key, &*old_value));
+        match sum_with(self.left(), others, bytes_of_pair(&*old_key, &*new_value)) {
+            Some(sum) => {
+                self.owned = sum;
+                true
+            }
+            None => false,
+        }
+    }
+
+    ghost laws = { offers_of-lawful (bytes_terms (both_own K.owned V.owned)) K.eq K.Eq.laws };
+}
+
+impl<K: OwnedBytes + Eq + Hash + Drop, V: OwnedBytes + Drop> Summing<K, V, K> for ByBytes {
+    ghost cost_of = { both_own K.owned V.owned };
+
+    ghost account = { λ b. b.owned };
+
+    #[inline]
+    fn cost_of(key: &K, value: &V) -> u64 {
+        bytes_of_pair(key, value)
+    }
+
+    #[inline]
+    fn account(&self) -> u64 {
+        self.owned
+    }
+
+    ghost laws = { bytes-sums (both_own K.owned V.owned) };
+}
+
+impl<K: OwnedBytes + Eq + Hash + Drop, V: OwnedBytes + Drop> Admission<K, V> for ByBytes {
+    ghost terms = { bytes_terms (both_own K.owned V.owned) };
+
+    #[inline]
+    fn accepts(&self, _length: usize, key: &K, value: &V) -> bool {
+        sum_with(self.left(), self.owned, bytes_of_pair(key, value)).is_some()
+    }
+
+    #[inline]
+    fn on_stored(&mut self, _length: usize, key: &K, value: &V) {
+        if let Some(sum) = sum_with(self.left(), self.owned, bytes_of_pair(key, value)) {
+            self.owned = sum;
+        }
+    }
+
+    #[inline]
+    fn accepts_in_place(&self, _length: usize, key: &K, old_value: &V, new_value: &V) -> bool {
+        let others = self.owned.saturating_sub(bytes_of_pair(key, old_value));
+        sum_with(self.left(), others, bytes_of_pair(key, new_value)).is_some()
+    }
+
+    #[inline]
+    fn on_replaced(&mut self, _length: usize, key: &K, old_value: &V, new_value: &V) {
+        let others = self.owned.saturating_sub(bytes_of_pair(key, old_value));
+        if let Some(sum) = sum_with(self.left(), others, bytes_of_pair(key, new_value)) {
+            self.owned = sum;
+        }
+    }
+
+    ghost laws = { offers_of-terms (bytes_terms (both_own K.owned V.owned)) };
+}

@@ -1,0 +1,65 @@
+//! What is proved of each call, and of calls one after another, with `ByBytes`.
+
+ghost use Rattle.std.specs.Prelude.{◌≡◌, ℕ, ◌+◌, ◌≤◌, Bool, true, Result};
+ghost use Rattle.lru_limits.specs.Bytes.{both_own};
+ghost use Rattle.lru_model.specs.Bytes.{CountsBytes, KeepsBytes, TakesAtMost};
+ghost use Rattle.lru_model.specs.Runs.{Step, StepOrKeptWrite, Run};
+ghost use Rattle.lru_model.specs.Sizes.{max_of_32_bits};
+ghost use Rattle.lru_model.specs.State.{State, IsSized, Trims, empty_map};
+ghost use Rattle.lru_model.specs.TryInserts.{TryInsert};
+
+use lru_limits::{Admission, ByBytes, Insertion, KeyHasher, Limiter, OwnedBytes, Summing};
+use std::hash::Hash;
+
+/// With `ByBytes` each call leaves the table and what the entries own within the limit, together, if they were before
+/// (`kept`, `memory`), and leaves the limit as it is (`limit`). So does a `try_insert` (`tried`). A growth is permitted
+/// only if the new table fits (`grown`); the table that it replaces is not counted, so at the peak the map takes the limit
+/// and the bytes of the old table.
+///
+/// A new map is within its limit (`begins`). After another limit is set, or another number of bytes for the table, the
+/// trim of `set_limiter` gets within it, if the table alone is within it (`trimmed`).
+pub fn calls_keep_the_bytes<
+    K: OwnedBytes + Eq + Hash + Drop,
+    V: OwnedBytes + Drop,
+    S: KeyHasher<K>,
+>()
+    ensures kept { (old new : State K V ByBytes S) → IsSized old →
+        Step ⟦<ByBytes as Limiter<K, V>>⟧.rules ⟦<ByBytes as Insertion<K, V, K>>⟧.offers K.eq S.hash_of old new →
+        KeepsBytes (both_own K.owned V.owned) old → KeepsBytes (both_own K.owned V.owned) new }
+    ensures limit { (old new : State K V ByBytes S) → IsSized old →
+        Step ⟦<ByBytes as Limiter<K, V>>⟧.rules ⟦<ByBytes as Insertion<K, V, K>>⟧.offers K.eq S.hash_of old new →
+        KeepsBytes (both_own K.owned V.owned) old → new.limiter.limit ≡ old.limiter.limit }
+    ensures tried { (key : K) (value : V) (old : State K V ByBytes S) (result : Result (Unit {0}) (K × V))
+        (new : State K V ByBytes S) → IsSized old →
+        TryInsert ⟦<ByBytes as Admission<K, V>>⟧.terms ⟦<ByBytes as Limiter<K, V>>⟧.rules key value old
+        ⟦<ByBytes as Insertion<K, V, K>>⟧.offers K.eq S.hash_of result new →
+        KeepsBytes (both_own K.owned V.owned) old → KeepsBytes (both_own K.owned V.owned) new }
+    ensures memory { (st : State K V ByBytes S) → KeepsBytes (both_own K.owned V.owned) st →
+        TakesAtMost (both_own K.owned V.owned) st.limiter.limit st }
+    ensures grown { (st : State K V ByBytes S) (bytes : ℕ) →
+        (⟦<ByBytes as Limiter<K, V>>⟧.rules.on_grow st.limiter bytes).allowed ≡ true →
+        st.limiter.owned + bytes ≤ st.limiter.limit }
+    ensures begins { (limit entry_bytes : ℕ) (hasher : S) →
+        KeepsBytes (both_own K.owned V.owned) (empty_map {K = K} {V = V} {S = ByBytes}
+        (record { limit = limit; owned = 0; table = 0 }) hasher entry_bytes max_of_32_bits) }
+    ensures trimmed { (old new : State K V ByBytes S) → CountsBytes (both_own K.owned V.owned) old →
+        old.limiter.table ≤ old.limiter.limit → Trims ⟦<ByBytes as Limiter<K, V>>⟧.rules old new →
+        KeepsBytes (both_own K.owned V.owned) new }
+{}
+
+/// With `ByBytes` any calls, and any writes of values that own what the values before them owned, leave the table and
+/// what the entries own within the limit, together, and leave the limit as it is.
+pub fn runs_keep_the_bytes<
+    K: OwnedBytes + Eq + Hash + Drop,
+    V: OwnedBytes + Drop,
+    S: KeyHasher<K>,
+>()
+    ensures kept { (old new : State K V ByBytes S) → IsSized old →
+        Run (StepOrKeptWrite ⟦<ByBytes as Limiter<K, V>>⟧.rules ⟦<ByBytes as Insertion<K, V, K>>⟧.offers K.eq
+        S.hash_of ⟦<ByBytes as Summing<K, V, K>>⟧.cost_of) new old →
+        KeepsBytes (both_own K.owned V.owned) old → KeepsBytes (both_own K.owned V.owned) new }
+    ensures limit { (old new : State K V ByBytes S) → IsSized old →
+        Run (StepOrKeptWrite ⟦<ByBytes as Limiter<K, V>>⟧.rules ⟦<ByBytes as Insertion<K, V, K>>⟧.offers K.eq
+        S.hash_of ⟦<ByBytes as Summing<K, V, K>>⟧.cost_of) new old →
+        KeepsBytes (both_own K.owned V.owned) old → new.limiter.limit ≡ old.limiter.limit }
+{}

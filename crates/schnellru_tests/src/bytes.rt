@@ -1,0 +1,46 @@
+//! A cache of texts that takes at most 200 MiB, with its table and all that the texts own: a line of code and a theorem.
+ghost use Rattle.std.specs.Prelude.{◌≡◌, ◌*◌, ◌^◌, IfOk, string_capacity};
+ghost use Rattle.lru_limits.specs.Bytes.{both_own, block_bytes};
+ghost use Rattle.lru_model.specs.Bytes.{KeepsBytes, TakesAtMost};
+ghost use Rattle.lru_model.specs.State.{IsMap};
+
+use lru_model::Updated;
+use schnellru::{ByBytes, LruMap, RandomState, laws};
+use std::alloc::{AllocError, Global};
+
+/// Makes the cache.
+fn cache_of_texts(alloc: Global) -> LruMap<String, String, ByBytes>
+    ensures keeps { KeepsBytes (both_own (λ k. block_bytes (string_capacity k)) (λ v. block_bytes (string_capacity v)))
+        result }
+    ensures limit { result.limiter.limit ≡ 200 * 2 ^ 20 }
+{
+    laws::calls_keep_the_bytes::<String, String, RandomState>();
+    LruMap::with_limiter(alloc, ByBytes::new(200 << 20))
+}
+
+/// Puts a text into the cache, updates another one, removes a third, and shrinks the table. Whatever the calls return, the
+/// cache takes at most its limit.
+fn change(
+    map: &mut LruMap<String, String, ByBytes>,
+    key: String,
+    text: String,
+    other: String,
+    new: String,
+    old: &str,
+) -> Result<bool, AllocError>
+    requires { KeepsBytes (both_own (λ k. block_bytes (string_capacity k)) (λ v. block_bytes (string_capacity v)))
+        map.old }
+    ensures keeps { KeepsBytes (both_own (λ k. block_bytes (string_capacity k))
+        (λ v. block_bytes (string_capacity v))) map.new }
+    ensures memory { TakesAtMost (both_own (λ k. block_bytes (string_capacity k))
+        (λ v. block_bytes (string_capacity v))) map.old.limiter.limit map.new }
+{
+    laws::calls_keep_the_bytes::<String, String, RandomState>();
+    // Nothing at run time: it shows the proof that the table is sound.
+    let _len = map.len();
+    let kept = map.insert(key, text);
+    map.update(other, new);
+    map.remove(&old);
+    let _ = map.shrink_to_fit();
+    kept
+}

@@ -1,0 +1,213 @@
+// Erased from crates/lru_limits/src/accounts/by_bytes.rt: do not edit.
+//! The limiter by the bytes of the table and of what the entries own, together.
+
+#[allow(unused_imports)]
+use crate::rattle_std::prelude::*;
+
+use crate::erased::lru_limits::accounts::{OwnedBytes, Summing, sum_with};
+use crate::erased::lru_limits::admission::Admission;
+use crate::erased::lru_limits::keys::LookupKey;
+use crate::erased::lru_limits::limiter::{Insertion, Limiter};
+use crate::rattle_std::alloc::{AllocError, Global};
+use crate::rattle_std::hash::Hash;
+
+/// Limits the bytes of the table and of what the entries own, together: `ByBytes::new(200 << 20)` is 200 MiB. A contract
+/// sees it as its limit, the bytes that the entries own, and the bytes of the table.
+///
+/// It permits a table if the table fits beside what the entries own, and rejects an entry or a new value whose entry
+/// does not fit beside the table. So after each call of the map `memory_usage` and what the entries own are together at
+/// most the limit (`calls_keep_the_bytes` of `lru_model`), if each value that is written through a reference owns what
+/// it owned before. While the table grows, the old table exists, too: at its peak the map takes the limit and the bytes
+/// of the old table.
+///
+/// `shrink_to_fit` does not notify the limiter, which counts the larger table until the table grows again.
+/// `map.set_limiter(map.limiter().with_table(map.memory_usage() as u64))` makes it count the smaller one.
+///
+/// ```text
+/// let mut limiter = ByBytes::new(200);
+/// assert!(rt; Limiter::<u64, Vec<u8>>::on_grow(&mut limiter, 152));
+/// let block: Vec<u8> = Vec::with_capacity(alloc, 17)?;
+/// assert!(rt; limiter.on_insert(alloc, 0, 1u64, block)?.is_some());
+/// assert!(rt; !Limiter::<u64, Vec<u8>>::on_grow(&mut limiter, 153));
+/// assert_eq!(rt; (limiter.owned(), limiter.table()), (48, 152));
+/// ```
+///
+/// Cost: each callback reads the owned bytes of each key and value that it gets once, and takes no memory.
+#[derive(Clone, Copy, Debug)]
+pub struct ByBytes {
+    limit: u64,
+    owned: u64,
+    table: u64,
+}
+
+impl ByBytes {
+    /// Makes a limiter of a map without a table and without entries.
+    ///
+    /// ```text
+    /// let mut limiter = ByBytes::new(200);
+    /// ```
+    pub const fn new(limit: u64) -> ByBytes {
+        ByBytes { limit, owned: 0, table: 0 }
+    }
+
+    /// Returns the same limiter with another limit.
+    ///
+    /// `map.set_limiter(map.limiter().with_limit(n))` sets the limit of a map, and evicts what is over it. If the table
+    /// alone is over it, all entries are evicted.
+    ///
+    /// ```text
+    /// assert_eq!(rt; limiter.with_limit(300).limit(), 300);
+    /// ```
+    pub const fn with_limit(&self, limit: u64) -> ByBytes {
+        ByBytes { limit, owned: self.owned, table: self.table }
+    }
+
+    /// Returns the same limiter for a table of this number of bytes.
+    ///
+    /// ```text
+    /// assert_eq!(rt; limiter.with_table(0).table(), 0);
+    /// ```
+    pub const fn with_table(&self, table: u64) -> ByBytes {
+        ByBytes { limit: self.limit, owned: self.owned, table }
+    }
+
+    /// Returns the limit.
+    ///
+    /// ```text
+    /// assert_eq!(rt; limiter.limit(), 200);
+    /// ```
+    pub const fn limit(&self) -> u64 {
+        self.limit
+    }
+
+    /// Returns the bytes that the entries own.
+    ///
+    /// ```text
+    /// assert_eq!(rt; limiter.owned(), 48);
+    /// ```
+    pub const fn owned(&self) -> u64 {
+        self.owned
+    }
+
+    /// Returns the bytes of the greatest table that the map may have: the one that the limiter permitted last.
+    ///
+    /// ```text
+    /// assert_eq!(rt; limiter.table(), 152);
+    /// ```
+    pub const fn table(&self) -> u64 {
+        self.table
+    }
+
+    // Returns the bytes that entries may own beside the table.
+    #[inline]
+    const fn left(&self) -> u64 {
+        self.limit.saturating_sub(self.table)
+    }
+}
+
+// Returns the bytes that an entry owns.
+#[inline]
+fn bytes_of_pair<K: OwnedBytes, V: OwnedBytes>(key: &K, value: &V) -> u64 {
+    key.owned_bytes().saturating_add(value.owned_bytes())
+}
+
+impl<K: OwnedBytes, V: OwnedBytes> Limiter<K, V> for ByBytes {
+    type LinkType = u32;
+
+    #[inline]
+    fn is_over_the_limit(&self, _length: usize) -> bool {
+        self.owned > self.left()
+    }
+
+    #[inline]
+    fn on_removed(&mut self, key: &mut K, value: &mut V) {
+        self.owned = self.owned.saturating_sub(bytes_of_pair(&*key, &*value));
+    }
+
+    #[inline]
+    fn on_cleared(&mut self) {
+        self.owned = 0;
+    }
+
+    #[inline]
+    fn on_grow(&mut self, new_memory_usage: usize) -> bool {
+        let bytes = new_memory_usage as u64;
+        let fits = self.owned <= self.limit && bytes <= self.limit - self.owned;
+        if fits {
+            self.table = bytes;
+        }
+        fits
+    }
+}
+
+impl<K: OwnedBytes + Eq + Hash, V: OwnedBytes> Insertion<K, V, K> for ByBytes {
+    #[inline]
+    fn on_insert(&mut self, _alloc: Global, _length: usize, key: K, value: V) -> Result<Option<(K, V)>, AllocError> {
+        match sum_with(self.left(), self.owned, bytes_of_pair(&key, &value)) {
+            Some(sum) => {
+                self.owned = sum;
+                Ok(Some((key, value)))
+            }
+            None => Ok(None),
+        }
+    }
+
+    #[inline]
+    fn on_replace(
+        &mut self,
+        _length: usize,
+        old_key: &mut K,
+        _new_key: K,
+        old_value: &mut V,
+        new_value: &mut V,
+    ) -> bool {
+        let others = self.owned.saturating_sub(bytes_of_pair(&*old_key, &*old_value));
+        match sum_with(self.left(), others, bytes_of_pair(&*old_key, &*new_value)) {
+            Some(sum) => {
+                self.owned = sum;
+                true
+            }
+            None => false,
+        }
+    }
+}
+
+impl<K: OwnedBytes + Eq + Hash, V: OwnedBytes> Summing<K, V, K> for ByBytes {
+    #[inline]
+    fn cost_of(key: &K, value: &V) -> u64 {
+        bytes_of_pair(key, value)
+    }
+
+    #[inline]
+    fn account(&self) -> u64 {
+        self.owned
+    }
+}
+
+impl<K: OwnedBytes + Eq + Hash, V: OwnedBytes> Admission<K, V> for ByBytes {
+    #[inline]
+    fn accepts(&self, _length: usize, key: &K, value: &V) -> bool {
+        sum_with(self.left(), self.owned, bytes_of_pair(key, value)).is_some()
+    }
+
+    #[inline]
+    fn on_stored(&mut self, _length: usize, key: &K, value: &V) {
+        if let Some(sum) = sum_with(self.left(), self.owned, bytes_of_pair(key, value)) {
+            self.owned = sum;
+        }
+    }
+
+    #[inline]
+    fn accepts_in_place(&self, _length: usize, key: &K, old_value: &V, new_value: &V) -> bool {
+        let others = self.owned.saturating_sub(bytes_of_pair(key, old_value));
+        sum_with(self.left(), others, bytes_of_pair(key, new_value)).is_some()
+    }
+
+    #[inline]
+    fn on_replaced(&mut self, _length: usize, key: &K, old_value: &V, new_value: &V) {
+        let others = self.owned.saturating_sub(bytes_of_pair(key, old_value));
+        if let Some(sum) = sum_with(self.left(), others, bytes_of_pair(key, new_value)) {
+            self.owned = sum;
+        }
+    }
+}

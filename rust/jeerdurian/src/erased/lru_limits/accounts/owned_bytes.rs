@@ -1,0 +1,152 @@
+// Erased from crates/lru_limits/src/accounts/owned_bytes.rt: do not edit.
+//! The bytes that a value owns outside of itself.
+
+#[allow(unused_imports)]
+use crate::rattle_std::prelude::*;
+
+use crate::rattle_std::mem::size_of;
+
+/// A value that can say how many bytes it owns outside of itself: the blocks that it allocated, whole, whatever part of
+/// them is in use, and what is owned in them.
+///
+/// A block counts as its bytes rounded up to a multiple of 16, and 16 more for the allocator. This is what the
+/// allocator of GNU takes at most, unless a block is so large that it is mapped page by page.
+///
+/// ```text
+/// let block: Vec<u8> = Vec::with_capacity(alloc, 17)?;
+/// assert_eq!(rt; (block.owned_bytes(), 7u64.owned_bytes()), (48, 0));
+/// ```
+pub trait OwnedBytes {
+    /// Returns the bytes that the value owns.
+    fn owned_bytes(&self) -> u64;
+}
+
+// Returns what a block of `bytes` bytes takes from the allocator.
+#[inline]
+fn block_bytes(bytes: u64) -> u64 {
+    if bytes == 0 { 0 } else { bytes.saturating_add(31) / 16 * 16 }
+}
+
+// Returns how many bytes a value takes where it is stored.
+#[inline]
+fn bytes_of<T>() -> usize {
+    size_of::<T>()
+}
+
+/// A number owns nothing. Nor does a `bool` or a `char`.
+impl OwnedBytes for u8 {
+    #[inline]
+    fn owned_bytes(&self) -> u64 {
+        0
+    }
+}
+
+impl OwnedBytes for u16 {
+    #[inline]
+    fn owned_bytes(&self) -> u64 {
+        0
+    }
+}
+
+impl OwnedBytes for u32 {
+    #[inline]
+    fn owned_bytes(&self) -> u64 {
+        0
+    }
+}
+
+impl OwnedBytes for u64 {
+    #[inline]
+    fn owned_bytes(&self) -> u64 {
+        0
+    }
+}
+
+impl OwnedBytes for u128 {
+    #[inline]
+    fn owned_bytes(&self) -> u64 {
+        0
+    }
+}
+
+impl OwnedBytes for usize {
+    #[inline]
+    fn owned_bytes(&self) -> u64 {
+        0
+    }
+}
+
+impl OwnedBytes for i32 {
+    #[inline]
+    fn owned_bytes(&self) -> u64 {
+        0
+    }
+}
+
+impl OwnedBytes for i64 {
+    #[inline]
+    fn owned_bytes(&self) -> u64 {
+        0
+    }
+}
+
+impl OwnedBytes for bool {
+    #[inline]
+    fn owned_bytes(&self) -> u64 {
+        0
+    }
+}
+
+impl OwnedBytes for char {
+    #[inline]
+    fn owned_bytes(&self) -> u64 {
+        0
+    }
+}
+
+/// A text owns its block, however much of it is in use.
+impl OwnedBytes for String {
+    #[inline]
+    fn owned_bytes(&self) -> u64 {
+        block_bytes(self.capacity() as u64)
+    }
+}
+
+/// A vector owns its block, however much of it is in use, and what its items own.
+impl<T: OwnedBytes> OwnedBytes for Vec<T> {
+    fn owned_bytes(&self) -> u64 {
+        let mut sum = block_bytes((self.capacity() as u64).saturating_mul(bytes_of::<T>() as u64));
+        for item in self.as_slice() {
+            sum = sum.saturating_add(item.owned_bytes());
+        }
+        sum
+    }
+}
+
+/// A box owns its block, and what its value owns.
+impl<T: OwnedBytes> OwnedBytes for Box<T> {
+    #[inline]
+    fn owned_bytes(&self) -> u64 {
+        let value: &T = &**self;
+        block_bytes(bytes_of::<T>() as u64).saturating_add(value.owned_bytes())
+    }
+}
+
+/// A pair owns what its two values own.
+impl<A: OwnedBytes, B: OwnedBytes> OwnedBytes for (A, B) {
+    #[inline]
+    fn owned_bytes(&self) -> u64 {
+        self.0.owned_bytes().saturating_add(self.1.owned_bytes())
+    }
+}
+
+/// An option owns what its value owns.
+impl<T: OwnedBytes> OwnedBytes for Option<T> {
+    #[inline]
+    fn owned_bytes(&self) -> u64 {
+        match self {
+            Some(value) => value.owned_bytes(),
+            None => 0,
+        }
+    }
+}

@@ -1,0 +1,35 @@
+// Erased from crates/schnellru_tests/src/bytes.rt: do not edit.
+//! A cache of texts that takes at most 200 MiB, with its table and all that the texts own: a line of code and a theorem.
+
+#[allow(unused_imports)]
+use crate::rattle_std::prelude::*;
+
+use crate::erased::lru_model::Updated;
+use crate::erased::schnellru::{ByBytes, LruMap, RandomState, laws};
+use crate::rattle_std::alloc::{AllocError, Global};
+
+/// Makes the cache.
+fn cache_of_texts(alloc: Global) -> LruMap<String, String, ByBytes> {
+    laws::calls_keep_the_bytes::<String, String, RandomState>();
+    LruMap::with_limiter(alloc, ByBytes::new(200 << 20))
+}
+
+/// Puts a text into the cache, updates another one, removes a third, and shrinks the table. Whatever the calls return, the
+/// cache takes at most its limit.
+fn change(
+    map: &mut LruMap<String, String, ByBytes>,
+    key: String,
+    text: String,
+    other: String,
+    new: String,
+    old: &str,
+) -> Result<bool, AllocError> {
+    laws::calls_keep_the_bytes::<String, String, RandomState>();
+    // Nothing at run time: it shows the proof that the table is sound.
+    let _len = map.len();
+    let kept = map.insert(key, text);
+    map.update(other, new);
+    map.remove(&old);
+    let _ = map.shrink_to_fit();
+    kept
+}
