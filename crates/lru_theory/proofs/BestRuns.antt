@@ -1,11 +1,11 @@
 -- MIN is a policy that stores each key, and MIN with bypass one that need not.
-use Rattle.std.proofs.Common.{◌≡◌, ℕ, zero, suc, ◌+◌, ◌≤◌, Bool, true, false, cond, List, [], ◌∷◌, length, take}
+use Rattle.std.proofs.Common.{◌≡◌, ℕ, zero, suc, ◌+◌, ◌≤◌, ◌<◌, Bool, true, false, cond, List, [], ◌∷◌, length, take}
 use Rattle.std.proofs.Common.{refl, ap, arith}
 use Rattle.std.proofs.lemmas.List.{length-take}
 use Rattle.std.specs.Cmp.{IsEquivalence}
 use Rattle.std.specs.Prelude.{◌||◌, nat_le}
 use Rattle.std.specs.Set.{remove_key}
-use Rattle.lru_theory.specs.Traces.{is_in, fault}
+use Rattle.lru_theory.specs.Traces.{is_in, refer, fault, faults}
 use Rattle.lru_theory.specs.Policies.{Loads, Bypasses, Served, ends, serves, outside}
 use Rattle.lru_theory.specs.Best.{until, put, min_refer, bypass_refer, faults_by}
 use Rattle.lru_theory.proofs.Inclusions.{clash}
@@ -144,3 +144,23 @@ module _ {K : Type 0} {eq : K → K → Bool} (laws : IsEquivalence eq) where
         );
       } in
       (last, serves key trace keys new (fault eq key keys) (faults_by eq (bypass_refer eq n) new trace) step run)
+
+  pub min_run_of : (n : ℕ) (trace : List K) → 0 < n
+      → (left : List K) × Served (Loads eq n) left [] trace (faults_by eq (min_refer eq n) [] trace)
+  min_run_of zero trace some = absurd (omega (arith, some))
+  min_run_of (suc n) trace some = min_run n trace []
+
+  -- so is LRU
+  pub lru_run : (n : ℕ) (trace keys : List K)
+      → (left : List K) × Served (Loads eq (suc n)) left keys trace (faults eq (suc n) keys trace)
+  lru_run n [] keys = (keys, ends)
+  lru_run n (key ∷ trace) keys =
+      let rest = remove_key (eq key) keys in
+      let new = refer eq (suc n) key keys in
+      let (last, run) = lru_run n trace new in
+      let step : Loads eq (suc n) key keys (fault eq key keys) new = record {
+        fits = omega (arith, length-take n rest);
+        stores = rw (laws.refl key) refl;
+        pays = omega (arith, outside_take n keys rest, outside_less key keys keys, outside_self keys);
+      } in
+      (last, serves key trace keys new (fault eq key keys) (faults eq (suc n) new trace) step run)

@@ -89,3 +89,14 @@ pub fn min_is_best<K: Eq>()
     ensures bypass { (n : ℕ) (trace : List K) →
         (left : List K) × Served (Bypasses K.eq n) left [] trace (bypass_misses K.eq n trace) }
 {}
+
+/// How far LRU is from MIN, from no keys. LRU with k ≥ h places misses at most k / (k + 1 - h) times as often as MIN with
+/// h (`min`), and at most k / (k - h) times as often as MIN with bypass (`bypass`), whatever keys LRU begins with. With
+/// the same places it misses at least as often as MIN (`least`).
+pub fn lru_is_near_min<K: Eq>()
+    ensures min { (k h : ℕ) (past trace : List K) → 0 < h → h ≤ k →
+        (k + 1 - h) * misses K.eq k past trace ≤ k * min_misses K.eq h trace }
+    ensures bypass { (k h : ℕ) (past trace : List K) → h ≤ k →
+        (k - h) * misses K.eq k past trace ≤ k * bypass_misses K.eq h trace }
+    ensures least { (n : ℕ) (trace : List K) → 0 < n → min_misses K.eq n trace ≤ misses K.eq n [] trace }
+{}
