@@ -1,14 +1,13 @@
 -- LRU against other policies: from the end of the trace backwards, each k misses of LRU cost the other policy k + b - h.
-use Rattle.std.proofs.Common.{◌≡◌, ℕ, zero, suc, ◌+◌, ◌-◌, ◌*◌, ◌≤◌, ◌<◌, Bool, true, false, cond, List, [], ◌∷◌, ◌++◌}
-use Rattle.std.proofs.Common.{length, take, refl, sym, ap, ◌∙◌, subst, arith, ◌⊎◌, inl, inr}
+use Rattle.std.proofs.Common.{◌≡◌, ℕ, zero, suc, ◌+◌, ◌-◌, ◌*◌, ◌≤◌, ◌<◌, Bool, true, false, cond, List, [], ◌∷◌}
+use Rattle.std.proofs.Common.{length, sym, ap, ◌∙◌, subst, arith, ◌⊎◌, inl, inr}
 use Rattle.std.proofs.lemmas.Bool.{cases_lt}
 use Rattle.std.proofs.Math.Nat.{mul-le-mul_left, mul-le-mul_right}
 use Rattle.std.specs.Cmp.{IsEquivalence}
-use Rattle.std.specs.Set.{remove_key}
 use Rattle.lru_theory.specs.Traces.{is_in, refer, cached, faults, fault}
 use Rattle.lru_theory.specs.Policies.{Served, ends, serves}
 use Rattle.lru_theory.proofs.Affordable.{Front, none}
-use Rattle.lru_theory.proofs.Windows.{Apart, Within, Gains, Ends, window}
+use Rattle.lru_theory.proofs.Windows.{Apart, Within, Gains, window}
 
 fault_few : {K : Type 0} (eq : K → K → Bool) (key : K) (xs : List K) → fault eq key xs ≤ 1
 fault_few eq key xs = go (is_in eq key xs)

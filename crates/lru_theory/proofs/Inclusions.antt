@@ -1,13 +1,13 @@
 -- Any call keeps a smaller cache included in a larger one.
 use Rattle.std.proofs.Common.{◌≡◌, ℕ, zero, suc, ◌+◌, ◌-◌, ◌≤◌, Bool, true, false, cond, List, [], ◌∷◌, length, take}
-use Rattle.std.proofs.Common.{refl, sym, ap, ◌∙◌, subst, arith}
+use Rattle.std.proofs.Common.{refl, ap, ◌∙◌, subst, arith}
 use Rattle.std.proofs.lemmas.Bool.{or_parts}
 use Rattle.std.proofs.lemmas.List.{length-take}
 use Rattle.std.proofs.lemmas.Map.Made.{length-remove_key}
 use Rattle.std.specs.Cmp.{IsEquivalence}
 use Rattle.std.specs.Prelude.{◌||◌}
 use Rattle.std.specs.Set.{remove_key}
-use Rattle.lru_theory.specs.Traces.{is_in, refer, cached, faults, AreEqual}
+use Rattle.lru_theory.specs.Traces.{is_in, refer, faults, AreEqual}
 use Rattle.lru_theory.specs.Inclusion.{KeyCall, refers, promotes, removes, clears, looks, after_call, after_calls}
 use Rattle.lru_theory.specs.Inclusion.{IsSubsequence, none, both, skips, IsIncluded}
 use Rattle.lru_theory.proofs.EqualKeys.{head_equal, tail_equal, named_alike, equal_long}

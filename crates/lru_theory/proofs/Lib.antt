@@ -1,8 +1,12 @@
 pub mod Affordable
+pub mod BestMisses
+pub mod BestRuns
 pub mod Bounds
 pub mod EqualKeys
 pub mod Inclusions
 pub mod Lists
+pub mod Nears
+pub mod Nexts
 pub mod LongerTraces
 pub mod OtherPolicies
 pub mod Windows

@@ -1,6 +1,6 @@
 -- One reference more, or one call.
-use Rattle.std.proofs.Common.{◌≡◌, ℕ, ◌+◌, Bool, cond, List, [], ◌∷◌, ◌++◌, take, refl, ap, ◌∙◌, arith}
-use Rattle.lru_theory.specs.Traces.{is_in, is_far, misses, refer, cached, faults, fault, past_after}
+use Rattle.std.proofs.Common.{◌≡◌, ℕ, ◌+◌, Bool, cond, List, [], ◌∷◌, ◌++◌, refl, arith}
+use Rattle.lru_theory.specs.Traces.{is_far, misses, refer, cached, faults, fault, past_after}
 use Rattle.lru_theory.specs.Inclusion.{KeyCall, after_call, after_calls}
 
 module _ {K : Type 0} (eq : K → K → Bool) (n : ℕ) where

@@ -1,17 +1,14 @@
 -- What policies pay for at one reference.
 use Rattle.std.proofs.Common.{◌≡◌, ℕ, zero, suc, ◌+◌, ◌≤◌, ◌<◌, Bool, true, false, cond, List, [], ◌∷◌, ◌++◌, length, take}
-use Rattle.std.proofs.Common.{refl, sym, ap, ◌∙◌, subst, arith}
-use Rattle.std.proofs.lemmas.List.{length-append}
+use Rattle.std.proofs.Common.{refl, ap, ◌∙◌, arith}
 use Rattle.std.specs.Cmp.{IsEquivalence}
 use Rattle.std.specs.Prelude.{◌||◌}
 use Rattle.std.specs.Set.{remove_key}
-use Rattle.lru_theory.specs.Traces.{is_in, refer, fault}
+use Rattle.lru_theory.specs.Traces.{is_in, refer}
 use Rattle.lru_theory.specs.Policies.{Loads, Bypasses, Demands, finds, stores, replaces, outside}
 use Rattle.lru_theory.specs.Policies.{Served, ends, serves}
 use Rattle.lru_theory.proofs.Affordable.{Front, none, both}
-use Rattle.lru_theory.proofs.EqualKeys.{named_alike}
-use Rattle.lru_theory.proofs.Inclusions.{clash}
-use Rattle.lru_theory.proofs.Windows.{Apart, Within, Gains, in_either, in_named, in_less}
+use Rattle.lru_theory.proofs.Windows.{Within, Gains, in_either, in_named, in_less}
 
 module _ {K : Type 0} {eq : K → K → Bool} (laws : IsEquivalence eq) where
   -- the keys of the new cache that were not in the old one

@@ -1,17 +1,16 @@
 -- While LRU misses at most k times, each miss is a reference to another key, and no policy has more keys than it began
 -- with and paid for.
-use Rattle.std.proofs.Common.{◌≡◌, ℕ, zero, suc, ◌+◌, ◌-◌, ◌≤◌, ◌<◌, Bool, true, false, cond, List, [], ◌∷◌, ◌++◌}
-use Rattle.std.proofs.Common.{length, take, refl, sym, ap, ◌∙◌, subst, arith, ◌⊎◌, inl, inr}
+use Rattle.std.proofs.Common.{◌≡◌, ℕ, zero, suc, ◌+◌, ◌≤◌, ◌<◌, Bool, true, false, cond, List, [], ◌∷◌, ◌++◌}
+use Rattle.std.proofs.Common.{length, take, refl, sym, ap, ◌∙◌, arith, ◌⊎◌, inl, inr}
 use Rattle.std.proofs.lemmas.Bool.{cases_lt, or_parts}
 use Rattle.std.proofs.lemmas.List.{length-append}
 use Rattle.std.proofs.lemmas.Map.Made.{length-remove_key}
 use Rattle.std.specs.Cmp.{IsEquivalence}
 use Rattle.std.specs.Prelude.{◌||◌}
 use Rattle.std.specs.Set.{remove_key}
-use Rattle.lru_theory.specs.Traces.{is_in, refer, cached, faults, fault}
+use Rattle.lru_theory.specs.Traces.{is_in, refer, faults, fault}
 use Rattle.lru_theory.specs.Policies.{Served, ends, serves}
 use Rattle.lru_theory.proofs.Affordable.{Front, none, both, front_without, front_in}
-use Rattle.lru_theory.proofs.EqualKeys.{named_alike}
 use Rattle.lru_theory.proofs.Inclusions.{clash, without_missing}
 use Rattle.lru_theory.proofs.Lists.{is_in_without}
 

@@ -3,3 +3,4 @@ pub mod Traces
 pub mod Policies
 pub mod Inclusion
 pub mod Budgets
+pub mod Best

@@ -3,10 +3,11 @@
 //! The functions do nothing: their contracts are the theorems. `docs/THEORY.md` says each in words.
 #![tactic(auto)]
 
-ghost use Rattle.std.specs.Prelude.{◌≡◌, ℕ, ◌+◌, ◌-◌, ◌*◌, ◌≤◌, List, length, take, true};
+ghost use Rattle.std.specs.Prelude.{◌≡◌, ℕ, ◌+◌, ◌-◌, ◌*◌, ◌≤◌, ◌<◌, List, [], length, take, true};
 ghost use Rattle.lru_theory.specs.Budgets.{cached_within, faults_within};
 ghost use Rattle.lru_theory.specs.Traces.{is_in, recency, misses, cached, faults, past_after, AreEqual};
 ghost use Rattle.lru_theory.specs.Policies.{Loads, Demands, Bypasses, Served};
+ghost use Rattle.lru_theory.specs.Best.{min_misses, bypass_misses};
 ghost use Rattle.lru_theory.specs.Inclusion.{KeyCall, after_calls, IsIncluded, IsSubsequence};
 
 /// An LRU cache of n places that contains the n keys that were referenced last contains them after any trace.
@@ -70,4 +71,32 @@ pub fn a_larger_budget_never_misses_more<K: Eq>()
         small ≡ take (length small) (cached_within K.eq cost m keys trace) }
     ensures misses { (cost : K → ℕ) (n m some : ℕ) (keys trace : List K) → n ≤ m →
         faults_within K.eq cost m keys trace ≤ faults_within K.eq cost n (take some keys) trace }
+{}
+
+/// MIN misses least often of all policies that store each key that is referenced, also of those that load keys ahead
+/// and pay for them (`loads`), and so of the demand policies (`demands`). MIN with bypass misses least often of all
+/// policies that contain at most n keys, whatever they leave out or load ahead (`bypasses`). All begin with no keys. MIN is
+/// such a policy itself, if it has a place (`min`), and so is MIN with bypass (`bypass`).
+pub fn min_is_best<K: Eq>()
+    ensures loads { (n : ℕ) (trace left : List K) (paid : ℕ) → Served (Loads K.eq n) left [] trace paid →
+        min_misses K.eq n trace ≤ paid }
+    ensures demands { (n : ℕ) (trace left : List K) (paid : ℕ) → Served (Demands K.eq n) left [] trace paid →
+        min_misses K.eq n trace ≤ paid }
+    ensures bypasses { (n : ℕ) (trace left : List K) (paid : ℕ) → Served (Bypasses K.eq n) left [] trace paid →
+        bypass_misses K.eq n trace ≤ paid }
+    ensures min { (n : ℕ) (trace : List K) → 0 < n →
+        (left : List K) × Served (Loads K.eq n) left [] trace (min_misses K.eq n trace) }
+    ensures bypass { (n : ℕ) (trace : List K) →
+        (left : List K) × Served (Bypasses K.eq n) left [] trace (bypass_misses K.eq n trace) }
+{}
+
+/// How far LRU is from MIN, from no keys. LRU with k ≥ h places misses at most k / (k + 1 - h) times as often as MIN with
+/// h (`min`), and at most k / (k - h) times as often as MIN with bypass (`bypass`), whatever keys LRU begins with. With
+/// the same places it misses at least as often as MIN (`least`).
+pub fn lru_is_near_min<K: Eq>()
+    ensures min { (k h : ℕ) (past trace : List K) → 0 < h → h ≤ k →
+        (k + 1 - h) * misses K.eq k past trace ≤ k * min_misses K.eq h trace }
+    ensures bypass { (k h : ℕ) (past trace : List K) → h ≤ k →
+        (k - h) * misses K.eq k past trace ≤ k * bypass_misses K.eq h trace }
+    ensures least { (n : ℕ) (trace : List K) → 0 < n → min_misses K.eq n trace ≤ misses K.eq n [] trace }
 {}

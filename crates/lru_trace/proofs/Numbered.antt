@@ -11,7 +11,7 @@ use Rattle.std.proofs.lemmas.Bool.{cases_lt, eq-eqb, eqb-true, le-leb, lt-leb}
 use Rattle.std.proofs.lemmas.List.Sums.{sum_by-cons}
 use Rattle.std.proofs.lemmas.Option.{same_Some}
 use Rattle.std.proofs.lemmas.Slice.Eq.{bytes_eq-Decides}
-use Rattle.lru_theory.specs.Traces.{is_in, since, recency, distance, misses}
+use Rattle.lru_theory.specs.Traces.{is_in, since, recency, distance, misses, past_after}
 use Rattle.lru_trace.specs.Counted.{AreNumbered, number_in}
 
 not_none : {A B : Type 0} (x : A) → None ≡ Some x → B
@@ -121,6 +121,19 @@ module _ (number : List ℕ → Option ℕ)
       length_named (recency bytes_eq (since bytes_eq y past)) (recency nat_eq (since nat_eq k ps))
       (recency_named (since bytes_eq y past) (since nat_eq k ps) (since_named y k h.0 past ps before)) in
       rw (misses_named n (y ∷ past) (k ∷ ps) xs ns (h.0, before) h.1, is_in_named y k h.0 past ps before, far) refl
+
+  past_named : (past : List (List ℕ)) (ps : List ℕ) (xs : List (List ℕ)) (ns : List ℕ) → Named number past ps
+      → Named number xs ns → Named number (past_after past xs) (past_after ps ns)
+  past_named past ps [] [] before h = before
+  past_named past ps [] (k ∷ ns) before h = absurd h
+  past_named past ps (y ∷ xs) [] before h = absurd h
+  past_named past ps (y ∷ xs) (k ∷ ns) before h = past_named (y ∷ past) (k ∷ ps) xs ns (h.0, before) h.1
+
+  -- and have as many keys
+  pub keys_named : (xs : List (List ℕ)) (ns : List ℕ) → Named number xs ns
+      → length (recency bytes_eq (past_after [] xs)) ≡ length (recency nat_eq (past_after [] ns))
+  keys_named xs ns h = length_named (recency bytes_eq (past_after [] xs)) (recency nat_eq (past_after [] ns))
+      (recency_named (past_after [] xs) (past_after [] ns) (past_named [] [] xs ns tt h))
 
 -- the place of a key in a list is within the list
 pub position_within : (key : ℕ) (xs : List ℕ) → is_in nat_eq key xs ≡ true → length (since nat_eq key xs) < length xs

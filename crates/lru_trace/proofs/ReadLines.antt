@@ -1,195 +1,91 @@
 -- Lines, one after another, from what is left of an input.
-use Rattle.std.proofs.Common.{◌≡◌, ℕ, zero, suc, ◌+◌, ◌-◌, ◌≤◌, ◌<◌, Bool, true, false, cond, List, [], ◌∷◌, ◌++◌}
-use Rattle.std.proofs.Common.{length, take}
-use Rattle.std.proofs.Common.{Option, Some, None, refl, sym, ap, ◌∙◌, subst, arith, get_or}
-use Rattle.std.specs.Prelude.{not, nat_lt, IfSome, ◌==◌}
-use Rattle.std.specs.List.{filter}
-use Rattle.std.specs.Io.BufRead.{take_through, drop_through, strip_last}
-use Rattle.std.proofs.lemmas.Bool.{lt-ltb, le-ltb, le-leb}
+use Rattle.std.proofs.Common.{◌≡◌, ℕ, ◌+◌, ◌<◌, Bool, true, false, cond, List, [], ◌∷◌, ◌++◌, length}
+use Rattle.std.proofs.Common.{take, get_or, ◌==◌, ◌≤◌, ◌-◌, IfSome, zero, suc, Option, Some, None, OnSome, refl, sym, ap, ◌∙◌, subst, arith, append_assoc}
+use Rattle.std.specs.Prelude.{not, Result, Ok, Err, OnErr}
+use Rattle.std.specs.List.{filter, All}
+use Rattle.std.specs.Io.{StopsAt}
+use Rattle.std.specs.Io.BufRead.{take_through, drop_through, DropsThrough}
+use Rattle.std.specs.Io.KnownBytes.{Consumes, IsAtEnd}
+use Rattle.std.proofs.KnownBytes.{Consumes-trans, Consumes-nil}
+use Rattle.std.proofs.lemmas.Bool.{ne_eqb, eqb-true, le-leb}
+use Rattle.std.proofs.lemmas.Bool.{lt-ltb}
 use Rattle.std.proofs.lemmas.Str.{IsUtf8-from_is_utf8, is_utf8-from_IsUtf8}
 use Rattle.std.specs.Str.{IsUtf8, is_utf8}
-use Rattle.std.proofs.lemmas.List.{append_assoc, append-nil}
+use Rattle.std.proofs.lemmas.List.{append-nil, length-append, take-append-le, take_all, take_more}
+use Rattle.std.proofs.lemmas.List.Elements.{recursion_from_All}
+use Rattle.std.proofs.lemmas.List.Elements.{filter-append}
 use Rattle.lru_trace.specs.Counted.{Counted, IsOf}
-use Rattle.lru_trace.specs.Lines.{lines_of, onto_first, is_key, trace_of, malformed_in}
+use Rattle.lru_trace.specs.Lines.{lines_of, onto_first, fed, LacksFeed, EndsSo, TakesRest, TakesLine, is_key}
+use Rattle.lru_trace.specs.Lines.{trace_of, malformed_in}
+use Rattle.lru_trace.specs.declared.lines.Ending.{Ending}
+use Rattle.lru_trace.specs.declared.lines.Ending.TheVariants as endings
+use Rattle.lru_trace.specs.Outcome.{KeysRead}
 
-clash : {b : Bool} {A : Type 0} → b ≡ true → b ≡ false → A
-clash e h = absurd cc
+-- a line with its line feed comes first
+pub lines_of-fed : (line rest : List ℕ) → LacksFeed line
+    → lines_of (fed line ++ rest) ≡ line ∷ lines_of rest
+lines_of-fed [] rest lacks = refl
+lines_of-fed (b ∷ line) rest lacks = rw (ne_eqb b 10 lacks.0) (ap (onto_first b) (lines_of-fed line rest lacks.1))
 
-strip_more : (b x : ℕ) (xs : List ℕ) → strip_last 10 (b ∷ x ∷ xs) ≡ b ∷ strip_last 10 (x ∷ xs)
-strip_more b x xs =
-    let e : length (b ∷ x ∷ xs) - 1 ≡ suc (length (x ∷ xs) - 1) = omega arith in
-    let some = lt-ltb 0 (length (b ∷ x ∷ xs)) (omega arith) in
-    let more = lt-ltb 0 (length (x ∷ xs)) (omega arith) in
-    rw (e, some, more) (go (get_or (x ∷ xs) (length (x ∷ xs) - 1) 0 == 10))
+-- the last line may lack its line feed
+pub lines_of-last : (line : List ℕ) → LacksFeed line → 0 < length line
+    → lines_of line ≡ line ∷ []
+lines_of-last [] lacks some = absurd (omega arith)
+lines_of-last (b ∷ line) lacks some = go b line lacks
   where
-    go : (t : Bool) → cond t (b ∷ take (length (x ∷ xs) - 1) (x ∷ xs)) (b ∷ x ∷ xs)
-        ≡ b ∷ cond t (take (length (x ∷ xs) - 1) (x ∷ xs)) (x ∷ xs)
-    go true = refl
-    go false = refl
+    go : (b : ℕ) (line : List ℕ) → LacksFeed (b ∷ line) → lines_of (b ∷ line) ≡ (b ∷ line) ∷ []
+    go b [] lacks = rw (ne_eqb b 10 lacks.0) refl
+    go b (c ∷ line) lacks = rw (ne_eqb b 10 lacks.0) (ap (onto_first b) (go c line lacks.1))
 
-strip_one : (b : ℕ) (t : Bool) → (b == 10) ≡ t → strip_last 10 (b ∷ []) ≡ cond t [] (b ∷ [])
-strip_one b true e = rw e refl
-strip_one b false e = rw e refl
+-- what was read up to a line feed, or to the end of the input
+stops_before : (line more : List ℕ) (b : ℕ) → line ++ b ∷ [] ≡ more → StopsAt more 10 → LacksFeed line
+stops_before line more b is stops =
+    let stops : StopsAt (line ++ b ∷ []) 10 = subst (λ l. StopsAt l 10) (sym is) stops in
+    let n : length (line ++ b ∷ []) - 1 ≡ length line = omega (arith, length-append line (b ∷ [])) in
+    recursion_from_All (λ b. b ≡ 10 → ⊥) line (subst (λ l. All (λ b. b ≡ 10 → ⊥) l)
+    (ap (λ n. take n (line ++ b ∷ [])) n ∙ take-append-le (length line) line (b ∷ []) (omega arith)
+    ∙ take_all (length line) line (omega arith)) stops)
 
--- the first line, and the others
-pub first_of_lines : (b : ℕ) (bytes : List ℕ)
-    → lines_of (b ∷ bytes) ≡ strip_last 10 (take_through 10 (b ∷ bytes)) ∷ lines_of (drop_through 10 (b ∷ bytes))
-first_of_lines b [] = go (b == 10) refl
+lacks_more : (line : List ℕ) (b : ℕ) → LacksFeed line → (b ≡ 10 → ⊥) → LacksFeed (line ++ b ∷ [])
+lacks_more [] b lacks other = (other, tt)
+lacks_more (x ∷ line) b lacks other = (lacks.0, lacks_more line b lacks.1 other)
+
+stops_never : (bytes : List ℕ) → StopsAt bytes 10 → ((front : List ℕ) → bytes ≡ fed front → ⊥) → LacksFeed bytes
+stops_never [] stops none = tt
+stops_never (b ∷ bytes) stops none =
+    let all = b ∷ bytes in
+    let n = length bytes in
+    let last = get_or all n 0 in
+    let one : take n all ++ last ∷ [] ≡ all = sym (take_more all n 0 (omega arith)) ∙ take_all (n + 1) all (omega arith) in
+    subst LacksFeed one (lacks_more (take n all) last (stops_before (take n all) all last one stops)
+    (λ e. none (take n all) (sym one ∙ ap (λ x. take n all ++ x ∷ []) e)))
+
+through_all : (bytes : List ℕ) → LacksFeed (take_through 10 bytes) → drop_through 10 bytes ≡ []
+through_all [] lacks = refl
+through_all (b ∷ bytes) lacks = go (b == 10) refl (through_all bytes) lacks
   where
-    go : (t : Bool) → (b == 10) ≡ t → cond t ([] ∷ []) ((b ∷ []) ∷ [])
-        ≡ strip_last 10 (cond t (b ∷ []) (b ∷ [])) ∷ lines_of (cond t [] [])
-    go true e = ap (λ line. line ∷ []) (sym (strip_one b true e))
-    go false e = ap (λ line. line ∷ []) (sym (strip_one b false e))
-first_of_lines b (c ∷ bytes) = go (b == 10) refl (first_of_lines c bytes)
-  where
-    inner : (t : Bool) → strip_last 10 (b ∷ cond t (c ∷ []) (c ∷ take_through 10 bytes))
-        ≡ b ∷ strip_last 10 (cond t (c ∷ []) (c ∷ take_through 10 bytes))
-    inner true = strip_more b c []
-    inner false = strip_more b c (take_through 10 bytes)
+    go : (t : Bool) → (b == 10) ≡ t → (LacksFeed (take_through 10 bytes) → drop_through 10 bytes ≡ [])
+        → LacksFeed (cond t (b ∷ []) (b ∷ take_through 10 bytes)) → cond t bytes (drop_through 10 bytes) ≡ []
+    go true e later lacks = absurd (lacks.0 (eqb-true b 10 e))
+    go false e later lacks = later lacks.1
 
-    go : (t : Bool) → (b == 10) ≡ t
-        → lines_of (c ∷ bytes) ≡ strip_last 10 (take_through 10 (c ∷ bytes)) ∷ lines_of (drop_through 10 (c ∷ bytes))
-        → cond t ([] ∷ lines_of (c ∷ bytes)) (onto_first b (lines_of (c ∷ bytes)))
-        ≡ strip_last 10 (cond t (b ∷ []) (b ∷ take_through 10 (c ∷ bytes)))
-        ∷ lines_of (cond t (c ∷ bytes) (drop_through 10 (c ∷ bytes)))
-    go true e ih = ap (λ line. line ∷ lines_of (c ∷ bytes)) (sym (strip_one b true e))
-    go false e ih = ap (onto_first b) ih
-        ∙ ap (λ line. line ∷ lines_of (drop_through 10 (c ∷ bytes))) (sym (inner (c == 10)))
-
-no_line : (input : List ℕ) → nat_lt 0 (length (take_through 10 input)) ≡ false → input ≡ []
-no_line [] e = refl
-no_line (b ∷ bytes) e = go (b == 10) e
-  where
-    go : (t : Bool) → nat_lt 0 (length (cond t (b ∷ []) (b ∷ take_through 10 bytes))) ≡ false → b ∷ bytes ≡ []
-    go true e = clash (lt-ltb 0 1 (omega arith)) e
-    go false e = clash (lt-ltb 0 (length (b ∷ take_through 10 bytes)) (omega arith)) e
-
-lines_are : (rest : List ℕ) → nat_lt 0 (length (take_through 10 rest)) ≡ true
-    → lines_of rest ≡ strip_last 10 (take_through 10 rest) ∷ lines_of (drop_through 10 rest)
-lines_are [] e = clash e (le-ltb 0 0 (omega arith))
-lines_are (b ∷ bytes) e = first_of_lines b bytes
-
-module _ (rest : List ℕ) (some : nat_lt 0 (length (take_through 10 rest)) ≡ true) where
-  abbrev line : List ℕ
-  line = strip_last 10 (take_through 10 rest)
-
-  abbrev later : List ℕ
-  later = drop_through 10 rest
-
-  trace_key : is_key line ≡ true → trace_of rest ≡ line ∷ trace_of later
-  trace_key is =
-      ap (filter is_key) (lines_are rest some)
-      ∙ ap (λ b. cond b (line ∷ filter is_key (lines_of later)) (filter is_key (lines_of later))) is
-
-  trace_other : is_key line ≡ false → trace_of rest ≡ trace_of later
-  trace_other is =
-      ap (filter is_key) (lines_are rest some)
-      ∙ ap (λ b. cond b (line ∷ filter is_key (lines_of later)) (filter is_key (lines_of later))) is
-
-  malformed_is : (t : Bool) → is_key line ≡ t → malformed_in rest ≡ cond t 0 1 + malformed_in later
-  malformed_is t is =
-      ap (λ ls. length (filter (λ l. not (is_key l)) ls)) (lines_are rest some)
-      ∙ ap (λ b. length (cond (not b) (line ∷ filter (λ l. not (is_key l)) (lines_of later))
-      (filter (λ l. not (is_key l)) (lines_of later)))) is
-      ∙ go t
+module _ (from to : Option (List ℕ)) (bytes : List ℕ) (stops : StopsAt bytes 10) (reads : Consumes from to bytes)
+    (is : IfSome from (λ input. bytes ≡ take_through 10 input)) (on : DropsThrough from to 10) where
+  rest_taken : LacksFeed bytes → TakesRest from to bytes
+  rest_taken lacks = (lacks, reads, go from is on)
     where
-      go : (t : Bool) → length (cond (not t) (line ∷ filter (λ l. not (is_key l)) (lines_of later))
-          (filter (λ l. not (is_key l)) (lines_of later))) ≡ cond t 0 1 + malformed_in later
-      go true = omega arith
-      go false = omega arith
+      go : (from : Option (List ℕ)) → IfSome from (λ input. bytes ≡ take_through 10 input) → DropsThrough from to 10
+          → OnSome from (IsAtEnd to)
+      go None is on = tt
+      go (Some input) is on = subst IsAtEnd (sym on) (through_all input (subst LacksFeed is lacks))
 
--- An input was read up to a rest. The curve counts the keys that were read, and `malformed` lines spelled no key.
-pub record ReadsFrom (input : List ℕ) (left : Option (List ℕ)) (first now : Counted) (malformed : ℕ) : Type 0 where
-  pub rest : List ℕ
-  pub known : left ≡ Some rest
-  pub lines : malformed_in input ≡ malformed + malformed_in rest
-  pub trace : (before : List (List ℕ)) → IsOf before first
-      → (done : List (List ℕ)) × IsOf done now × (before ++ trace_of input ≡ done ++ trace_of rest)
+  pub line_taken : (ending : Ending) (line : List ℕ) → EndsSo ending bytes line → TakesLine from to ending line
+  line_taken endings.Feed line e = (stops_before line bytes 10 (sym e) stops, subst (Consumes from to) e reads)
+  line_taken endings.InputEnd line (same, some, none) =
+      (subst (TakesRest from to) (sym same) (rest_taken (stops_never bytes stops none)), some)
+  line_taken endings.Nothing line (same, none) =
+      (subst (TakesRest from to) (sym same) (rest_taken (subst LacksFeed (sym none ∙ same) tt)), none)
 
-abbrev pub Reads : Option (List ℕ) → Option (List ℕ) → Counted → Counted → ℕ → Type 0
-Reads None left first now malformed = Unit {0}
-Reads (Some input) left first now malformed = ReadsFrom input left first now malformed
-
-module _ (all left next : Option (List ℕ)) (first now : Counted) (malformed : ℕ) (bytes : List ℕ)
-    (is : IfSome left (λ rest. bytes ≡ take_through 10 rest))
-    (on : IfSome left (λ rest. next ≡ Some (drop_through 10 rest))) where
-  pub reads_key : (new : Counted) → Reads all left first now malformed → nat_lt 0 (length bytes) ≡ true
-      → is_key (strip_last 10 bytes) ≡ true
-      → ((trace : List (List ℕ)) → IsOf trace now → IsOf (trace ++ strip_last 10 bytes ∷ []) new)
-      → Reads all next first new malformed
-  reads_key new r some key of = go all r
-    where
-      go : (all : Option (List ℕ)) → Reads all left first now malformed → Reads all next first new malformed
-      go None r = tt
-      go (Some input) r =
-          let same : bytes ≡ take_through 10 r.rest = subst (λ o. IfSome o (λ rest. bytes ≡ take_through 10 rest))
-          r.known is in
-          let more : nat_lt 0 (length (take_through 10 r.rest)) ≡ true = ap (λ b. nat_lt 0 (length b)) (sym same) ∙
-          some in
-          let named : is_key (strip_last 10 (take_through 10 r.rest)) ≡ true = ap (λ b. is_key (strip_last 10 b))
-          (sym same) ∙ key in
-          record {
-            rest = drop_through 10 r.rest;
-            known = subst (λ o. IfSome o (λ rest. next ≡ Some (drop_through 10 rest))) r.known on;
-            lines = omega (arith, r.lines, malformed_is r.rest more true named);
-            trace = λ before was.
-                let known = r.trace before was in (
-                  known.0 ++ strip_last 10 bytes ∷ [],
-                  of known.0 known.1,
-                  known.2 ∙ ap (λ ks. known.0 ++ ks) (trace_key r.rest more named)
-                      ∙ ap (λ b. known.0 ++ strip_last 10 b ∷ trace_of (drop_through 10 r.rest)) (sym same)
-                      ∙ sym (append_assoc known.0 (strip_last 10 bytes ∷ []) (trace_of (drop_through 10 r.rest))),
-                );
-          }
-
-  pub reads_other : Reads all left first now malformed → nat_lt 0 (length bytes) ≡ true
-      → is_key (strip_last 10 bytes) ≡ false → Reads all next first now (malformed + 1)
-  reads_other r some key = go all r
-    where
-      go : (all : Option (List ℕ)) → Reads all left first now malformed → Reads all next first now (malformed + 1)
-      go None r = tt
-      go (Some input) r =
-          let same : bytes ≡ take_through 10 r.rest = subst (λ o. IfSome o (λ rest. bytes ≡ take_through 10 rest))
-          r.known is in
-          let more : nat_lt 0 (length (take_through 10 r.rest)) ≡ true = ap (λ b. nat_lt 0 (length b)) (sym same) ∙
-          some in
-          let none : is_key (strip_last 10 (take_through 10 r.rest)) ≡ false = ap (λ b. is_key (strip_last 10 b))
-          (sym same) ∙ key in
-          record {
-            rest = drop_through 10 r.rest;
-            known = subst (λ o. IfSome o (λ rest. next ≡ Some (drop_through 10 rest))) r.known on;
-            lines = omega (arith, r.lines, malformed_is r.rest more false none);
-            trace = λ before was.
-                let known = r.trace before was in
-                (known.0, known.1, known.2 ∙ ap (λ ks. known.0 ++ ks) (trace_other r.rest more none));
-          }
-
-  -- at the end of the input
-  pub reads_all : Reads all left first now malformed → nat_lt 0 (length bytes) ≡ false
-      → IfSome all (λ input. (trace : List (List ℕ)) → IsOf trace first → IsOf (trace ++ trace_of input) now)
-      × IfSome all (λ input. malformed ≡ malformed_in input)
-  reads_all r none = go all r
-    where
-      go : (all : Option (List ℕ)) → Reads all left first now malformed
-          → IfSome all (λ input. (trace : List (List ℕ)) → IsOf trace first → IsOf (trace ++ trace_of input) now)
-          × IfSome all (λ input. malformed ≡ malformed_in input)
-      go None r = (tt, tt)
-      go (Some input) r =
-          let same : bytes ≡ take_through 10 r.rest = subst (λ o. IfSome o (λ rest. bytes ≡ take_through 10 rest))
-          r.known is in
-          let empty = no_line r.rest (ap (λ b. nat_lt 0 (length b)) (sym same) ∙ none) in (
-            λ trace was.
-                let known = r.trace trace was in
-                subst (λ ks. IsOf ks now) (sym (known.2 ∙ ap (λ b. known.0 ++ trace_of b) empty ∙ append-nil known.0))
-                known.1,
-            sym (r.lines ∙ ap (λ b. malformed + malformed_in b) empty ∙ omega arith),
-          )
-
-pub nonempty : (n : ℕ) → false ≡ (n == 0) → 0 < n
-nonempty zero e = absurd cc
-nonempty (suc n) e = omega arith
-
--- whether a line of 1 to 64 bytes is a key
 pub key_by_text : (line : List ℕ) → 0 < length line → length line ≤ 64 → is_key line ≡ is_utf8 line
 key_by_text line some few = rw (lt-ltb 0 (length line) some, le-leb (length line) 64 few) refl
 
@@ -202,3 +98,104 @@ not_key line some few no_text = key_by_text line some few ∙ go (is_utf8 line) 
 
 pub a_key : (line : List ℕ) → 0 < length line → length line ≤ 64 → IsUtf8 line → is_key line ≡ true
 a_key line some few text = key_by_text line some few ∙ is_utf8-from_IsUtf8 line text
+
+pub nonempty : (n : ℕ) → false ≡ (n == 0) → 0 < n
+nonempty zero e = absurd cc
+nonempty (suc n) e = omega arith
+
+-- what is at its end after a read was so far known before
+pub ended_before : (a b c : Option (List ℕ)) (bytes : List ℕ) → Consumes a b bytes → OnSome b (IsAtEnd c)
+    → OnSome a (IsAtEnd c)
+ended_before None b c bytes p q = tt
+ended_before (Some x) None c bytes p q = absurd p
+ended_before (Some x) (Some y) c bytes p q = q
+
+pub some_part : {A E : Type 0} (r : Result A E) (a b c : Option (List ℕ)) (bytes more : List ℕ) → Consumes a b bytes
+    → Consumes b c more → OnErr r ((part : List ℕ) × Consumes a c part)
+some_part (Ok x) a b c bytes more p q = tt
+some_part (Err e) a b c bytes more p q = (bytes ++ more, Consumes-trans a b c bytes more p q)
+
+-- Whole lines were read. The curve counts the keys that they spell, and `malformed` of them spell none.
+pub record ReadSoFar (from to : Option (List ℕ)) (curve : Counted) (malformed : ℕ) : Type 0 where
+  pub bytes : List ℕ
+  pub whole : (rest : List ℕ) → lines_of (bytes ++ rest) ≡ lines_of bytes ++ lines_of rest
+  pub reads : Consumes from to bytes
+  pub curve_of : IsOf (trace_of (lines_of bytes)) curve
+  pub others : malformed ≡ malformed_in (lines_of bytes)
+
+pub none_read : (from : Option (List ℕ)) (curve : Counted) → IsOf [] curve → ReadSoFar from from curve 0
+none_read from curve is =
+    record { bytes = []; whole = λ rest. refl; reads = Consumes-nil from; curve_of = is; others = refl }
+
+malformed_more : (lines : List (List ℕ)) (line : List ℕ)
+    → malformed_in (lines ++ line ∷ []) ≡ malformed_in lines + cond (not (is_key line)) 1 0
+malformed_more lines line = ap length (filter-append (λ l. not (is_key l)) lines (line ∷ []))
+    ∙ length-append (filter (λ l. not (is_key l)) lines) (filter (λ l. not (is_key l)) (line ∷ []))
+    ∙ ap (λ n. malformed_in lines + n) (go (not (is_key line)))
+  where
+    go : (t : Bool) → length (cond t (line ∷ []) []) ≡ cond t 1 0
+    go true = refl
+    go false = refl
+
+module _ {from mid : Option (List ℕ)} {old : Counted} {malformed : ℕ} (so_far : ReadSoFar from mid old malformed)
+    (to : Option (List ℕ)) (line : List ℕ) where
+  -- at the end of the input
+  pub all_read : TakesRest mid to line → line ≡ [] → KeysRead from to old malformed
+  all_read taken none = record {
+    input = so_far.bytes ++ line;
+    reads = Consumes-trans from mid to so_far.bytes line so_far.reads taken.1;
+    at_end = ended_before from mid to so_far.bytes so_far.reads taken.2;
+    curve_of = subst (λ ls. IsOf (trace_of ls) old) same so_far.curve_of;
+    others = so_far.others ∙ ap malformed_in same;
+  }
+    where
+      same : lines_of so_far.bytes ≡ lines_of (so_far.bytes ++ line)
+      same = ap lines_of (sym (append-nil so_far.bytes) ∙ ap (λ l. so_far.bytes ++ l) (sym none))
+
+  module _ (new : Counted) (follows : (trace : List (List ℕ)) → IsOf trace old → IsOf (trace ++ trace_of (line ∷ [])) new)
+    where
+      abbrev more : ℕ
+      more = malformed + cond (not (is_key line)) 1 0
+
+      counted : (bytes : List ℕ) → lines_of bytes ≡ lines_of so_far.bytes ++ line ∷ []
+          → IsOf (trace_of (lines_of bytes)) new × (more ≡ malformed_in (lines_of bytes))
+      counted bytes is = (
+        subst (λ ks. IsOf ks new)
+            (sym (filter-append is_key (lines_of so_far.bytes) (line ∷ [])) ∙ ap trace_of (sym is))
+            (follows (trace_of (lines_of so_far.bytes)) so_far.curve_of),
+        ap (λ n. n + cond (not (is_key line)) 1 0) so_far.others ∙ sym (malformed_more (lines_of so_far.bytes) line)
+            ∙ ap malformed_in (sym is),
+      )
+
+      -- one line more
+      pub line_read : TakesLine mid to endings.Feed line → ReadSoFar from to new more
+      line_read taken =
+          let one : (rest : List ℕ) → lines_of (so_far.bytes ++ (fed line ++ rest))
+          ≡ lines_of so_far.bytes ++ (line ∷ lines_of rest) = λ rest. so_far.whole (fed line ++ rest)
+          ∙ ap (λ ls. lines_of so_far.bytes ++ ls) (lines_of-fed line rest taken.0) in
+          let is : lines_of (so_far.bytes ++ fed line) ≡ lines_of so_far.bytes ++ line ∷ []
+          = ap (λ bs. lines_of (so_far.bytes ++ bs)) (sym (append-nil (fed line))) ∙ one [] in
+          let count = counted (so_far.bytes ++ fed line) is in
+          record {
+            bytes = so_far.bytes ++ fed line;
+            whole = λ rest. ap lines_of (append_assoc so_far.bytes (fed line) rest) ∙ one rest
+                ∙ sym (append_assoc (lines_of so_far.bytes) (line ∷ []) (lines_of rest))
+                ∙ ap (λ ls. ls ++ lines_of rest) (sym is);
+            reads = Consumes-trans from mid to so_far.bytes (fed line) so_far.reads taken.1;
+            curve_of = count.0;
+            others = count.1;
+          }
+
+      -- the last line, without a line feed
+      pub last_read : TakesRest mid to line → 0 < length line → KeysRead from to new more
+      last_read taken some =
+          let is : lines_of (so_far.bytes ++ line) ≡ lines_of so_far.bytes ++ line ∷ []
+          = so_far.whole line ∙ ap (λ ls. lines_of so_far.bytes ++ ls) (lines_of-last line taken.0 some) in
+          let count = counted (so_far.bytes ++ line) is in
+          record {
+            input = so_far.bytes ++ line;
+            reads = Consumes-trans from mid to so_far.bytes line so_far.reads taken.1;
+            at_end = ended_before from mid to so_far.bytes so_far.reads taken.2;
+            curve_of = count.0;
+            others = count.1;
+          }

@@ -3,4 +3,6 @@ pub mod Nodes
 pub mod Slots
 pub mod Counted
 pub mod Lines
+pub mod Sizes
+pub mod Report
 pub mod Outcome

@@ -1,9 +1,69 @@
--- How a trace ends.
-use Rattle.std.specs.Prelude.{ℕ, Result, Ok, Err}
+-- How a trace ends: what was read and written then.
+use Rattle.std.specs.Prelude.{◌≡◌, ℕ, ◌≤◌, List, [], ◌∷◌, ◌++◌, length, Option, OnSome, Some, None, Result, Ok, Err}
+use Rattle.std.specs.Io.KnownBytes.{Consumes, IsAtEnd, Appends, Keeps}
 use Rattle.lru_trace.specs.declared.outcome.TraceEnd.{TraceEnd}
 use Rattle.lru_trace.specs.declared.outcome.TraceEnd.TheVariants as ends
 use Rattle.lru_trace.specs.declared.outcome.TraceError.{TraceError}
 use Rattle.lru_trace.specs.declared.outcome.TraceError.TheVariants as errors
+use Rattle.lru_trace.specs.Counted.{Counted, IsOf}
+use Rattle.lru_trace.specs.Lines.{lines_of, trace_of, malformed_in}
+use Rattle.lru_trace.specs.Report.{output}
+use Rattle.lru_trace.specs.Sizes.{sizes_from}
+
+-- A reader had the bytes `from` left, if they are known, and has `to` left now. All that was left was read, and this is
+-- the curve of the keys that its lines spell.
+pub record KeysRead (from to : Option (List ℕ)) (curve : Counted) (malformed : ℕ) : Type 0 where
+  pub input : List ℕ
+  pub reads : Consumes from to input
+  pub at_end : OnSome from (IsAtEnd to)
+  pub curve_of : IsOf (trace_of (lines_of input)) curve
+  pub others : malformed ≡ malformed_in (lines_of input)
+
+-- All that was left was read. The first line names the sizes, and this is the curve of the keys that the others spell.
+pub record TraceRead (from to : Option (List ℕ)) (sizes : List ℕ) (curve : Counted) (malformed : ℕ) : Type 0 where
+  pub input : List ℕ
+  pub first : List ℕ
+  pub others : List (List ℕ)
+  pub reads : Consumes from to input
+  pub at_end : OnSome from (IsAtEnd to)
+  pub lines : lines_of input ≡ first ∷ others
+  pub named : sizes_from [] None first ≡ Some sizes
+  pub curve_of : IsOf (trace_of others) curve
+  pub count : malformed ≡ malformed_in others
+
+-- One line was read, or none, and it names no sizes.
+pub record NoSizesRead (from to : Option (List ℕ)) : Type 0 where
+  pub input : List ℕ
+  pub reads : Consumes from to input
+  pub one : length (lines_of input) ≤ 1
+  pub none : output (lines_of input) ≡ None
+
+-- some bytes were read
+abbrev pub SomeRead : Option (List ℕ) → Option (List ℕ) → Type 0
+SomeRead from to = (part : List ℕ) × Consumes from to part
+
+-- A writer's bytes were `old` and are `new`: a beginning of the text was written.
+abbrev pub Begins : Option (List ℕ) → Option (List ℕ) → List ℕ → Type 0
+Begins old new text = (begun rest : List ℕ) × (text ≡ begun ++ rest) × Appends old new begun
+
+-- All was read, and of the text that the lines determine was written what `IsWritten` says. Of a reader that does not say
+-- what it has left, `input` is what was read.
+pub record Reported (from to : Option (List ℕ)) (IsWritten : List ℕ → Type 0) : Type 0 where
+  pub input : List ℕ
+  pub text : List ℕ
+  pub reads : Consumes from to input
+  pub at_end : OnSome from (IsAtEnd to)
+  pub determined : output (lines_of input) ≡ Some text
+  pub written : IsWritten text
+
+-- what a trace read and wrote, by how it ended
+abbrev pub Ends : Option (List ℕ) → Option (List ℕ) → Option (List ℕ) → Option (List ℕ) → Result TraceEnd TraceError
+    → Type 0
+Ends from to old new (Ok ends.Done) = Reported from to (Appends old new)
+Ends from to old new (Ok ends.NoSizes) = NoSizesRead from to × Keeps old new
+Ends from to old new (Err errors.Read) = SomeRead from to × Keeps old new
+Ends from to old new (Err errors.Memory) = SomeRead from to × Keeps old new
+Ends from to old new (Err errors.Write) = Reported from to (Begins old new)
 
 -- the exit status of each end
 abbrev pub status_of : Result TraceEnd TraceError → ℕ

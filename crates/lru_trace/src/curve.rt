@@ -4,6 +4,7 @@ ghost use Rattle.std.specs.Prelude.{take, sum};
 ghost use Rattle.std.specs.Str.{bytes_eq};
 ghost use Rattle.lru_theory.specs.Traces.{misses};
 ghost use Rattle.lru_trace.specs.Counted.{Counted, IsOf, number_in};
+ghost use Rattle.lru_trace.specs.Report.{keys};
 
 use crate::distances::Distances;
 use std::alloc::{AllocError, Global};
@@ -134,14 +135,16 @@ impl Curve {
 
     /// Returns how many references there were.
     pub fn references(&self) -> u64
-        ensures { result ≡ self.now.references }
+        ensures value { result ≡ self.now.references }
+        ensures all { (trace : List (List ℕ)) → IsOf trace self.now → result ≡ length trace }
     {
         self.references
     }
 
     /// Returns how many keys were referenced.
     pub fn keys(&self) -> usize
-        ensures { result ≡ length self.now.recency }
+        ensures value { result ≡ length self.now.recency }
+        ensures all { (trace : List (List ℕ)) → IsOf trace self.now → result ≡ keys trace }
     {
         self.firsts
     }
@@ -150,8 +153,9 @@ impl Curve {
     ///
     /// Cost: `O(places)`, and at most in proportion to the number of keys.
     pub fn misses(&self, places: usize) -> u64
-        ensures { (trace : List (List ℕ)) → IsOf trace self.now →
+        ensures all { (trace : List (List ℕ)) → IsOf trace self.now →
             result ≡ misses bytes_eq places [] trace }
+        ensures most { result ≤ self.now.references }
     {
         let mut misses = self.references;
         let places = places.min(self.counts.len());

@@ -8,8 +8,10 @@ mod curve;
 mod distances;
 mod lines;
 mod outcome;
+mod output;
 mod progress;
 mod report;
+mod sizes;
 mod traces;
 mod tree;
 

@@ -29,6 +29,10 @@ pub enum TraceError {
 }
 
 impl From<AllocError> for TraceError {
+    ghost use Rattle.lru_trace.specs.declared.outcome.TraceError.TheVariants.{Memory};
+
+    ghost from_gives = { λ _ e. e ≡ Memory };
+
     fn from(_: AllocError) -> Self {
         TraceError::Memory
     }

@@ -1,39 +1,87 @@
 //! A trace, from the lines of a reader to the report of a writer.
+ghost use Rattle.std.specs.Prelude.{◌≢◌, IfOk, OnErr, IfErr, MatchOption};
+ghost use Rattle.lru_trace.specs.Outcome.{Ends, TraceRead, NoSizesRead, SomeRead};
+
 use crate::curve::Curve;
-use crate::lines::{read_keys, read_line, sizes_of};
+use crate::lines::{Ending, read_keys, read_line};
 use crate::outcome::{TraceEnd, TraceError};
+use crate::output::write_bytes;
 use crate::progress::Progress;
-use crate::report::write_report;
+use crate::report::report_of;
+use crate::sizes::sizes_of;
 use std::alloc::Global;
 use std::io::{BufRead, Write};
 
-/// Reads a trace, and writes how often LRU caches of each size miss at it. No contract says what is written: it is
-/// tested.
+/// A trace that was read.
+#[derive(Drop)]
+struct Lines {
+    sizes: Vec<usize>,
+    curve: Curve,
+    malformed: u64,
+}
+
+/// Reads the sizes and the keys. Returns `None` if the first line names no sizes; no other line is read then.
+fn read_trace<R: BufRead, P: Write>(
+    alloc: Global,
+    reader: &mut R,
+    progress: &mut Progress<P>,
+) -> Result<Option<Lines>, TraceError>
+    ensures ok { IfOk result (λ read. MatchOption read (NoSizesRead (R.remaining reader.old) (R.remaining reader.new))
+        (λ t. TraceRead (R.remaining reader.old) (R.remaining reader.new) t.sizes.items t.curve t.malformed)) }
+    ensures err { OnErr result (SomeRead (R.remaining reader.old) (R.remaining reader.new)) }
+    ensures kind { IfErr result (λ e. e ≢ TraceError.Write) }
+{
+    let mut line = Vec::new(alloc);
+    let ending = read_line(reader, &mut line)?;
+    let Some(sizes) = sizes_of(alloc, &line)? else {
+        return Ok(None);
+    };
+    let mut curve = Curve::new(alloc)?;
+    let Ending::Feed = ending else {
+        let malformed = 0;
+        return Ok(Some(Lines {
+            sizes,
+            curve,
+            malformed,
+        }));
+    };
+    let malformed = read_keys(reader, &mut line, &mut curve, progress)?;
+    Ok(Some(Lines {
+        sizes,
+        curve,
+        malformed,
+    }))
+}
+
+/// Reads a trace, and writes how often LRU caches of each size miss at it. What is written is a function of the bytes
+/// that were read: `docs/TRACE.md` shows it.
 ///
 /// The first line names sizes, and each other line is a key that is referenced: text of 1 to 64 bytes. Other lines are
-/// counted as malformed. `docs/TRACE.md` shows the report. The number of lines is written to `progress` after each
-/// million.
+/// counted as malformed. The number of lines is written to `progress` after each million.
 ///
 /// Cost: `O(log n)` expected for each line and n keys. The memory is in proportion to the number of keys and the
 /// longest line.
 ///
 /// # Errors
 ///
-/// `Read`, `Write` or `Memory`: a read failed, a write or the flush failed, or there was no memory.
+/// `Read` or `Memory`: a read failed, or there was no memory; nothing was written. `Write`: a write or the flush failed;
+/// a beginning of the report was written.
 pub fn trace<R: BufRead, W: Write, P: Write>(
     alloc: Global,
     reader: &mut R,
     writer: &mut W,
     progress: &mut Progress<P>,
-) -> Result<TraceEnd, TraceError> {
-    let mut line = Vec::new(alloc);
-    let _there = read_line(reader, &mut line)?;
-    let Some(sizes) = sizes_of(alloc, &line)? else {
+) -> Result<TraceEnd, TraceError>
+    ensures { Ends (R.remaining reader.old) (R.remaining reader.new) (W.contents writer.old) (W.contents writer.new)
+        result }
+{
+    let Some(read) = read_trace(alloc, reader, progress)? else {
         return Ok(TraceEnd::NoSizes);
     };
-    let mut curve = Curve::new(alloc)?;
-    let malformed = read_keys(reader, &mut line, &mut curve, progress)?;
-    write_report(alloc, writer, &curve, malformed, &sizes)?;
+    let report = report_of(alloc, &read.curve, read.malformed, &read.sizes)?;
+    if !write_bytes(writer, &report) {
+        return Err(TraceError::Write);
+    }
     match writer.flush() {
         Ok(()) => Ok(TraceEnd::Done),
         Err(_) => Err(TraceError::Write),

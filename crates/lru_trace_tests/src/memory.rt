@@ -1,5 +1,5 @@
 //! Curves of many keys, and the memory that references give back. No clause says that memory is found or given back.
-use lru_trace::{Curve, TraceError};
+use lru_trace::{Curve, Progress, TraceError, status, trace};
 use std::alloc::Global;
 use std::test::Fail;
 use test_helpers::{Hog, check};
@@ -39,5 +39,18 @@ fn references_give_their_memory_back(rt: HostRuntime) -> Result<(), Fail> {
     }
     drop(hog);
     check!(rt; (met, curve.misses(19)) == (200_000, 200_200));
+    Ok(())
+}
+
+/// Without memory a trace writes nothing, and ends with the status 3.
+#[test]
+fn a_trace_without_memory(rt: HostRuntime) -> Result<(), Fail> {
+    let mut report = Vec::new(rt.alloc());
+    let mut progress = Progress::new(rt.alloc(), None::<Vec<u8>>);
+    let mut lines = b"1\na\n".as_slice();
+    let hog = Hog::but(rt.alloc(), 0)?;
+    let end = trace(rt.alloc(), &mut lines, &mut report, &mut progress);
+    drop(hog);
+    check!(rt; (status(&end), report.len()) == (3, 0));
     Ok(())
 }

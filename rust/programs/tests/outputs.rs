@@ -58,3 +58,40 @@ fn arguments() {
         assert!(String::from_utf8_lossy(&unknown.stderr).contains("unknown argument -x"));
     }
 }
+
+/// Each case of the folder `cases` of `trace`, whose reports `crates/trace/cases.py` counts.
+#[test]
+fn cases_of_trace() {
+    let folder = Path::new(env!("CARGO_MANIFEST_DIR")).join("../../crates/trace/cases");
+    let mut cases = 0;
+    for file in fs::read_dir(folder).unwrap().map(|file| file.unwrap().path()) {
+        if file.extension().is_some() {
+            continue;
+        }
+        let expected = fs::read(file.with_extension("stdout")).unwrap();
+        let run = Command::new(env!("CARGO_BIN_EXE_trace")).stdin(File::open(&file).unwrap()).output().unwrap();
+        assert!(run.stdout == expected, "{}: {}", file.display(), String::from_utf8_lossy(&run.stdout));
+        assert_eq!(run.status.code(), Some(i32::from(expected.is_empty())), "{}", file.display());
+        cases += 1;
+    }
+    assert!(cases > 10);
+}
+
+/// Runs `trace` on this input, with its output to this file, and returns its status.
+#[cfg(target_os = "linux")]
+fn status_of_trace(input: &Path, output: &str) -> Option<i32> {
+    let output = File::options().write(true).open(output).unwrap();
+    let mut run = Command::new(env!("CARGO_BIN_EXE_trace"));
+    run.stdin(File::open(input).unwrap()).stdout(output).status().unwrap().code()
+}
+
+/// The statuses of `trace`. A directory cannot be read, and a full device cannot be written.
+#[cfg(target_os = "linux")]
+#[test]
+fn statuses_of_trace() {
+    let cases = Path::new(env!("CARGO_MANIFEST_DIR")).join("../../crates/trace/cases");
+    assert_eq!(status_of_trace(&cases.join("cycle"), "/dev/null"), Some(0));
+    assert_eq!(status_of_trace(&cases.join("no_sizes"), "/dev/null"), Some(1));
+    assert_eq!(status_of_trace(&cases, "/dev/null"), Some(2));
+    assert_eq!(status_of_trace(&cases.join("cycle"), "/dev/full"), Some(2));
+}

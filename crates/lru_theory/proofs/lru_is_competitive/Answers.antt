@@ -1,4 +1,4 @@
-use Rattle.std.proofs.Common.{◌≡◌, ◌+◌, ◌-◌, ◌*◌, ◌≤◌, ℕ, take, length, subst, arith}
+use Rattle.std.proofs.Common.{◌≡◌, ◌+◌, ◌-◌, ◌*◌, ◌≤◌, take, length, subst, arith}
 use Rattle.lru_theory.specs.Traces.{recency, faults, misses}
 use Rattle.lru_theory.specs.Policies.{Loads, Bypasses}
 use Rattle.lru_theory.proofs.Lists.{faults_is}

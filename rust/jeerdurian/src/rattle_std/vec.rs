@@ -44,6 +44,20 @@ impl<T> Vec<T> {
         Ok(())
     }
 
+    /// Adds copies of the items.
+    pub fn extend_from_slice(&mut self, items: &[T]) -> Result<(), AllocError>
+    where
+        T: Copy,
+    {
+        self.0.try_reserve(items.len()).map_err(|_| AllocError)?;
+        self.0.extend_from_slice(items);
+        Ok(())
+    }
+
+    pub fn truncate(&mut self, n: usize) {
+        self.0.truncate(n);
+    }
+
     /// Adds an item, for which there is memory.
     #[inline]
     pub fn push_reserved(&mut self, item: T) {

@@ -21,15 +21,6 @@ impl<T> Vec<T> {
         made
     }
 
-    pub fn extend_from_slice(&mut self, items: &[T]) -> Result<(), AllocError>
-    where
-        T: Copy,
-    {
-        self.as_std_mut().try_reserve(items.len()).map_err(|_| AllocError)?;
-        self.as_std_mut().extend_from_slice(items);
-        Ok(())
-    }
-
     pub fn insert(&mut self, at: usize, item: T) -> Result<(), AllocError> {
         self.as_std_mut().try_reserve(1).map_err(|_| AllocError)?;
         self.as_std_mut().insert(at, item);

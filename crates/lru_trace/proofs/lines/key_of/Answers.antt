@@ -1,20 +1,14 @@
-use Rattle.std.proofs.Common.{length, sym, ap, ◌∙◌}
-use Rattle.lru_trace.specs.Lines.{is_key}
+use Rattle.std.proofs.Common.{length}
 use Rattle.lru_trace.proofs.ReadLines.{a_key, not_key, nonempty}
 use Rattle.lru_trace.proofs.lines.key_of.Goals as goal
 
 pub returns-in-Ok : goal.returns-in-Ok
 returns-in-Ok c =
-    let line = c.without_feed-line.result.now in
-    let is = c.in-Ok.ensures.cases in (
-      is.0 ∙ c.without_feed-line.ensures,
-      ap is_key (sym c.without_feed-line.ensures) ∙ a_key line (nonempty (length line) c.if-is_empty.ensures)
-          c.if-line-gt-LONGEST_KEY.false is.1,
-    )
+    let line = c.args.line.now in
+    let is = c.in-Ok.ensures.cases in
+    (is.0, a_key line (nonempty (length line) c.if-is_empty.ensures) c.if-line-gt-LONGEST_KEY.false is.1)
 
 pub returns-in-Err : goal.returns-in-Err
 returns-in-Err c =
-    let line = c.without_feed-line.result.now in
-    let is = c.in-Err.ensures.cases in
-    ap is_key (sym c.without_feed-line.ensures) ∙ not_key line (nonempty (length line) c.if-is_empty.ensures)
-    c.if-line-gt-LONGEST_KEY.false is.0
+    let line = c.args.line.now in
+    not_key line (nonempty (length line) c.if-is_empty.ensures) c.if-line-gt-LONGEST_KEY.false c.in-Err.ensures.cases.0

@@ -1,58 +1,72 @@
-use Rattle.std.proofs.Common.{◌≡◌, ℕ, [], ◌∷◌, ◌++◌, List, length, true, false, sym, ap, ◌∙◌, subst, arith}
-use Rattle.std.specs.Prelude.{nat_lt}
-use Rattle.std.specs.Io.BufRead.{strip_last}
+use Rattle.std.proofs.Common.{◌≡◌, ℕ, ◌+◌, ◌≤◌, Bool, true, false, List, [], ◌∷◌, ◌++◌, ◌∙◌, arith, refl, cond, ap, sym, subst}
+use Rattle.std.specs.Prelude.{not}
+use Rattle.std.specs.Int.{from_bool}
 use Rattle.lru_trace.specs.Counted.{IsOf}
-use Rattle.lru_trace.specs.Lines.{is_key}
-use Rattle.lru_trace.proofs.ReadLines.{reads_key, reads_other, reads_all}
-use Rattle.lru_trace.proofs.lines.read_keys.Goals.{in-Some+in_ok-refer-in-Some, in-None}
+use Rattle.lru_trace.specs.Lines.{fed, is_key, trace_of}
+use Rattle.lru_trace.specs.Outcome.{KeysRead}
+use Rattle.lru_trace.proofs.ReadLines.{ReadSoFar, none_read, line_read, last_read, some_part}
 use Rattle.lru_trace.proofs.lines.read_keys.Goals as goal
 
-pub returns-then-not-branch-clause-curve : goal.returns-then-not-branch-clause-curve
-returns-then-not-branch-clause-curve g c =
-    let read = c.in_ok-read_line.ensures in
-    (reads_all (g.R.Read.remaining c.args.reader.now) (g.R.Read.remaining c.loop-lines.reader)
-    (g.R.Read.remaining c.read_line.new.reader) c.args.curve.now c.loop-lines.curve c.loop-lines.malformed
-    c.read_line.new.line.items read.line read.rest c.loop-lines.invariant.2 (sym read.there ∙ c.if-not-branch.true)).0
+bit : (b : Bool) → from_bool (not b) ≡ cond (not b) 1 0
+bit true = refl
+bit false = refl
 
-pub returns-then-not-branch-clause-malformed : goal.returns-then-not-branch-clause-malformed
-returns-then-not-branch-clause-malformed g c =
-    let read = c.in_ok-read_line.ensures in
-    (reads_all (g.R.Read.remaining c.args.reader.now) (g.R.Read.remaining c.loop-lines.reader)
-    (g.R.Read.remaining c.read_line.new.reader) c.args.curve.now c.loop-lines.curve c.loop-lines.malformed
-    c.read_line.new.line.items read.line read.rest c.loop-lines.invariant.2 (sym read.there ∙ c.if-not-branch.true)).1
+pub loop-lines-init : goal.loop-lines-init
+loop-lines-init g c = (omega arith, omega (arith, c.requires.all), none_read _ _ c.requires)
+
+pub returns-in_err-read_line-clause-err : goal.returns-in_err-read_line-clause-err
+returns-in_err-read_line-clause-err g c =
+    let so_far = c.loop-lines.invariant.2 in
+    let (part, reads) = c.in_err-read_line.ensures.err in
+    some_part _ _ _ _ so_far.bytes part so_far.reads reads
+
+pub returns-in_err-refer_line-in-Feed-clause-err : goal.returns-in_err-refer_line-in-Feed-clause-err
+returns-in_err-refer_line-in-Feed-clause-err g c =
+    let so_far = c.loop-lines.invariant.2 in
+    let taken = rw c.in-Feed.is at c.in_ok-read_line.ensures.ok in
+    some_part _ _ _ _ so_far.bytes (fed c.read_line.new.line.items) so_far.reads taken.1
+
+pub returns-in_err-refer_line-in-InputEnd-clause-err : goal.returns-in_err-refer_line-in-InputEnd-clause-err
+returns-in_err-refer_line-in-InputEnd-clause-err g c =
+    let so_far = c.loop-lines.invariant.2 in
+    let taken = rw c.in-InputEnd.is at c.in_ok-read_line.ensures.ok in
+    some_part _ _ _ _ so_far.bytes c.read_line.new.line.items so_far.reads taken.0.1
+
+pub returns-in-InputEnd-clause-ok : goal.returns-in-InputEnd-clause-ok
+returns-in-InputEnd-clause-ok g c =
+    let line = c.read_line.new.line.items in
+    let from = g.R.Read.remaining c.args.reader.now in
+    let to = g.R.Read.remaining c.read_line.new.reader in
+    let taken = rw c.in-InputEnd.is at c.in_ok-read_line.ensures.ok in
+    let is = c.in_ok-refer_line-in-InputEnd.ensures in
+    let same = c.deref-in-InputEnd.ensures.value in
+    let follows = subst (λ l. (trace : List (List ℕ)) → IsOf trace c.loop-lines.curve
+    → IsOf (trace ++ trace_of (l ∷ [])) c.refer_line-in-InputEnd.new.curve) same is.ok in
+    let count = c.from-in-InputEnd.ensures ∙ bit _ ∙ ap (λ b. cond (not b) 1 0) is.key
+    ∙ ap (λ l. cond (not (is_key l)) 1 0) same in
+    subst (λ n. KeysRead from to c.refer_line-in-InputEnd.new.curve (c.loop-lines.malformed + n)) (sym count)
+    (last_read c.loop-lines.invariant.2 to line c.refer_line-in-InputEnd.new.curve follows taken.0 taken.1)
 
 pub loop-lines-preserved : goal.loop-lines-preserved
 loop-lines-preserved g c =
-    let read = c.in_ok-read_line.ensures in
+    let line = c.read_line.new.line.items in
+    let from = g.R.Read.remaining c.args.reader.now in
+    let to = g.R.Read.remaining c.read_line.new.reader in
     let inv = c.loop-lines.invariant in
-    let bytes = c.read_line.new.line.items in
-    let some : nat_lt 0 (length bytes) ≡ true = sym read.there ∙ c.if-not-branch.false in
-    elim c.match-key_of.branch [
-      | in-Some+in_ok-refer-in-Some w ↦
-          let is = w.in-Some.ensures in
-          let key : is_key (strip_last 10 bytes) ≡ true = ap (λ b. is_key (strip_last 10 b))
-          (sym c.deref.ensures.value) ∙ is.1 in
-          let name = is.0 ∙ ap (strip_last 10) c.deref.ensures.value in
-          let follows = subst (λ k. (trace : List (List ℕ)) → IsOf trace c.loop-lines.curve
-          → IsOf (trace ++ k ∷ []) w.refer.new.self) name
-          w.in_ok-refer-in-Some.ensures.ok in
-          rw (w.curve-is, w.malformed-is) (
-            omega (arith, inv.0),
-            omega (arith, inv.1, w.refer.ensures.references),
-            reads_key (g.R.Read.remaining c.args.reader.now) (g.R.Read.remaining c.loop-lines.reader)
-                (g.R.Read.remaining c.read_line.new.reader) c.args.curve.now c.loop-lines.curve c.loop-lines.malformed
-                bytes
-                read.line read.rest w.refer.new.self inv.2 some key follows,
-          )
-      | in-None w ↦
-          let none : is_key (strip_last 10 bytes) ≡ false = ap (λ b. is_key (strip_last 10 b))
-          (sym c.deref.ensures.value) ∙ w.in-None.ensures in
-          rw (w.curve-is, w.malformed-is) (
-            omega (arith, inv.0),
-            omega (arith, inv.1),
-            reads_other (g.R.Read.remaining c.args.reader.now) (g.R.Read.remaining c.loop-lines.reader)
-                (g.R.Read.remaining c.read_line.new.reader) c.args.curve.now c.loop-lines.curve c.loop-lines.malformed
-                bytes
-                read.line read.rest inv.2 some none,
-          )
-    ]
+    let taken = rw c.in-Feed.is at c.in_ok-read_line.ensures.ok in
+    let is = c.in_ok-refer_line-in-Feed.ensures in
+    let same = c.deref.ensures.value in
+    let follows = subst (λ l. (trace : List (List ℕ)) → IsOf trace c.loop-lines.curve
+    → IsOf (trace ++ trace_of (l ∷ [])) c.refer_line.new.curve) same is.ok in
+    let count = c.from.ensures ∙ bit _ ∙ ap (λ b. cond (not b) 1 0) is.key
+    ∙ ap (λ l. cond (not (is_key l)) 1 0) same in
+    let few = few_more (is_key line) in (
+      omega (arith, inv.0, count, few),
+      omega (arith, inv.1, is.references),
+      subst (λ n. ReadSoFar from to c.refer_line.new.curve (c.loop-lines.malformed + n)) (sym count)
+          (line_read inv.2 to line c.refer_line.new.curve follows taken),
+    )
+  where
+    few_more : (b : Bool) → cond (not b) 1 0 ≤ 1
+    few_more true = omega arith
+    few_more false = omega arith

@@ -1,7 +1,7 @@
 use Rattle.std.proofs.Common.{◌≤◌}
-use Rattle.lru_trace.proofs.ReadLines.{Reads}
+use Rattle.lru_trace.proofs.ReadLines.{ReadSoFar}
 use Rattle.lru_trace.proofs.lines.read_keys.Given as goal
 
 abbrev pub invariant-loop-lines : goal.invariant-loop-lines
 invariant-loop-lines g l = (l.malformed ≤ l.lines) × (l.curve.references ≤ l.lines)
-    × Reads (g.R.Read.remaining l.initial.reader) (g.R.Read.remaining l.reader) l.initial.curve l.curve l.malformed
+    × ReadSoFar (g.R.Read.remaining l.initial.reader) (g.R.Read.remaining l.reader) l.curve l.malformed

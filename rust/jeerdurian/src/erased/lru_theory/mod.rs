@@ -36,3 +36,14 @@ pub fn a_smaller_cache_is_included<K: Eq>() {}
 /// the smaller limit be the newest keys of the other. Then they are after any trace (`front`), and it misses at least as
 /// often (`misses`). The definitions are definitions of LRU caches if no key alone costs more than the smaller limit.
 pub fn a_larger_budget_never_misses_more<K: Eq>() {}
+
+/// MIN misses least often of all policies that store each key that is referenced, also of those that load keys ahead
+/// and pay for them (`loads`), and so of the demand policies (`demands`). MIN with bypass misses least often of all
+/// policies that contain at most n keys, whatever they leave out or load ahead (`bypasses`). All begin with no keys. MIN is
+/// such a policy itself, if it has a place (`min`), and so is MIN with bypass (`bypass`).
+pub fn min_is_best<K: Eq>() {}
+
+/// How far LRU is from MIN, from no keys. LRU with k ≥ h places misses at most k / (k + 1 - h) times as often as MIN with
+/// h (`min`), and at most k / (k - h) times as often as MIN with bypass (`bypass`), whatever keys LRU begins with. With
+/// the same places it misses at least as often as MIN (`least`).
+pub fn lru_is_near_min<K: Eq>() {}

@@ -1,12 +1,11 @@
 // Erased from crates/lru_trace/src/report.rt: do not edit.
 //! The report: the misses for each size that was asked, and a chart of the whole curve.
+
 #[allow(unused_imports)]
 use crate::rattle_std::prelude::*;
 
 use crate::erased::lru_trace::curve::Curve;
-use crate::erased::lru_trace::outcome::TraceError;
-use crate::rattle_std::alloc::Global;
-use crate::rattle_std::io::Write;
+use crate::rattle_std::alloc::{AllocError, Global};
 
 /// The width of the longest bar.
 const WIDTH: u64 = 50;
@@ -17,63 +16,70 @@ fn part(misses: u64, references: u64, scale: u64) -> u64 {
         return 0;
     }
     let whole = u128::from(misses) * u128::from(scale) / u128::from(references);
-    u64::try_from(whole).unwrap_or(scale)
+    whole as u64
 }
 
-/// Writes text.
-fn write_text<W: Write>(writer: &mut W, text: &str) -> Result<(), TraceError> {
-    match writer.write_all(text.as_bytes()) {
-        Ok(()) => Ok(()),
-        Err(_) => Err(TraceError::Write),
-    }
-}
-
-/// Writes the misses in a cache of this many places.
-fn write_size<W: Write>(alloc: Global, writer: &mut W, curve: &Curve, places: usize) -> Result<(), TraceError> {
-    let references = curve.references();
-    let misses = curve.misses(places);
-    let hits = references.saturating_sub(misses);
-    let ratio = part(misses, references, 10_000);
-    let whole = ratio / 10_000;
-    let rest = ratio % 10_000;
-    let text = format!(in alloc;
-        "places {places} hits {hits} misses {misses} ratio {whole}.{rest:04}\n"
-    )?;
-    write_text(writer, &text)
-}
-
-/// Writes a bar of the chart.
-fn write_bar<W: Write>(alloc: Global, writer: &mut W, curve: &Curve, places: usize) -> Result<(), TraceError> {
-    let text = format!(in alloc; "{places:>12} |")?;
-    write_text(writer, &text)?;
-    for _ in 0..part(curve.misses(places), curve.references(), WIDTH) {
-        write_text(writer, "#")?;
-    }
-    write_text(writer, "\n")
-}
-
-/// Writes the report.
-pub fn write_report<W: Write>(
-    alloc: Global,
-    writer: &mut W,
-    curve: &Curve,
-    malformed: u64,
-    sizes: &[usize],
-) -> Result<(), TraceError> {
-    let references = curve.references();
-    let keys = curve.keys();
-    let text = format!(in alloc; "references {references} keys {keys} malformed {malformed}\n")?;
-    write_text(writer, &text)?;
-    for places in sizes {
-        write_size(alloc, writer, curve, *places)?;
-    }
-    let mut places = 1;
-    for _ in 0..usize::BITS {
-        write_bar(alloc, writer, curve, places)?;
-        if places >= keys || places > usize::MAX / 2 {
-            break;
-        }
-        places *= 2;
+/// Adds copies of a byte to the report.
+fn add_copies(report: &mut Vec<u8>, byte: u8, copies: u64) -> Result<(), AllocError> {
+    for _ in 0..copies {
+        report.push(byte)?;
     }
     Ok(())
+}
+
+/// Returns a number of ten-thousandths as a number with a point.
+fn ratio(alloc: Global, n: u64) -> Result<String, AllocError> {
+    let (whole, first, second, third, fourth) = (n / 10_000, n / 1000 % 10, n / 100 % 10, n / 10 % 10, n % 10);
+    format!(in alloc; "{whole}.{first}{second}{third}{fourth}")
+}
+
+/// Adds the misses in a cache of this many places.
+fn add_size(alloc: Global, report: &mut Vec<u8>, curve: &Curve, places: usize) -> Result<(), AllocError> {
+    let references = curve.references();
+    let misses = curve.misses(places);
+    let hits = references - misses;
+    let ratio = ratio(alloc, part(misses, references, 10_000))?;
+    let text = format!(in alloc; "places {places} hits {hits} misses {misses} ratio {ratio}\n")?;
+    report.extend_from_slice(text.as_bytes())
+}
+
+/// Adds a bar of the chart.
+fn add_bar(alloc: Global, report: &mut Vec<u8>, curve: &Curve, places: usize) -> Result<(), AllocError> {
+    let number = format!(in alloc; "{places}")?;
+    add_copies(report, b' ', 12_usize.saturating_sub(number.len()) as u64)?;
+    report.extend_from_slice(number.as_bytes())?;
+    report.extend_from_slice(b" |")?;
+    add_copies(report, b'#', part(curve.misses(places), curve.references(), WIDTH))?;
+    report.push(b'\n')?;
+    Ok(())
+}
+
+/// Adds the lines of the sizes.
+fn add_sizes(alloc: Global, report: &mut Vec<u8>, curve: &Curve, sizes: &[usize]) -> Result<(), AllocError> {
+    for places in sizes {
+        add_size(alloc, report, curve, *places)?;
+    }
+    Ok(())
+}
+
+/// Adds the chart: a bar for each power of two, up to the first that is at least the number of keys.
+fn add_chart(alloc: Global, report: &mut Vec<u8>, curve: &Curve) -> Result<(), AllocError> {
+    for level in 0..usize::BITS {
+        let places = 1_usize << level;
+        add_bar(alloc, report, curve, places)?;
+        if curve.keys() <= places {
+            break;
+        }
+    }
+    Ok(())
+}
+
+/// Returns the report.
+pub fn report_of(alloc: Global, curve: &Curve, malformed: u64, sizes: &[usize]) -> Result<Vec<u8>, AllocError> {
+    let (references, keys) = (curve.references(), curve.keys());
+    let head = format!(in alloc; "references {references} keys {keys} malformed {malformed}\n")?;
+    let mut report = Vec::from_slice(alloc, head.as_bytes())?;
+    add_sizes(alloc, &mut report, curve, sizes)?;
+    add_chart(alloc, &mut report, curve)?;
+    Ok(report)
 }

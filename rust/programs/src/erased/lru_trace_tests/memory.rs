@@ -3,7 +3,7 @@
 #[allow(unused_imports)]
 use crate::rattle_std::prelude::*;
 
-use crate::erased::lru_trace::{Curve, TraceError};
+use crate::erased::lru_trace::{Curve, Progress, TraceError, status, trace};
 use crate::programs::test_helpers::{Hog, check};
 use crate::rattle_std::alloc::Global;
 use crate::rattle_std::test::Fail;
@@ -47,6 +47,22 @@ fn references_give_their_memory_back() {
         }
         drop(hog);
         check!(rt; (met, curve.misses(19)) == (200_000, 200_200));
+        Ok(())
+    };
+    run(HostRuntime).passes();
+}
+
+/// Without memory a trace writes nothing, and ends with the status 3.
+#[test]
+fn a_trace_without_memory() {
+    let run = |rt: HostRuntime| -> Result<(), Fail> {
+        let mut report = Vec::new(rt.alloc());
+        let mut progress = Progress::new(rt.alloc(), None::<Vec<u8>>);
+        let mut lines = b"1\na\n".as_slice();
+        let hog = Hog::but(rt.alloc(), 0)?;
+        let end = trace(rt.alloc(), &mut lines, &mut report, &mut progress);
+        drop(hog);
+        check!(rt; (status(&end), report.len()) == (3, 0));
         Ok(())
     };
     run(HostRuntime).passes();

@@ -4,8 +4,8 @@ use Rattle.lru_trace.specs.Counted.{IsOf, number_in}
 use Rattle.lru_trace.proofs.Numbered.{misses_named, named_from}
 use Rattle.lru_trace.proofs.curve.Curve.misses.Goals as goal
 
-pub returns : goal.returns
-returns c = λ trace of.
+pub returns-clause-all : goal.returns-clause-all
+returns-clause-all c = λ trace of.
     let now : IsOf trace _ = subst (IsOf trace) (sym c.self.view_is) of in
     let same = misses_named (number_in c.self.inside.numbers.entries) c.self.invariant.numbered.apart c.args.places [] []
     trace now.numbers tt (named_from (number_in c.self.inside.numbers.entries) trace now.numbers now.named) in

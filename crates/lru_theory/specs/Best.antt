@@ -1,0 +1,39 @@
+-- The best possible policies, which know the rest of the trace.
+--     eq        when two keys are equal
+use Rattle.std.specs.Prelude.{ℕ, zero, suc, ◌+◌, Bool, nat_le, if◌then◌else◌, List, [], ◌∷◌, take}
+use Rattle.std.specs.Set.{remove_key}
+use Rattle.lru_theory.specs.Traces.{fault}
+
+module _ {K : Type 0} (eq : K → K → Bool) where
+  -- how many references of the trace come before the next one to the key, or the length of the trace if there is none
+  abbrev pub until : K → List K → ℕ
+  until key [] = 0
+  until key (other ∷ trace) = if eq key other then 0 else suc (until key trace)
+
+  -- The key among keys, which are in the order of their next references in the trace.
+  abbrev pub put : List K → K → List K → List K
+  put trace key [] = key ∷ []
+  put trace key (other ∷ keys) = if nat_le (until key trace) (until other trace) then key ∷ (other ∷ keys)
+      else other ∷ put trace key keys
+
+  -- The keys of MIN with n places after a reference to the key, in the order of their next references in the trace that
+  -- follows. It stores the key. If that is one key too many, it evicts the key whose next reference comes last.
+  abbrev pub min_refer : ℕ → K → List K → List K → List K
+  min_refer zero key trace keys = []
+  min_refer (suc n) key trace keys = put trace key (take n (remove_key (eq key) keys))
+
+  -- The keys of MIN with bypass: of the key and the others it contains the n whose next references come first.
+  abbrev pub bypass_refer : ℕ → K → List K → List K → List K
+  bypass_refer n key trace keys = take n (put trace key (remove_key (eq key) keys))
+
+  -- how many references of the trace do not find their key, if a reference changes the keys so
+  abbrev pub faults_by : (K → List K → List K → List K) → List K → List K → ℕ
+  faults_by refer keys [] = 0
+  faults_by refer keys (key ∷ trace) = fault eq key keys + faults_by refer (refer key trace keys) trace
+
+  -- how often MIN with n places misses, from no keys, and MIN with bypass
+  abbrev pub min_misses : ℕ → List K → ℕ
+  min_misses n trace = faults_by (min_refer n) [] trace
+
+  abbrev pub bypass_misses : ℕ → List K → ℕ
+  bypass_misses n trace = faults_by (bypass_refer n) [] trace

@@ -1,0 +1,36 @@
+use Rattle.std.proofs.Common.{[], None, ap, ◌∙◌}
+use Rattle.lru_trace.specs.Lines.{fed}
+use Rattle.lru_trace.specs.Sizes.{sizes_from}
+use Rattle.lru_trace.proofs.ReadLines.{some_part}
+use Rattle.lru_trace.proofs.Ended.{no_sizes, only_sizes, with_keys}
+use Rattle.lru_trace.proofs.traces.read_trace.Goals as goal
+
+pub returns-in_default-clause-ok : goal.returns-in_default-clause-ok
+returns-in_default-clause-ok g c =
+    let named = rw c.in_default.is at c.in_ok-sizes.ensures in
+    no_sizes _ _ c.read_line.new.line.items c.in_ok-ending.ending c.in_ok-ending.ensures.ok
+    (named ∙ ap (sizes_from [] None) c.deref.ensures.value)
+
+pub returns-in_default-ending : goal.returns-in_default-ending
+returns-in_default-ending g c =
+    let named = rw c.in-Some.is at c.in_ok-sizes.ensures in
+    record {
+      ok = only_sizes _ _ c.read_line.new.line.items c.in_ok-ending.ending c.in-Some.sizes.items c.in_ok-curve.curve
+          c.in_default-ending.not-Feed c.in_ok-ending.ensures.ok
+          (named ∙ ap (sizes_from [] None) c.deref.ensures.value) c.in_ok-curve.ensures;
+      err = tt;
+      kind = tt;
+    }
+
+pub returns-in_err-malformed-clause-err : goal.returns-in_err-malformed-clause-err
+returns-in_err-malformed-clause-err g c =
+    let taken = rw c.in-Feed.is at c.in_ok-ending.ensures.ok in
+    let (part, reads) = c.in_err-malformed.ensures.err in
+    some_part _ _ _ _ (fed c.read_line.new.line.items) part taken.1 reads
+
+pub returns-clause-ok : goal.returns-clause-ok
+returns-clause-ok g c =
+    let taken = rw c.in-Feed.is at c.in_ok-ending.ensures.ok in
+    let named = rw c.in-Some.is at c.in_ok-sizes.ensures in
+    with_keys _ _ c.read_line.new.line.items _ c.in-Some.sizes.items c.read_keys.new.curve c.in_ok-malformed.malformed
+    taken (named ∙ ap (sizes_from [] None) c.deref.ensures.value) c.in_ok-malformed.ensures.ok

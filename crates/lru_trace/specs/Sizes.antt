@@ -1,0 +1,17 @@
+-- The sizes that a line names: numbers below 2 ^ 64 in decimal digits, with a space between each two.
+use Rattle.std.specs.Prelude.{ℕ, ◌+◌, ◌-◌, ◌*◌, ◌^◌, ◌&&◌, nat_lt, nat_le, ◌==◌, if◌then◌else◌, List, [], ◌∷◌, ◌++◌}
+use Rattle.std.specs.Prelude.{Option, Some, None}
+use Rattle.std.specs.Option.{option_and_then}
+
+-- the number with one digit more
+abbrev pub with_digit : ℕ → ℕ → Option ℕ
+with_digit number b = if nat_le 48 b && (nat_le b 57 && nat_lt (10 * number + (b - 48)) (2 ^ 64))
+    then Some (10 * number + (b - 48)) else None
+
+-- The sizes that the bytes name, after the sizes `before`, and after a number that has begun, if one has.
+abbrev pub sizes_from : List ℕ → Option ℕ → List ℕ → Option (List ℕ)
+sizes_from before None [] = None
+sizes_from before (Some number) [] = Some (before ++ number ∷ [])
+sizes_from before None (b ∷ bytes) = option_and_then (λ n. sizes_from before (Some n) bytes) (with_digit 0 b)
+sizes_from before (Some number) (b ∷ bytes) = if b == 32 then sizes_from (before ++ number ∷ []) None bytes
+    else option_and_then (λ n. sizes_from before (Some n) bytes) (with_digit number b)

@@ -1,0 +1,43 @@
+//! The sizes that a line names.
+ghost use Rattle.std.specs.Prelude.{◌≡◌, [], IfOk, None};
+ghost use Rattle.std.specs.Option.{option_map};
+ghost use Rattle.lru_trace.specs.Sizes.{with_digit, sizes_from};
+
+use std::alloc::{AllocError, Global};
+
+/// Returns the number with one digit more, if the byte is a digit and the number is below 2 ^ 64.
+fn with_digit(number: usize, byte: u8) -> Option<usize>
+    ensures { result ≡ with_digit number byte }
+{
+    if byte < b'0' || b'9' < byte {
+        return None;
+    }
+    let digit = (byte - b'0') as usize;
+    number.checked_mul(10)?.checked_add(digit)
+}
+
+/// Returns the sizes that the line names: whole numbers in decimal digits, with a space between each two.
+pub fn sizes_of(alloc: Global, line: &[u8]) -> Result<Option<Vec<usize>>, AllocError>
+    ensures { IfOk result (λ sizes. option_map (λ v. v.items) sizes ≡ sizes_from [] None line.now) }
+{
+    let mut sizes = Vec::new(alloc);
+    let mut begun = None;
+    for byte in line {
+        if let Some(number) = begun {
+            if *byte == b' ' {
+                sizes.push(number)?;
+                begun = None;
+                continue;
+            }
+        }
+        begun = with_digit(begun.unwrap_or(0), *byte);
+        if begun.is_none() {
+            return Ok(None);
+        }
+    }
+    let Some(last) = begun else {
+        return Ok(None);
+    };
+    sizes.push(last)?;
+    Ok(Some(sizes))
+}
