@@ -25,7 +25,29 @@ impl<B, D: BlockDevice<B>> BlockDevice<B> for Counted<D> {
 
     ghost seen = { D.seen };
 
-    ghost blocks = { λ counted n. D.blocks counted.device n };
+    ghost has = { λ counted. D.has counted.device };
+
+    ghost blocks = { λ counted. D.blocks counted.device };
+
+    ghost may_leave = { λ counted. D.may_leave counted.device };
+
+    ghost is_usable = { λ counted. D.is_usable counted.device };
+
+    ghost faults = { λ counted. D.faults counted.device };
+
+    ghost IsTorn = { D.IsTorn };
+
+    ghost IsHonest = { λ counted. D.IsHonest counted.device };
+
+    ghost stays = { λ counted. D.stays counted.device };
+
+    fn has(&self, n: u64) -> bool {
+        self.device.has(n)
+    }
+
+    fn is_usable(&self) -> bool {
+        self.device.is_usable()
+    }
 
     fn read(&mut self, n: u64) -> Result<B, D::Error> {
         self.device.read(n)

@@ -8,7 +8,7 @@ mod session;
 
 use command::BLOCKS;
 use counted::Counted;
-use lru_caches::{HashedFileDevice, PageCache};
+use lru_caches::{FileDevice, PageCache};
 use session::Session;
 use std::fs::{File, OpenOptions};
 use std::process::ExitCode;
@@ -51,9 +51,7 @@ fn main(rt: HostRuntime) -> ExitCode {
     let Ok(file) = open(&rt) else {
         return ExitCode::from(2);
     };
-    let Ok(device) = HashedFileDevice::new(rt.alloc(), file, BLOCKS) else {
-        return ExitCode::from(3);
-    };
+    let device = FileDevice::new(file, BLOCKS);
     let mut session = Session::new(PageCache::new(rt.alloc(), Counted::new(device), CAPACITY));
     let answered = answer_lines(&rt, &mut session);
     let is_closed = session.close();

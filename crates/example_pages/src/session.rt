@@ -1,11 +1,11 @@
 //! The lines of a session, and what they print.
-use crate::command::{BLOCKS, Block, Command, block_of, command_of};
+use crate::command::{Block, Command, block_of, command_of};
 use crate::counted::Counted;
-use lru_caches::{FileError, HashedFileDevice, PageCache, PageError, Unclosed};
+use lru_caches::{FileDevice, FileError, PageCache, PageError, Unclosed};
 use std::fs::File;
 use std::{io, str};
 
-type Cache = PageCache<Block, Counted<HashedFileDevice<File, 16>>>;
+type Cache = PageCache<Block, Counted<FileDevice<File, 16>>>;
 
 /// A cache, and how often the block of a line was cached, or not.
 pub struct Session {
@@ -23,8 +23,7 @@ pub fn text_of(block: &[u8]) -> &str {
 fn say(rt: &HostRuntime, done: Result<(), PageError<FileError>>, word: &str) -> io::Result<()> {
     let text = match done {
         Ok(()) => word,
-        Err(PageError::Memory) => "error: out of memory",
-        Err(PageError::Device(error)) => return println!(rt; "error: {error}"),
+        Err(error) => return println!(rt; "error: {error}"),
     };
     println!(rt; "{text}")
 }
@@ -56,10 +55,6 @@ impl Session {
     }
 
     fn write(&mut self, n: u64, text: &str) -> Result<(), PageError<FileError>> {
-        // The cache would accept a page that the device lacks, and keep it: no write of it could succeed.
-        if n >= BLOCKS {
-            return Err(PageError::Device(FileError::NoBlock));
-        }
         self.count(n);
         self.cache.write(n, block_of(text))
     }

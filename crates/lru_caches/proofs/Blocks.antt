@@ -1,88 +1,217 @@
--- Which blocks a cache shows after its device was written, or a page was added or removed.
-use Rattle.std.proofs.Common.{◌≡◌, ◌≢◌, ℕ, Bool, true, false, cond, nat_eq, List, [], ◌∷◌, ◌++◌, Option, Some, None}
-use Rattle.std.proofs.Common.{refl, sym, ap, ◌∙◌, subst, unwrap_or, option_map}
+-- What a cache shows, and what a crash may leave, after its device was written, or a page was added or removed.
+use Rattle.std.proofs.Common.{◌≡◌, ◌≢◌, ◌⊎◌, inl, inr, ℕ, Bool, true, false, cond, nat_eq, List, [], ◌∷◌, ◌++◌, Option}
+use Rattle.std.proofs.Common.{Some, None, IsTrue, refl, sym, ap, ◌∙◌, subst, unwrap_or, ne_eqb}
 use Rattle.std.proofs.lemmas.Bool.{eqb-true, eqb-false}
 use Rattle.std.proofs.lemmas.Option.{none-some}
 use Rattle.std.specs.Map.{lookup}
+use Rattle.lru_caches.specs.declared.device.BlockDevice as device
 use Rattle.lru_caches.specs.declared.page_cache.pages.Page.{Page}
-use Rattle.lru_caches.specs.Pages.{block_at, AreClean}
+use Rattle.lru_caches.specs.declared.page_cache.PageError.{PageError}
+use Rattle.lru_caches.specs.declared.page_cache.PageError.TheVariants.{Device, Memory, NoBlock, Broken}
+use Rattle.lru_caches.specs.Pages.{cleaned, block_or, block_at, IsGood, AreClean, AreThere, IsWritten, CrashAdds, IsFault, Serves}
 use Rattle.lru_caches.proofs.PageLists.{found_longer}
 use Rattle.lru_caches.proofs.TurnedEntries.{found_behind}
-
--- the block of a page, if there is one, or else this one
-abbrev pub block_or : {B C : Type 0} → (B → C) → Option (Page B) → C → C
-block_or seen o block = unwrap_or (option_map (λ page. seen page.block) o) block
 
 module _ {B : Type 0} where
   some_block : (p q : Page B) → Some p ≡ Some q → p ≡ q
   some_block p q e = ap (λ o. unwrap_or o q) e
 
-module _ {B C D : Type 0} (seen : B → C) (blocks : D → ℕ → C) where
+module _ {B D E S : Type 0} (d : device.Ghosts D B E S) where
+  pub serves-same : (it : D) → Serves d it it
+  serves-same it = record { numbers = λ n. refl; usable = refl; honest = λ h. h }
+
+  pub serves-then : (old between new : D) → Serves d old between → Serves d between new → Serves d old new
+  serves-then old between new one two = record {
+    numbers = λ n. two.numbers n ∙ one.numbers n;
+    usable = two.usable ∙ one.usable;
+    honest = λ h. one.honest (two.honest h);
+  }
+
+  pub good-before : (old new : D) → Serves d old new → IsGood d new → IsGood d old
+  good-before old new serves good = (subst IsTrue serves.usable good.0, serves.honest good.1)
+
+  pub there-after : (pages : List (ℕ × Page B)) (old new : D) → ((n : ℕ) → d.has new n ≡ d.has old n)
+      → AreThere d pages old → AreThere d pages new
+  there-after pages old new same there n page found = subst IsTrue (sym (same n)) (there n page found)
+
+  pub crash-same : (pages : List (ℕ × Page B)) (it : D) → CrashAdds d pages it it
+  crash-same pages it n block left = inl left
+
   -- a device on which only the block of a cached page may have changed
   module _ (pages : List (ℕ × Page B)) (old new : D) (k : ℕ) (page : Page B)
-      (there : lookup (nat_eq k) pages ≡ Some page) (others : (m : ℕ) → m ≢ k → blocks new m ≡ blocks old m) where
+      (there : lookup (nat_eq k) pages ≡ Some page) (others : (m : ℕ) → m ≢ k → d.blocks new m ≡ d.blocks old m) where
     -- shows the same,
-    pub shown-written_back : (n : ℕ) → block_at seen blocks pages new n ≡ block_at seen blocks pages old n
+    pub shown-written_back : (n : ℕ) → block_at d pages new n ≡ block_at d pages old n
     shown-written_back n = go (lookup (nat_eq n) pages) refl
       where
         go : (o : Option (Page B)) → lookup (nat_eq n) pages ≡ o
-            → block_or seen o (blocks new n) ≡ block_or seen o (blocks old n)
+            → block_or d o (d.blocks new n) ≡ block_or d o (d.blocks old n)
         go (Some q) e = refl
         go None e = others n (λ same. none-some page
             (sym e ∙ ap (λ m. lookup (nat_eq m) pages) same ∙ there))
 
     -- and its clean pages stay clean, if that page was not, or is not changed
-    pub clean-written_back : (round : ℕ) → (page.round ≢ round → blocks new k ≡ blocks old k)
-        → AreClean seen blocks round pages old → AreClean seen blocks round pages new
-    clean-written_back round kept clean n q found apart = go (nat_eq n k) refl
+    pub clean-written_back : (IsGood d new → IsGood d old) → (page.is_dirty ≡ false → d.blocks new k ≡ d.blocks old k)
+        → AreClean d pages old → AreClean d pages new
+    clean-written_back before kept clean good n q found is_clean = go (nat_eq n k) refl
       where
-        go : (b : Bool) → nat_eq n k ≡ b → seen q.block ≡ blocks new n
+        go : (b : Bool) → nat_eq n k ≡ b → d.blocks new n ≡ Some (d.seen q.block)
         go true e =
             let same = eqb-true n k e in
             let is = some_block page q (sym there ∙ ap (λ m. lookup (nat_eq m) pages) (sym same) ∙ found) in
-            let was_clean = subst (λ p. p.round ≢ round) (sym is) apart in
-            clean n q found apart
-            ∙ subst (λ m. blocks old m ≡ blocks new m) (sym same) (sym (kept was_clean))
-        go false e = clean n q found apart ∙ sym (others n (eqb-false n k e))
+            subst (λ m. d.blocks new m ≡ d.blocks old m) (sym same)
+            (kept (subst (λ p. p.is_dirty ≡ false) (sym is) is_clean))
+            ∙ clean (before good) n q found is_clean
+        go false e = others n (eqb-false n k e) ∙ clean (before good) n q found is_clean
+
+  -- a crash may leave the block of a dirty page that is written, or a torn one
+  pub crash-written_back : (pages : List (ℕ × Page B)) (first old new : D) (k : ℕ) (page : Page B)
+      → lookup (nat_eq k) pages ≡ Some page → CrashAdds d pages first old
+      → ((m : ℕ) (b : S) → d.may_leave new m b → d.may_leave old m b
+      ⊎ ((m ≡ k) × IsTrue page.is_dirty × ((b ≡ d.seen page.block) ⊎ d.IsTorn b)))
+      → CrashAdds d pages first new
+  crash-written_back pages first old new k page there before step n b left = go (step n b left)
+    where
+      go : d.may_leave old n b ⊎ ((n ≡ k) × IsTrue page.is_dirty × ((b ≡ d.seen page.block) ⊎ d.IsTorn b))
+          → d.may_leave first n b ⊎ IsWritten d (lookup (nat_eq n) pages) b
+      go (inl was) = before n b was
+      go (inr is) = inr (subst (λ o. IsWritten d o b) (sym (ap (λ m. lookup (nat_eq m) pages) is.0 ∙ there)) (is.1, is.2))
 
   -- the last page is as on the device, and is removed: the same is shown,
-  pub shown-removed : (pages left : List (ℕ × Page B)) (device : D) (k : ℕ) (page : Page B)
-      → pages ≡ left ++ (k, page) ∷ [] → blocks device k ≡ seen page.block
-      → (n : ℕ) → block_at seen blocks left device n ≡ block_at seen blocks pages device n
-  shown-removed pages left device k page is same n = go (lookup (nat_eq n) left) refl
+  pub shown-removed : (pages left : List (ℕ × Page B)) (it : D) (k : ℕ) (page : Page B)
+      → pages ≡ left ++ (k, page) ∷ [] → d.blocks it k ≡ Some (d.seen page.block)
+      → (n : ℕ) → block_at d left it n ≡ block_at d pages it n
+  shown-removed pages left it k page is same n = go (lookup (nat_eq n) left) refl
     where
-      rest : (b : Bool) → nat_eq n k ≡ b → blocks device n ≡ block_or seen (cond b (Some page) None) (blocks device n)
-      rest true e = subst (λ m. blocks device m ≡ seen page.block) (sym (eqb-true n k e)) same
+      rest : (b : Bool) → nat_eq n k ≡ b → d.blocks it n ≡ block_or d (cond b (Some page) None) (d.blocks it n)
+      rest true e = subst (λ m. d.blocks it m ≡ Some (d.seen page.block)) (sym (eqb-true n k e)) same
       rest false e = refl
 
       go : (o : Option (Page B)) → lookup (nat_eq n) left ≡ o
-          → block_or seen o (blocks device n) ≡ block_at seen blocks pages device n
-      go (Some q) e = ap (λ o. block_or seen o (blocks device n))
+          → block_or d o (d.blocks it n) ≡ block_at d pages it n
+      go (Some q) e = ap (λ o. block_or d o (d.blocks it n))
           (sym (ap (lookup (nat_eq n)) is ∙ found_longer (nat_eq n) left ((k, page) ∷ []) q e))
-      go None e = rest (nat_eq n k) refl ∙ ap (λ o. block_or seen o (blocks device n))
+      go None e = rest (nat_eq n k) refl ∙ ap (λ o. block_or d o (d.blocks it n))
           (sym (ap (lookup (nat_eq n)) is ∙ found_behind (nat_eq n) left ((k, page) ∷ []) e))
 
-  -- and clean pages stay clean
-  pub clean-removed : (round : ℕ) (pages left rest : List (ℕ × Page B)) (device : D) → pages ≡ left ++ rest
-      → AreClean seen blocks round pages device → AreClean seen blocks round left device
-  clean-removed round pages left rest device is clean n q found apart =
-      clean n q (ap (lookup (nat_eq n)) is ∙ found_longer (nat_eq n) left rest q found) apart
+  -- clean pages stay clean,
+  pub clean-removed : (pages left rest : List (ℕ × Page B)) (it : D) → pages ≡ left ++ rest
+      → AreClean d pages it → AreClean d left it
+  clean-removed pages left rest it is clean good n q found =
+      clean good n q (ap (lookup (nat_eq n)) is ∙ found_longer (nat_eq n) left rest q found)
+
+  -- and the device has the numbers of those that are left
+  pub there-removed : (pages left rest : List (ℕ × Page B)) (it : D) → pages ≡ left ++ rest
+      → AreThere d pages it → AreThere d left it
+  there-removed pages left rest it is there n q found =
+      there n q (ap (lookup (nat_eq n)) is ∙ found_longer (nat_eq n) left rest q found)
 
   -- no page: what is on the device is shown
-  pub shown-absent : (pages : List (ℕ × Page B)) (device : D) (n : ℕ) → lookup (nat_eq n) pages ≡ None
-      → blocks device n ≡ block_at seen blocks pages device n
-  shown-absent pages device n none = ap (λ o. block_or seen o (blocks device n)) (sym none)
+  pub shown-absent : (pages : List (ℕ × Page B)) (it : D) (n : ℕ) → lookup (nat_eq n) pages ≡ None
+      → d.blocks it n ≡ block_at d pages it n
+  shown-absent pages it n none = ap (λ o. block_or d o (d.blocks it n)) (sym none)
+
+  -- a page that is written if it is dirty, and as on the device if it is clean
+  pub is_back : (it : D) (k : ℕ) (page : Page B) → (page.is_dirty ≡ true → d.blocks it k ≡ Some (d.seen page.block))
+      → (page.is_dirty ≡ false → d.blocks it k ≡ Some (d.seen page.block)) → d.blocks it k ≡ Some (d.seen page.block)
+  is_back it k page written clean = go page.is_dirty refl
+    where
+      go : (b : Bool) → page.is_dirty ≡ b → d.blocks it k ≡ Some (d.seen page.block)
+      go true e = written e
+      go false e = clean e
 
   -- One page more is on the device: so is each block that is shown, if no page of its number is among the rest.
   pub written-more : (pages rest : List (ℕ × Page B)) (first old new : D) (k : ℕ) (page : Page B)
-      → lookup (nat_eq k) pages ≡ Some page → blocks new k ≡ seen page.block
-      → ((m : ℕ) → m ≢ k → blocks new m ≡ blocks old m)
-      → ((n : ℕ) → lookup (nat_eq n) ((k, page) ∷ rest) ≡ None → blocks old n ≡ block_at seen blocks pages first n)
-      → (n : ℕ) → lookup (nat_eq n) rest ≡ None → blocks new n ≡ block_at seen blocks pages first n
+      → lookup (nat_eq k) pages ≡ Some page → d.blocks new k ≡ Some (d.seen page.block)
+      → ((m : ℕ) → m ≢ k → d.blocks new m ≡ d.blocks old m)
+      → ((n : ℕ) → lookup (nat_eq n) ((k, page) ∷ rest) ≡ None → d.blocks old n ≡ block_at d pages first n)
+      → (n : ℕ) → lookup (nat_eq n) rest ≡ None → d.blocks new n ≡ block_at d pages first n
   written-more pages rest first old new k page there is others before n none = go (nat_eq n k) refl
     where
-      go : (b : Bool) → nat_eq n k ≡ b → blocks new n ≡ block_at seen blocks pages first n
-      go true e = subst (λ m. blocks new m ≡ block_at seen blocks pages first m) (sym (eqb-true n k e))
-          (is ∙ ap (λ o. block_or seen o (blocks first k)) (sym there))
+      go : (b : Bool) → nat_eq n k ≡ b → d.blocks new n ≡ block_at d pages first n
+      go true e = subst (λ m. d.blocks new m ≡ block_at d pages first m) (sym (eqb-true n k e))
+          (is ∙ ap (λ o. block_or d o (d.blocks first k)) (sym there))
       go false e = others n (eqb-false n k e)
           ∙ before n (ap (λ b. cond b (Some page) (lookup (nat_eq n) rest)) e ∙ none)
+
+  -- a page that is added is as on the device, if it is clean
+  pub clean-added : (pages : List (ℕ × Page B)) (it : D) (k : ℕ) (page : Page B)
+      → (IsGood d it → page.is_dirty ≡ false → d.blocks it k ≡ Some (d.seen page.block))
+      → AreClean d pages it → AreClean d ((k, page) ∷ pages) it
+  clean-added pages it k page is clean good n q found is_clean = go (nat_eq n k) refl found
+    where
+      go : (b : Bool) → nat_eq n k ≡ b → cond b (Some page) (lookup (nat_eq n) pages) ≡ Some q
+          → d.blocks it n ≡ Some (d.seen q.block)
+      go true e found =
+          let same = some_block page q found in
+          subst (λ m. d.blocks it m ≡ Some (d.seen q.block)) (sym (eqb-true n k e))
+          (subst (λ (p : Page B). d.blocks it k ≡ Some (d.seen p.block)) same
+          (is good (subst (λ (p : Page B). p.is_dirty ≡ false) (sym same) is_clean)))
+      go false e found = clean good n q found is_clean
+
+  -- and the device has its number
+  pub there-added : (pages : List (ℕ × Page B)) (it : D) (k : ℕ) (page : Page B) → IsTrue (d.has it k)
+      → AreThere d pages it → AreThere d ((k, page) ∷ pages) it
+  there-added pages it k page is there n q found = go (nat_eq n k) refl found
+    where
+      go : (b : Bool) → nat_eq n k ≡ b → cond b (Some page) (lookup (nat_eq n) pages) ≡ Some q → IsTrue (d.has it n)
+      go true e found = subst (λ m. IsTrue (d.has it m)) (sym (eqb-true n k e)) is
+      go false e found = there n q found
+
+  -- other numbers show what they did
+  pub shown-added : (pages : List (ℕ × Page B)) (it : D) (k : ℕ) (page : Page B) (n : ℕ) → n ≢ k
+      → block_at d ((k, page) ∷ pages) it n ≡ block_at d pages it n
+  shown-added pages it k page n apart =
+      ap (λ b. block_or d (cond b (Some page) (lookup (nat_eq n) pages)) (d.blocks it n)) (ne_eqb n k apart)
+
+  -- a device that failed in a later call failed in both together
+  pub fault-since : (old between new : D) (e : PageError E) → d.faults between ≡ d.faults old
+      → IsFault d between new e → IsFault d old new e
+  fault-since old between new (Device e) same fault = λ is. fault (is ∙ sym same)
+  fault-since old between new Memory same fault = fault
+  fault-since old between new NoBlock same fault = fault
+  fault-since old between new Broken same fault = fault
+
+  -- a read makes no clean page differ from the device
+  pub clean-read : (pages : List (ℕ × Page B)) (old new : D) → (IsGood d new → IsGood d old)
+      → ((m : ℕ) (b : S) → d.blocks old m ≡ Some b → d.blocks new m ≡ Some b)
+      → AreClean d pages old → AreClean d pages new
+  clean-read pages old new before keeps clean good n page found is_clean =
+      keeps n (d.seen page.block) (clean (before good) n page found is_clean)
+
+  -- pages that were made clean show the same,
+  pub shown-cleaned : (pages : List (ℕ × Page B)) (n : ℕ) (block : Option S)
+      → block_or d (lookup (nat_eq n) (cleaned pages)) block ≡ block_or d (lookup (nat_eq n) pages) block
+  shown-cleaned [] n block = refl
+  shown-cleaned (page ∷ pages) n block = go (nat_eq n page.0) (shown-cleaned pages n block)
+    where
+      go : (b : Bool)
+          → block_or d (lookup (nat_eq n) (cleaned pages)) block ≡ block_or d (lookup (nat_eq n) pages) block
+          → block_or d (cond b (Some (record { block = page.1.block; is_dirty = false })) (lookup (nat_eq n) (cleaned pages))) block
+          ≡ block_or d (cond b (Some page.1) (lookup (nat_eq n) pages)) block
+      go true later = refl
+      go false later = later
+
+  -- are as on the device if that has what they show,
+  pub clean-cleaned : (pages : List (ℕ × Page B)) (old new : D)
+      → (d.IsHonest new → (n : ℕ) → d.blocks new n ≡ block_at d pages old n) → AreClean d (cleaned pages) new
+  clean-cleaned pages old new written good n page found is_clean =
+      written good.1 n ∙ sym (shown-cleaned pages n (d.blocks old n)) ∙ ap (λ o. block_or d o (d.blocks old n)) found
+
+  -- and have the same numbers
+  pub there-cleaned : (pages : List (ℕ × Page B)) (it : D) → AreThere d pages it → AreThere d (cleaned pages) it
+  there-cleaned pages it there n page found = go (lookup (nat_eq n) pages) refl
+    where
+      go : (o : Option (Page B)) → lookup (nat_eq n) pages ≡ o → IsTrue (d.has it n)
+      go (Some q) e = there n q e
+      go None e = absurd (none-some page (sym (none pages e) ∙ found))
+        where
+          none : (pages : List (ℕ × Page B)) → lookup (nat_eq n) pages ≡ None → lookup (nat_eq n) (cleaned pages) ≡ None
+          none [] e = refl
+          none (p ∷ ps) e = step (nat_eq n p.0) e (none ps)
+            where
+              step : (b : Bool) → cond b (Some p.1) (lookup (nat_eq n) ps) ≡ None
+                  → (lookup (nat_eq n) ps ≡ None → lookup (nat_eq n) (cleaned ps) ≡ None)
+                  → cond b (Some (record { block = p.1.block; is_dirty = false })) (lookup (nat_eq n) (cleaned ps)) ≡ None
+              step true e later = absurd (none-some p.1 (sym e))
+              step false e later = later e

@@ -1,4 +1,7 @@
 pub mod Pages
+pub mod Files
+pub mod LeftLemma
+pub mod Checksums
 pub mod Answers
 pub mod Ordered
 pub mod OrderedLending

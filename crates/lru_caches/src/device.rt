@@ -1,25 +1,20 @@
-//! What a device is: numbered blocks that are read and written one at a time.
-ghost use Rattle.std.specs.Prelude.{◌≡◌, ◌≢◌, ℕ, IfOk, OnOk};
+//! What a device is: numbered blocks that are read and written one at a time, and synced.
+ghost use Rattle.std.specs.Prelude.{◌≡◌, ◌≢◌, ◌⊎◌, ℕ, Bool, Option, Some, IsTrue, ◌↔◌, is_ok, IfOk, OnOk, IsOk};
 
 /// A device of numbered blocks, such as a disk or a file. Any call may fail.
 ///
-/// The impl defines `blocks`, the block that a read of each number returns, and the prover checks that its code reads
-/// and writes these. If a device lacks a number, its calls fail there, and its block there is any value.
+/// The contract says what a read returns, and what a crash may leave. Between two syncs a crash may leave each block as
+/// it was at the last `sync`, or as it was written since, or torn: writes may be lost and reordered. A write changes
+/// only its own block, also if it fails or the machine stops in the middle of it. After a `sync` that failed, no clause
+/// says what the blocks are, and no call may be made.
 ///
-/// It also defines `seen`, what contracts see of a block. For most devices this is the block itself, by
-/// `ghost seen = { λ block. block };`. A device that keeps only hashes, such as [`HashedFileDevice`], says that it is
-/// the hash: a read returns a block of the right hash then. Contracts do not tell blocks apart that `seen` does not.
-///
-/// Contracts do not speak of a crash. They demand that no call changes another block, and that a `sync` changes none,
-/// even if it fails. A plain file does not meet this, because the system may drop writes after a `sync` that failed;
-/// [`FileDevice`] does, because it returns an error for a block that it finds changed.
-///
-/// [`FileDevice`]: crate::FileDevice
-/// [`HashedFileDevice`]: crate::HashedFileDevice
+/// An impl defines the ghost members, and the prover checks that its code does what they say. For most devices
+/// contracts see of a block the block itself, by `ghost seen = { λ block. block };`. They do not tell blocks apart that
+/// `seen` does not.
 ///
 /// ```
 /// let calls_left = Cell::new(2);           // the third call fails
-/// let mut disk = Disk { blocks: [10, 11, 12, 13], calls_left: &calls_left };
+/// let mut disk = Disk::new([10, 11, 12, 13], [false; 4], &calls_left);
 /// assert_eq!(rt; disk.write(1, &20), Ok(()));
 /// assert_eq!(rt; disk.read(1), Ok(20));
 /// assert_eq!(rt; disk.read(1), Err(DiskError));
@@ -35,34 +30,86 @@ pub trait BlockDevice<B> {
     /// What contracts see of a block.
     ghost seen: { B → Self.Seen };
 
-    /// The block of each number, as contracts see it.
-    ghost blocks: { Self → ℕ → Self.Seen };
+    /// Whether the device has a block of this number. No call changes it.
+    ghost has: { Self → ℕ → Bool };
 
-    /// Returns a block.
+    /// The block of each number, if it is known. A device over a file knows a block once it was read or written.
+    ghost blocks: { Self → ℕ → Option Self.Seen };
+
+    /// What a crash at this moment may leave as the block of this number.
+    ghost may_leave: { Self → ℕ → Self.Seen → Type 0 };
+
+    /// No `sync` has failed.
+    ghost is_usable: { Self → Bool };
+
+    /// How many calls have failed, or any other number that changes exactly if a call fails.
+    ghost faults: { Self → ℕ };
+
+    /// What a crash in the middle of a write may leave of its block, besides the old and the new one. By default it is
+    /// anything. A device that writes a block as a whole defines it as `⊥`.
+    ghost IsTorn: { Self.Seen → Type 0 } = { λ _. Unit {0} };
+
+    /// No read has returned anything but the known block. By default this is always so. For a file it is a premise that
+    /// no code can test, and it stands before each fact on what was read.
+    ghost IsHonest: { Self → Type 0 } = { λ _. Unit {0} };
+
+    /// Returns whether the device has a block of this number.
+    fn has(&self, n: u64) -> bool
+        ensures { result ≡ has self.now n };
+
+    /// Returns whether no `sync` has failed.
+    fn is_usable(&self) -> bool
+        ensures { result ≡ is_usable self.now };
+
+    /// Returns a block. A block that was not known may become known.
     ///
     /// # Errors
     ///
     /// The device failed. No block has changed.
     fn read(&mut self, n: u64) -> Result<B, Self::Error>
-        ensures block { IfOk result (λ block. seen block ≡ blocks self.old n) }
-        ensures keeps { (m : ℕ) → blocks self.new m ≡ blocks self.old m };
+        requires there { IsTrue (has self.old n) }
+        requires usable { IsTrue (is_usable self.old) }
+        ensures block { IfOk result (λ block. IsHonest self.new → blocks self.new n ≡ Some (seen block)) }
+        ensures keeps { (m : ℕ) (b : Self.Seen) → blocks self.old m ≡ Some b → blocks self.new m ≡ Some b }
+        ensures crash { (m : ℕ) (b : Self.Seen) → may_leave self.new m b → may_leave self.old m b }
+        ensures cause { faults self.new ≡ faults self.old ↔ IsOk result }
+        ensures honest { IsHonest self.new → IsHonest self.old }
+        ensures usable { IsTrue (is_usable self.new) }
+        ensures numbers { (m : ℕ) → has self.new m ≡ has self.old m };
 
-    /// Replaces a block.
+    /// Replaces a block. A crash may leave what it might leave before, or the new block, or a torn one.
     ///
     /// # Errors
     ///
     /// The device failed. That block may be anything then, and no other block has changed.
     fn write(&mut self, n: u64, block: &B) -> Result<(), Self::Error>
-        ensures written { OnOk result (blocks self.new n ≡ seen block.now) }
-        ensures others { (m : ℕ) → m ≢ n → blocks self.new m ≡ blocks self.old m };
+        requires there { IsTrue (has self.old n) }
+        requires usable { IsTrue (is_usable self.old) }
+        ensures written { OnOk result (blocks self.new n ≡ Some (seen block.now)) }
+        ensures others { (m : ℕ) → m ≢ n → blocks self.new m ≡ blocks self.old m }
+        ensures crash { (m : ℕ) (b : Self.Seen) → may_leave self.new m b
+            → may_leave self.old m b ⊎ ((m ≡ n) × ((b ≡ seen block.now) ⊎ IsTorn b)) }
+        ensures cause { faults self.new ≡ faults self.old ↔ IsOk result }
+        ensures honest { IsHonest self.new → IsHonest self.old }
+        ensures usable { IsTrue (is_usable self.new) }
+        ensures numbers { (m : ℕ) → has self.new m ≡ has self.old m };
 
-    /// Asks the device to make its blocks durable. No block changes, even at an error; nothing is proved of a crash. A
-    /// device in memory returns `Ok`.
+    /// Makes the blocks durable: a crash leaves exactly what a read returns, once this has returned `Ok`.
     ///
     /// # Errors
     ///
-    /// The device failed. A crash may lose what was written since the last `sync` that returned `Ok`, whatever a later
-    /// `sync` returns.
+    /// The device failed, and is not usable from then on. What was written since the last `sync` may be lost.
     fn sync(&mut self) -> Result<(), Self::Error>
-        ensures keeps { (m : ℕ) → blocks self.new m ≡ blocks self.old m };
+        requires usable { IsTrue (is_usable self.old) }
+        ensures keeps { OnOk result ((m : ℕ) → blocks self.new m ≡ blocks self.old m) }
+        ensures durable { OnOk result ((m : ℕ) (block b : Self.Seen) → blocks self.new m ≡ Some block
+            → may_leave self.new m b → b ≡ block) }
+        ensures crash { (m : ℕ) (b : Self.Seen) → may_leave self.new m b → may_leave self.old m b }
+        ensures cause { faults self.new ≡ faults self.old ↔ IsOk result }
+        ensures honest { IsHonest self.new → IsHonest self.old }
+        ensures usable { is_usable self.new ≡ is_ok result }
+        ensures numbers { (m : ℕ) → has self.new m ≡ has self.old m };
+
+    /// A process that dies leaves what it has written. So no impl can say that there are no crashes.
+    ghost stays: { (device : Self) (n : ℕ) (b : Self.Seen) → blocks device n ≡ Some b → may_leave device n b };
 }

@@ -1,92 +1,77 @@
-//! A device over a file. A contract sees a device as the list of its blocks.
-ghost use Rattle.std.specs.Prelude.{◌≡◌, ◌≢◌, ℕ, ◌<◌, ◌^◌, [], length, IfOk, OnOk, OnErr};
-ghost use Rattle.std.specs.List.{slice_index_or};
+//! A device over a file.
+ghost use Rattle.std.specs.Prelude.{◌≡◌, ℕ, ◌∷◌, [], nat_lt, IsTrue, ◌^◌, ◌<◌};
+ghost use Rattle.lru_caches.specs.Files.{known, left, IsLeft, failures, IsHonest as AnsweredAsRecorded};
+ghost use Rattle.lru_caches.specs.LeftLemma.{left_is_known};
 
 use crate::device::BlockDevice;
 use crate::file_device::durable::Durable;
-use std::alloc::Global;
-use std::io::{Read, Seek, SeekFrom, Write};
-use std::marker::Model;
+use crate::file_device::recorded::RecordedFile;
+use std::io::{Read, Seek, Write};
 use thiserror::Error;
 
+pub(crate) mod checksum;
 pub(crate) mod durable;
 pub(crate) mod hashed;
+pub(crate) mod record;
+pub(crate) mod recorded;
 
 /// Why a call on a file device failed.
 ///
 /// ```
-/// assert_eq!(rt; device.read(9), Err(FileError::NoBlock));
+/// assert_eq!(rt; hashed.read(2), Err(FileError::Damaged));
 /// ```
 #[derive(Clone, Copy, Debug, PartialEq, Error)]
 pub enum FileError {
     /// A seek, a read, a write or a sync of the file failed.
     #[error("the file failed")]
     File,
-    /// The device has no block of this number.
-    #[error("no such block")]
-    NoBlock,
-    /// The file's block, or its hash, differs from what was written there last.
-    #[error("the file has changed")]
-    Changed,
-    /// Out of memory for a copy or a hash of each block.
-    #[error("out of memory")]
-    Memory,
+    /// The block does not have its checksum.
+    #[error("a damaged block")]
+    Damaged,
 }
 
-/// A device of the blocks of a file, of `N` bytes each, that compares what it reads with a copy.
+/// A device of the blocks of a file, of `N` bytes each. It keeps nothing in memory but the file and a count.
 ///
-/// Nothing is proved of the bytes that an operating system returns or keeps. So the device keeps a copy of each block
-/// in memory, and a read fails if the file's block differs. [`HashedFileDevice`] needs only 8 bytes a block. After a
-/// failed write the reads of that block may fail, until a write of it succeeds. After a failed `sync` the system may
-/// drop earlier writes: then reads of these blocks fail, and a later `sync` may return `Ok` all the same.
+/// Nothing is proved of the bytes that an operating system returns or keeps. So contracts see the record of the calls
+/// on the file and of their results, which no memory holds. What a block is, and what a crash may leave, is read off
+/// this record (`specs/Files`). That a read returns what was written there last has the premise `IsHonest`: the file
+/// answered as the record says. A file that changes by itself, or that others write, is not honest.
+///
+/// [`HashedFileDevice`] also finds torn and foreign blocks.
 ///
 /// [`HashedFileDevice`]: crate::HashedFileDevice
 ///
 /// ```
-/// let mut device: FileDevice<_, 4> = FileDevice::new(alloc, file, 3)?;
+/// let mut device: FileDevice<_, 4> = FileDevice::new(file, 3);
 /// assert_eq!(rt; device.write(1, b"uno."), Ok(()));
 /// assert_eq!(rt; device.read(1), Ok(*b"uno."));
 /// ```
 #[derive(Drop)]
 pub struct FileDevice<F, const N: usize> {
-    file: F,
-    copies: Vec<[u8; N]>,
-}
-
-impl<F, const N: usize> Model for FileDevice<F, N> {
-    ghost use Rattle.std.specs.Prelude.{ℕ, List};
-
-    ghost Value = { List (List ℕ) };
-
-    ghost view = { λ device. device.copies.items };
+    file: RecordedFile<F>,
+    count: u64,
+    is_usable: bool,
 }
 
 impl<F: Read + Write + Seek, const N: usize> FileDevice<F, N> {
-    /// Makes a device of the first `count` blocks of a file, and reads these.
+    /// Makes a device of the first `count` blocks of a file. The file need not have them yet: a read of a block behind
+    /// its end fails, and a write there makes it longer.
     ///
     /// ```
-    /// let mut device: FileDevice<_, 4> = FileDevice::new(alloc, file, 3)?;
+    /// let mut device: FileDevice<_, 4> = FileDevice::new(file, 3);
     /// ```
     ///
-    /// Cost: `O(count * N)`, and the memory of that many bytes.
-    ///
-    /// # Errors
-    ///
-    /// `File`: the file failed, or has fewer blocks. `Memory`: out of memory for the copy.
-    pub fn new(alloc: Global, mut file: F, count: u64) -> Result<Self, FileError>
-    where
-        F: Drop,
-        requires { N < 2 ^ 63 }
-        ensures { IfOk result (λ device. length device ≡ count) }
+    /// Cost: `O(1)`, and no call of the file.
+    pub fn new(file: F, count: u64) -> Self
+        ensures count { result.count ≡ count }
+        ensures usable { IsTrue result.is_usable }
+        ensures fresh { result.file.log.events ≡ [] }
     {
-        let mut copies = Vec::new(alloc);
-        for n in 0..count {
-            let block = read_block(&mut file, n)?;
-            if copies.push(block).is_err() {
-                return Err(FileError::Memory);
-            }
+        FileDevice {
+            file: RecordedFile::new(file),
+            count,
+            is_usable: true,
         }
-        Ok(FileDevice { file, copies })
     }
 
     /// Returns the number of blocks.
@@ -96,10 +81,10 @@ impl<F: Read + Write + Seek, const N: usize> FileDevice<F, N> {
     /// ```
     /// assert_eq!(rt; device.len(), 3);
     /// ```
-    pub fn len(&self) -> usize
-        ensures { result ≡ length self.now }
+    pub fn len(&self) -> u64
+        ensures { result ≡ self.now.count }
     {
-        self.copies.len()
+        self.count
     }
 
     /// Lends the file, such as to read its metadata.
@@ -110,10 +95,10 @@ impl<F: Read + Write + Seek, const N: usize> FileDevice<F, N> {
     ///
     /// Cost: `O(1)`.
     pub fn file(&self) -> &F {
-        &self.file
+        &self.file.file
     }
 
-    /// Drops the copies and returns the file.
+    /// Returns the file.
     ///
     /// A page cache returns the device by `close`, which calls `sync`. After other writes, call `sync` first.
     ///
@@ -124,8 +109,12 @@ impl<F: Read + Write + Seek, const N: usize> FileDevice<F, N> {
     ///
     /// Cost: `O(1)`.
     pub fn into_file(self) -> F {
-        let FileDevice { file, copies: _ } = self;
-        file
+        let FileDevice {
+            file,
+            count: _,
+            is_usable: _,
+        } = self;
+        file.into_inner()
     }
 }
 
@@ -136,81 +125,39 @@ impl<F: Read + Write + Seek + Durable, const N: usize> BlockDevice<[u8; N]> for 
 
     ghost seen = { λ block. block };
 
-    ghost blocks = { λ device n. slice_index_or device n [] };
+    ghost has = { λ device n. nat_lt n device.count };
 
-    fn read(&mut self, n: u64) -> Result<[u8; N], FileError> {
-        let copy = match self.copies.get(n as usize) {
-            Some(copy) => *copy,
-            None => return Err(FileError::NoBlock),
-        };
-        let block: [u8; N] = read_block(&mut self.file, n)?;
-        if block == copy {
-            Ok(copy)
-        } else {
-            Err(FileError::Changed)
-        }
+    ghost blocks = { λ device. known device.file.log.events };
+
+    ghost may_leave = { λ device n. IsLeft (λ block. block) (left device.file.log.events n) };
+
+    ghost is_usable = { λ device. device.is_usable };
+
+    ghost faults = { λ device. failures device.file.log.events };
+
+    ghost IsHonest = { λ device. AnsweredAsRecorded device.file.log.events };
+
+    ghost stays = { λ device n block is. left_is_known (λ block. block) device.file.log.events n block is };
+
+    fn has(&self, n: u64) -> bool {
+        n < self.count
     }
 
-    fn write(&mut self, n: u64, block: &[u8; N]) -> Result<(), FileError>
-        ensures written { OnOk result (slice_index_or self.new n [] ≡ block.now) }
-        ensures others { (m : ℕ) → m ≢ n → slice_index_or self.new m [] ≡ slice_index_or self.old m [] }
-        ensures failed { OnErr result (self.new ≡ self.old) }
-    {
-        let Some(copy) = self.copies.get_mut(n as usize) else {
-            return Err(FileError::NoBlock);
-        };
-        write_block(&mut self.file, n, block)?;
-        *copy = *block;
-        Ok(())
+    fn is_usable(&self) -> bool {
+        self.is_usable
+    }
+
+    fn read(&mut self, n: u64) -> Result<[u8; N], FileError> {
+        self.file.read_block(n)
+    }
+
+    fn write(&mut self, n: u64, block: &[u8; N]) -> Result<(), FileError> {
+        self.file.write_block(n, block)
     }
 
     fn sync(&mut self) -> Result<(), FileError> {
-        sync_file(&mut self.file)
-    }
-}
-
-// Moves to the block of this number.
-fn seek_to<F: Seek>(file: &mut F, n: u64, size: usize) -> Result<(), FileError> {
-    let at = n.checked_mul(size as u64).ok_or(FileError::NoBlock)?;
-    match file.seek(SeekFrom::Start(at)) {
-        Ok(_) => Ok(()),
-        Err(_) => Err(FileError::File),
-    }
-}
-
-// Reads a block of the file.
-pub(crate) fn read_block<F: Read + Seek, const N: usize>(
-    file: &mut F,
-    n: u64,
-) -> Result<[u8; N], FileError> {
-    seek_to(file, n, N)?;
-    let mut block = [0u8; N];
-    match file.read_exact(&mut block) {
-        Ok(()) => Ok(block),
-        Err(_) => Err(FileError::File),
-    }
-}
-
-// Writes a block to the file.
-pub(crate) fn write_block<F: Write + Seek, const N: usize>(
-    file: &mut F,
-    n: u64,
-    block: &[u8; N],
-) -> Result<(), FileError> {
-    seek_to(file, n, N)?;
-    match file.write_all(block) {
-        Ok(()) => Ok(()),
-        Err(_) => Err(FileError::File),
-    }
-}
-
-// Flushes the writer and makes what was written durable.
-pub(crate) fn sync_file<F: Write + Durable>(file: &mut F) -> Result<(), FileError> {
-    if file.flush().is_err() {
-        return Err(FileError::File);
-    }
-    match file.make_durable() {
-        Ok(()) => Ok(()),
-        Err(_) => Err(FileError::File),
+        let synced = self.file.sync();
+        self.is_usable = synced.is_ok();
+        synced
     }
 }

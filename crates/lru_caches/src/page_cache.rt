@@ -1,11 +1,13 @@
 //! `PageCache`. A contract sees a cache as its pages, newest first, and its device.
-ghost use Rattle.std.specs.Prelude.{◌≡◌, ◌≢◌, ◌≤◌, ℕ, [], length, max, IsTrue, ◌↔◌, IfOk, IfErr, OnOk, OnErr, IsOk};
+ghost use Rattle.std.specs.Prelude.{◌≡◌, ◌≢◌, ◌⊎◌, ◌≤◌, ℕ, [], Some, true, false, length, max, IsTrue, ◌↔◌};
+ghost use Rattle.std.specs.Prelude.{IfOk, IfErr, OnOk, OnErr, IsOk};
 ghost use Rattle.lru_model.specs.Lists.{is_empty};
-ghost use Rattle.lru_caches.specs.Pages.{shown, ShowsTheSame, IsCached, numbers, numbers_after};
+ghost use Rattle.lru_caches.specs.Pages.{shown, dirty, cleaned, pages_after, IsCached, ShowsTheSame, CrashAdds, Serves};
+ghost use Rattle.lru_caches.specs.Pages.{IsCause, IsFlushCause};
 
 use crate::device::BlockDevice;
 use crate::page_cache::pages::{
-    Page, Pages, add_page, cached_block, make_room, overwrite, write_all_back,
+    Page, Pages, admit, cached_block, load, make_clean, overwrite, store, write_all_back,
 };
 use schnellru::{KeyHasher, LruMap, RandomState, UnlimitedCompact};
 use std::alloc::Global;
@@ -15,12 +17,13 @@ use thiserror::Error;
 
 mod pages;
 
-/// Why a call on a page cache failed. A call that fails changes no block that the cache shows.
+/// Why a call on a page cache failed. A call that fails changes no block that the cache shows, unless it broke the
+/// device: then `flush` or `close` returned `Device`, and each later call returns `Broken`.
 ///
 /// The text contains the text of the device's error, so a `PageError<E>` is `Display` if `E` is.
 ///
 /// ```
-/// assert_eq!(rt; cache.read(4), Err(PageError::Device(DiskError)));
+/// assert_eq!(rt; cache.read(4), Err(PageError::NoBlock));
 /// ```
 #[derive(Debug, Drop, PartialEq, Error)]
 #[error_bound(E: Display)]
@@ -31,6 +34,12 @@ pub enum PageError<E> {
     /// Out of memory for one page more, or there are 1,879,048,192 pages, the most that the table links.
     #[error("out of memory")]
     Memory,
+    /// The device has no block of this number.
+    #[error("no such block")]
+    NoBlock,
+    /// A `sync` of the device has failed, so what was written before may be lost. Discard the cache.
+    #[error("a sync of the device has failed")]
+    Broken,
 }
 
 /// A write-back cache of the blocks of a device.
@@ -39,10 +48,13 @@ pub enum PageError<E> {
 /// then, and goes to the device when it is evicted or flushed. So the cache shows a block at each number, which is the
 /// cached page, or else the block of the device.
 ///
-/// Whichever call of the device fails, the cache shows the same blocks as before, if the device meets the contract of
-/// [`BlockDevice`]. That contract does not speak of a crash: after a `sync` that failed, a file may lose pages that
-/// were evicted before, and no later flush writes them again. `docs/CACHES.md` says more. Code that drops or forgets a
-/// cache does not compile, because its dirty pages would be lost. Call `close` or `discard`.
+/// A call that fails shows the same blocks as before, as long as no `sync` has failed. After a `flush` that returned
+/// `Ok`, a crash leaves each block as it was shown at that flush or was written later; `docs/CACHES.md` says what this
+/// supposes of a disk. After a `sync` that failed, each call but `discard`, and reads of cached pages, returns
+/// `Broken`.
+///
+/// Code that drops or forgets a cache does not compile, because its dirty pages would be lost. Call `close` or
+/// `discard`.
 ///
 /// ```
 /// let mut cache = PageCache::new(alloc, disk, 2);
@@ -54,24 +66,23 @@ pub enum PageError<E> {
 pub struct PageCache<B: Copy, D: BlockDevice<B>, S: KeyHasher<u64> = RandomState> {
     map: Pages<B, S>,
     capacity: usize,
-    round: u64,
     device: D,
 }
 
 impl<B: Copy, D: BlockDevice<B>, S: KeyHasher<u64>> Model for PageCache<B, D, S> {
     ghost use Rattle.std.specs.Prelude.{◌≤◌, ◌<◌, length};
-    ghost use Rattle.lru_caches.specs.Pages.{Cached, AreClean};
+    ghost use Rattle.lru_caches.specs.Pages.{Cached, AreClean, AreThere};
 
     ghost Value = { Cached B D };
 
     ghost view = { λ c. record {
       pages = c.map.pairs;
-      round = c.round;
       capacity = c.capacity;
       device = c.device;
     } };
 
-    ghost invariant = { λ c. AreClean D.seen D.blocks c.round c.map.pairs c.device
+    ghost invariant = { λ c. AreClean D.BlockDevice c.map.pairs c.device
+        × AreThere D.BlockDevice c.map.pairs c.device
         × (length c.map.pairs ≤ c.capacity) × (0 < c.capacity) };
 }
 
@@ -112,7 +123,6 @@ impl<B: Copy, D: BlockDevice<B>, S: KeyHasher<u64>> PageCache<B, D, S> {
         PageCache {
             map: LruMap::with_limiter_and_hasher(alloc, UnlimitedCompact, hasher),
             capacity: capacity.max(1),
-            round: 1,
             device,
         }
     }
@@ -184,32 +194,31 @@ impl<B: Copy, D: BlockDevice<B>, S: KeyHasher<u64>> PageCache<B, D, S> {
     ///
     /// # Errors
     ///
-    /// `Device`: the read failed, or the oldest page could not be written back. `Memory`: out of memory for one page
-    /// more; the oldest page may have been evicted. In the last two cases the device has returned the block, but `read`
-    /// does not return what it cannot keep (`Loader::load` does). There is no error if the page is cached.
+    /// None if the page is cached. `Broken`: a `sync` has failed. `NoBlock`: the device has no such number. `Device`:
+    /// the read failed, or the oldest page could not be written back; all pages stay. `Memory`: out of memory for one
+    /// page more; the oldest page may have been evicted.
     pub fn read(&mut self, n: u64) -> Result<B, PageError<D::Error>>
-        ensures block { IfOk result (λ block. D.seen block ≡ shown D.seen D.blocks self.old n) }
-        ensures keeps { ShowsTheSame D.seen D.blocks self.old self.new }
-        ensures cached { OnOk result (IsCached n self.new) }
-        ensures order { OnOk result (numbers self.new ≡ numbers_after n self.old) }
+        ensures block { IfOk result (λ block. D.IsHonest self.new.device
+            → shown D.BlockDevice self.new n ≡ Some (D.seen block)) }
+        ensures keeps { ShowsTheSame D.BlockDevice self.old self.new }
+        ensures pages { IfOk result (λ block.
+            self.new.pages ≡ pages_after n (record { block = block; is_dirty = dirty self.old n }) self.old) }
+        ensures crash { CrashAdds D.BlockDevice self.old.pages self.old.device self.new.device }
         ensures hit { IsCached n self.old → IsOk result }
         ensures untouched { IsCached n self.old → self.new.device ≡ self.old.device }
+        ensures broken { D.is_usable self.old.device ≡ false → IsOk result ⊎ (result ≡ Err PageError.Broken) }
+        ensures cause { IfErr result (IsCause D.BlockDevice n self.old.device self.new.device) }
+        ensures serves { Serves D.BlockDevice self.old.device self.new.device }
         ensures capacity { self.new.capacity ≡ self.old.capacity }
     {
         if let Some(block) = cached_block(&mut self.map, n) {
             return Ok(block);
         }
-        let block = self.device.read(n).map_err(PageError::Device)?;
-        make_room(&mut self.map, &mut self.device, self.round, self.capacity)?;
-        add_page(&mut self.map, n, Page { block, round: 0 })?;
-        Ok(block)
+        admit(&self.device, n)?;
+        load(&mut self.map, &mut self.device, self.capacity, n)
     }
 
     /// Replaces a block in the cache, and makes its page the newest. The device gets the block later.
-    ///
-    /// The cache accepts every number. If the device rejects this one, the page can never be written back: each `flush`
-    /// and `close` fails from then on, and so does each call that has to evict the page. Only `discard` ends such a
-    /// cache. Check a number that comes from outside before you write there.
     ///
     /// If the page is not cached and the cache is full, the oldest page is evicted for it, as by `read`.
     ///
@@ -221,31 +230,35 @@ impl<B: Copy, D: BlockDevice<B>, S: KeyHasher<u64>> PageCache<B, D, S> {
     ///
     /// # Errors
     ///
-    /// As for `read`. The block is not replaced then.
+    /// `Broken`: a `sync` has failed. `NoBlock`: the device has no such number. Nothing else if the page is cached.
+    /// `Device` and `Memory` as for `read`. The block is not replaced then.
     pub fn write(&mut self, n: u64, block: B) -> Result<(), PageError<D::Error>>
-        ensures written { OnOk result (shown D.seen D.blocks self.new n ≡ D.seen block) }
-        ensures others { (m : ℕ) → m ≢ n → shown D.seen D.blocks self.new m ≡ shown D.seen D.blocks self.old m }
-        ensures failed { OnErr result (ShowsTheSame D.seen D.blocks self.old self.new) }
-        ensures cached { OnOk result (IsCached n self.new) }
-        ensures order { OnOk result (numbers self.new ≡ numbers_after n self.old) }
-        ensures hit { IsCached n self.old → IsOk result }
+        ensures written { OnOk result (shown D.BlockDevice self.new n ≡ Some (D.seen block)) }
+        ensures others { D.IsHonest self.new.device →
+            (m : ℕ) → m ≢ n → shown D.BlockDevice self.new m ≡ shown D.BlockDevice self.old m }
+        ensures failed { OnErr result (ShowsTheSame D.BlockDevice self.old self.new) }
+        ensures pages { OnOk result (self.new.pages
+            ≡ pages_after n (record { block = block; is_dirty = true }) self.old) }
+        ensures crash { CrashAdds D.BlockDevice self.old.pages self.old.device self.new.device }
+        ensures hit { IsCached n self.old → IsTrue (D.is_usable self.old.device) → IsOk result }
         ensures untouched { IsCached n self.old → self.new.device ≡ self.old.device }
+        ensures broken { D.is_usable self.old.device ≡ false → result ≡ Err PageError.Broken }
+        ensures cause { IfErr result (IsCause D.BlockDevice n self.old.device self.new.device) }
+        ensures serves { Serves D.BlockDevice self.old.device self.new.device }
         ensures capacity { self.new.capacity ≡ self.old.capacity }
     {
+        admit(&self.device, n)?;
         let page = Page {
             block,
-            round: self.round,
+            is_dirty: true,
         };
         if overwrite(&mut self.map, n, page) {
             return Ok(());
         }
-        make_room(&mut self.map, &mut self.device, self.round, self.capacity)?;
-        add_page(&mut self.map, n, page)?;
-        Ok(())
+        store(&mut self.map, &mut self.device, self.capacity, n, page)
     }
 
-    /// Writes all dirty pages to the device, and then calls its `sync`. The pages stay cached, and no page that was
-    /// dirty is dirty then.
+    /// Writes all dirty pages to the device, and then calls its `sync`. The pages stay cached, and are clean then.
     ///
     /// ```
     /// assert_eq!(rt; cache.flush(), Ok(()));
@@ -256,19 +269,30 @@ impl<B: Copy, D: BlockDevice<B>, S: KeyHasher<u64>> PageCache<B, D, S> {
     ///
     /// # Errors
     ///
-    /// `Device`: a write or the `sync` failed. All pages stay as dirty as before, so the next flush writes them again.
-    /// It does not write a page again that was evicted before.
+    /// `Device`: a write or the `sync` failed. All pages stay as dirty as before. If it was a write, the next flush
+    /// writes them again. If it was the `sync`, the device is not usable from then on. `Broken`: it was not before.
     pub fn flush(&mut self) -> Result<(), PageError<D::Error>>
-        ensures keeps { ShowsTheSame D.seen D.blocks self.old self.new }
-        ensures flushed { OnOk result ((n : ℕ) → D.blocks self.new.device n ≡ shown D.seen D.blocks self.old n) }
-        ensures dirty { OnErr result (self.new.round ≡ self.old.round) }
-        ensures clean { OnOk result (self.new.round ≢ self.old.round) }
-        ensures pages { self.new.pages ≡ self.old.pages }
+        ensures keeps { ShowsTheSame D.BlockDevice self.old self.new }
+        ensures flushed { OnOk result (D.IsHonest self.new.device →
+            (n : ℕ) → D.blocks self.new.device n ≡ shown D.BlockDevice self.old n) }
+        ensures durable { OnOk result (D.IsHonest self.new.device →
+            (n : ℕ) (block b : D.Seen) → shown D.BlockDevice self.old n ≡ Some block
+            → D.may_leave self.new.device n b → b ≡ block) }
+        ensures clean { OnOk result (self.new.pages ≡ cleaned self.old.pages) }
+        ensures dirty { OnErr result (self.new.pages ≡ self.old.pages) }
+        ensures crash { CrashAdds D.BlockDevice self.old.pages self.old.device self.new.device }
+        ensures usable { OnOk result (IsTrue (D.is_usable self.new.device)) }
+        ensures broken { D.is_usable self.old.device ≡ false → (result ≡ Err PageError.Broken) × (self.new ≡ self.old) }
+        ensures cause { IfErr result (IsFlushCause D.BlockDevice self.old.device self.new.device) }
+        ensures numbers { (n : ℕ) → D.has self.new.device n ≡ D.has self.old.device n }
+        ensures honest { D.IsHonest self.new.device → D.IsHonest self.old.device }
         ensures capacity { self.new.capacity ≡ self.old.capacity }
     {
-        write_all_back(&self.map, &mut self.device, self.round)?;
-        // If the number wraps, a clean page of that round counts as dirty, and is written once more.
-        self.round = self.round.wrapping_add(1);
+        if !self.device.is_usable() {
+            return Err(PageError::Broken);
+        }
+        write_all_back(&self.map, &mut self.device)?;
+        make_clean(&mut self.map);
         Ok(())
     }
 
@@ -285,15 +309,21 @@ impl<B: Copy, D: BlockDevice<B>, S: KeyHasher<u64>> PageCache<B, D, S> {
     ///
     /// # Errors
     ///
-    /// The flush failed. The error contains the cache, which shows the same blocks as before. Its pages are the same,
-    /// each as dirty as before.
+    /// The flush failed. The error contains the cache as `flush` left it, with the same pages, each as dirty as before.
     pub fn close(mut self) -> Result<D, Unclosed<B, D, S>>
     where
         S: Drop,
-        ensures closed { IfOk result (λ device. (n : ℕ) → D.blocks device n ≡ shown D.seen D.blocks self n) }
-        ensures failed { IfErr result (λ unclosed. ShowsTheSame D.seen D.blocks self unclosed.cache) }
+        ensures closed { IfOk result (λ device. D.IsHonest device →
+            (n : ℕ) → D.blocks device n ≡ shown D.BlockDevice self n) }
+        ensures durable { IfOk result (λ device. D.IsHonest device →
+            (n : ℕ) (block b : D.Seen) → shown D.BlockDevice self n ≡ Some block → D.may_leave device n b → b ≡ block) }
+        ensures usable { IfOk result (λ device. IsTrue (D.is_usable device)) }
+        ensures failed { IfErr result (λ unclosed. ShowsTheSame D.BlockDevice self unclosed.cache) }
         ensures pages { IfErr result (λ unclosed. unclosed.cache.pages ≡ self.pages) }
-        ensures dirty { IfErr result (λ unclosed. unclosed.cache.round ≡ self.round) }
+        ensures crash { IfErr result (λ unclosed.
+            CrashAdds D.BlockDevice self.pages self.device unclosed.cache.device) }
+        ensures cause { IfErr result (λ unclosed.
+            IsFlushCause D.BlockDevice self.device unclosed.cache.device unclosed.error) }
         ensures capacity { IfErr result (λ unclosed. unclosed.cache.capacity ≡ self.capacity) }
     {
         match self.flush() {
@@ -317,7 +347,6 @@ impl<B: Copy, D: BlockDevice<B>, S: KeyHasher<u64>> PageCache<B, D, S> {
         let PageCache {
             map: _,
             capacity: _,
-            round: _,
             device,
         } = self;
         device
@@ -330,7 +359,7 @@ impl<B: Copy, D: BlockDevice<B>, S: KeyHasher<u64>> PageCache<B, D, S> {
 /// Err(Unclosed { cache, error: _ }) => cache,
 /// ```
 pub struct Unclosed<B: Copy, D: BlockDevice<B>, S: KeyHasher<u64> = RandomState> {
-    /// The cache, which shows the same blocks as before, with the same pages.
+    /// The cache as the flush left it, with the same pages.
     pub cache: PageCache<B, D, S>,
     /// Why the flush failed.
     pub error: PageError<D::Error>,

@@ -1,22 +1,35 @@
 //! Callers whose own contracts rest on those of a page cache and of an ordered map.
-ghost use Rattle.std.specs.Prelude.{◌≡◌, ◌≢◌, ℕ, nat_eq, true, is_some, OnOk, OnErr};
+ghost use Rattle.std.specs.Prelude.{◌≡◌, nat_eq, true, is_some, Some, OnOk, OnErr};
 ghost use Rattle.std.specs.Map.{lookup, set_value};
 ghost use Rattle.lru_caches.specs.Pages.{shown, ShowsTheSame};
 
 use lru_caches::{BlockDevice, OrderedMap, PageCache, PageError};
 
-/// Copies a block to another number. If it fails, no block has changed.
+/// Copies a block to another number. If it fails, each block is shown as before.
 pub fn copy_block<D: BlockDevice<u64>>(
     cache: &mut PageCache<u64, D>,
     from: u64,
     to: u64,
 ) -> Result<(), PageError<D::Error>>
-    ensures copied { OnOk result (shown D.seen D.blocks cache.new to ≡ shown D.seen D.blocks cache.old from) }
-    ensures others { (m : ℕ) → m ≢ to → shown D.seen D.blocks cache.new m ≡ shown D.seen D.blocks cache.old m }
-    ensures failed { OnErr result (ShowsTheSame D.seen D.blocks cache.old cache.new) }
+    ensures copied { OnOk result (D.IsHonest cache.new.device → (block : D.Seen) →
+        shown D.BlockDevice cache.old from ≡ Some block → shown D.BlockDevice cache.new to ≡ Some block) }
+    ensures failed { OnErr result (ShowsTheSame D.BlockDevice cache.old cache.new) }
 {
     let block = cache.read(from)?;
     cache.write(to, block)
+}
+
+/// Writes a block so that no crash loses it.
+pub fn write_durably<D: BlockDevice<u64>>(
+    cache: &mut PageCache<u64, D>,
+    n: u64,
+    block: u64,
+) -> Result<(), PageError<D::Error>>
+    ensures durable { OnOk result (D.IsHonest cache.new.device → (b : D.Seen) →
+        D.may_leave cache.new.device n b → b ≡ D.seen block) }
+{
+    cache.write(n, block)?;
+    cache.flush()
 }
 
 /// Writes a value under a key that is there, and returns whether it is. The order stays.

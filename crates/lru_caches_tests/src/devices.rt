@@ -12,44 +12,82 @@ const BLOCKS: u64 = 10_000;
 
 // A file of blocks that are zero. Out of memory, it lacks blocks.
 fn file(alloc: Global) -> Cursor<Vec<u8>> {
-    Cursor::new(vec![in alloc; 0u8; 80_000].unwrap_or(Vec::new(alloc)))
+    Cursor::new(vec![in alloc; 0u8; 160_000].unwrap_or(Vec::new(alloc)))
+}
+
+// Reads a block, if the device has it and works.
+fn read<D: BlockDevice<[u8; 16], Error = FileError>>(device: &mut D, n: u64) -> Option<[u8; 16]> {
+    if device.has(n) && device.is_usable() {
+        device.read(n).ok()
+    } else {
+        None
+    }
+}
+
+// Writes a block, if the device has it and works.
+fn writes<D: BlockDevice<[u8; 16], Error = FileError>>(
+    device: &mut D,
+    n: u64,
+    block: &[u8; 16],
+) -> bool {
+    device.has(n) && device.is_usable() && device.write(n, block).is_ok()
 }
 
 // Writes random blocks to both devices, and reads others. Returns after how many writes these agree with a list. If a
-// file does not contain the list in the end, none do.
+// file does not contain the list in the end, none do. Of the hashed file only the checksums differ.
 fn calls_that_agree(alloc: Global) -> u64 {
-    let copies: Result<FileDevice<_, 8>, _> = FileDevice::new(alloc, file(alloc), BLOCKS);
-    let hashes: Result<HashedFileDevice<_, 8>, _> = HashedFileDevice::new(
-        alloc,
-        file(alloc),
-        BLOCKS,
-    );
-    let (Ok(mut copies), Ok(mut hashes)) = (copies, hashes) else {
-        return 0;
-    };
-    let (mut model, mut random, mut count) = ([[0u8; 8]; BLOCKS as usize], Random::new(5), 0u64);
+    let mut plain: FileDevice<_, 16> = FileDevice::new(file(alloc), BLOCKS);
+    let mut hashed: HashedFileDevice<_, 16> = HashedFileDevice::new(file(alloc), BLOCKS);
+    let (mut model, mut random, mut count) = ([[0u8; 16]; BLOCKS as usize], Random::new(5), 0u64);
+    for n in 0..BLOCKS {
+        count = count.saturating_add(writes(&mut hashed, n, &[0; 16]) as u64);
+    }
     for _ in 0..CALLS {
-        let (n, block) = (random.below(BLOCKS), random.next().to_le_bytes());
-        let is_written = copies.write(n, &block).is_ok() & hashes.write(n, &block).is_ok();
+        let (n, mut block) = (random.below(BLOCKS), [0u8; 16]);
+        block[..8].copy_from_slice(&random.next().to_le_bytes());
+        let is_written = writes(&mut plain, n, &block) & writes(&mut hashed, n, &block);
         model[n as usize] = block;
         let n = random.below(BLOCKS);
-        let shown = (copies.read(n).ok(), hashes.read(n).ok());
-        let expected = Some(model[n as usize]);
-        let is_right = is_written & (shown == (expected, expected));
+        let (shown, checked) = (read(&mut plain, n), read(&mut hashed, n));
+        let expected = model[n as usize];
+        let is_right = is_written
+            & (shown == Some(expected))
+            & checked.is_some_and(|block| block[..8] == expected[..8]);
         count = count.saturating_add(is_right as u64);
     }
-    let bytes = copies.into_file().into_inner();
-    if bytes == hashes.into_file().into_inner() && contains(bytes.as_slice(), &model) {
+    let bytes = plain.into_file().into_inner();
+    if contains(bytes.as_slice(), &model)
+        && finds_foreign_blocks(hashed.into_file().into_inner().as_slice())
+    {
         count
     } else {
         0
     }
 }
 
+// Whether a device finds a block of another number, and a block with one changed byte.
+fn finds_foreign_blocks(bytes: &[u8]) -> bool {
+    let mut copy = [0u8; 64];
+    for (place, byte) in copy.iter_mut().zip(bytes) {
+        *place = *byte;
+    }
+    for n in 0..16usize {
+        copy[n] = copy[n + 16];
+    }
+    copy[40] ^= 1;
+    let mut hashed: HashedFileDevice<_, 16> = HashedFileDevice::new(Cursor::new(copy), 4);
+    let mut right = true;
+    for n in 0..4u64 {
+        let is_foreign = read(&mut hashed, n).is_none();
+        right = right & (is_foreign == (n == 0 || n == 2));
+    }
+    right
+}
+
 // Whether a file consists of these blocks.
-fn contains(bytes: &[u8], model: &[[u8; 8]; BLOCKS as usize]) -> bool {
-    let mut right = bytes.len() == 80_000;
-    for (block, expected) in bytes.chunks(8).zip(model) {
+fn contains(bytes: &[u8], model: &[[u8; 16]; BLOCKS as usize]) -> bool {
+    let mut right = bytes.len() == 160_000;
+    for (block, expected) in bytes.chunks(16).zip(model) {
         right = right & (block == expected.as_slice());
     }
     right
@@ -57,32 +95,33 @@ fn contains(bytes: &[u8], model: &[[u8; 8]; BLOCKS as usize]) -> bool {
 
 #[test]
 fn files_contain_what_was_written(rt: HostRuntime) {
-    check!(rt; calls_that_agree(rt.alloc()) == CALLS);
+    check!(rt; calls_that_agree(rt.alloc()) == BLOCKS + CALLS);
 }
 
 #[test]
 fn of_the_file_devices(rt: HostRuntime) -> Result<(), FileError> {
-    let alloc = rt.alloc();
     let file = Cursor::new(*b"zeroone.two.");
-    let mut device: FileDevice<_, 4> = FileDevice::new(alloc, file, 3)?;
-    let file = Cursor::new(*b"zeroone.two.");
-    let mut hashed: HashedFileDevice<_, 4> = HashedFileDevice::new(alloc, file, 3)?;
+    let mut device: FileDevice<_, 4> = FileDevice::new(file, 3);
     check!(rt; all!(
         device.len() == 3,
         device.write(1, b"uno.") == Ok(()),
         device.read(1) == Ok(*b"uno."),
-        device.read(9) == Err(FileError::NoBlock),
         device.file().position() == 8,
-        device.sync() == Ok(()),
-        hashed.len() == 3,
-        hashed.write(1, b"uno.") == Ok(()),
-        hashed.read(1) == Ok(*b"uno."),
-        hashed.file().position() == 8
+        device.sync() == Ok(())
     ));
     let bytes = device.into_file().into_inner();
     check!(rt; bytes.starts_with(b"zerouno."));
+    let file = Cursor::new([0u8; 48]);
+    let mut hashed: HashedFileDevice<_, 16> = HashedFileDevice::new(file, 3);
+    check!(rt; all!(
+        hashed.len() == 3,
+        hashed.write(1, b"uno.....checksum") == Ok(())
+    ));
+    check!(rt; hashed.read(1)?.starts_with(b"uno....."));
+    check!(rt; hashed.read(2) == Err(FileError::Damaged));
+    check!(rt; hashed.file().position() == 48);
     let bytes = hashed.into_file().into_inner();
-    check!(rt; bytes.starts_with(b"zerouno."));
+    check!(rt; bytes[16..].starts_with(b"uno....."));
     check!(rt; Cursor::new([0u8; 4]).make_durable().is_ok());
     Ok(())
 }

@@ -1,26 +1,82 @@
-//! A device in memory that fails.
-ghost use Rattle.std.specs.Prelude.{slice_index};
+//! A disk in memory with a volatile cache, that fails and crashes.
+ghost use Rattle.std.specs.Prelude.{◌≡◌, ◌⊎◌, ◌↔◌, ℕ, Some, nat_lt, slice_index, IsTrue};
+ghost use Rattle.std.proofs.Common.{inl, sym, ap, unwrap_or};
 
 use lru_caches::BlockDevice;
 use std::cell::Cell;
 
-/// The disk lacks the block, or did not work.
+/// The disk failed.
 #[derive(Clone, Copy, Debug, PartialEq)]
 pub struct DiskError;
 
-/// A disk of four blocks. After `calls_left` calls that work, one fails. A write that fails leaves 99 in its block.
+/// What a write that fails leaves in its block.
+pub const TORN: u64 = 99;
+
+/// A disk of four blocks, which keeps what is written in a volatile cache until it is synced.
+///
+/// After `calls_left` calls that work, one fails. A write that fails leaves its block torn. A crash, and a `sync` that
+/// fails, drop what was written to the blocks of `dropped`, and keep what was written to the others.
 #[derive(Drop)]
 pub struct Disk<'a> {
     pub blocks: [u64; 4],
+    synced: [u64; 4],
+    dropped: [bool; 4],
     pub calls_left: &'a Cell<u64>,
+    faults: u64,
+    is_usable: bool,
 }
 
-impl Disk<'_> {
+impl<'a> Disk<'a> {
+    /// Makes a disk of these blocks.
+    pub fn new(blocks: [u64; 4], dropped: [bool; 4], calls_left: &'a Cell<u64>) -> Self
+        ensures usable { IsTrue result.is_usable }
+    {
+        Disk {
+            blocks,
+            synced: blocks,
+            dropped,
+            calls_left,
+            faults: 0,
+            is_usable: true,
+        }
+    }
+
     // Counts a call, and returns whether the disk works. After the call that fails, nearly 2^64 calls are left.
-    fn works(&self) -> bool {
+    fn works(&mut self) -> bool
+        ensures same { self.new ≡ record self.old { faults = self.new.faults } }
+        ensures faults { self.new.faults ≡ self.old.faults ↔ IsTrue result }
+    {
         let left = self.calls_left.get();
         self.calls_left.set(left.wrapping_sub(1));
+        if left == 0 {
+            self.faults = self.faults.wrapping_add(1);
+        }
         left > 0
+    }
+
+    // Drops some of what is in the volatile cache, and writes the rest.
+    fn lose(&mut self)
+        ensures same { self.new ≡ record self.old { blocks = self.new.blocks; synced = self.new.synced } }
+        ensures blocks { (n : ℕ) → (slice_index self.new.blocks n ≡ slice_index self.old.blocks n)
+            ⊎ (slice_index self.new.blocks n ≡ slice_index self.old.synced n) }
+        ensures synced { self.new.synced ≡ self.new.blocks }
+    {
+        for n in 0..4usize {
+            if self.dropped[n] {
+                self.blocks[n] = self.synced[n];
+            }
+        }
+        self.synced = self.blocks;
+    }
+
+    /// Crashes, and starts again.
+    pub fn crash(&mut self)
+        ensures left { (n : ℕ) → (slice_index self.new.blocks n ≡ slice_index self.old.blocks n)
+            ⊎ (slice_index self.new.blocks n ≡ slice_index self.old.synced n) }
+        ensures usable { IsTrue self.new.is_usable }
+    {
+        self.lose();
+        self.is_usable = true;
     }
 }
 
@@ -31,25 +87,54 @@ impl BlockDevice<u64> for Disk<'_> {
 
     ghost seen = { λ block. block };
 
-    ghost blocks = { λ disk n. slice_index disk.blocks n };
+    ghost has = { λ disk n. nat_lt n 4 };
+
+    ghost blocks = { λ disk n. Some (slice_index disk.blocks n) };
+
+    ghost may_leave = { λ disk n block. (block ≡ slice_index disk.blocks n) ⊎ (block ≡ slice_index disk.synced n) };
+
+    ghost is_usable = { λ disk. disk.is_usable };
+
+    ghost faults = { λ disk. disk.faults };
+
+    ghost IsTorn = { λ block. block ≡ 99 };
+
+    ghost stays = { λ disk n block is. inl (ap (λ o. unwrap_or o block) (sym is)) };
+
+    fn has(&self, n: u64) -> bool {
+        n < 4
+    }
+
+    fn is_usable(&self) -> bool {
+        self.is_usable
+    }
 
     fn read(&mut self, n: u64) -> Result<u64, DiskError> {
-        if n >= 4 || !self.works() {
-            return Err(DiskError);
+        if self.works() {
+            Ok(self.blocks[n as usize])
+        } else {
+            Err(DiskError)
         }
-        Ok(self.blocks[n as usize])
     }
 
     fn write(&mut self, n: u64, block: &u64) -> Result<(), DiskError> {
-        if n >= 4 {
-            return Err(DiskError);
+        if self.works() {
+            self.blocks[n as usize] = *block;
+            Ok(())
+        } else {
+            self.blocks[n as usize] = TORN;
+            Err(DiskError)
         }
-        let works = self.works();
-        self.blocks[n as usize] = if works { *block } else { 99 };
-        if works { Ok(()) } else { Err(DiskError) }
     }
 
     fn sync(&mut self) -> Result<(), DiskError> {
-        if self.works() { Ok(()) } else { Err(DiskError) }
+        if self.works() {
+            self.synced = self.blocks;
+            Ok(())
+        } else {
+            self.lose();
+            self.is_usable = false;
+            Err(DiskError)
+        }
     }
 }

@@ -23,8 +23,8 @@ fn an_ordered_map_of_many_keys(rt: HostRuntime) {
     }
 }
 
-/// A page cache and an ordered map run out of memory exactly if a request of a growth is refused: the first, the second,
-/// the third, or none.
+/// A page cache and an ordered map run out of memory exactly if a request of a growth is refused: the first, the
+/// second, the third, or none.
 #[test]
 fn growths_without_memory(rt: HostRuntime) {
     for met in 0..=3usize {
@@ -38,11 +38,11 @@ fn nothing_leaks(rt: HostRuntime) {
     check!(rt; memory::caches_that_find_memory(rt.alloc()) == 1000);
 }
 
-/// A disk that fails at each call that the lists need, and again after as many more, and a disk that stays broken.
+/// A disk that fails at each call that the lists need, and again after as many more, or stays broken, and crashes then.
 #[test]
-fn a_disk_that_fails_loses_no_write(rt: HostRuntime) {
+fn a_disk_that_fails_and_crashes(rt: HostRuntime) {
     for stays_broken in [false, true] {
-        let (tried, kept) = pages::runs_that_lose_nothing(rt.alloc(), stays_broken);
+        let (tried, kept) = pages::runs_that_end_well(rt.alloc(), stays_broken);
         check!(rt; (tried, kept) == (pages::NEEDED, pages::NEEDED));
     }
 }

@@ -1,6 +1,6 @@
 //! Page caches of many pages, and that a flush makes the blocks of each device durable.
 
-use jeerdurian::caches::{BlockDevice, Durable, FileDevice, HashedFileDevice, PageCache};
+use jeerdurian::caches::{BlockDevice, Durable, FileDevice, HashedFileDevice, PageCache, PageError};
 use std::io::{Cursor, Read, Result, Seek, SeekFrom, Write};
 
 /// A file in memory that counts how often it is made durable.
@@ -51,12 +51,42 @@ where
     }
     assert_eq!(cache.flush(), Ok(()));
     let mut cache = PageCache::new(cache.discard(), 100);
-    (0..300u64).for_each(|n| assert_eq!(cache.read(n), Ok([n as u8; 64])));
+    (0..300u64).for_each(|n| assert_eq!(cache.read(n).unwrap()[..56], [n as u8; 56]));
     cache.discard()
+}
+
+/// After a sync that failed, nothing is written, and a flush does not return `Ok`.
+#[test]
+fn a_failed_sync_is_not_forgotten() {
+    struct Syncs(u32);
+    impl BlockDevice<u64> for Syncs {
+        type Error = u32;
+        fn has(&self, n: u64) -> bool {
+            n < 9
+        }
+        fn read(&mut self, n: u64) -> std::result::Result<u64, u32> {
+            Ok(n)
+        }
+        fn write(&mut self, _n: u64, _block: &u64) -> std::result::Result<(), u32> {
+            Ok(())
+        }
+        fn sync(&mut self) -> std::result::Result<(), u32> {
+            self.0 += 1;
+            if self.0 == 1 { Err(self.0) } else { Ok(()) }
+        }
+    }
+    let mut cache = PageCache::new(Syncs(0), 100);
+    assert_eq!(cache.write(9, 9), Err(PageError::NoBlock));
+    assert_eq!((cache.write(1, 5), cache.flush()), (Ok(()), Err(PageError::Device(1))));
+    assert_eq!(
+        (cache.flush(), cache.write(1, 6), cache.read(2)),
+        (Err(PageError::Broken), Err(PageError::Broken), Err(PageError::Broken))
+    );
+    assert_eq!((cache.read(1), cache.discard().0), (Ok(5), 1));
 }
 
 #[test]
 fn a_flush_makes_blocks_durable() {
-    assert_eq!(many_pages(FileDevice::new(disk(), 300).unwrap()).file().1, 1);
-    assert_eq!(many_pages(HashedFileDevice::new(disk(), 300).unwrap()).file().1, 1);
+    assert_eq!(many_pages(FileDevice::new(disk(), 300)).file().1, 1);
+    assert_eq!(many_pages(HashedFileDevice::new(disk(), 300)).file().1, 1);
 }

@@ -3,9 +3,8 @@ use std::fs::File;
 use std::io;
 use std::io::Cursor;
 
-/// A file with a call that is to make its bytes outlast a crash. Nothing is proved of a crash.
-///
-/// A file device calls this when it syncs, after it has flushed the writer.
+/// A file with a call that is to make its bytes outlast a crash. That it does is a premise of a file device, which
+/// calls it when it syncs, after it has flushed the writer, and not again after an error.
 ///
 /// ```
 /// assert!(rt; Cursor::new([0u8; 4]).make_durable().is_ok());

@@ -1,74 +1,62 @@
-//! A device over a file that keeps hashes. A contract sees a device as the list of the hashes of its blocks.
-ghost use Rattle.std.specs.Prelude.{◌≡◌, ◌≢◌, ℕ, ◌<◌, ◌^◌, [], ◌∷◌, length, IfOk, OnOk, OnErr};
-ghost use Rattle.std.specs.List.{slice_index_or};
-ghost use Rattle.lru_limits.specs.Mixing.{seeded};
+//! A device over a file whose blocks have checksums.
+ghost use Rattle.std.specs.Prelude.{◌≡◌, [], ◌-◌, ◌≤◌, take, nat_lt, IsTrue, option_map};
+ghost use Rattle.lru_caches.specs.Checksums.{with_checksums};
+ghost use Rattle.lru_caches.specs.Files.{known, left, IsLeft, failures, IsHonest as AnsweredAsRecorded};
+ghost use Rattle.lru_caches.specs.LeftLemma.{left_is_seen};
 
 use crate::device::BlockDevice;
+use crate::file_device::FileError;
+use crate::file_device::checksum::with_checksum;
 use crate::file_device::durable::Durable;
-use crate::file_device::{FileError, read_block, sync_file, write_block};
-use lru_limits::{KeyHasher, RandomState};
-use std::alloc::Global;
-use std::hash::BuildHasher;
+use crate::file_device::recorded::RecordedFile;
 use std::io::{Read, Seek, Write};
-use std::marker::Model;
 
-/// A device of the blocks of a file, of `N` bytes each, that keeps a hash of 8 bytes for each block.
+/// A device of the blocks of a file, of `N` bytes each, with a checksum in the last 8 bytes of each block.
 ///
-/// Nothing is proved of the bytes that an operating system returns. A read fails if the file's block has another hash
-/// than the block that was written last, or, before the first write, than the block that `new` read. Contracts see a
-/// block of such a device as its hash, so they do not tell two blocks with the same hash apart, and whoever looks for
-/// such blocks can find them. [`FileDevice`] compares whole blocks.
+/// A write replaces the last 8 bytes by the hash of the others and of the block's number, so contracts see of a block
+/// all bytes but these. A read returns `Ok` only if the block has its checksum: it finds blocks that are torn, damaged
+/// or of another number, after a restart too, and needs no memory for that. Two blocks may have one hash; how rarely is
+/// not proved. The seeds are known, so whoever writes the file can make a block with its checksum. Of blocks with their
+/// checksums the same is said as of a [`FileDevice`], under the same premise.
 ///
-/// After a failed write the reads of that block may fail, until a write of it succeeds. After a failed `sync` the
-/// system may drop earlier writes, as of a [`FileDevice`].
+/// A file that this device reads has to be written by it. Write each block once to make one.
 ///
 /// [`FileDevice`]: crate::FileDevice
 ///
 /// ```
-/// let mut hashed: HashedFileDevice<_, 4> = HashedFileDevice::new(alloc, file, 3)?;
-/// assert_eq!(rt; hashed.write(1, b"uno."), Ok(()));
-/// assert_eq!(rt; hashed.read(1), Ok(*b"uno."));
+/// let mut hashed: HashedFileDevice<_, 16> = HashedFileDevice::new(file, 3);
+/// assert_eq!(rt; hashed.write(1, b"uno.....checksum"), Ok(()));
+/// assert!(rt; hashed.read(1)?.starts_with(b"uno....."));
+/// assert_eq!(rt; hashed.read(2), Err(FileError::Damaged));
 /// ```
 #[derive(Drop)]
 pub struct HashedFileDevice<F, const N: usize> {
-    file: F,
-    hashes: Vec<u64>,
-}
-
-impl<F, const N: usize> Model for HashedFileDevice<F, N> {
-    ghost use Rattle.std.specs.Prelude.{ℕ, List};
-
-    ghost Value = { List ℕ };
-
-    ghost view = { λ device. device.hashes.items };
+    file: RecordedFile<F>,
+    count: u64,
+    is_usable: bool,
+    ghost wide: { 8 ≤ N },
+    ghost checked: { file.log.events ≡ with_checksums file.log.events },
 }
 
 impl<F: Read + Write + Seek, const N: usize> HashedFileDevice<F, N> {
-    /// Makes a device of the first `count` blocks of a file, and reads these.
+    /// Makes a device of the first `count` blocks of a file, as `FileDevice::new` does.
     ///
     /// ```
-    /// let mut hashed: HashedFileDevice<_, 4> = HashedFileDevice::new(alloc, file, 3)?;
+    /// let mut hashed: HashedFileDevice<_, 16> = HashedFileDevice::new(file, 3);
     /// ```
     ///
-    /// Cost: `O(count * N)`, and the memory of `count` hashes.
-    ///
-    /// # Errors
-    ///
-    /// `File`: the file failed, or has fewer blocks. `Memory`: out of memory for the hashes.
-    pub fn new(alloc: Global, mut file: F, count: u64) -> Result<Self, FileError>
-    where
-        F: Drop,
-        requires { N < 2 ^ 63 }
-        ensures { IfOk result (λ device. length device ≡ count) }
+    /// Cost: `O(1)`, and no call of the file.
+    pub fn new(file: F, count: u64) -> Self
+        requires { 8 ≤ N }
+        ensures count { result.count ≡ count }
+        ensures usable { IsTrue result.is_usable }
+        ensures fresh { result.file.log.events ≡ [] }
     {
-        let mut hashes = Vec::new(alloc);
-        for n in 0..count {
-            let block: [u8; N] = read_block(&mut file, n)?;
-            if hashes.push(hash_of(&block)).is_err() {
-                return Err(FileError::Memory);
-            }
+        HashedFileDevice {
+            file: RecordedFile::new(file),
+            count,
+            is_usable: true,
         }
-        Ok(HashedFileDevice { file, hashes })
     }
 
     /// Returns the number of blocks.
@@ -78,36 +66,38 @@ impl<F: Read + Write + Seek, const N: usize> HashedFileDevice<F, N> {
     /// ```
     /// assert_eq!(rt; hashed.len(), 3);
     /// ```
-    pub fn len(&self) -> usize
-        ensures { result ≡ length self.now }
+    pub fn len(&self) -> u64
+        ensures { result ≡ self.now.count }
     {
-        self.hashes.len()
+        self.count
     }
 
     /// Lends the file, such as to read its metadata.
     ///
     /// ```
-    /// assert_eq!(rt; hashed.file().position(), 8);
+    /// assert_eq!(rt; hashed.file().position(), 48);
     /// ```
     ///
     /// Cost: `O(1)`.
     pub fn file(&self) -> &F {
-        &self.file
+        &self.file.file
     }
 
-    /// Drops the hashes and returns the file.
-    ///
-    /// A page cache returns the device by `close`, which calls `sync`. After other writes, call `sync` first.
+    /// Returns the file, as of a `FileDevice`.
     ///
     /// ```
     /// let bytes = hashed.into_file().into_inner();
-    /// assert!(rt; bytes.starts_with(b"zerouno."));
+    /// assert!(rt; bytes[16..].starts_with(b"uno....."));
     /// ```
     ///
     /// Cost: `O(1)`.
     pub fn into_file(self) -> F {
-        let HashedFileDevice { file, hashes: _ } = self;
-        file
+        let HashedFileDevice {
+            file,
+            count: _,
+            is_usable: _,
+        } = self;
+        file.into_inner()
     }
 }
 
@@ -115,47 +105,44 @@ impl<F: Read + Write + Seek + Durable, const N: usize> BlockDevice<[u8; N]>
     for HashedFileDevice<F, N> {
     type Error = FileError;
 
-    type Seen = u64;
+    type Seen = [u8; N];
 
-    ghost seen = { λ block. ⟦<RandomState as KeyHasher<[u8; N]>>⟧.hash_of (seeded (1 ∷ 2 ∷ 3 ∷ 4 ∷ [])) block };
+    ghost seen = { take (N - 8) };
 
-    ghost blocks = { λ device n. slice_index_or device n 0 };
+    ghost has = { λ device n. nat_lt n device.count };
 
-    fn read(&mut self, n: u64) -> Result<[u8; N], FileError> {
-        let hash = match self.hashes.get(n as usize) {
-            Some(hash) => *hash,
-            None => return Err(FileError::NoBlock),
-        };
-        let block: [u8; N] = read_block(&mut self.file, n)?;
-        if hash_of(&block) == hash {
-            Ok(block)
-        } else {
-            Err(FileError::Changed)
-        }
+    ghost blocks = { λ device n. option_map (take (N - 8)) (known device.file.log.events n) };
+
+    ghost may_leave = { λ device n. IsLeft (take (N - 8)) (left device.file.log.events n) };
+
+    ghost is_usable = { λ device. device.is_usable };
+
+    ghost faults = { λ device. failures device.file.log.events };
+
+    ghost IsHonest = { λ device. AnsweredAsRecorded device.file.log.events };
+
+    ghost stays = { λ device n. left_is_seen (take (N - 8)) device.file.log.events n };
+
+    fn has(&self, n: u64) -> bool {
+        n < self.count
     }
 
-    fn write(&mut self, n: u64, block: &[u8; N]) -> Result<(), FileError>
-        ensures written { OnOk result (slice_index_or self.new n 0 ≡
-            ⟦<RandomState as KeyHasher<[u8; N]>>⟧.hash_of (seeded (1 ∷ 2 ∷ 3 ∷ 4 ∷ [])) block.now) }
-        ensures others { (m : ℕ) → m ≢ n → slice_index_or self.new m 0 ≡ slice_index_or self.old m 0 }
-        ensures failed { OnErr result (self.new ≡ self.old) }
-    {
-        let Some(hash) = self.hashes.get_mut(n as usize) else {
-            return Err(FileError::NoBlock);
-        };
-        write_block(&mut self.file, n, block)?;
-        *hash = hash_of(block);
-        Ok(())
+    fn is_usable(&self) -> bool {
+        self.is_usable
+    }
+
+    fn read(&mut self, n: u64) -> Result<[u8; N], FileError> {
+        self.file.read_checked(n)
+    }
+
+    fn write(&mut self, n: u64, block: &[u8; N]) -> Result<(), FileError> {
+        let stamped = with_checksum(block, n);
+        self.file.write_block(n, &stamped)
     }
 
     fn sync(&mut self) -> Result<(), FileError> {
-        sync_file(&mut self.file)
+        let synced = self.file.sync();
+        self.is_usable = synced.is_ok();
+        synced
     }
-}
-
-// The hash of a block, by the hasher with the default seeds.
-fn hash_of<const N: usize>(block: &[u8; N]) -> u64
-    ensures { result ≡ ⟦<RandomState as KeyHasher<[u8; N]>>⟧.hash_of (seeded (1 ∷ 2 ∷ 3 ∷ 4 ∷ [])) block.now }
-{
-    RandomState::with_seeds([1, 2, 3, 4]).hash_one(block)
 }

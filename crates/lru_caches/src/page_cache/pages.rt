@@ -1,29 +1,103 @@
 //! The steps of a page cache, over its map of pages and its device.
-ghost use Rattle.std.specs.Prelude.{◌≡◌, ◌≢◌, ◌≤◌, ◌<◌, ◌-◌, ℕ, ◌∷◌, length, nat_eq, None, Some, option_map, is_some};
-ghost use Rattle.std.specs.Prelude.{true, false, take, IsSome, OnOk, OnErr};
-ghost use Rattle.std.specs.Map.{lookup, keys_of};
+ghost use Rattle.std.specs.Prelude.{◌≡◌, ◌≢◌, ◌⊎◌, ◌≤◌, ◌<◌, ◌-◌, ℕ, ◌∷◌, length, nat_eq, None, Some, option_map};
+ghost use Rattle.std.specs.Prelude.{is_some, true, false, take, IsTrue, IfSome, IfOk, IfErr, OnOk, OnErr};
+ghost use Rattle.std.specs.Map.{lookup};
 ghost use Rattle.lru_model.specs.Lists.{without};
-ghost use Rattle.lru_caches.specs.Pages.{block_at, AreClean};
+ghost use Rattle.lru_caches.specs.Pages.{block_at, cleaned, is_dirty};
+ghost use Rattle.lru_caches.specs.Pages.{AreClean, AreThere, CrashAdds, IsCause, IsFault, Serves};
 
 use crate::device::BlockDevice;
 use crate::page_cache::PageError;
 use schnellru::{KeyHasher, LruMap, UnlimitedCompact};
 
-// A cached block. It is dirty if it was written in the present round of the cache.
+// A cached block. It is dirty if no flush has written it.
 #[derive(Clone, Copy)]
 pub(super) struct Page<B> {
     pub(super) block: B,
-    pub(super) round: u64,
+    pub(super) is_dirty: bool,
 }
 
 pub(super) type Pages<B, S> = LruMap<u64, Page<B>, UnlimitedCompact, S>;
+
+// Returns whether a call on page n can begin, and if not, why.
+pub(super) fn admit<B: Copy, D: BlockDevice<B>>(
+    device: &D,
+    n: u64,
+) -> Result<(), PageError<D::Error>>
+    ensures there { OnOk result (IsTrue (D.has device.now n)) }
+    ensures usable { OnOk result (IsTrue (D.is_usable device.now)) }
+    ensures cause { IfErr result (IsCause D.BlockDevice n device.now device.now) }
+    ensures broken { D.is_usable device.now ≡ false → result ≡ Err PageError.Broken }
+    ensures lacking { IsTrue (D.is_usable device.now) → D.has device.now n ≡ false → result ≡ Err PageError.NoBlock }
+    ensures passes { IsTrue (D.is_usable device.now) → IsTrue (D.has device.now n) → result ≡ Ok tt }
+{
+    if !device.is_usable() {
+        return Err(PageError::Broken);
+    }
+    if !device.has(n) {
+        return Err(PageError::NoBlock);
+    }
+    Ok(())
+}
+
+// Reads a block of the device.
+fn read_block<B: Copy, D: BlockDevice<B>>(device: &mut D, n: u64) -> Result<B, PageError<D::Error>>
+    requires usable { IsTrue (D.is_usable device.old) }
+    requires there { IsTrue (D.has device.old n) }
+    ensures block { IfOk result (λ block. D.IsHonest device.new → D.blocks device.new n ≡ Some (D.seen block)) }
+    ensures keeps { (m : ℕ) (b : D.Seen) → D.blocks device.old m ≡ Some b → D.blocks device.new m ≡ Some b }
+    ensures crash { (m : ℕ) (b : D.Seen) → D.may_leave device.new m b → D.may_leave device.old m b }
+    ensures serves { Serves D.BlockDevice device.old device.new }
+    ensures cause { IfErr result (IsFault D.BlockDevice device.old device.new) }
+    ensures calm { OnOk result (D.faults device.new ≡ D.faults device.old) }
+{
+    device.read(n).map_err(PageError::Device)
+}
+
+// Reads a block of the device, and makes its page, which is not cached, the newest.
+pub(super) fn load<B: Copy, D: BlockDevice<B>, S: KeyHasher<u64>>(
+    map: &mut Pages<B, S>,
+    device: &mut D,
+    capacity: usize,
+    n: u64,
+) -> Result<B, PageError<D::Error>>
+    requires usable { IsTrue (D.is_usable device.old) }
+    requires number { IsTrue (D.has device.old n) }
+    requires absent { lookup (nat_eq n) map.old.pairs ≡ None }
+    requires clean { AreClean D.BlockDevice map.old.pairs device.old }
+    requires there { AreThere D.BlockDevice map.old.pairs device.old }
+    requires within { length map.old.pairs ≤ capacity }
+    requires some { 0 < capacity }
+    ensures clean { AreClean D.BlockDevice map.new.pairs device.new }
+    ensures there { AreThere D.BlockDevice map.new.pairs device.new }
+    ensures within { length map.new.pairs ≤ capacity }
+    ensures block { IfOk result (λ block. D.IsHonest device.new
+        → block_at D.BlockDevice map.new.pairs device.new n ≡ Some (D.seen block)) }
+    ensures shows { D.IsHonest device.new → (m : ℕ) (b : D.Seen)
+        → block_at D.BlockDevice map.old.pairs device.old m ≡ Some b → block_at D.BlockDevice map.new.pairs device.new m ≡ Some b }
+    ensures crash { CrashAdds D.BlockDevice map.old.pairs device.old device.new }
+    ensures serves { Serves D.BlockDevice device.old device.new }
+    ensures cause { IfErr result (λ e. IsFault D.BlockDevice device.old device.new e ⊎ (e ≡ PageError.Memory)) }
+    ensures newest { IfOk result (λ block. map.new.pairs
+        ≡ (n, record { block = block; is_dirty = false }) ∷ take (capacity - 1) map.old.pairs) }
+{
+    let block = read_block(device, n)?;
+    let page = Page {
+        block,
+        is_dirty: false,
+    };
+    store(map, device, capacity, n, page)?;
+    Ok(block)
+}
 
 // Returns the block of a cached page, and makes the page the newest.
 pub(super) fn cached_block<B: Copy, S: KeyHasher<u64>>(map: &mut Pages<B, S>, n: u64) -> Option<B>
     ensures block { result ≡ option_map (λ page. page.block) (lookup (nat_eq n) map.old.pairs) }
     ensures same { (m : ℕ) → lookup (nat_eq m) map.new.pairs ≡ lookup (nat_eq m) map.old.pairs }
     ensures len { length map.new.pairs ≡ length map.old.pairs }
-    ensures used { IsSome result → keys_of map.new.pairs ≡ n ∷ keys_of (without (nat_eq n) map.old.pairs) }
+    ensures used { IfSome result (λ block. map.new.pairs
+        ≡ (n, record { block = block; is_dirty = is_dirty (lookup (nat_eq n) map.old.pairs) })
+        ∷ without (nat_eq n) map.old.pairs) }
     ensures stays { result ≡ None → map.new.pairs ≡ map.old.pairs }
 {
     match map.get(&n) {
@@ -43,7 +117,7 @@ pub(super) fn overwrite<B: Copy, S: KeyHasher<u64>>(
     ensures others { (m : ℕ) → m ≢ n → lookup (nat_eq m) map.new.pairs ≡ lookup (nat_eq m) map.old.pairs }
     ensures stays { result ≡ false → map.new.pairs ≡ map.old.pairs }
     ensures len { length map.new.pairs ≡ length map.old.pairs }
-    ensures used { result ≡ true → keys_of map.new.pairs ≡ n ∷ keys_of (without (nat_eq n) map.old.pairs) }
+    ensures used { result ≡ true → map.new.pairs ≡ (n, page) ∷ without (nat_eq n) map.old.pairs }
 {
     match map.get(&n) {
         Some(place) => {
@@ -54,28 +128,66 @@ pub(super) fn overwrite<B: Copy, S: KeyHasher<u64>>(
     }
 }
 
-// Removes the oldest page if the cache is full, after it is written back. If that fails, no page is removed.
-pub(super) fn make_room<B: Copy, D: BlockDevice<B>, S: KeyHasher<u64>>(
+// Makes a page that is not cached the newest, after room is made for it.
+pub(super) fn store<B: Copy, D: BlockDevice<B>, S: KeyHasher<u64>>(
     map: &mut Pages<B, S>,
     device: &mut D,
-    round: u64,
     capacity: usize,
+    n: u64,
+    page: Page<B>,
 ) -> Result<(), PageError<D::Error>>
-    requires clean { AreClean D.seen D.blocks round map.old.pairs device.old }
+    requires usable { IsTrue (D.is_usable device.old) }
+    requires number { IsTrue (D.has device.old n) }
+    requires absent { lookup (nat_eq n) map.old.pairs ≡ None }
+    requires as_read { page.is_dirty ≡ false → D.IsHonest device.old
+        → D.blocks device.old n ≡ Some (D.seen page.block) }
+    requires clean { AreClean D.BlockDevice map.old.pairs device.old }
+    requires there { AreThere D.BlockDevice map.old.pairs device.old }
     requires within { length map.old.pairs ≤ capacity }
     requires some { 0 < capacity }
-    ensures clean { AreClean D.seen D.blocks round map.new.pairs device.new }
-    ensures shows { (n : ℕ) →
-        block_at D.seen D.blocks map.new.pairs device.new n ≡ block_at D.seen D.blocks map.old.pairs device.old n }
-    ensures absent { (n : ℕ) → lookup (nat_eq n) map.old.pairs ≡ None → lookup (nat_eq n) map.new.pairs ≡ None }
+    ensures clean { AreClean D.BlockDevice map.new.pairs device.new }
+    ensures there { AreThere D.BlockDevice map.new.pairs device.new }
     ensures within { length map.new.pairs ≤ capacity }
+    ensures others { D.IsHonest device.new → (m : ℕ) → m ≢ n
+        → block_at D.BlockDevice map.new.pairs device.new m ≡ block_at D.BlockDevice map.old.pairs device.old m }
+    ensures failed { OnErr result (D.IsHonest device.new → (m : ℕ)
+        → block_at D.BlockDevice map.new.pairs device.new m ≡ block_at D.BlockDevice map.old.pairs device.old m) }
+    ensures stored { OnOk result (map.new.pairs ≡ (n, page) ∷ take (capacity - 1) map.old.pairs) }
+    ensures crash { CrashAdds D.BlockDevice map.old.pairs device.old device.new }
+    ensures serves { Serves D.BlockDevice device.old device.new }
+    ensures cause { IfErr result (λ e. IsFault D.BlockDevice device.old device.new e ⊎ (e ≡ PageError.Memory)) }
+{
+    make_room(map, device, capacity)?;
+    add_page(map, n, page)
+}
+
+// Removes the oldest page if the cache is full, after it is written back. If that fails, no page is removed.
+fn make_room<B: Copy, D: BlockDevice<B>, S: KeyHasher<u64>>(
+    map: &mut Pages<B, S>,
+    device: &mut D,
+    capacity: usize,
+) -> Result<(), PageError<D::Error>>
+    requires usable { IsTrue (D.is_usable device.old) }
+    requires clean { AreClean D.BlockDevice map.old.pairs device.old }
+    requires there { AreThere D.BlockDevice map.old.pairs device.old }
+    requires within { length map.old.pairs ≤ capacity }
+    requires some { 0 < capacity }
+    ensures clean { AreClean D.BlockDevice map.new.pairs device.new }
+    ensures there { AreThere D.BlockDevice map.new.pairs device.new }
+    ensures shows { D.IsHonest device.new → (n : ℕ) →
+        block_at D.BlockDevice map.new.pairs device.new n ≡ block_at D.BlockDevice map.old.pairs device.old n }
+    ensures crash { CrashAdds D.BlockDevice map.old.pairs device.old device.new }
+    ensures serves { Serves D.BlockDevice device.old device.new }
+    ensures cause { IfErr result (IsFault D.BlockDevice device.old device.new) }
+    ensures kept { OnErr result (map.new.pairs ≡ map.old.pairs) }
+    ensures absent { (n : ℕ) → lookup (nat_eq n) map.old.pairs ≡ None → lookup (nat_eq n) map.new.pairs ≡ None }
     ensures room { OnOk result (length map.new.pairs < capacity) }
     ensures newest { OnOk result (map.new.pairs ≡ take (capacity - 1) map.old.pairs) }
 {
     if map.len() < capacity {
         return Ok(());
     }
-    evict_oldest(map, device, round)?;
+    evict_oldest(map, device)?;
     Ok(())
 }
 
@@ -83,14 +195,19 @@ pub(super) fn make_room<B: Copy, D: BlockDevice<B>, S: KeyHasher<u64>>(
 fn evict_oldest<B: Copy, D: BlockDevice<B>, S: KeyHasher<u64>>(
     map: &mut Pages<B, S>,
     device: &mut D,
-    round: u64,
 ) -> Result<(), PageError<D::Error>>
-    requires { AreClean D.seen D.blocks round map.old.pairs device.old }
-    ensures clean { AreClean D.seen D.blocks round map.new.pairs device.new }
-    ensures shows { (n : ℕ) →
-        block_at D.seen D.blocks map.new.pairs device.new n ≡ block_at D.seen D.blocks map.old.pairs device.old n }
+    requires usable { IsTrue (D.is_usable device.old) }
+    requires clean { AreClean D.BlockDevice map.old.pairs device.old }
+    requires there { AreThere D.BlockDevice map.old.pairs device.old }
+    ensures clean { AreClean D.BlockDevice map.new.pairs device.new }
+    ensures there { AreThere D.BlockDevice map.new.pairs device.new }
+    ensures shows { D.IsHonest device.new → (n : ℕ) →
+        block_at D.BlockDevice map.new.pairs device.new n ≡ block_at D.BlockDevice map.old.pairs device.old n }
+    ensures crash { CrashAdds D.BlockDevice map.old.pairs device.old device.new }
+    ensures serves { Serves D.BlockDevice device.old device.new }
+    ensures cause { IfErr result (IsFault D.BlockDevice device.old device.new) }
+    ensures kept { OnErr result (map.new.pairs ≡ map.old.pairs) }
     ensures absent { (n : ℕ) → lookup (nat_eq n) map.old.pairs ≡ None → lookup (nat_eq n) map.new.pairs ≡ None }
-    ensures at_most { length map.new.pairs ≤ length map.old.pairs }
     ensures left { OnOk result (length map.new.pairs ≡ length map.old.pairs - 1) }
     ensures newest { OnOk result (map.new.pairs ≡ take (length map.old.pairs - 1) map.old.pairs) }
 {
@@ -99,7 +216,7 @@ fn evict_oldest<B: Copy, D: BlockDevice<B>, S: KeyHasher<u64>>(
     let Some((n, page)) = map.peek_oldest() else {
         return Ok(());
     };
-    write_back(device, round, *n, page)?;
+    write_back(device, *n, page)?;
     map.pop_oldest();
     Ok(())
 }
@@ -107,16 +224,21 @@ fn evict_oldest<B: Copy, D: BlockDevice<B>, S: KeyHasher<u64>>(
 // Writes a page to the device, if it is dirty.
 fn write_back<B: Copy, D: BlockDevice<B>>(
     device: &mut D,
-    round: u64,
     n: u64,
     page: &Page<B>,
 ) -> Result<(), PageError<D::Error>>
-    requires { page.now.round ≢ round → D.seen page.now.block ≡ D.blocks device.old n }
-    ensures written { OnOk result (D.blocks device.new n ≡ D.seen page.now.block) }
-    ensures clean { page.now.round ≢ round → D.blocks device.new n ≡ D.blocks device.old n }
+    requires usable { IsTrue (D.is_usable device.old) }
+    requires there { IsTrue (D.has device.old n) }
+    ensures written { OnOk result (page.now.is_dirty ≡ true → D.blocks device.new n ≡ Some (D.seen page.now.block)) }
+    ensures clean { page.now.is_dirty ≡ false → D.blocks device.new n ≡ D.blocks device.old n }
     ensures others { (m : ℕ) → m ≢ n → D.blocks device.new m ≡ D.blocks device.old m }
+    ensures crash { (m : ℕ) (b : D.Seen) → D.may_leave device.new m b → D.may_leave device.old m b
+        ⊎ ((m ≡ n) × IsTrue page.now.is_dirty × ((b ≡ D.seen page.now.block) ⊎ D.IsTorn b)) }
+    ensures serves { Serves D.BlockDevice device.old device.new }
+    ensures cause { IfErr result (IsFault D.BlockDevice device.old device.new) }
+    ensures calm { OnOk result (D.faults device.new ≡ D.faults device.old) }
 {
-    if page.round != round {
+    if !page.is_dirty {
         return Ok(());
     }
     device.write(n, &page.block).map_err(PageError::Device)
@@ -126,16 +248,25 @@ fn write_back<B: Copy, D: BlockDevice<B>>(
 pub(super) fn write_all_back<B: Copy, D: BlockDevice<B>, S: KeyHasher<u64>>(
     map: &Pages<B, S>,
     device: &mut D,
-    round: u64,
 ) -> Result<(), PageError<D::Error>>
-    requires { AreClean D.seen D.blocks round map.now.pairs device.old }
-    ensures clean { AreClean D.seen D.blocks round map.now.pairs device.new }
-    ensures shows { (n : ℕ) →
-        block_at D.seen D.blocks map.now.pairs device.new n ≡ block_at D.seen D.blocks map.now.pairs device.old n }
-    ensures written { OnOk result ((n : ℕ) →
-        D.blocks device.new n ≡ block_at D.seen D.blocks map.now.pairs device.old n) }
+    requires usable { IsTrue (D.is_usable device.old) }
+    requires clean { AreClean D.BlockDevice map.now.pairs device.old }
+    requires there { AreThere D.BlockDevice map.now.pairs device.old }
+    ensures clean { AreClean D.BlockDevice map.now.pairs device.new }
+    ensures there { AreThere D.BlockDevice map.now.pairs device.new }
+    ensures shows { IsTrue (D.is_usable device.new) → (n : ℕ) →
+        block_at D.BlockDevice map.now.pairs device.new n ≡ block_at D.BlockDevice map.now.pairs device.old n }
+    ensures written { OnOk result (D.IsHonest device.new → (n : ℕ) →
+        D.blocks device.new n ≡ block_at D.BlockDevice map.now.pairs device.old n) }
+    ensures durable { OnOk result ((n : ℕ) (block b : D.Seen) → D.blocks device.new n ≡ Some block
+        → D.may_leave device.new n b → b ≡ block) }
+    ensures crash { CrashAdds D.BlockDevice map.now.pairs device.old device.new }
+    ensures usable { OnOk result (IsTrue (D.is_usable device.new)) }
+    ensures numbers { (n : ℕ) → D.has device.new n ≡ D.has device.old n }
+    ensures honest { D.IsHonest device.new → D.IsHonest device.old }
+    ensures cause { IfErr result (IsFault D.BlockDevice device.old device.new) }
 {
-    write_each_back(map, device, round)?;
+    write_each_back(map, device)?;
     device.sync().map_err(PageError::Device)
 }
 
@@ -143,23 +274,35 @@ pub(super) fn write_all_back<B: Copy, D: BlockDevice<B>, S: KeyHasher<u64>>(
 fn write_each_back<B: Copy, D: BlockDevice<B>, S: KeyHasher<u64>>(
     map: &Pages<B, S>,
     device: &mut D,
-    round: u64,
 ) -> Result<(), PageError<D::Error>>
-    requires { AreClean D.seen D.blocks round map.now.pairs device.old }
-    ensures clean { AreClean D.seen D.blocks round map.now.pairs device.new }
+    requires usable { IsTrue (D.is_usable device.old) }
+    requires clean { AreClean D.BlockDevice map.now.pairs device.old }
+    requires there { AreThere D.BlockDevice map.now.pairs device.old }
+    ensures clean { AreClean D.BlockDevice map.now.pairs device.new }
     ensures shows { (n : ℕ) →
-        block_at D.seen D.blocks map.now.pairs device.new n ≡ block_at D.seen D.blocks map.now.pairs device.old n }
-    ensures written { OnOk result ((n : ℕ) →
-        D.blocks device.new n ≡ block_at D.seen D.blocks map.now.pairs device.old n) }
+        block_at D.BlockDevice map.now.pairs device.new n ≡ block_at D.BlockDevice map.now.pairs device.old n }
+    ensures written { OnOk result (D.IsHonest device.new → (n : ℕ) →
+        D.blocks device.new n ≡ block_at D.BlockDevice map.now.pairs device.old n) }
+    ensures crash { CrashAdds D.BlockDevice map.now.pairs device.old device.new }
+    ensures serves { Serves D.BlockDevice device.old device.new }
+    ensures cause { IfErr result (IsFault D.BlockDevice device.old device.new) }
+    ensures calm { OnOk result (D.faults device.new ≡ D.faults device.old) }
 {
     for (n, page) in map.iter() {
-        write_back(device, round, *n, page)?;
+        write_back(device, *n, page)?;
     }
     Ok(())
 }
 
+// Makes each page clean.
+pub(super) fn make_clean<B: Copy, S: KeyHasher<u64>>(map: &mut Pages<B, S>)
+    ensures { map.new.pairs ≡ cleaned map.old.pairs }
+{
+    map.for_each_mut(|_, page| page.is_dirty = false);
+}
+
 // Adds a page, if there is memory for it.
-pub(super) fn add_page<B: Copy, E, S: KeyHasher<u64>>(
+fn add_page<B: Copy, E, S: KeyHasher<u64>>(
     map: &mut Pages<B, S>,
     n: u64,
     page: Page<B>,
@@ -167,6 +310,7 @@ pub(super) fn add_page<B: Copy, E, S: KeyHasher<u64>>(
     requires { lookup (nat_eq n) map.old.pairs ≡ None }
     ensures added { OnOk result (map.new.pairs ≡ (n, page) ∷ map.old.pairs) }
     ensures stay { OnErr result (map.new.pairs ≡ map.old.pairs) }
+    ensures memory { IfErr result (λ e. e ≡ PageError.Memory) }
 {
     map.try_insert(n, page).map_err(|_| PageError::Memory)
 }

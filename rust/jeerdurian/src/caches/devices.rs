@@ -1,8 +1,7 @@
-//! Devices over a file, which check what they read.
+//! Devices over a file.
 
 use crate::caches::BlockDevice;
 use crate::erased::lru_caches as proved;
-use crate::rattle_std::alloc::Global;
 use std::io::{Read, Seek, Write};
 
 /// A file with a call that makes its bytes outlast a crash: a `File`, by `sync_data`, or a `Cursor`, for which the call
@@ -20,8 +19,8 @@ pub use crate::erased::lru_caches::Durable;
 /// ```
 /// use jeerdurian::caches::{BlockDevice, FileDevice, FileError};
 ///
-/// let mut device: FileDevice<_, 4> = FileDevice::new(std::io::Cursor::new(*b"zeroone."), 2).unwrap();
-/// assert_eq!(device.read(9), Err(FileError::NoBlock));
+/// let mut device: FileDevice<_, 4> = FileDevice::new(std::io::Cursor::new(*b"zeroone."), 2);
+/// assert_eq!(device.read(9), Err(FileError::File));
 /// ```
 pub use crate::erased::lru_caches::FileError;
 
@@ -29,37 +28,33 @@ impl core::error::Error for FileError {}
 
 /// Defines a device for callers in Rust: the proved one, in the memory of Rust's allocator.
 macro_rules! file_device {
-    ($(#[$docs:meta])* $name:ident, $memory:literal) => {
+    ($(#[$docs:meta])* $name:ident, $least:literal) => {
         $(#[$docs])*
         pub struct $name<F, const N: usize>(proved::$name<F, N>);
 
         impl<F: Read + Write + Seek, const N: usize> $name<F, N> {
-            /// Makes a device of the first `count` blocks of a file, and reads these.
-            ///
-            #[doc = concat!("Cost: `O(count * N)`, and the memory of ", $memory, ".")]
-            ///
-            /// # Errors
-            ///
-            /// `File`: the file failed, or has fewer blocks. `Memory`: out of memory.
+            /// Makes a device of the first `count` blocks of a file. It reads nothing, and takes no memory for them.
             ///
             /// ```
-            #[doc = concat!("# use jeerdurian::caches::{FileError, ", stringify!($name), "};")]
-            /// let file = std::io::Cursor::new(*b"zeroone.two.");
-            #[doc = concat!("assert_eq!(", stringify!($name), "::<_, 4>::new(file, 4).err(), Some(FileError::File));")]
+            #[doc = concat!("# use jeerdurian::caches::", stringify!($name), ";")]
+            /// let file = std::io::Cursor::new([0; 48]);
+            #[doc = concat!("assert_eq!(", stringify!($name), "::<_, 16>::new(file, 3).len(), 3);")]
             /// ```
-            pub fn new(file: F, count: u64) -> Result<Self, FileError> {
-                Ok($name(proved::$name::new(Global, file, count)?))
+            #[allow(unused_comparisons, clippy::absurd_extreme_comparisons)]
+            pub fn new(file: F, count: u64) -> Self {
+                const { assert!(N >= $least, "a block has fewer bytes than its checksum") };
+                $name(proved::$name::new(file, count))
             }
 
             /// Returns the number of blocks.
             ///
             /// ```
             #[doc = concat!("# use jeerdurian::caches::", stringify!($name), " as Device;")]
-            /// # let file = std::io::Cursor::new(*b"zeroone.two.");
-            /// # let device: Device<_, 4> = Device::new(file, 3).unwrap();
+            /// # let file = std::io::Cursor::new([7; 48]);
+            /// # let device: Device<_, 16> = Device::new(file, 3);
             /// assert_eq!(device.len(), 3);
             /// ```
-            pub fn len(&self) -> usize {
+            pub fn len(&self) -> u64 {
                 self.0.len()
             }
 
@@ -67,8 +62,8 @@ macro_rules! file_device {
             ///
             /// ```
             #[doc = concat!("# use jeerdurian::caches::", stringify!($name), " as Device;")]
-            /// # let file = std::io::Cursor::new(*b"zeroone.two.");
-            /// # let device: Device<_, 4> = Device::new(file, 3).unwrap();
+            /// # let file = std::io::Cursor::new([7; 48]);
+            /// # let device: Device<_, 16> = Device::new(file, 3);
             /// assert!(!device.is_empty());
             /// ```
             pub fn is_empty(&self) -> bool {
@@ -79,9 +74,9 @@ macro_rules! file_device {
             ///
             /// ```
             #[doc = concat!("# use jeerdurian::caches::", stringify!($name), " as Device;")]
-            /// # let file = std::io::Cursor::new(*b"zeroone.two.");
-            /// # let device: Device<_, 4> = Device::new(file, 3).unwrap();
-            /// assert_eq!(device.file().position(), 12);
+            /// # let file = std::io::Cursor::new([7; 48]);
+            /// # let device: Device<_, 16> = Device::new(file, 3);
+            /// assert_eq!(device.file().position(), 0);
             /// ```
             pub fn file(&self) -> &F {
                 self.0.file()
@@ -91,9 +86,9 @@ macro_rules! file_device {
             ///
             /// ```
             #[doc = concat!("# use jeerdurian::caches::", stringify!($name), " as Device;")]
-            /// # let file = std::io::Cursor::new(*b"zeroone.two.");
-            /// # let device: Device<_, 4> = Device::new(file, 3).unwrap();
-            /// assert_eq!(device.into_file().into_inner(), *b"zeroone.two.");
+            /// # let file = std::io::Cursor::new([7; 48]);
+            /// # let device: Device<_, 16> = Device::new(file, 3);
+            /// assert_eq!(device.into_file().into_inner(), [7; 48]);
             /// ```
             pub fn into_file(self) -> F {
                 self.0.into_file()
@@ -103,15 +98,32 @@ macro_rules! file_device {
         impl<F: Read + Write + Seek + Durable, const N: usize> BlockDevice<[u8; N]> for $name<F, N> {
             type Error = FileError;
 
+            fn has(&self, n: u64) -> bool {
+                proved::BlockDevice::<[u8; N]>::has(&self.0, n)
+            }
+
+            fn is_usable(&self) -> bool {
+                proved::BlockDevice::<[u8; N]>::is_usable(&self.0)
+            }
+
             fn read(&mut self, n: u64) -> Result<[u8; N], FileError> {
+                if !self.has(n) || !self.is_usable() {
+                    return Err(FileError::File);
+                }
                 proved::BlockDevice::read(&mut self.0, n)
             }
 
             fn write(&mut self, n: u64, block: &[u8; N]) -> Result<(), FileError> {
+                if !self.has(n) || !self.is_usable() {
+                    return Err(FileError::File);
+                }
                 proved::BlockDevice::write(&mut self.0, n, block)
             }
 
             fn sync(&mut self) -> Result<(), FileError> {
+                if !self.is_usable() {
+                    return Err(FileError::File);
+                }
                 proved::BlockDevice::<[u8; N]>::sync(&mut self.0)
             }
         }
@@ -119,44 +131,41 @@ macro_rules! file_device {
 }
 
 file_device!(
-    /// A device of the blocks of a file, of `N` bytes each, that compares what it reads with a copy in memory.
+    /// A device of the blocks of a file, of `N` bytes each. It keeps nothing in memory but the file.
     ///
-    /// Nothing is proved of the bytes that an operating system returns, so a read fails if the file's block differs
-    /// from the copy. After a failed write the reads of that block may fail, until a write of it succeeds.
+    /// A call fails with `File` if the file fails, if the device lacks the number, or after a `sync` that failed.
     ///
     /// ```
     /// use jeerdurian::caches::{BlockDevice, FileDevice};
     ///
     /// # fn main() -> Result<(), jeerdurian::caches::FileError> {
     /// let file = std::io::Cursor::new(*b"zeroone.two."); // or a `File`
-    /// let mut device: FileDevice<_, 4> = FileDevice::new(file, 3)?;
+    /// let mut device: FileDevice<_, 4> = FileDevice::new(file, 3);
     /// device.write(1, b"uno.")?;
     /// assert_eq!(device.read(1), Ok(*b"uno."));
     /// # Ok(())
     /// # }
     /// ```
-    FileDevice,
-    "that many bytes"
+    FileDevice, 0
 );
 
 file_device!(
-    /// A device of the blocks of a file, of `N` bytes each, that keeps a hash of 8 bytes for each block.
+    /// A device of the blocks of a file, of `N` bytes each, with a checksum in the last 8 bytes of each block.
     ///
-    /// A read fails if the file's block has another hash than the block that was written last. The hash is known, so
-    /// whoever chooses blocks can find two with the same hash; [`FileDevice`] compares whole blocks. After a failed
-    /// write the reads of that block may fail, until a write of it succeeds.
+    /// A read fails with `Damaged` if the block does not have its checksum: it is torn, damaged, of another number, or
+    /// was not written by this device. The hash is known, so whoever writes the file can make a block with its checksum.
     ///
     /// ```
-    /// use jeerdurian::caches::{BlockDevice, HashedFileDevice};
+    /// use jeerdurian::caches::{BlockDevice, FileError, HashedFileDevice};
     ///
-    /// # fn main() -> Result<(), jeerdurian::caches::FileError> {
-    /// let file = std::io::Cursor::new(*b"zeroone.two."); // or a `File`
-    /// let mut device: HashedFileDevice<_, 4> = HashedFileDevice::new(file, 3)?;
-    /// device.write(1, b"uno.")?;
-    /// assert_eq!(device.read(1), Ok(*b"uno."));
+    /// # fn main() -> Result<(), FileError> {
+    /// let file = std::io::Cursor::new([0; 48]); // or a `File`
+    /// let mut device: HashedFileDevice<_, 16> = HashedFileDevice::new(file, 3);
+    /// device.write(1, b"uno.....checksum")?;
+    /// assert!(device.read(1)?.starts_with(b"uno....."));
+    /// assert_eq!(device.read(2), Err(FileError::Damaged));
     /// # Ok(())
     /// # }
     /// ```
-    HashedFileDevice,
-    "`count` hashes"
+    HashedFileDevice, 8
 );

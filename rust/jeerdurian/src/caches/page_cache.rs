@@ -5,7 +5,8 @@ use crate::erased::lru_caches as proved;
 use crate::rattle_std::alloc::Global;
 use core::hash::BuildHasher;
 
-/// Why a call on a page cache failed. A call that fails changes no block that the cache shows.
+/// Why a call on a page cache failed. A call that fails changes no block that the cache shows, unless a `sync` of the
+/// device failed: each later call returns `Broken` then.
 ///
 /// ```
 /// use jeerdurian::caches::PageError;
@@ -29,11 +30,14 @@ impl<E: core::error::Error> core::error::Error for PageError<E> {}
 /// impl BlockDevice<u64> for Disk {
 ///     type Error = &'static str;
 ///
+///     fn has(&self, n: u64) -> bool {
+///         n < 4
+///     }
 ///     fn read(&mut self, n: u64) -> Result<u64, &'static str> {
-///         self.0.get(n as usize).copied().ok_or("no such block")
+///         Ok(self.0[n as usize])
 ///     }
 ///     fn write(&mut self, n: u64, block: &u64) -> Result<(), &'static str> {
-///         *self.0.get_mut(n as usize).ok_or("no such block")? = *block;
+///         self.0[n as usize] = *block;
 ///         Ok(())
 ///     }
 ///     fn sync(&mut self) -> Result<(), &'static str> {
@@ -47,6 +51,14 @@ pub trait BlockDevice<B> {
     /// Why a call fails.
     type Error;
 
+    /// Returns whether the device has a block of this number. A cache asks before it reads or writes one.
+    fn has(&self, n: u64) -> bool;
+
+    /// Returns whether no `sync` has failed. A cache remembers a `sync` that failed in its own calls.
+    fn is_usable(&self) -> bool {
+        true
+    }
+
     /// Returns a block: the one that was written last.
     ///
     /// # Errors
@@ -54,7 +66,7 @@ pub trait BlockDevice<B> {
     /// The device failed. No block has changed.
     fn read(&mut self, n: u64) -> Result<B, Self::Error>;
 
-    /// Replaces a block.
+    /// Replaces a block. A crash may leave the old block, the new one, or a torn one, until a `sync`.
     ///
     /// # Errors
     ///
@@ -65,17 +77,24 @@ pub trait BlockDevice<B> {
     ///
     /// # Errors
     ///
-    /// The device failed. A crash may lose what was written since the last `sync` that returned `Ok`. No block has
-    /// changed.
+    /// The device failed. What was written since the last `sync` that returned `Ok` may be lost.
     fn sync(&mut self) -> Result<(), Self::Error>;
 }
 
-/// A device as the proved cache calls it.
-struct Called<D>(D);
+/// A device as the proved cache calls it, and whether one of its syncs has failed.
+struct Called<D>(D, bool);
 
 impl<B, D: BlockDevice<B>> proved::BlockDevice<B> for Called<D> {
     type Error = D::Error;
     type Seen = B;
+
+    fn has(&self, n: u64) -> bool {
+        self.0.has(n)
+    }
+
+    fn is_usable(&self) -> bool {
+        !self.1 && self.0.is_usable()
+    }
 
     fn read(&mut self, n: u64) -> Result<B, D::Error> {
         self.0.read(n)
@@ -86,7 +105,9 @@ impl<B, D: BlockDevice<B>> proved::BlockDevice<B> for Called<D> {
     }
 
     fn sync(&mut self) -> Result<(), D::Error> {
-        self.0.sync()
+        let synced = self.0.sync();
+        self.1 = synced.is_err();
+        synced
     }
 }
 
@@ -95,9 +116,9 @@ impl<B, D: BlockDevice<B>> proved::BlockDevice<B> for Called<D> {
 /// It keeps the pages that were used last, up to its capacity. A write changes the cached page alone: the page is dirty
 /// then, and goes to the device when it is evicted or flushed.
 ///
-/// Proved: whichever call of the device fails, the cache shows the same blocks as before, and a flush that returns `Ok`
-/// leaves no page dirty. After a `sync` that failed, a crash may lose pages that were evicted before, and no later flush
-/// writes them again.
+/// Proved: after a flush that returned `Ok`, a crash leaves each block as it was shown then or was written later, if the
+/// device does as its docs say. A call that fails shows the same blocks as before. After a `sync` that failed, each call
+/// but `discard`, and reads of cached pages, returns `Broken`.
 ///
 /// A cache that is dropped loses its dirty pages without a word, so call [`close`](Self::close).
 ///
@@ -106,7 +127,7 @@ impl<B, D: BlockDevice<B>> proved::BlockDevice<B> for Called<D> {
 ///
 /// # fn main() -> Result<(), Box<dyn std::error::Error>> {
 /// let file = std::io::Cursor::new(*b"zeroone.two."); // or a `File`
-/// let mut cache = PageCache::new(FileDevice::<_, 4>::new(file, 3)?, 2);
+/// let mut cache = PageCache::new(FileDevice::<_, 4>::new(file, 3), 2);
 /// cache.write(1, *b"uno.")?;
 /// assert_eq!(cache.read(1)?, *b"uno.");
 /// let device = cache.close().map_err(|unclosed| unclosed.error)?;
@@ -129,7 +150,7 @@ impl<B: Copy, D: BlockDevice<B>> PageCache<B, D> {
     /// ```
     /// # use jeerdurian::caches::{FileDevice, PageCache};
     /// # let file = std::io::Cursor::new(*b"zeroone.two.");
-    /// # let mut cache = PageCache::new(FileDevice::<_, 4>::new(file, 3).unwrap(), 2);
+    /// # let mut cache = PageCache::new(FileDevice::<_, 4>::new(file, 3), 2);
     /// assert!(cache.is_empty());
     /// ```
     pub fn new(device: D, capacity: usize) -> Self {
@@ -143,12 +164,12 @@ impl<B: Copy, D: BlockDevice<B>, S: BuildHasher> PageCache<B, D, S> {
     /// ```
     /// # use jeerdurian::caches::{FileDevice, PageCache};
     /// # let file = std::io::Cursor::new(*b"zeroone.two.");
-    /// # let mut cache = PageCache::new(FileDevice::<_, 4>::new(file, 3).unwrap(), 2);
+    /// # let mut cache = PageCache::new(FileDevice::<_, 4>::new(file, 3), 2);
     /// let cache = PageCache::with_hasher(cache.discard(), 2, std::hash::RandomState::new());
     /// assert!(cache.is_empty());
     /// ```
     pub fn with_hasher(device: D, capacity: usize, hasher: S) -> Self {
-        PageCache { cache: proved::PageCache::with_hasher(Global, Called(device), capacity, hasher) }
+        PageCache { cache: proved::PageCache::with_hasher(Global, Called(device, false), capacity, hasher) }
     }
 
     /// Returns the number of cached pages.
@@ -156,7 +177,7 @@ impl<B: Copy, D: BlockDevice<B>, S: BuildHasher> PageCache<B, D, S> {
     /// ```
     /// # use jeerdurian::caches::{FileDevice, PageCache};
     /// # let file = std::io::Cursor::new(*b"zeroone.two.");
-    /// # let mut cache = PageCache::new(FileDevice::<_, 4>::new(file, 3).unwrap(), 2);
+    /// # let mut cache = PageCache::new(FileDevice::<_, 4>::new(file, 3), 2);
     /// assert_eq!((cache.read(1), cache.len()), (Ok(*b"one."), 1));
     /// ```
     pub fn len(&self) -> usize {
@@ -168,7 +189,7 @@ impl<B: Copy, D: BlockDevice<B>, S: BuildHasher> PageCache<B, D, S> {
     /// ```
     /// # use jeerdurian::caches::{FileDevice, PageCache};
     /// # let file = std::io::Cursor::new(*b"zeroone.two.");
-    /// # let mut cache = PageCache::new(FileDevice::<_, 4>::new(file, 3).unwrap(), 2);
+    /// # let mut cache = PageCache::new(FileDevice::<_, 4>::new(file, 3), 2);
     /// assert!(cache.is_empty());
     /// ```
     pub fn is_empty(&self) -> bool {
@@ -180,7 +201,7 @@ impl<B: Copy, D: BlockDevice<B>, S: BuildHasher> PageCache<B, D, S> {
     /// ```
     /// # use jeerdurian::caches::{FileDevice, PageCache};
     /// # let file = std::io::Cursor::new(*b"zeroone.two.");
-    /// # let mut cache = PageCache::new(FileDevice::<_, 4>::new(file, 3).unwrap(), 2);
+    /// # let mut cache = PageCache::new(FileDevice::<_, 4>::new(file, 3), 2);
     /// assert_eq!(cache.read(1), Ok(*b"one."));
     /// assert!(cache.contains(1) && !cache.contains(2));
     /// ```
@@ -193,7 +214,7 @@ impl<B: Copy, D: BlockDevice<B>, S: BuildHasher> PageCache<B, D, S> {
     /// ```
     /// # use jeerdurian::caches::{FileDevice, PageCache};
     /// # let file = std::io::Cursor::new(*b"zeroone.two.");
-    /// # let mut cache = PageCache::new(FileDevice::<_, 4>::new(file, 3).unwrap(), 2);
+    /// # let mut cache = PageCache::new(FileDevice::<_, 4>::new(file, 3), 2);
     /// assert_eq!(cache.write(1, *b"uno."), Ok(()));
     /// assert_eq!(cache.device().file().get_ref(), b"zeroone.two.");
     /// ```
@@ -210,13 +231,13 @@ impl<B: Copy, D: BlockDevice<B>, S: BuildHasher> PageCache<B, D, S> {
     ///
     /// # Errors
     ///
-    /// `Device`: the read failed, or the oldest page could not be written back. `Memory`: out of memory for one page
-    /// more. There is no error if the page is cached.
+    /// None if the page is cached. `Broken`: a `sync` has failed. `NoBlock`: the device has no such number. `Device`: the
+    /// read failed, or the oldest page could not be written back. `Memory`: out of memory for one page more.
     ///
     /// ```
     /// # use jeerdurian::caches::{FileDevice, PageCache};
     /// # let file = std::io::Cursor::new(*b"zeroone.two.");
-    /// # let mut cache = PageCache::new(FileDevice::<_, 4>::new(file, 3).unwrap(), 2);
+    /// # let mut cache = PageCache::new(FileDevice::<_, 4>::new(file, 3), 2);
     /// assert_eq!((cache.read(0), cache.read(1), cache.read(2)), (Ok(*b"zero"), Ok(*b"one."), Ok(*b"two.")));
     /// assert!(!cache.contains(0));
     /// ```
@@ -226,35 +247,33 @@ impl<B: Copy, D: BlockDevice<B>, S: BuildHasher> PageCache<B, D, S> {
 
     /// Replaces a block in the cache, and makes its page the newest. The device gets the block later.
     ///
-    /// The cache accepts every number. If the device rejects the number, the page can never be written back, and each
-    /// later `flush` and `close` fails. Check a number that comes from outside before you write there.
-    ///
     /// Cost: `O(1)` expected, amortised over the growth of the table, and at most one write of the device.
     ///
     /// # Errors
     ///
-    /// As of `read`. The block is not replaced then.
+    /// As of `read`, and `Broken` also if the page is cached. The block is not replaced then.
     ///
     /// ```
     /// # use jeerdurian::caches::{FileDevice, PageCache};
     /// # let file = std::io::Cursor::new(*b"zeroone.two.");
-    /// # let mut cache = PageCache::new(FileDevice::<_, 4>::new(file, 3).unwrap(), 2);
+    /// # let mut cache = PageCache::new(FileDevice::<_, 4>::new(file, 3), 2);
     /// assert_eq!((cache.write(1, *b"uno."), cache.read(1)), (Ok(()), Ok(*b"uno.")));
     /// ```
     pub fn write(&mut self, n: u64, block: B) -> Result<(), PageError<D::Error>> {
         self.cache.write(n, block)
     }
 
-    /// Writes all dirty pages to the device, and then calls its `sync`. The pages stay cached.
+    /// Writes all dirty pages to the device, and then calls its `sync`. The pages stay cached, and are clean then.
     ///
     /// # Errors
     ///
-    /// `Device`: a write or the `sync` failed. All pages stay as dirty as before, so the next flush writes them again.
+    /// `Device`: a write or the `sync` failed. All pages stay as dirty as before. After a `sync` that failed, each flush
+    /// returns `Broken`.
     ///
     /// ```
     /// # use jeerdurian::caches::{FileDevice, PageCache};
     /// # let file = std::io::Cursor::new(*b"zeroone.two.");
-    /// # let mut cache = PageCache::new(FileDevice::<_, 4>::new(file, 3).unwrap(), 2);
+    /// # let mut cache = PageCache::new(FileDevice::<_, 4>::new(file, 3), 2);
     /// assert_eq!((cache.write(1, *b"uno."), cache.flush()), (Ok(()), Ok(())));
     /// assert_eq!(cache.device().file().get_ref(), b"zerouno.two.");
     /// ```
@@ -271,7 +290,7 @@ impl<B: Copy, D: BlockDevice<B>, S: BuildHasher> PageCache<B, D, S> {
     /// ```
     /// # use jeerdurian::caches::{FileDevice, PageCache};
     /// # let file = std::io::Cursor::new(*b"zeroone.two.");
-    /// # let mut cache = PageCache::new(FileDevice::<_, 4>::new(file, 3).unwrap(), 2);
+    /// # let mut cache = PageCache::new(FileDevice::<_, 4>::new(file, 3), 2);
     /// assert_eq!(cache.write(1, *b"uno."), Ok(()));
     /// let device = cache.close().ok().unwrap();
     /// assert_eq!(device.file().get_ref(), b"zerouno.two.");
@@ -289,7 +308,7 @@ impl<B: Copy, D: BlockDevice<B>, S: BuildHasher> PageCache<B, D, S> {
     /// ```
     /// # use jeerdurian::caches::{FileDevice, PageCache};
     /// # let file = std::io::Cursor::new(*b"zeroone.two.");
-    /// # let mut cache = PageCache::new(FileDevice::<_, 4>::new(file, 3).unwrap(), 2);
+    /// # let mut cache = PageCache::new(FileDevice::<_, 4>::new(file, 3), 2);
     /// assert_eq!(cache.write(1, *b"uno."), Ok(()));
     /// assert_eq!(cache.discard().file().get_ref(), b"zeroone.two.");
     /// ```
@@ -303,11 +322,16 @@ impl<B: Copy, D: BlockDevice<B>, S: BuildHasher> PageCache<B, D, S> {
 /// ```
 /// # use jeerdurian::caches::{FileDevice, PageCache};
 /// # let file = std::io::Cursor::new(*b"zeroone.two.");
-/// # let mut cache = PageCache::new(FileDevice::<_, 4>::new(file, 3).unwrap(), 2);
-/// assert_eq!(cache.write(9, *b"nine"), Ok(())); // the device has no such block
-/// let Err(unclosed) = cache.close() else { panic!() };
-/// assert_eq!(unclosed.error.to_string(), "the device failed: no such block");
-/// assert_eq!(unclosed.cache.len(), 1);
+/// # let mut cache = PageCache::new(FileDevice::<_, 4>::new(file, 3), 2);
+/// assert_eq!(cache.write(1, *b"uno."), Ok(()));
+/// let device = match cache.close() {
+///     Ok(device) => device,
+///     Err(unclosed) => {
+///         println!("{}", unclosed.error);
+///         unclosed.cache.discard()
+///     }
+/// };
+/// assert_eq!(device.len(), 3);
 /// ```
 pub struct Unclosed<B: Copy, D: BlockDevice<B>, S = RandomState> {
     /// The cache, with the same pages.

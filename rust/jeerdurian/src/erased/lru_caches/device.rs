@@ -1,28 +1,23 @@
 // Erased from crates/lru_caches/src/device.rt: do not edit.
-//! What a device is: numbered blocks that are read and written one at a time.
+//! What a device is: numbered blocks that are read and written one at a time, and synced.
 
 #[allow(unused_imports)]
 use crate::rattle_std::prelude::*;
 
 /// A device of numbered blocks, such as a disk or a file. Any call may fail.
 ///
-/// The impl defines `blocks`, the block that a read of each number returns, and the prover checks that its code reads
-/// and writes these. If a device lacks a number, its calls fail there, and its block there is any value.
+/// The contract says what a read returns, and what a crash may leave. Between two syncs a crash may leave each block as
+/// it was at the last `sync`, or as it was written since, or torn: writes may be lost and reordered. A write changes
+/// only its own block, also if it fails or the machine stops in the middle of it. After a `sync` that failed, no clause
+/// says what the blocks are, and no call may be made.
 ///
-/// It also defines `seen`, what contracts see of a block. For most devices this is the block itself, by
-/// `ghost seen = { λ block. block };`. A device that keeps only hashes, such as [`HashedFileDevice`], says that it is
-/// the hash: a read returns a block of the right hash then. Contracts do not tell blocks apart that `seen` does not.
-///
-/// Contracts do not speak of a crash. They demand that no call changes another block, and that a `sync` changes none,
-/// even if it fails. A plain file does not meet this, because the system may drop writes after a `sync` that failed;
-/// [`FileDevice`] does, because it returns an error for a block that it finds changed.
-///
-/// [`FileDevice`]: crate::FileDevice
-/// [`HashedFileDevice`]: crate::HashedFileDevice
+/// An impl defines the ghost members, and the prover checks that its code does what they say. For most devices
+/// contracts see of a block the block itself, by `ghost seen = { λ block. block };`. They do not tell blocks apart that
+/// `seen` does not.
 ///
 /// ```text
 /// let calls_left = Cell::new(2);           // the third call fails
-/// let mut disk = Disk { blocks: [10, 11, 12, 13], calls_left: &calls_left };
+/// let mut disk = Disk::new([10, 11, 12, 13], [false; 4], &calls_left);
 /// assert_eq!(rt; disk.write(1, &20), Ok(()));
 /// assert_eq!(rt; disk.read(1), Ok(20));
 /// assert_eq!(rt; disk.read(1), Err(DiskError));
@@ -35,26 +30,30 @@ pub trait BlockDevice<B> {
     /// The type of what contracts see of a block.
     type Seen;
 
-    /// Returns a block.
+    /// Returns whether the device has a block of this number.
+    fn has(&self, n: u64) -> bool;
+
+    /// Returns whether no `sync` has failed.
+    fn is_usable(&self) -> bool;
+
+    /// Returns a block. A block that was not known may become known.
     ///
     /// # Errors
     ///
     /// The device failed. No block has changed.
     fn read(&mut self, n: u64) -> Result<B, Self::Error>;
 
-    /// Replaces a block.
+    /// Replaces a block. A crash may leave what it might leave before, or the new block, or a torn one.
     ///
     /// # Errors
     ///
     /// The device failed. That block may be anything then, and no other block has changed.
     fn write(&mut self, n: u64, block: &B) -> Result<(), Self::Error>;
 
-    /// Asks the device to make its blocks durable. No block changes, even at an error; nothing is proved of a crash. A
-    /// device in memory returns `Ok`.
+    /// Makes the blocks durable: a crash leaves exactly what a read returns, once this has returned `Ok`.
     ///
     /// # Errors
     ///
-    /// The device failed. A crash may lose what was written since the last `sync` that returned `Ok`, whatever a later
-    /// `sync` returns.
+    /// The device failed, and is not usable from then on. What was written since the last `sync` may be lost.
     fn sync(&mut self) -> Result<(), Self::Error>;
 }

@@ -6,7 +6,7 @@ use crate::rattle_std::prelude::*;
 
 use crate::erased::lru_caches::device::BlockDevice;
 use crate::erased::lru_caches::page_cache::pages::{
-    Page, Pages, add_page, cached_block, make_room, overwrite, write_all_back,
+    Page, Pages, admit, cached_block, load, make_clean, overwrite, store, write_all_back,
 };
 use crate::erased::schnellru::{KeyHasher, LruMap, RandomState, UnlimitedCompact};
 use crate::rattle_std::alloc::Global;
@@ -14,12 +14,13 @@ use crate::rattle_std::fmt::Display;
 
 mod pages;
 
-/// Why a call on a page cache failed. A call that fails changes no block that the cache shows.
+/// Why a call on a page cache failed. A call that fails changes no block that the cache shows, unless it broke the
+/// device: then `flush` or `close` returned `Device`, and each later call returns `Broken`.
 ///
 /// The text contains the text of the device's error, so a `PageError<E>` is `Display` if `E` is.
 ///
 /// ```text
-/// assert_eq!(rt; cache.read(4), Err(PageError::Device(DiskError)));
+/// assert_eq!(rt; cache.read(4), Err(PageError::NoBlock));
 /// ```
 #[derive(Debug, PartialEq)]
 
@@ -28,6 +29,10 @@ pub enum PageError<E> {
     Device(E),
     /// Out of memory for one page more, or there are 1,879,048,192 pages, the most that the table links.
     Memory,
+    /// The device has no block of this number.
+    NoBlock,
+    /// A `sync` of the device has failed, so what was written before may be lost. Discard the cache.
+    Broken,
 }
 
 impl<E> ::core::fmt::Display for PageError<E>
@@ -38,6 +43,8 @@ where
         match self {
             PageError::Device(value) => write!(f, "the device failed: {0}", value),
             PageError::Memory => write!(f, "out of memory"),
+            PageError::NoBlock => write!(f, "no such block"),
+            PageError::Broken => write!(f, "a sync of the device has failed"),
         }
     }
 }
@@ -48,10 +55,13 @@ where
 /// then, and goes to the device when it is evicted or flushed. So the cache shows a block at each number, which is the
 /// cached page, or else the block of the device.
 ///
-/// Whichever call of the device fails, the cache shows the same blocks as before, if the device meets the contract of
-/// [`BlockDevice`]. That contract does not speak of a crash: after a `sync` that failed, a file may lose pages that
-/// were evicted before, and no later flush writes them again. `docs/CACHES.md` says more. Code that drops or forgets a
-/// cache does not compile, because its dirty pages would be lost. Call `close` or `discard`.
+/// A call that fails shows the same blocks as before, as long as no `sync` has failed. After a `flush` that returned
+/// `Ok`, a crash leaves each block as it was shown at that flush or was written later; `docs/CACHES.md` says what this
+/// supposes of a disk. After a `sync` that failed, each call but `discard`, and reads of cached pages, returns
+/// `Broken`.
+///
+/// Code that drops or forgets a cache does not compile, because its dirty pages would be lost. Call `close` or
+/// `discard`.
 ///
 /// ```text
 /// let mut cache = PageCache::new(alloc, disk, 2);
@@ -63,7 +73,6 @@ where
 pub struct PageCache<B: Copy, D: BlockDevice<B>, S = RandomState> {
     map: Pages<B, S>,
     capacity: usize,
-    round: u64,
     device: D,
 }
 
@@ -96,7 +105,6 @@ impl<B: Copy, D: BlockDevice<B>, S: KeyHasher<u64>> PageCache<B, D, S> {
         PageCache {
             map: LruMap::with_limiter_and_hasher(alloc, UnlimitedCompact, hasher),
             capacity: capacity.max(1),
-            round: 1,
             device,
         }
     }
@@ -159,24 +167,18 @@ impl<B: Copy, D: BlockDevice<B>, S: KeyHasher<u64>> PageCache<B, D, S> {
     ///
     /// # Errors
     ///
-    /// `Device`: the read failed, or the oldest page could not be written back. `Memory`: out of memory for one page
-    /// more; the oldest page may have been evicted. In the last two cases the device has returned the block, but `read`
-    /// does not return what it cannot keep (`Loader::load` does). There is no error if the page is cached.
+    /// None if the page is cached. `Broken`: a `sync` has failed. `NoBlock`: the device has no such number. `Device`:
+    /// the read failed, or the oldest page could not be written back; all pages stay. `Memory`: out of memory for one
+    /// page more; the oldest page may have been evicted.
     pub fn read(&mut self, n: u64) -> Result<B, PageError<D::Error>> {
         if let Some(block) = cached_block(&mut self.map, n) {
             return Ok(block);
         }
-        let block = self.device.read(n).map_err(PageError::Device)?;
-        make_room(&mut self.map, &mut self.device, self.round, self.capacity)?;
-        add_page(&mut self.map, n, Page { block, round: 0 })?;
-        Ok(block)
+        admit(&self.device, n)?;
+        load(&mut self.map, &mut self.device, self.capacity, n)
     }
 
     /// Replaces a block in the cache, and makes its page the newest. The device gets the block later.
-    ///
-    /// The cache accepts every number. If the device rejects this one, the page can never be written back: each `flush`
-    /// and `close` fails from then on, and so does each call that has to evict the page. Only `discard` ends such a
-    /// cache. Check a number that comes from outside before you write there.
     ///
     /// If the page is not cached and the cache is full, the oldest page is evicted for it, as by `read`.
     ///
@@ -188,19 +190,18 @@ impl<B: Copy, D: BlockDevice<B>, S: KeyHasher<u64>> PageCache<B, D, S> {
     ///
     /// # Errors
     ///
-    /// As for `read`. The block is not replaced then.
+    /// `Broken`: a `sync` has failed. `NoBlock`: the device has no such number. Nothing else if the page is cached.
+    /// `Device` and `Memory` as for `read`. The block is not replaced then.
     pub fn write(&mut self, n: u64, block: B) -> Result<(), PageError<D::Error>> {
-        let page = Page { block, round: self.round };
+        admit(&self.device, n)?;
+        let page = Page { block, is_dirty: true };
         if overwrite(&mut self.map, n, page) {
             return Ok(());
         }
-        make_room(&mut self.map, &mut self.device, self.round, self.capacity)?;
-        add_page(&mut self.map, n, page)?;
-        Ok(())
+        store(&mut self.map, &mut self.device, self.capacity, n, page)
     }
 
-    /// Writes all dirty pages to the device, and then calls its `sync`. The pages stay cached, and no page that was
-    /// dirty is dirty then.
+    /// Writes all dirty pages to the device, and then calls its `sync`. The pages stay cached, and are clean then.
     ///
     /// ```text
     /// assert_eq!(rt; cache.flush(), Ok(()));
@@ -211,12 +212,14 @@ impl<B: Copy, D: BlockDevice<B>, S: KeyHasher<u64>> PageCache<B, D, S> {
     ///
     /// # Errors
     ///
-    /// `Device`: a write or the `sync` failed. All pages stay as dirty as before, so the next flush writes them again.
-    /// It does not write a page again that was evicted before.
+    /// `Device`: a write or the `sync` failed. All pages stay as dirty as before. If it was a write, the next flush
+    /// writes them again. If it was the `sync`, the device is not usable from then on. `Broken`: it was not before.
     pub fn flush(&mut self) -> Result<(), PageError<D::Error>> {
-        write_all_back(&self.map, &mut self.device, self.round)?;
-        // If the number wraps, a clean page of that round counts as dirty, and is written once more.
-        self.round = self.round.wrapping_add(1);
+        if !self.device.is_usable() {
+            return Err(PageError::Broken);
+        }
+        write_all_back(&self.map, &mut self.device)?;
+        make_clean(&mut self.map);
         Ok(())
     }
 
@@ -233,8 +236,7 @@ impl<B: Copy, D: BlockDevice<B>, S: KeyHasher<u64>> PageCache<B, D, S> {
     ///
     /// # Errors
     ///
-    /// The flush failed. The error contains the cache, which shows the same blocks as before. Its pages are the same,
-    /// each as dirty as before.
+    /// The flush failed. The error contains the cache as `flush` left it, with the same pages, each as dirty as before.
     pub fn close(mut self) -> Result<D, Unclosed<B, D, S>>
 where {
         match self.flush() {
@@ -252,7 +254,7 @@ where {
     /// Cost: `O(1)`.
     pub fn discard(self) -> D
 where {
-        let PageCache { map: _, capacity: _, round: _, device } = self;
+        let PageCache { map: _, capacity: _, device } = self;
         device
     }
 }
@@ -263,7 +265,7 @@ where {
 /// Err(Unclosed { cache, error: _ }) => cache,
 /// ```
 pub struct Unclosed<B: Copy, D: BlockDevice<B>, S = RandomState> {
-    /// The cache, which shows the same blocks as before, with the same pages.
+    /// The cache as the flush left it, with the same pages.
     pub cache: PageCache<B, D, S>,
     /// Why the flush failed.
     pub error: PageError<D::Error>,

@@ -27,6 +27,14 @@ impl<B, D: BlockDevice<B>> BlockDevice<B> for Counted<D> {
 
     type Seen = D::Seen;
 
+    fn has(&self, n: u64) -> bool {
+        self.device.has(n)
+    }
+
+    fn is_usable(&self) -> bool {
+        self.device.is_usable()
+    }
+
     fn read(&mut self, n: u64) -> Result<B, D::Error> {
         self.device.read(n)
     }

@@ -9,7 +9,7 @@ mod command;
 mod counted;
 mod session;
 
-use crate::erased::lru_caches::{HashedFileDevice, PageCache};
+use crate::erased::lru_caches::{FileDevice, PageCache};
 use crate::rattle_std::fs::{File, OpenOptions};
 use crate::rattle_std::process::ExitCode;
 use crate::rattle_std::{fs, io};
@@ -54,9 +54,7 @@ pub(crate) fn main(rt: HostRuntime) -> ExitCode {
     let Ok(file) = open(&rt) else {
         return ExitCode::from(2);
     };
-    let Ok(device) = HashedFileDevice::new(rt.alloc(), file, BLOCKS) else {
-        return ExitCode::from(3);
-    };
+    let device = FileDevice::new(file, BLOCKS);
     let mut session = Session::new(PageCache::new(rt.alloc(), Counted::new(device), CAPACITY));
     let answered = answer_lines(&rt, &mut session);
     let is_closed = session.close();

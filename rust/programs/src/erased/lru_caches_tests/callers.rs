@@ -6,7 +6,7 @@ use crate::rattle_std::prelude::*;
 
 use crate::erased::lru_caches::{BlockDevice, OrderedMap, PageCache, PageError};
 
-/// Copies a block to another number. If it fails, no block has changed.
+/// Copies a block to another number. If it fails, each block is shown as before.
 pub fn copy_block<D: BlockDevice<u64>>(
     cache: &mut PageCache<u64, D>,
     from: u64,
@@ -14,6 +14,16 @@ pub fn copy_block<D: BlockDevice<u64>>(
 ) -> Result<(), PageError<D::Error>> {
     let block = cache.read(from)?;
     cache.write(to, block)
+}
+
+/// Writes a block so that no crash loses it.
+pub fn write_durably<D: BlockDevice<u64>>(
+    cache: &mut PageCache<u64, D>,
+    n: u64,
+    block: u64,
+) -> Result<(), PageError<D::Error>> {
+    cache.write(n, block)?;
+    cache.flush()
 }
 
 /// Writes a value under a key that is there, and returns whether it is. The order stays.

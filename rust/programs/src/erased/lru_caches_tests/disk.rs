@@ -1,5 +1,5 @@
 // Erased from crates/lru_caches_tests/src/disk.rt: do not edit.
-//! A device in memory that fails.
+//! A disk in memory with a volatile cache, that fails and crashes.
 
 #[allow(unused_imports)]
 use crate::rattle_std::prelude::*;
@@ -7,23 +7,57 @@ use crate::rattle_std::prelude::*;
 use crate::erased::lru_caches::BlockDevice;
 use crate::rattle_std::cell::Cell;
 
-/// The disk lacks the block, or did not work.
+/// The disk failed.
 #[derive(Clone, Copy, Debug, PartialEq)]
 pub struct DiskError;
 
-/// A disk of four blocks. After `calls_left` calls that work, one fails. A write that fails leaves 99 in its block.
+/// What a write that fails leaves in its block.
+pub const TORN: u64 = 99;
+
+/// A disk of four blocks, which keeps what is written in a volatile cache until it is synced.
+///
+/// After `calls_left` calls that work, one fails. A write that fails leaves its block torn. A crash, and a `sync` that
+/// fails, drop what was written to the blocks of `dropped`, and keep what was written to the others.
 
 pub struct Disk<'a> {
     pub blocks: [u64; 4],
+    synced: [u64; 4],
+    dropped: [bool; 4],
     pub calls_left: &'a Cell<u64>,
+    faults: u64,
+    is_usable: bool,
 }
 
-impl Disk<'_> {
+impl<'a> Disk<'a> {
+    /// Makes a disk of these blocks.
+    pub fn new(blocks: [u64; 4], dropped: [bool; 4], calls_left: &'a Cell<u64>) -> Self {
+        Disk { blocks, synced: blocks, dropped, calls_left, faults: 0, is_usable: true }
+    }
+
     // Counts a call, and returns whether the disk works. After the call that fails, nearly 2^64 calls are left.
-    fn works(&self) -> bool {
+    fn works(&mut self) -> bool {
         let left = self.calls_left.get();
         self.calls_left.set(left.wrapping_sub(1));
+        if left == 0 {
+            self.faults = self.faults.wrapping_add(1);
+        }
         left > 0
+    }
+
+    // Drops some of what is in the volatile cache, and writes the rest.
+    fn lose(&mut self) {
+        for n in 0..4usize {
+            if (*at!(self.dropped, n)) {
+                (*at_mut!(self.blocks, n)) = (*at!(self.synced, n));
+            }
+        }
+        self.synced = self.blocks;
+    }
+
+    /// Crashes, and starts again.
+    pub fn crash(&mut self) {
+        self.lose();
+        self.is_usable = true;
     }
 }
 
@@ -32,23 +66,36 @@ impl BlockDevice<u64> for Disk<'_> {
 
     type Seen = u64;
 
+    fn has(&self, n: u64) -> bool {
+        n < 4
+    }
+
+    fn is_usable(&self) -> bool {
+        self.is_usable
+    }
+
     fn read(&mut self, n: u64) -> Result<u64, DiskError> {
-        if n >= 4 || !self.works() {
-            return Err(DiskError);
-        }
-        Ok((*at!(self.blocks, n as usize)))
+        if self.works() { Ok((*at!(self.blocks, n as usize))) } else { Err(DiskError) }
     }
 
     fn write(&mut self, n: u64, block: &u64) -> Result<(), DiskError> {
-        if n >= 4 {
-            return Err(DiskError);
+        if self.works() {
+            (*at_mut!(self.blocks, n as usize)) = *block;
+            Ok(())
+        } else {
+            (*at_mut!(self.blocks, n as usize)) = TORN;
+            Err(DiskError)
         }
-        let works = self.works();
-        (*at_mut!(self.blocks, n as usize)) = if works { *block } else { 99 };
-        if works { Ok(()) } else { Err(DiskError) }
     }
 
     fn sync(&mut self) -> Result<(), DiskError> {
-        if self.works() { Ok(()) } else { Err(DiskError) }
+        if self.works() {
+            self.synced = self.blocks;
+            Ok(())
+        } else {
+            self.lose();
+            self.is_usable = false;
+            Err(DiskError)
+        }
     }
 }

@@ -19,14 +19,14 @@ use crate::rattle_std::test::Fail;
 fn of_the_page_cache() {
     let run = |rt: HostRuntime| -> () {
         let calls_left = Cell::new(2); // the third call fails
-        let mut disk = Disk { blocks: [10, 11, 12, 13], calls_left: &calls_left };
+        let mut disk = Disk::new([10, 11, 12, 13], [false; 4], &calls_left);
         check!(rt; all!(
             disk.write(1, &20) == Ok(()),
             disk.read(1) == Ok(20),
             disk.read(1) == Err(DiskError),
             disk.sync() == Ok(())
         ));
-        disk.blocks[1] = 11;
+        let disk = Disk::new([10, 11, 12, 13], [false; 4], &calls_left);
         let mut cache = PageCache::new(rt.alloc(), disk, 2);
         check!(rt; all!(
             cache.is_empty(),
@@ -36,7 +36,7 @@ fn of_the_page_cache() {
             cache.device().blocks == [10, 11, 12, 13],
             cache.flush() == Ok(()),
             cache.device().blocks == [10, 20, 12, 13],
-            cache.read(4) == Err(PageError::Device(DiskError))
+            cache.read(4) == Err(PageError::NoBlock)
         ));
         let mut cache = match cache.close() {
             Ok(disk) => PageCache::new(rt.alloc(), disk, 2),
@@ -55,10 +55,13 @@ fn of_the_page_cache() {
 fn of_the_errors() {
     let run = |rt: HostRuntime| -> Result<(), Fail> {
         let alloc = rt.alloc();
-        let (failed, memory): (PageError<FileError>, PageError<FileError>) =
-            (PageError::Device(FileError::NoBlock), PageError::Memory);
-        let text = format!(in alloc; "{failed}, {memory}")?;
-        check!(rt; text.as_str() == "the device failed: no such block, out of memory");
+        let (failed, damaged): (PageError<FileError>, PageError<FileError>) =
+            (PageError::Device(FileError::File), PageError::Device(FileError::Damaged));
+        let text = format!(in alloc; "{failed}; {damaged}")?;
+        check!(rt; text.as_str() == "the device failed: the file failed; the device failed: a damaged block");
+        let others: [PageError<FileError>; 3] = [PageError::Memory, PageError::NoBlock, PageError::Broken];
+        let text = format!(in alloc; "{}; {}; {}", others[0], others[1], others[2])?;
+        check!(rt; text.as_str() == "out of memory; no such block; a sync of the device has failed");
         Ok(())
     };
     run(HostRuntime).passes();

@@ -33,8 +33,8 @@ fn an_ordered_map_of_many_keys() {
     run(HostRuntime).passes();
 }
 
-/// A page cache and an ordered map run out of memory exactly if a request of a growth is refused: the first, the second,
-/// the third, or none.
+/// A page cache and an ordered map run out of memory exactly if a request of a growth is refused: the first, the
+/// second, the third, or none.
 #[test]
 fn growths_without_memory() {
     let run = |rt: HostRuntime| -> () {
@@ -54,12 +54,12 @@ fn nothing_leaks() {
     run(HostRuntime).passes();
 }
 
-/// A disk that fails at each call that the lists need, and again after as many more, and a disk that stays broken.
+/// A disk that fails at each call that the lists need, and again after as many more, or stays broken, and crashes then.
 #[test]
-fn a_disk_that_fails_loses_no_write() {
+fn a_disk_that_fails_and_crashes() {
     let run = |rt: HostRuntime| -> () {
         for stays_broken in [false, true] {
-            let (tried, kept) = pages::runs_that_lose_nothing(rt.alloc(), stays_broken);
+            let (tried, kept) = pages::runs_that_end_well(rt.alloc(), stays_broken);
             check!(rt; (tried, kept) == (pages::NEEDED, pages::NEEDED));
         }
     };

@@ -1,6 +1,6 @@
 use Rattle.std.proofs.Common.{nat_eq, sym}
 use Rattle.lru_model.proofs.CallerLemmas.{written-found}
-use Rattle.lru_caches.proofs.PageOrder.{keys-written}
+use Rattle.lru_caches.proofs.PageOrder.{written-first}
 use Rattle.lru_caches.proofs.PageLists.{others_written, length-written}
 use Rattle.lru_caches.proofs.page_cache.pages.overwrite.Goals as goal
 
@@ -16,4 +16,4 @@ returns-in-Some-clause-len g c = length-written (nat_eq c.args.n) c.args.map.now
 
 pub returns-in-Some-clause-used : goal.returns-in-Some-clause-used
 returns-in-Some-clause-used g c = λ _.
-    keys-written c.args.n c.args.map.now.pairs c.in-Some.place.now c.args.page (sym c.in-Some.ensures.value)
+    written-first c.args.n c.args.map.now.pairs c.in-Some.place.now c.args.page (sym c.in-Some.ensures.value)

@@ -31,7 +31,7 @@ type Cache<'a> = PageCache<u64, Disk<'a>>;
 
 // A cache of at most four pages, three of which are written. Out of memory, fewer are.
 fn cache_of_three(alloc: Global, calls_left: &Cell<u64>) -> Cache<'_> {
-    let disk = Disk { blocks: [10, 11, 12, 13], calls_left };
+    let disk = Disk::new([10, 11, 12, 13], [false; 4], calls_left);
     let mut cache = PageCache::new(alloc, disk, 4);
     for n in 0..3u64 {
         let _ = cache.write(n, n);

@@ -1,0 +1,9 @@
+use Rattle.std.proofs.Common.{is_ok, subst}
+use Rattle.lru_caches.specs.Files.{left, IsLeft}
+use Rattle.lru_caches.specs.LeftLemma.{synced_leaves}
+use Rattle.lru_caches.proofs.file_device.FileDeviceBlockDeviceArrayU8.sync.Goals as goal
+
+pub returns-clause-crash : goal.returns-clause-crash
+returns-clause-crash g c = λ m b is.
+    synced_leaves (λ block. block) c.args.self.now.file.log.events m (is_ok c.sync-synced.result) b
+    (subst (λ l. IsLeft (λ block. block) (left l m) b) c.sync-synced.ensures is)

@@ -1,0 +1,90 @@
+-- What a record of the calls on a file says of the blocks of the file.
+use Rattle.std.specs.Prelude.{◌≡◌, ℕ, zero, suc, nat_eq, Bool, if◌then◌else◌, List, [], ◌∷◌, Option, Some, None, slice_index}
+
+-- A call with its result: which call, the number of the block, and the bytes that were read or written.
+abbrev pub Event : Type 0
+Event = ℕ × ℕ × List ℕ
+
+-- the kinds of events: a read that failed, one that returned Ok, the same of a write, and of a sync
+abbrev pub unread : ℕ → Event
+unread n = (0, n, [])
+
+abbrev pub was_read : ℕ → List ℕ → Event
+was_read n bytes = (1, n, bytes)
+
+abbrev pub unwritten : ℕ → List ℕ → Event
+unwritten n bytes = (2, n, bytes)
+
+abbrev pub written : ℕ → List ℕ → Event
+written n bytes = (3, n, bytes)
+
+abbrev pub unsynced : Event
+unsynced = (4, 0, [])
+
+abbrev pub synced : Event
+synced = (5, 0, [])
+
+-- the event of these numbers and bytes
+abbrev pub event_of : List ℕ → List ℕ → Event
+event_of numbers bytes = (slice_index numbers 0, slice_index numbers 1, bytes)
+
+-- a block that is known stays, and else it becomes known
+abbrev pub or_else : Option (List ℕ) → List ℕ → Option (List ℕ)
+or_else None bytes = Some bytes
+or_else (Some known) bytes = Some known
+
+-- What is known of a block after an event, if `old` was known before. `same`: the event is of this block. A write that
+-- failed may leave anything.
+abbrev pub known_after : ℕ → Bool → List ℕ → Option (List ℕ) → Option (List ℕ)
+known_after zero same bytes old = old
+known_after (suc zero) same bytes old = if same then or_else old bytes else old
+known_after (suc (suc zero)) same bytes old = if same then None else old
+known_after (suc (suc (suc zero))) same bytes old = if same then Some bytes else old
+known_after (suc (suc (suc (suc more)))) same bytes old = old
+
+-- the block of each number after these events, of which the newest comes first, if it is known
+abbrev pub known : List Event → ℕ → Option (List ℕ)
+known [] n = None
+known (e ∷ earlier) n = known_after e.0 (nat_eq n e.1) e.2 (known earlier n)
+
+-- What a crash leaves of a block after an event, if that is determined. `block` is what is known of it.
+abbrev pub left_after : ℕ → Bool → Option (List ℕ) → Option (List ℕ) → Option (List ℕ)
+left_after zero same block old = old
+left_after (suc zero) same block old = old
+left_after (suc (suc zero)) same block old = if same then None else old
+left_after (suc (suc (suc zero))) same block old = if same then None else old
+left_after (suc (suc (suc (suc zero)))) same block old = old
+left_after (suc (suc (suc (suc (suc more))))) same block old = block
+
+-- what a crash leaves as block n, if that is determined
+abbrev pub left : List Event → ℕ → Option (List ℕ)
+left [] n = None
+left (e ∷ earlier) n = left_after e.0 (nat_eq n e.1) (known earlier n) (left earlier n)
+
+-- Whether a crash may leave a block that is seen so. `seen` is what contracts see of its bytes.
+abbrev pub IsLeft : (List ℕ → List ℕ) → Option (List ℕ) → List ℕ → Type 0
+IsLeft seen None block = Unit {0}
+IsLeft seen (Some only) block = block ≡ seen only
+
+-- how many of the calls failed
+abbrev pub failures_after : ℕ → ℕ → ℕ
+failures_after zero old = suc old
+failures_after (suc zero) old = old
+failures_after (suc (suc zero)) old = suc old
+failures_after (suc (suc (suc zero))) old = old
+failures_after (suc (suc (suc (suc zero)))) old = suc old
+failures_after (suc (suc (suc (suc (suc more))))) old = old
+
+abbrev pub failures : List Event → ℕ
+failures [] = 0
+failures (e ∷ earlier) = failures_after e.0 (failures earlier)
+
+-- a block that was known was read as it was known
+abbrev pub Agrees : ℕ → List ℕ → Option (List ℕ) → Type 0
+Agrees (suc zero) bytes (Some block) = bytes ≡ block
+Agrees kind bytes block = Unit {0}
+
+-- the file answered as the record says: each read returned what was last written or read there
+abbrev pub IsHonest : List Event → Type 0
+IsHonest [] = Unit {0}
+IsHonest (e ∷ earlier) = Agrees e.0 e.2 (known earlier e.1) × IsHonest earlier

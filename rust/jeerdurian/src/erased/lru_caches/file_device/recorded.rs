@@ -1,0 +1,128 @@
+// Erased from crates/lru_caches/src/file_device/recorded.rt: do not edit.
+//! A file whose calls are recorded.
+
+#[allow(unused_imports)]
+use crate::rattle_std::prelude::*;
+
+use crate::erased::lru_caches::file_device::FileError;
+use crate::erased::lru_caches::file_device::checksum::checked;
+use crate::erased::lru_caches::file_device::durable::Durable;
+use crate::erased::lru_caches::file_device::record::Record;
+use crate::rattle_std::io::{self, Read, Seek, SeekFrom, Write};
+
+// The kinds of events.
+const UNREAD: u64 = 0;
+
+const READ: u64 = 1;
+
+const UNWRITTEN: u64 = 2;
+
+const WRITTEN: u64 = 3;
+
+const UNSYNCED: u64 = 4;
+
+const SYNCED: u64 = 5;
+
+/// A file with the record of its calls. Each function makes the calls of one event and records the event.
+
+pub struct RecordedFile<F> {
+    pub(super) file: F,
+    log: Record,
+}
+
+impl<F> RecordedFile<F> {
+    pub(super) fn new(file: F) -> Self {
+        RecordedFile { file, log: Record::new() }
+    }
+
+    pub(super) fn into_inner(self) -> F {
+        let RecordedFile { file, log: _ } = self;
+        file
+    }
+}
+
+impl<F: Read + Write + Seek> RecordedFile<F> {
+    // Reads the block of this number.
+    pub(super) fn read_block<const N: usize>(&mut self, n: u64) -> Result<[u8; N], FileError> {
+        let read = read_at(&mut self.file, n);
+        self.note_read(n, read)
+    }
+
+    // Reads the block of this number, and fails if it does not have its checksum.
+    pub(super) fn read_checked<const N: usize>(&mut self, n: u64) -> Result<[u8; N], FileError> {
+        let read = checked(read_at(&mut self.file, n), n);
+        self.note_read(n, read)
+    }
+
+    // Records the result of a read.
+    fn note_read<const N: usize>(&mut self, n: u64, read: Result<[u8; N], FileError>) -> Result<[u8; N], FileError> {
+        match &read {
+            Ok(block) => self.log.note(&[READ, n], block),
+            Err(_) => self.log.note(&[UNREAD, n], &[]),
+        }
+        read
+    }
+
+    // Writes the block of this number.
+    pub(super) fn write_block<const N: usize>(&mut self, n: u64, block: &[u8; N]) -> Result<(), FileError> {
+        match write_at(&mut self.file, n, block) {
+            Ok(()) => {
+                self.log.note(&[WRITTEN, n], block);
+                Ok(())
+            }
+            Err(_) => {
+                self.log.note(&[UNWRITTEN, n], block);
+                Err(FileError::File)
+            }
+        }
+    }
+}
+
+impl<F: Write + Durable> RecordedFile<F> {
+    // Flushes the writer and makes what was written durable.
+    pub(super) fn sync(&mut self) -> Result<(), FileError> {
+        match sync_file(&mut self.file) {
+            Ok(()) => {
+                self.log.note(&[SYNCED, 0], &[]);
+                Ok(())
+            }
+            Err(_) => {
+                self.log.note(&[UNSYNCED, 0], &[]);
+                Err(FileError::File)
+            }
+        }
+    }
+}
+
+// Moves to the block of this number.
+fn seek_to<F: Seek>(file: &mut F, n: u64, size: usize) -> io::Result<()> {
+    match n.checked_mul(size as u64) {
+        Some(at) => {
+            file.seek(SeekFrom::Start(at))?;
+            Ok(())
+        }
+        None => Err(io::ErrorKind::InvalidInput.into()),
+    }
+}
+
+// Reads the block of this number.
+fn read_at<F: Read + Seek, const N: usize>(file: &mut F, n: u64) -> Result<[u8; N], FileError> {
+    let mut block = [0u8; N];
+    match seek_to(file, n, N) {
+        Ok(()) => match file.read_exact(&mut block) {
+            Ok(()) => Ok(block),
+            Err(_) => Err(FileError::File),
+        },
+        Err(_) => Err(FileError::File),
+    }
+}
+
+fn write_at<F: Write + Seek>(file: &mut F, n: u64, block: &[u8]) -> io::Result<()> {
+    seek_to(file, n, block.len())?;
+    file.write_all(block)
+}
+
+fn sync_file<F: Write + Durable>(file: &mut F) -> io::Result<()> {
+    file.flush()?;
+    file.make_durable()
+}
