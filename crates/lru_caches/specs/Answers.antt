@@ -1,10 +1,27 @@
--- What a memo or a loader may return.
+-- What a memo or a loader may return, and what a memo remembers.
 --     eq            the keys' `==`
 --     post k v      the function may return v at k
-use Rattle.std.specs.Prelude.{◌≡◌, Bool, true, List, Result, Ok}
+use Rattle.std.specs.Prelude.{◌≡◌, ℕ, Bool, true, List, Result, Ok}
 use Rattle.std.specs.List.{All}
+use Rattle.std.specs.declared.alloc.AllocError.{AllocError}
+use Rattle.lru_limits.specs.Rules.{Rules, Offers}
+use Rattle.lru_model.specs.GetOrInserts.{MakesNewest}
+use Rattle.lru_model.specs.State.{State}
 
--- what a contract sees of a memo or a loader
+-- what a contract sees of a memo
+pub record Memoized (K V S H F : Type 0) : Type 0 where
+  -- the map of the stored answers
+  pub map : State K V S H
+  pub function : F
+
+-- The call returned the answer that was stored at the key, whose entry is the newest then. Or none was stored, and it
+-- returned the value, which was inserted.
+abbrev pub Remembers : {K V S H : Type 0} → Rules K V S → Offers K V S K → (K → K → Bool) → (H → K → ℕ) → K → V
+    → State K V S H → State K V S H → Type 0
+Remembers rules offers eq hash_of key value old new = (kept : Result Bool AllocError)
+    × MakesNewest rules offers eq hash_of (λ made. made ≡ value) key old kept new
+
+-- what a contract sees of a loader
 pub record Remembered (K V F : Type 0) : Type 0 where
   -- the stored answers, newest first
   pub known : List (K × V)

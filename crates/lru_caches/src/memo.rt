@@ -1,10 +1,11 @@
-//! `Memo`. A contract sees a memo as its stored answers and its function.
+//! `Memo`. A contract sees a memo as the map of its stored answers, and its function.
 ghost use Rattle.std.specs.Prelude.{◌≡◌, [], length, IfSome};
 ghost use Rattle.std.specs.Borrow.{Bor};
 ghost use Rattle.std.specs.Map.{lookup};
 ghost use Rattle.lru_model.specs.Lists.{is_empty};
+ghost use Rattle.lru_model.specs.State.{IsMap, empty_map};
 ghost use Rattle.lru_model.specs.Theorems.{KeepsValues};
-ghost use Rattle.lru_caches.specs.Answers.{IsAnswer, AreAnswers};
+ghost use Rattle.lru_caches.specs.Answers.{IsAnswer, AreAnswers, Remembers};
 
 use schnellru::{Insertion, KeyHasher, LruMap, RandomState, laws};
 use std::alloc::Global;
@@ -16,7 +17,9 @@ pub(crate) mod table;
 
 /// A function with its newest results, up to a limit, so that it is not called again at the same key.
 ///
-/// It is proved that each result is right. That a result is remembered, and the limit kept, is only tested.
+/// It is proved that each result is right, and that a call is a step of a map: the stored answer becomes the newest, or
+/// the result is inserted (`step` of `answer`). So all laws of the map hold of it: `ByLength::new(n)` keeps the newest n
+/// answers, while memory lasts.
 ///
 /// ```
 /// let mut squares = Memo::new(alloc, ByLength::new(9), |n: u64| n.wrapping_mul(n));
@@ -31,11 +34,11 @@ pub struct Memo<K: Copy + Eq + Hash, V, F, L: Insertion<K, V, K>, S: KeyHasher<K
 impl<K: Copy + Eq + Hash, V, F, L: Insertion<K, V, K>, S: KeyHasher<K>> Model
     for Memo<K, V, F, L, S> {
     ghost use Rattle.lru_model.specs.Theorems.{KeepsValues};
-    ghost use Rattle.lru_caches.specs.Answers.{Remembered};
+    ghost use Rattle.lru_caches.specs.Answers.{Memoized};
 
-    ghost Value = { Remembered K V F };
+    ghost Value = { Memoized K V L S F };
 
-    ghost view = { λ m. record { known = m.map.pairs; function = m.function } };
+    ghost view = { λ m. record { map = m.map; function = m.function } };
 
     ghost invariant = { λ m. KeepsValues L.offers };
 }
@@ -51,8 +54,10 @@ impl<K: Copy + Eq + Hash, V, F: Fn(K) -> V, L: Insertion<K, V, K>> Memo<K, V, F,
     /// ```
     pub fn new(alloc: Global, limiter: L, function: F) -> Self
         requires { KeepsValues L.offers }
-        ensures empty { result.known ≡ [] }
-        ensures known { AreAnswers K.eq (F.post result.function) result.known }
+        ensures map { result.map ≡ empty_map limiter result.map.hasher result.map.entry_bytes
+            (L.LinkType.number L.LinkType.MAX) }
+        ensures empty { result.map.pairs ≡ [] }
+        ensures known { AreAnswers K.eq (F.post result.function) result.map.pairs }
         ensures function { result.function ≡ function }
     {
         Memo {
@@ -87,8 +92,9 @@ impl<K: Copy + Eq + Hash, V, F: Fn(K) -> V, L: Insertion<K, V, K>, S: KeyHasher<
         function: F,
     ) -> Self
         requires { KeepsValues L.offers }
-        ensures empty { result.known ≡ [] }
-        ensures known { AreAnswers K.eq (F.post result.function) result.known }
+        ensures map { result.map ≡ empty_map limiter hasher entry_bytes (L.LinkType.number L.LinkType.MAX) }
+        ensures empty { result.map.pairs ≡ [] }
+        ensures known { AreAnswers K.eq (F.post result.function) result.map.pairs }
         ensures function { result.function ≡ function }
     {
         Memo {
@@ -105,7 +111,7 @@ impl<K: Copy + Eq + Hash, V, F: Fn(K) -> V, L: Insertion<K, V, K>, S: KeyHasher<
     /// assert_eq!(rt; (squares.answer(3), squares.len()), (9, 1));
     /// ```
     pub fn len(&self) -> usize
-        ensures { result ≡ length self.now.known }
+        ensures { result ≡ length self.now.map.pairs }
     {
         self.map.len()
     }
@@ -120,7 +126,7 @@ impl<K: Copy + Eq + Hash, V, F: Fn(K) -> V, L: Insertion<K, V, K>, S: KeyHasher<
     /// assert!(rt; cubes.is_empty());
     /// ```
     pub fn is_empty(&self) -> bool
-        ensures { result ≡ is_empty self.now.known }
+        ensures { result ≡ is_empty self.now.map.pairs }
     {
         self.map.is_empty()
     }
@@ -147,10 +153,12 @@ impl<K: Copy + Eq + Hash, V: Copy, F: Fn(K) -> V, L: Insertion<K, V, K>, S: KeyH
     /// Cost: a get, and if no result is stored, a call of the function and an insert.
     pub fn answer(&mut self, key: K) -> V
         requires callable { F.IsAlwaysCallable self.old.function }
-        requires known { AreAnswers K.eq (F.post self.old.function) self.old.known }
+        requires known { AreAnswers K.eq (F.post self.old.function) self.old.map.pairs }
         ensures answer { IsAnswer K.eq (F.post self.old.function) key result }
-        ensures stored { IfSome (lookup (K.eq key) self.old.known) (λ value. result ≡ value) }
-        ensures known { AreAnswers K.eq (F.post self.new.function) self.new.known }
+        ensures stored { IfSome (lookup (K.eq key) self.old.map.pairs) (λ value. result ≡ value) }
+        ensures step { Remembers L.rules L.offers K.eq S.hash_of key result self.old.map self.new.map }
+        ensures map { IsMap K.eq self.new.map }
+        ensures known { AreAnswers K.eq (F.post self.new.function) self.new.map.pairs }
         ensures function { self.new.function ≡ self.old.function }
     {
         remembered(&mut self.map, &self.function, key)
@@ -177,12 +185,14 @@ impl<K: Copy + Eq + Hash, V: Drop, F: Fn(K) -> V, L: Insertion<K, V, K>, S: KeyH
     pub fn answer_with<R, U: FnOnce(&V) -> R>(&mut self, key: K, read: U) -> R
         requires callable { F.IsAlwaysCallable self.old.function }
         requires readable { (value : Bor V) → U.pre read value }
-        requires known { AreAnswers K.eq (F.post self.old.function) self.old.known }
+        requires known { AreAnswers K.eq (F.post self.old.function) self.old.map.pairs }
         ensures answer { (value : Bor V) × IsAnswer K.eq (F.post self.old.function) key value.now
+            × Remembers L.rules L.offers K.eq S.hash_of key value.now self.old.map self.new.map
             × U.post read value result }
-        ensures stored { IfSome (lookup (K.eq key) self.old.known)
+        ensures map { IsMap K.eq self.new.map }
+        ensures stored { IfSome (lookup (K.eq key) self.old.map.pairs)
             (λ value. (shown : Bor V) × (shown.now ≡ value) × U.post read shown result) }
-        ensures known { AreAnswers K.eq (F.post self.new.function) self.new.known }
+        ensures known { AreAnswers K.eq (F.post self.new.function) self.new.map.pairs }
         ensures function { self.new.function ≡ self.old.function }
     {
         read_remembered(&mut self.map, &self.function, key, read)
@@ -199,6 +209,8 @@ fn remembered<K: Copy + Eq + Hash, V: Copy, F: Fn(K) -> V, L: Insertion<K, V, K>
     requires keeps { KeepsValues L.offers }
     requires known { AreAnswers K.eq (F.post function.now) map.old.pairs }
     ensures answer { IsAnswer K.eq (F.post function.now) key result }
+    ensures step { Remembers L.rules L.offers K.eq S.hash_of key result map.old map.new }
+    ensures map { IsMap K.eq map.new }
     ensures stored { IfSome (lookup (K.eq key) map.old.pairs) (λ value. result ≡ value) }
     ensures known { AreAnswers K.eq (F.post function.now) map.new.pairs }
 {
@@ -225,7 +237,9 @@ fn read_remembered<
     requires readable { (value : Bor V) → U.pre read value }
     requires keeps { KeepsValues L.offers }
     requires known { AreAnswers K.eq (F.post function.now) map.old.pairs }
-    ensures answer { (value : Bor V) × IsAnswer K.eq (F.post function.now) key value.now × U.post read value result }
+    ensures answer { (value : Bor V) × IsAnswer K.eq (F.post function.now) key value.now
+        × Remembers L.rules L.offers K.eq S.hash_of key value.now map.old map.new × U.post read value result }
+    ensures map { IsMap K.eq map.new }
     ensures stored { IfSome (lookup (K.eq key) map.old.pairs)
         (λ value. (shown : Bor V) × (shown.now ≡ value) × U.post read shown result) }
     ensures known { AreAnswers K.eq (F.post function.now) map.new.pairs }

@@ -1,8 +1,8 @@
 //! `MemoTable`. A contract sees a table as its stored answers, newest first.
-ghost use Rattle.std.specs.Prelude.{◌≡◌, [], length, IfSome};
+ghost use Rattle.std.specs.Prelude.{◌≡◌, [], length, IfSome, Some, None, true, false};
 ghost use Rattle.std.specs.Map.{lookup};
-ghost use Rattle.lru_model.specs.Lists.{front, is_empty};
-ghost use Rattle.lru_model.specs.Theorems.{KeepsValues};
+ghost use Rattle.lru_model.specs.Lists.{front, is_empty, lookup_entry};
+ghost use Rattle.lru_model.specs.Theorems.{IsNewest, KeepsValues};
 ghost use Rattle.lru_caches.specs.Answers.{IsAnswer, AreAnswers};
 
 use schnellru::{Insertion, KeyHasher, LruMap, RandomState, laws};
@@ -168,18 +168,21 @@ impl<
         stored::<K, V, Q, L, S>(&mut self.map, key)
     }
 
-    /// Stores an answer at a key, as the newest. If the table runs out of memory or its limiter rejects the answer, it
-    /// is not stored. No clause says what is stored: that is tested.
+    /// Stores an answer at a key, as the newest, and returns whether it is stored. It is not if the table runs out of
+    /// memory or its limiter rejects the answer; then no answer is stored at the key.
     ///
     /// ```
     /// squares.store(3, 9);
     /// ```
     ///
     /// Cost: an insert.
-    pub fn store(&mut self, key: K, value: V)
+    pub fn store(&mut self, key: K, value: V) -> bool
         requires answer { Q.answers key value }
+        ensures stored { result ≡ true → lookup (K.eq key) self.new ≡ Some value }
+        ensures newest { result ≡ true → IsNewest (K.eq key) self.new }
+        ensures absent { result ≡ false → lookup_entry (K.eq key) self.new ≡ None }
     {
-        keep::<K, V, Q, L, S>(&mut self.map, key, value);
+        keep::<K, V, Q, L, S>(&mut self.map, key, value)
     }
 }
 
@@ -205,12 +208,18 @@ fn keep<K: Copy + Eq + Hash, V: Copy, Q: Question<K, V>, L: Insertion<K, V, K>, 
     map: &mut LruMap<K, V, L, S>,
     key: K,
     value: V,
-)
+) -> bool
     requires keeps { KeepsValues L.offers }
     requires answer { Q.answers key value }
     requires known { AreAnswers K.eq Q.answers map.old.pairs }
+    ensures stored { result ≡ true → lookup (K.eq key) map.new.pairs ≡ Some value }
+    ensures newest { result ≡ true → IsNewest (K.eq key) map.new.pairs }
+    ensures absent { result ≡ false → lookup_entry (K.eq key) map.new.pairs ≡ None }
     ensures known { AreAnswers K.eq Q.answers map.new.pairs }
 {
     laws::inserts_evict_the_oldest::<K, V, K, L, S>();
-    let _ = map.insert(key, value);
+    laws::inserts_store_the_value::<K, V, K, L, S>();
+    // Nothing at run time: it shows the proof that no two keys are equal.
+    let _len = map.len();
+    map.insert(key, value).unwrap_or(false)
 }

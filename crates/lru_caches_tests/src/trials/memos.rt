@@ -41,7 +41,7 @@ fn count<F: Fn(u64) -> u64, G: Fn(u64) -> Result<u64, u64>>(
     length: u32,
 ) -> u64
     requires callable { F.IsAlwaysCallable memo.function }
-    requires known { AreAnswers nat_eq (F.post memo.function) memo.known }
+    requires known { AreAnswers nat_eq (F.post memo.function) memo.map.pairs }
     requires can_load { G.IsAlwaysCallable loader.function }
     requires loaded { AreAnswers nat_eq (loads (G.post loader.function)) loader.known }
 {

@@ -1,22 +1,34 @@
-use Rattle.std.proofs.Common.{◌≡◌, refl, sym, subst}
+use Rattle.std.proofs.Common.{◌≡◌, Ok, true, refl, sym, subst}
 use Rattle.std.specs.Borrow.{Bor}
 use Rattle.std.specs.Prelude.{IfSome}
-use Rattle.lru_model.proofs.CallerLemmas.{read-all, inserted-all, inserted-only}
+use Rattle.lru_model.proofs.CallerLemmas.{read-all, read_back, inserted-all, inserted-only}
+use Rattle.lru_model.specs.Calls.{found}
+use Rattle.lru_model.specs.GetOrInserts.{got, inserted}
 use Rattle.lru_caches.specs.Answers.{IsAnswer}
 use Rattle.lru_caches.proofs.StoredAnswers.{found_answer, inserted_answer}
 use Rattle.lru_caches.proofs.memo.read_remembered.Goals as goal
 
 pub returns-in-Some-clause-answer : goal.returns-in-Some-clause-answer
-returns-in-Some-clause-answer g c = (
-  _,
-  found_answer g.K.PartialEq.eq g.met.K.Eq.laws (goal.F-post g c.args.function.now) c.args.key c.args.map.now.pairs
-      c.in-Some.value.now c.requires.known (sym c.in-Some.ensures.value),
-  c.read.ensures,
-)
+returns-in-Some-clause-answer g c =
+    let there = sym c.in-Some.ensures.value in (
+      _,
+      found_answer g.K.PartialEq.eq g.met.K.Eq.laws (goal.F-post g c.args.function.now) c.args.key c.args.map.now.pairs
+          c.in-Some.value.now c.requires.known there,
+      (
+        Ok true,
+        got c.in-Some.value.now there refl
+            (read_back (g.K.PartialEq.eq c.args.key) c.args.map.now c.in-Some.value.now there),
+      ),
+      c.read.ensures,
+    )
+
+pub returns-in-Some-clause-map : goal.returns-in-Some-clause-map
+returns-in-Some-clause-map g c =
+    c.in-Some.ensures.map _ (found c.in-Some.value.now c.in-Some.value.now (sym c.in-Some.ensures.value) refl refl)
 
 pub returns-in-Some-clause-stored : goal.returns-in-Some-clause-stored
 returns-in-Some-clause-stored g c = subst
-    (λ found. IfSome found (λ value. (shown : Bor g.row.V.Denot) × (shown.now ≡ value)
+    (λ there. IfSome there (λ value. (shown : Bor g.row.V.Denot) × (shown.now ≡ value)
     × goal.U-post g c.args.read shown c.read.result)) c.in-Some.ensures.value (_, refl, c.read.ensures)
 
 pub returns-in-Some-clause-known : goal.returns-in-Some-clause-known
@@ -26,8 +38,12 @@ returns-in-Some-clause-known g c =
     c.in-Some.value.now (sym c.in-Some.ensures.value) c.requires.known
 
 pub returns-clause-answer : goal.returns-clause-answer
-returns-clause-answer g c =
-    (_, (c.args.key, g.met.K.Eq.laws.refl c.args.key, c.function-value.ensures), c.read-result.ensures)
+returns-clause-answer g c = (
+  _,
+  (c.args.key, g.met.K.Eq.laws.refl c.args.key, c.function-value.ensures),
+  (c.insert.result, inserted (sym c.in_default.ensures.value) c.function-value.result refl c.insert.ensures.step),
+  c.read-result.ensures,
+)
 
 pub returns-clause-known : goal.returns-clause-known
 returns-clause-known g c =
@@ -41,5 +57,5 @@ returns-clause-known g c =
     let evicts = c.inserts_evict_the_oldest.ensures key value old c.insert.result new insert.step in
     let only = inserted-only c.requires.keeps _ eq key old new c.insert.result insert.says insert.stores in
     inserted-all (λ p. IsAnswer eq post p.0 p.1) (eq key) old.pairs new.pairs evicts c.requires.known
-    (λ p named found. inserted_answer eq g.met.K.Eq.laws post key p.0 value p.1 c.function-value.ensures named
-    (only p.1 found))
+    (λ p named there. inserted_answer eq g.met.K.Eq.laws post key p.0 value p.1 c.function-value.ensures named
+    (only p.1 there))

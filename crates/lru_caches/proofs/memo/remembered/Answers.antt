@@ -1,5 +1,7 @@
-use Rattle.std.proofs.Common.{sym}
-use Rattle.lru_model.proofs.CallerLemmas.{read-all, inserted-all, inserted-only}
+use Rattle.std.proofs.Common.{Ok, true, refl, sym}
+use Rattle.lru_model.proofs.CallerLemmas.{read-all, read_back, inserted-all, inserted-only}
+use Rattle.lru_model.specs.Calls.{found}
+use Rattle.lru_model.specs.GetOrInserts.{got, inserted}
 use Rattle.lru_caches.specs.Answers.{IsAnswer}
 use Rattle.lru_caches.proofs.StoredAnswers.{found_answer, inserted_answer}
 use Rattle.lru_caches.proofs.memo.remembered.Goals as goal
@@ -27,5 +29,21 @@ returns-clause-known g c =
     let evicts = c.inserts_evict_the_oldest.ensures key value old c.insert.result new insert.step in
     let only = inserted-only c.requires.keeps _ eq key old new c.insert.result insert.says insert.stores in
     inserted-all (λ p. IsAnswer eq post p.0 p.1) (eq key) old.pairs new.pairs evicts c.requires.known
-    (λ p named found. inserted_answer eq g.met.K.Eq.laws post key p.0 value p.1 c.function-value.ensures named
-    (only p.1 found))
+    (λ p named there. inserted_answer eq g.met.K.Eq.laws post key p.0 value p.1 c.function-value.ensures named
+    (only p.1 there))
+
+pub returns-in-Some-clause-step : goal.returns-in-Some-clause-step
+returns-in-Some-clause-step g c =
+    let there = sym c.in-Some.ensures.value in (
+      Ok true,
+      got c.in-Some.value.now there refl
+          (read_back (g.K.PartialEq.eq c.args.key) c.args.map.now c.in-Some.value.now there),
+    )
+
+pub returns-clause-step : goal.returns-clause-step
+returns-clause-step g c =
+    (c.insert.result, inserted (sym c.in_default.ensures.value) c.function-value.result refl c.insert.ensures.step)
+
+pub returns-in-Some-clause-map : goal.returns-in-Some-clause-map
+returns-in-Some-clause-map g c =
+    c.in-Some.ensures.map _ (found c.in-Some.value.now c.in-Some.value.now (sym c.in-Some.ensures.value) refl refl)

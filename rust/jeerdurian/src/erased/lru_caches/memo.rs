@@ -1,5 +1,5 @@
 // Erased from crates/lru_caches/src/memo.rt: do not edit.
-//! `Memo`. A contract sees a memo as its stored answers and its function.
+//! `Memo`. A contract sees a memo as the map of its stored answers, and its function.
 
 #[allow(unused_imports)]
 use crate::rattle_std::prelude::*;
@@ -13,7 +13,9 @@ pub(crate) mod table;
 
 /// A function with its newest results, up to a limit, so that it is not called again at the same key.
 ///
-/// It is proved that each result is right. That a result is remembered, and the limit kept, is only tested.
+/// It is proved that each result is right, and that a call is a step of a map: the stored answer becomes the newest, or
+/// the result is inserted (`step` of `answer`). So all laws of the map hold of it: `ByLength::new(n)` keeps the newest n
+/// answers, while memory lasts.
 ///
 /// ```text
 /// let mut squares = Memo::new(alloc, ByLength::new(9), |n: u64| n.wrapping_mul(n));

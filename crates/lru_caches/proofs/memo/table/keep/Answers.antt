@@ -1,7 +1,28 @@
+use Rattle.std.proofs.Common.{◌≡◌, Bool, true, false, None, Result, Ok, Err, sym, ap, ◌∙◌, subst}
+use Rattle.std.specs.declared.alloc.AllocError.{AllocError}
+use Rattle.std.specs.Result.{result_unwrap_or}
+use Rattle.std.proofs.lemmas.Bool.{true≢false, false≢true}
+use Rattle.lru_limits.specs.Rules.{Rules}
 use Rattle.lru_model.proofs.CallerLemmas.{inserted-all, inserted-only}
+use Rattle.lru_model.specs.Inserts.{Insert}
+use Rattle.lru_model.specs.Lists.{lookup_entry}
+use Rattle.lru_model.specs.State.{State}
+use Rattle.lru_model.specs.Theorems.{SaysWhether}
 use Rattle.lru_caches.specs.Answers.{IsAnswer}
 use Rattle.lru_caches.proofs.StoredAnswers.{inserted_answer}
 use Rattle.lru_caches.proofs.memo.table.keep.Goals as goal
+
+-- a result that is true, or an error that counts as false
+is_kept : (result : Result Bool AllocError) → result_unwrap_or result false ≡ true → result ≡ Ok true
+is_kept (Ok kept) e = ap Ok e
+is_kept (Err error) e = absurd (false≢true e)
+
+not_kept : {K V S H : Type 0} (rules : Rules K V S) (names : K → Bool) (result : Result Bool AllocError)
+    (new : State K V S H) → result_unwrap_or result false ≡ false → SaysWhether rules names result new
+    → lookup_entry names new.pairs ≡ None
+not_kept rules names (Ok true) new e says = absurd (true≢false e)
+not_kept rules names (Ok false) new e says = says
+not_kept rules names (Err error) new e says = says
 
 pub returns : goal.returns
 returns g c =
@@ -15,7 +36,14 @@ returns g c =
     let evicts = c.inserts_evict_the_oldest.ensures key value old c.insert.result new insert.step in
     let only = inserted-only c.requires.keeps _ eq key old new c.insert.result insert.says insert.stores in
     record {
+      stored = λ e. c.inserts_store_the_value.ensures.found key value old new c.requires.keeps
+          c.len-len.ensures.map.distinct
+          (subst (λ result. Insert g.L.Limiter.rules g.L.Insertion.offers eq g.S.KeyHasher.hash_of key value old result new)
+          (is_kept c.insert.result (sym c.unwrap_or.ensures ∙ e)) insert.step);
+      newest = λ e. (subst (λ result. SaysWhether g.L.Limiter.rules (eq key) result new) (is_kept c.insert.result (sym c.unwrap_or.ensures ∙ e))
+          insert.says).0;
+      absent = λ e. not_kept g.L.Limiter.rules (eq key) c.insert.result new (sym c.unwrap_or.ensures ∙ e) insert.says;
       known = inserted-all (λ p. IsAnswer eq post p.0 p.1) (eq key) old.pairs new.pairs evicts c.requires.known
-          (λ p named found. inserted_answer eq g.met.K.Eq.laws post key p.0 value p.1 c.requires.answer named
-          (only p.1 found));
+          (λ p named there. inserted_answer eq g.met.K.Eq.laws post key p.0 value p.1 c.requires.answer named
+          (only p.1 there));
     }

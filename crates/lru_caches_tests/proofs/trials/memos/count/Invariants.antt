@@ -5,7 +5,7 @@ use Rattle.lru_caches_tests.proofs.trials.memos.count.Given as goal
 abbrev pub invariant-loop : goal.invariant-loop
 invariant-loop g l = record {
   function : l.memo.function ≡ l.fn.memo.function;
-  known : AreAnswers nat_eq (goal.F-post g l.memo.function) l.memo.known;
+  known : AreAnswers nat_eq (goal.F-post g l.memo.function) l.memo.map.pairs;
   source : l.loader.function ≡ l.fn.loader.function;
   loaded : AreAnswers nat_eq (loads (goal.G-post g l.loader.function)) l.loader.known;
 }

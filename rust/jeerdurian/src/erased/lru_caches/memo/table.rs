@@ -100,16 +100,16 @@ impl<K: Copy + Eq + Hash, V: Copy, Q: Question<K, V>, L: Insertion<K, V, K>, S: 
         stored::<K, V, Q, L, S>(&mut self.map, key)
     }
 
-    /// Stores an answer at a key, as the newest. If the table runs out of memory or its limiter rejects the answer, it
-    /// is not stored. No clause says what is stored: that is tested.
+    /// Stores an answer at a key, as the newest, and returns whether it is stored. It is not if the table runs out of
+    /// memory or its limiter rejects the answer; then no answer is stored at the key.
     ///
     /// ```text
     /// squares.store(3, 9);
     /// ```
     ///
     /// Cost: an insert.
-    pub fn store(&mut self, key: K, value: V) {
-        keep::<K, V, Q, L, S>(&mut self.map, key, value);
+    pub fn store(&mut self, key: K, value: V) -> bool {
+        keep::<K, V, Q, L, S>(&mut self.map, key, value)
     }
 }
 
@@ -129,7 +129,10 @@ fn keep<K: Copy + Eq + Hash, V: Copy, Q: Question<K, V>, L: Insertion<K, V, K>, 
     map: &mut LruMap<K, V, L, S>,
     key: K,
     value: V,
-) {
+) -> bool {
     laws::inserts_evict_the_oldest::<K, V, K, L, S>();
-    let _ = map.insert(key, value);
+    laws::inserts_store_the_value::<K, V, K, L, S>();
+    // Nothing at run time: it shows the proof that no two keys are equal.
+    let _len = map.len();
+    map.insert(key, value).unwrap_or(false)
 }
