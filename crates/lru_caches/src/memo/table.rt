@@ -218,8 +218,5 @@ fn keep<K: Copy + Eq + Hash, V: Copy, Q: Question<K, V>, L: Insertion<K, V, K>, 
     ensures known { AreAnswers K.eq Q.answers map.new.pairs }
 {
     laws::inserts_evict_the_oldest::<K, V, K, L, S>();
-    laws::inserts_store_the_value::<K, V, K, L, S>();
-    // Nothing at run time: it shows the proof that no two keys are equal.
-    let _len = map.len();
     map.insert(key, value).unwrap_or(false)
 }

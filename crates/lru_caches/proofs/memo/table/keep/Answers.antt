@@ -3,8 +3,7 @@ use Rattle.std.specs.declared.alloc.AllocError.{AllocError}
 use Rattle.std.specs.Result.{result_unwrap_or}
 use Rattle.std.proofs.lemmas.Bool.{true≢false, false≢true}
 use Rattle.lru_limits.specs.Rules.{Rules}
-use Rattle.lru_model.proofs.CallerLemmas.{inserted-all, inserted-only}
-use Rattle.lru_model.specs.Inserts.{Insert}
+use Rattle.lru_model.proofs.CallerLemmas.{inserted-all, inserted-found, inserted-only}
 use Rattle.lru_model.specs.Lists.{lookup_entry}
 use Rattle.lru_model.specs.State.{State}
 use Rattle.lru_model.specs.Theorems.{SaysWhether}
@@ -36,10 +35,8 @@ returns g c =
     let evicts = c.inserts_evict_the_oldest.ensures key value old c.insert.result new insert.step in
     let only = inserted-only c.requires.keeps _ eq key old new c.insert.result insert.says insert.stores in
     record {
-      stored = λ e. c.inserts_store_the_value.ensures.found key value old new c.requires.keeps
-          c.len-len.ensures.map.distinct
-          (subst (λ result. Insert g.L.Limiter.rules g.L.Insertion.offers eq g.S.KeyHasher.hash_of key value old result new)
-          (is_kept c.insert.result (sym c.unwrap_or.ensures ∙ e)) insert.step);
+      stored = λ e. inserted-found c.requires.keeps _ eq key old new c.insert.result
+          (is_kept c.insert.result (sym c.unwrap_or.ensures ∙ e)) insert.says insert.stores;
       newest = λ e. (subst (λ result. SaysWhether g.L.Limiter.rules (eq key) result new) (is_kept c.insert.result (sym c.unwrap_or.ensures ∙ e))
           insert.says).0;
       absent = λ e. not_kept g.L.Limiter.rules (eq key) c.insert.result new (sym c.unwrap_or.ensures ∙ e) insert.says;
