@@ -17,8 +17,8 @@ use crate::rattle_std::hash::Hash;
 /// It permits a table if the table fits beside what the entries own, and rejects an entry or a new value whose entry
 /// does not fit beside the table. So after each call of the map `memory_usage` and what the entries own are together at
 /// most the limit (`calls_keep_the_bytes` of `lru_model`), if each value that is written through a reference owns what
-/// it owned before. While the table grows, the old table exists, too: at its peak the map takes the limit and the bytes
-/// of the old table.
+/// it owned before, and no lower limit is set. While the table grows, the old table exists, too: at its peak the map
+/// takes the limit and the bytes of the old table.
 ///
 /// `shrink_to_fit` does not notify the limiter, which counts the larger table until the table grows again.
 /// `map.set_limiter(map.limiter().with_table(map.memory_usage() as u64))` makes it count the smaller one.
@@ -52,8 +52,9 @@ impl ByBytes {
 
     /// Returns the same limiter with another limit.
     ///
-    /// `map.set_limiter(map.limiter().with_limit(n))` sets the limit of a map, and evicts what is over it. If the table
-    /// alone is over it, all entries are evicted.
+    /// `map.set_limiter(map.limiter().with_limit(n))` sets the limit of a map, and evicts the oldest entries until what
+    /// the others own fits beside the table. If the table alone is over the limit, it stays so, and no entry that owns
+    /// memory is left.
     ///
     /// ```text
     /// assert_eq!(rt; limiter.with_limit(300).limit(), 300);
