@@ -4,12 +4,13 @@ ghost use Rattle.std.specs.Prelude.{Some, None, Ok, IfOk, IsOk, OnOk, OnErr, tru
 ghost use Rattle.std.specs.List.{All, IsDistinct};
 ghost use Rattle.std.specs.String.{string_eq};
 ghost use Rattle.group_table.specs.Bucket.{deleted};
+ghost use Rattle.group_table.specs.Change.{count_up};
 ghost use Rattle.group_table.specs.Sizes.{full_capacity};
 ghost use Rattle.lru_limits.specs.Texts.{names_text};
 ghost use Rattle.lru_model.specs.Lists.{keys_of, lookup, lookup_entry, without, IsFront};
 ghost use Rattle.lru_model.specs.Place.{HasPairsButNoGrowth};
 ghost use Rattle.lru_model.specs.Sizes.{usage, max_of_32_bits};
-ghost use Rattle.lru_model.specs.State.{buckets, contents, count_up, room, FirstFreeIs};
+ghost use Rattle.lru_model.specs.State.{buckets, contents, room, FirstFreeIs};
 ghost use Rattle.lru_model.specs.Calls.{promoted};
 ghost use Rattle.lru_model.specs.Callbacks.{CalledWith};
 ghost use Rattle.lru_model.specs.Exact.{EndsAsAsked, EndsExactly, WasRefused};
