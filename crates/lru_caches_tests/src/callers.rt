@@ -1,11 +1,11 @@
 //! Callers whose own contracts rest on those of a page cache and of an ordered map.
-ghost use Rattle.std.specs.Prelude.{◌≡◌, nat_eq, true, is_some, Some, OnOk, OnErr};
+ghost use Rattle.std.specs.Prelude.{◌≡◌, ◌≢◌, ℕ, nat_eq, true, is_some, Some, OnOk, OnErr};
 ghost use Rattle.std.specs.Map.{lookup, set_value};
 ghost use Rattle.lru_caches.specs.Pages.{shown, ShowsTheSame};
 
 use lru_caches::{BlockDevice, OrderedMap, PageCache, PageError};
 
-/// Copies a block to another number. If it fails, each block is shown as before.
+/// Copies a block to another number, and changes no other. If it fails, each block is shown as before.
 pub fn copy_block<D: BlockDevice<u64>>(
     cache: &mut PageCache<u64, D>,
     from: u64,
@@ -13,6 +13,8 @@ pub fn copy_block<D: BlockDevice<u64>>(
 ) -> Result<(), PageError<D::Error>>
     ensures copied { OnOk result (D.IsHonest cache.new.device → (block : D.Seen) →
         shown D.BlockDevice cache.old from ≡ Some block → shown D.BlockDevice cache.new to ≡ Some block) }
+    ensures others { OnOk result (D.IsHonest cache.new.device → (m : ℕ) (block : D.Seen) → m ≢ to →
+        shown D.BlockDevice cache.old m ≡ Some block → shown D.BlockDevice cache.new m ≡ Some block) }
     ensures failed { OnErr result (ShowsTheSame D.BlockDevice cache.old cache.new) }
 {
     let block = cache.read(from)?;

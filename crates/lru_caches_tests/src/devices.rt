@@ -56,32 +56,11 @@ fn calls_that_agree(alloc: Global) -> u64 {
         count = count.saturating_add(is_right as u64);
     }
     let bytes = plain.into_file().into_inner();
-    if contains(bytes.as_slice(), &model)
-        && finds_foreign_blocks(hashed.into_file().into_inner().as_slice())
-    {
+    if contains(bytes.as_slice(), &model) {
         count
     } else {
         0
     }
-}
-
-// Whether a device finds a block of another number, and a block with one changed byte.
-fn finds_foreign_blocks(bytes: &[u8]) -> bool {
-    let mut copy = [0u8; 64];
-    for (place, byte) in copy.iter_mut().zip(bytes) {
-        *place = *byte;
-    }
-    for n in 0..16usize {
-        copy[n] = copy[n + 16];
-    }
-    copy[40] ^= 1;
-    let mut hashed: HashedFileDevice<_, 16> = HashedFileDevice::new(Cursor::new(copy), 4);
-    let mut right = true;
-    for n in 0..4u64 {
-        let is_foreign = read(&mut hashed, n).is_none();
-        right = right & (is_foreign == (n == 0 || n == 2));
-    }
-    right
 }
 
 // Whether a file consists of these blocks.

@@ -38,9 +38,9 @@ fn nothing_leaks(rt: HostRuntime) {
     check!(rt; memory::caches_that_find_memory(rt.alloc()) == 1000);
 }
 
-/// A disk that fails at each call that the lists need, and again after as many more, or stays broken, and crashes then.
+/// A disk that fails at each call that the lists need, and again after as many more, or stays broken.
 #[test]
-fn a_disk_that_fails_and_crashes(rt: HostRuntime) {
+fn a_disk_that_fails(rt: HostRuntime) {
     for stays_broken in [false, true] {
         let (tried, kept) = pages::runs_that_end_well(rt.alloc(), stays_broken);
         check!(rt; (tried, kept) == (pages::NEEDED, pages::NEEDED));

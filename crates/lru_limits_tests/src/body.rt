@@ -2,8 +2,6 @@
 ghost use Rattle.lru_limits.specs.Bytes.{both_own};
 
 use lru_limits::OwnedBytes;
-use std::test::Fail;
-use test_helpers::check;
 
 /// A body with its name.
 #[derive(Drop)]
@@ -20,15 +18,4 @@ impl OwnedBytes for Body {
             .owned_bytes()
             .saturating_add(self.bytes.owned_bytes())
     }
-}
-
-#[test]
-fn a_body_owns_its_two_blocks(rt: HostRuntime) -> Result<(), Fail> {
-    let alloc = rt.alloc();
-    let body = Body {
-        name: String::from_str(alloc, "a")?,
-        bytes: Vec::with_capacity(alloc, 100)?,
-    };
-    check!(rt; body.owned_bytes() == 32 + 128);
-    Ok(())
 }

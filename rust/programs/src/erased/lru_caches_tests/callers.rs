@@ -6,7 +6,7 @@ use crate::rattle_std::prelude::*;
 
 use crate::erased::lru_caches::{BlockDevice, OrderedMap, PageCache, PageError};
 
-/// Copies a block to another number. If it fails, each block is shown as before.
+/// Copies a block to another number, and changes no other. If it fails, each block is shown as before.
 pub fn copy_block<D: BlockDevice<u64>>(
     cache: &mut PageCache<u64, D>,
     from: u64,

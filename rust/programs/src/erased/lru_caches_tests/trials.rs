@@ -54,9 +54,9 @@ fn nothing_leaks() {
     run(HostRuntime).passes();
 }
 
-/// A disk that fails at each call that the lists need, and again after as many more, or stays broken, and crashes then.
+/// A disk that fails at each call that the lists need, and again after as many more, or stays broken.
 #[test]
-fn a_disk_that_fails_and_crashes() {
+fn a_disk_that_fails() {
     let run = |rt: HostRuntime| -> () {
         for stays_broken in [false, true] {
             let (tried, kept) = pages::runs_that_end_well(rt.alloc(), stays_broken);
