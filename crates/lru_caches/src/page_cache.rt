@@ -17,8 +17,9 @@ use thiserror::Error;
 
 mod pages;
 
-/// Why a call on a page cache failed. A call that fails changes no block that the cache shows, unless it broke the
-/// device: then `flush` or `close` returned `Device`, and each later call returns `Broken`.
+/// Why a call on a page cache failed. A call that fails changes no block that the cache shows, unless a `sync` of the
+/// device failed in it: then `flush` or `close` returned `Device`, and later calls return `Broken`, unless they read a
+/// cached page.
 ///
 /// The text contains the text of the device's error, so a `PageError<E>` is `Display` if `E` is.
 ///

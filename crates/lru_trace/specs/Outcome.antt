@@ -46,8 +46,8 @@ SomeRead from to = (part : List ℕ) × Consumes from to part
 abbrev pub Begins : Option (List ℕ) → Option (List ℕ) → List ℕ → Type 0
 Begins old new text = (begun rest : List ℕ) × (text ≡ begun ++ rest) × Appends old new begun
 
--- All was read, and of the text that the lines determine was written what `IsWritten` says. Of a reader that does not say
--- what it has left, `input` is what was read.
+-- All was read, and of the text that the lines determine was written what `IsWritten` says. If a reader does not say what
+-- it has left, this says of `input` only that there is one.
 pub record Reported (from to : Option (List ℕ)) (IsWritten : List ℕ → Type 0) : Type 0 where
   pub input : List ℕ
   pub text : List ℕ
