@@ -183,7 +183,6 @@ module _ {K V : Type 0} {eq : K → K → Bool} (lawful : IsEquivalence eq) wher
   differs first key value [] rest all = all.0
   differs first key value (pair ∷ front) rest all = differs first key value front rest all.1
 
-  -- of pairs with distinct keys, a write by the key of one changes that one
   set_after : (key : K) (value w : V) (front rest : List (K × V))
       → IsDistinct eq (keys_of (front ++ (key, value) ∷ rest))
       → set_value (eq key) (front ++ (key, value) ∷ rest) w ≡ front ++ (key, w) ∷ rest

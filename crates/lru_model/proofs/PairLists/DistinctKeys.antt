@@ -18,7 +18,6 @@ module _ {K V : Type 0} (names : K → Bool) where
   abbrev pub NoneNamed : List (K × V) → Type 0
   NoneNamed pairs = AllByRecursion (λ k. names k ≡ false) (keys_of pairs)
 
-  -- and none is exactly if no pair is found
   pub none_found : (xs : List (K × V)) → NoneNamed xs → lookup_entry names xs ≡ None
   none_found [] h = refl
   none_found (x ∷ xs) h = rw h.0 (none_found xs h.1)
@@ -33,13 +32,11 @@ module _ {K V : Type 0} (names : K → Bool) where
       go false e h r = (e, r h)
 
 module _ {K V : Type 0} (P : K → Type 0) where
-  -- what holds of all keys holds of each
   pub all_of : (xs : List (K × V)) (x : K × V) → AllByRecursion P (keys_of xs) → Contains xs x → P x.0
   all_of [] x h w = absurd (omega (arith, w.1))
   all_of (y ∷ ys) x h (zero, p, e) = subst (λ z. P z.0) e h.0
   all_of (y ∷ ys) x h (suc k, p, e) = all_of ys x h.1 (k, omega (arith, p), e)
 
-  -- and of the keys of fewer pairs
   all_front : (xs rest : List (K × V)) → AllByRecursion P (keys_of (xs ++ rest)) → AllByRecursion P (keys_of xs)
   all_front [] rest h = tt
   all_front (x ∷ xs) rest h = (h.0, all_front xs rest h.1)
@@ -49,7 +46,6 @@ module _ {K V : Type 0} (P : K → Type 0) where
   all_between [] older pair h = h.1
   all_between (x ∷ newer) older pair h = (h.0, all_between newer older pair h.1)
 
-  -- and of a pair that is found
   all_found : (names : K → Bool) (xs : List (K × V)) (pair : K × V) → AllByRecursion P (keys_of xs)
       → lookup_entry names xs ≡ Some pair → P pair.0
   all_found names [] pair h found = absurd (grind arith)
@@ -123,7 +119,6 @@ module _ {K V : Type 0} (eq : K → K → Bool) where
       (all_between (λ y. eq x.0 y ≡ false) newer older pair d.0, distinct_between newer older pair d.1)
 
   module _ (names : K → Bool) (laws : IsEquivalence eq) where
-    -- the pair that any test finds first is equal to none of the others
     found_apart : (xs : List (K × V)) → AreDistinct xs → (pair : K × V) → lookup_entry names xs ≡ Some pair
         → AllByRecursion (λ k. eq pair.0 k ≡ false) (keys_of (without names xs))
     unfolding IsDistinct
@@ -139,7 +134,6 @@ module _ {K V : Type 0} (eq : K → K → Bool) where
         go false e is later =
             (laws.symm pair.0 x.0 ∙ all_found (λ k. eq x.0 k ≡ false) names xs pair d.0 is, later is)
 
-    -- so it may come before them
     pub distinct_found_first : (xs : List (K × V)) → AreDistinct xs → AreDistinct (front names xs)
     unfolding IsDistinct
     distinct_found_first xs d = go (lookup_entry names xs) refl
@@ -148,7 +142,6 @@ module _ {K V : Type 0} (eq : K → K → Bool) where
         go None e = distinct_without names xs d
         go (Some pair) e = (found_apart xs d pair e, distinct_without names xs d)
 
-    -- or after them
     distinct_oldest : (oldest : K × V) (xs : List (K × V))
         → AllByRecursion (λ k. eq oldest.0 k ≡ false) (keys_of xs) → AreDistinct xs → AreDistinct (xs ++ oldest ∷ [])
     unfolding IsDistinct
@@ -167,7 +160,6 @@ module _ {K V : Type 0} (eq : K → K → Bool) where
             distinct_oldest pair (without names xs) (found_apart xs d pair e) (distinct_without names xs d)
 
   module _ (names : K → Bool) (one : (x y : K) → names x ≡ true → names y ≡ eq x y) where
-    -- the others are not named
     pub others_unnamed : (xs : List (K × V)) → AreDistinct xs → NoneNamed names (without names xs)
     unfolding IsDistinct
     others_unnamed [] d = tt
@@ -178,7 +170,6 @@ module _ {K V : Type 0} (eq : K → K → Bool) where
         go true e r = all_map (λ y. eq x.0 y ≡ false) (λ y. names y ≡ false) (keys_of xs) (λ y h. one x.0 y e ∙ h) d.0
         go false e r = (e, r)
 
-    -- so a named pair may come before them
     pub distinct_newest : (newest : K × V) (xs : List (K × V)) → names newest.0 ≡ true → AreDistinct xs
         → AreDistinct (newest ∷ without names xs)
     unfolding IsDistinct
@@ -195,7 +186,6 @@ module _ {K V : Type 0} (eq : K → K → Bool) where
         go None e = subst AreDistinct (sym (without_none names xs e)) d
         go (Some pair) e = distinct_newest pair xs (found_named names xs pair e) d
 
-    -- or another in its place
     pub distinct_set : IsEquivalence eq → (pair : K × V) → names pair.0 ≡ true → (xs : List (K × V)) → AreDistinct xs
         → AreDistinct (set_entry names pair xs)
     unfolding IsDistinct
@@ -214,7 +204,6 @@ module _ {K V : Type 0} (eq : K → K → Bool) where
           r,
         )
 
-    -- without the named pair none is named
     pub absent_without : (xs : List (K × V)) → AreDistinct xs → lookup_entry names (without names xs) ≡ None
     absent_without xs d = none_found names (without names xs) (others_unnamed xs d)
 

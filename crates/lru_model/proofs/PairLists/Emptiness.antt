@@ -15,7 +15,6 @@ module _ {X : Type 0} where
   is_empty-some [] h = absurd (omega arith)
   is_empty-some (x ∷ xs) h = refl
 
-  -- there is a last one, or none
   pub last_cases : (xs : List X) → (last xs ≡ None) ⊎ ((x : X) × (last xs ≡ Some x) × (0 < length xs))
   last_cases [] = inl refl
   last_cases (x ∷ xs) = inr (go x xs)

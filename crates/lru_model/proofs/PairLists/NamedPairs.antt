@@ -9,7 +9,6 @@ use Rattle.std.proofs.lemmas.List.Elements.{Contains-append_right}
 use Rattle.lru_model.specs.Lists.{lookup, lookup_entry, without, last, without_last}
 use Rattle.lru_model.proofs.PairLists.DistinctKeys.{AreDistinct, NoneNamed, all_of}
 
--- the value of a key is the value of its pair
 pub lookup-entry : {K V : Type 0} (names : K → Bool) (xs : List (K × V)) → lookup names xs
     ≡ option_map (λ p. p.1) (lookup_entry names xs)
 lookup-entry names [] = refl
@@ -20,7 +19,6 @@ lookup-entry names (x ∷ xs) = go (names x.0) (lookup-entry names xs)
     go true h = refl
     go false h = h
 
--- if there is no value, there is no pair
 pub no_pair : {K V : Type 0} (names : K → Bool) (xs : List (K × V)) → lookup names xs ≡ None → lookup_entry names xs ≡
     None
 no_pair {K} {V} names xs none = go (lookup_entry names xs) (sym (lookup-entry names xs) ∙ none)
@@ -40,7 +38,6 @@ module _ {K V : Type 0} (names : K → Bool) where
     cut_without (x ∷ xs) ys h = rw h.0 (ap (λ l. x ∷ l) (cut_without xs ys h.1))
 
   module _ {eq : K → K → Bool} (laws : IsEquivalence eq) (one : (x y : K) → names x ≡ true → names y ≡ eq x y) where
-    -- if one is, those before it are not
     pub others_unnamed : (xs ys : List (K × V)) (p : K × V) → names p.0 ≡ true → AreDistinct eq (xs ++ p ∷ ys)
         → NoneNamed names xs
     unfolding IsDistinct

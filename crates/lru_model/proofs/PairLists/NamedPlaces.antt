@@ -7,7 +7,6 @@ use Rattle.lru_model.specs.Lists.{lookup, lookup_entry, place_of, other_places, 
 use Rattle.lru_model.proofs.PairLists.NamedPairs.{lookup-entry}
 
 module _ {K V : Type 0} (names : K → Bool) where
-  -- there is such a pair
   pub named_there : (pairs : List (K × V)) (places : List ℕ) (b : ℕ) → place_of names pairs places ≡ Some b
       → (pair : K × V) × (lookup_entry names pairs ≡ Some pair) × (names pair.0 ≡ true)
   named_there [] places b e = absurd (none-some b e)
@@ -21,7 +20,6 @@ module _ {K V : Type 0} (names : K → Bool) where
       go true is rest h = (pair, refl, is)
       go false is rest h = rest h
 
-  -- it has the same place, once it comes first
   pub front_place : (pairs : List (K × V)) (places : List ℕ) (b : ℕ) → place_of names pairs places ≡ Some b
       → place_of names (front names pairs) (front_places names pairs places) ≡ Some b
   front_place pairs places b e =
@@ -29,14 +27,12 @@ module _ {K V : Type 0} (names : K → Bool) where
       (λ i. place_of names (after (there i) (without names pairs)) (after (e i) (other_places names pairs places)))
       ∙ rw named refl
 
-  -- and is the same pair
   pub front_found : (pairs : List (K × V)) (places : List ℕ) (b : ℕ) → place_of names pairs places ≡ Some b
       → lookup_entry names (front names pairs) ≡ lookup_entry names pairs
   front_found pairs places b e =
       let (pair, there, named) = named_there pairs places b e in
       ap (λ o. lookup_entry names (after o (without names pairs))) there ∙ rw named (sym there)
 
-  -- without a named pair there is no value of one
   pub no_named_value : (pairs : List (K × V)) → lookup_entry names pairs ≡ None → lookup names pairs ≡ None
   no_named_value pairs none = lookup-entry names pairs ∙ ap (option_map (λ p. p.1)) none
 
@@ -44,7 +40,6 @@ module _ {K V : Type 0} (names : K → Bool) where
       → lookup names pairs ≡ Some pair.1
   named_value pairs pair there = lookup-entry names pairs ∙ ap (option_map (λ p. p.1)) there
 
-  -- what a search says of the key, by what it finds
   pub place_says : (pairs : List (K × V)) (places : List ℕ) (b : ℕ) → place_of names pairs places ≡ Some b
       → is_some (lookup names pairs) ≡ true
   place_says pairs places b e = let (pair, there, named) = named_there pairs places b e in

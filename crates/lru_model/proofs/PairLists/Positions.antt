@@ -25,7 +25,6 @@ module _ {K V : Type 0} (names : K → Bool) where
           let (k, at, there) = later e in
           (suc k, at ∙ ap Some (omega arith), there)
 
-  -- the key whose pair is in a bucket is at the bucket's position
   pub placed : (b : ℕ) (pairs : List (K × V)) (places : List ℕ) → place_of names pairs places ≡ Some b
       → (k : ℕ) × (position (λ (pair : K × V). names pair.0) pairs ≡ Some k) × (slice_get places k ≡ Some b)
   placed b pairs places e =
@@ -43,7 +42,6 @@ module _ {K V : Type 0} (names : K → Bool) where
       go true e later = absurd (none-some p (sym e))
       go false e later = later e
 
-  -- a key that is not there has no position
   pub nowhere : (pairs : List (K × V)) → lookup_entry names pairs ≡ None
       → position (λ (pair : K × V). names pair.0) pairs ≡ None
   nowhere pairs e = position_from-zero (λ (pair : K × V). names pair.0) pairs ∙ none_from 0 pairs e

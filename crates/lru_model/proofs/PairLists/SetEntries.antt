@@ -15,7 +15,6 @@ module _ {K V : Type 0} (names : K → Bool) (q : K × V) where
       go false h = omega (arith, h)
 
   module _ (named : names q.0 ≡ true) where
-    -- it is at the same place
     pub place-set_entry : (xs : List (K × V)) (places : List ℕ)
         → place_of names (set_entry names q xs) places ≡ place_of names xs places
     place-set_entry [] places = refl
@@ -52,7 +51,6 @@ module _ {K V : Type 0} (names : K → Bool) (q : K × V) where
         go true e h = rw named refl
         go false e h = rw e (ap (λ l. x ∷ l) h)
 
-    -- and may come to the front
     pub front-set_entry : (xs : List (K × V)) (p : K × V) → lookup_entry names xs ≡ Some p
         → front names (set_entry names q xs) ≡ q ∷ without names xs
     front-set_entry xs p found = λ i. after (found-set_entry xs p found i) (without-set_entry xs i)

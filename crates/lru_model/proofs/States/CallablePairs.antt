@@ -55,7 +55,6 @@ module _ {X : Type 0} where
       or_else (Some v) d = v
   contains_last (x ∷ z ∷ zs) y e = covers_rest x (z ∷ zs) y (contains_last (z ∷ zs) y e)
 
--- a new pair in the place of one may as well be first
 pub covers_set : {K V : Type 0} (names : K → Bool) (q : K × V) (xs : List (K × V))
     → Covers (q ∷ without names xs) (set_entry names q xs)
 covers_set names q [] y h = covers_rest q [] y h
@@ -70,7 +69,6 @@ covers_set names q (x ∷ xs) y h = go (names x.0) (covers_set names q xs) y h
         (λ z later. covers_rest q (x ∷ without names xs) z (covers_rest x (without names xs) z later)) y (h y there))
 
 module _ {K V S F : Type 0} (rules : Rules K V S) (closure : Mut F (K × (V × Unit {0})) (Unit {0})) where
-  -- with fewer of them
   pub fewer_callable : (xs ys : List (K × V)) → Covers xs ys → length ys ≤ length xs → (f : F)
       → MayTakeEach rules closure xs f → MayTakeEach rules closure ys f
   fewer_callable xs ys covers fewer f may before g pair few all taken left =
@@ -80,25 +78,21 @@ module _ {K V S F : Type 0} (rules : Rules K V S) (closure : Mut F (K × (V × U
       (All-weaker (IsLeftOf rules ys) (IsLeftOf rules xs) widen before all)
       taken (widen pair left)
 
-  -- with the first alone
   pub first_callable : (x : K × V) (xs : List (K × V)) (f : F) → MayTakeEach rules closure (x ∷ xs) f
       → MayTakeEach rules closure (x ∷ []) f
   first_callable x xs = fewer_callable (x ∷ xs) (x ∷ [])
       (in_two x [] (Contains (x ∷ xs)) (here x xs) (λ y (k, below, is). absurd (grind (arith, below)))) (omega arith)
 
-  -- or without it
   pub later_callable : (x : K × V) (xs : List (K × V)) (f : F) → MayTakeEach rules closure (x ∷ xs) f
       → MayTakeEach rules closure xs f
   later_callable x xs = fewer_callable (x ∷ xs) xs (covers_rest x xs) (omega arith)
 
-  -- with one of them now
   pub one_callable : (xs : List (K × V)) (s : S) (pair left : K × V) → Contains xs pair
       → Some left ≡ left_of rules s (Some pair) → (f : F) → MayTakeEach rules closure xs f
       → MayBeCalled closure f (left.0, (left.1, tt))
   one_callable xs s pair left there is f may =
       may [] f left (omega (arith, there.1)) (All-nil (IsLeftOf rules xs)) refl (s, pair, there, sym is)
 
-  -- and then with the others
   pub others_callable : (xs ys : List (K × V)) (s : S) (pair left : K × V) → Contains xs pair
       → Some left ≡ left_of rules s (Some pair) → Covers xs ys → length ys + 1 ≤ length xs → (f g : F)
       → Called closure f (left.0, (left.1, tt)) tt g → MayTakeEach rules closure xs f → MayTakeEach rules closure ys g
@@ -141,7 +135,6 @@ module _ {K V S F : Type 0} (rules : Rules K V S) (closure : Mut F (K × (V × U
         → MayTakeEach rules closure st.pairs f → MayTakeEach rules closure u.pairs g
     rest_callable = others_callable st.pairs u.pairs st.limiter oldest.0 left there oldest.2 covers_rest_pairs one_fewer
 
-    -- the same, with another pair besides
     pub oldest_callable_with : (pair : K × V) (f : F) → MayTakeEach rules closure (pair ∷ st.pairs) f
         → MayBeCalled closure f (left.0, (left.1, tt))
     oldest_callable_with pair = one_callable (pair ∷ st.pairs) st.limiter oldest.0 left

@@ -21,19 +21,16 @@ module _ {K V S : Type 0} (rules : Rules K V S) where
   length-pops zero c = omega arith
   length-pops (suc n) c = omega (arith, length-pops n (pop rules c), length-without_last c.pairs)
 
--- a growth that cannot be had changes no more than the limiter
 pub known_is : {K V S H : Type 0} (rules : Rules K V S) (old mid : State K V S H) → CannotGrow rules old mid → mid
     ≡ record old { limiter = mid.limiter }
 known_is rules old mid (no_target t e) = rw e refl
 known_is rules old mid (denied count bytes t d e) = rw e refl
 
 module _ {K V S : Type 0} (rules : Rules K V S) where
-  -- one more leaves at the end
   pub pops-more : (n : ℕ) (c : Contents K V S) → pops rules (suc n) c ≡ pop rules (pops rules n c)
   pops-more zero c = refl
   pops-more (suc n) c = pops-more n (pop rules c)
 
-  -- if the limiter is not over, none leaves
   pub trim-within : (c : Contents K V S) → rules.is_over_the_limit c.limiter (length c.pairs) ≡ false → trim rules c ≡ c
   unfolding trim
   trim-within c within = go (length c.pairs) within
@@ -42,12 +39,10 @@ module _ {K V S : Type 0} (rules : Rules K V S) where
       go zero e = refl
       go (suc n) e = rw e refl
 
-  -- nor does any if there is none
   pub trim-empty : (c : Contents K V S) → length c.pairs ≡ 0 → trim rules c ≡ c
   unfolding trim
   trim-empty c none = ap (λ n. trim_from rules n c) none
 
-  -- if the limiter is over, the oldest leaves first
   pub trim-over : (c : Contents K V S) → 0 < length c.pairs → rules.is_over_the_limit c.limiter (length c.pairs) ≡ true
       → trim rules c ≡ trim rules (pop rules c)
   unfolding trim
@@ -70,7 +65,6 @@ module _ {K V S H : Type 0} where
         ∙ f.untouched (omega (arith, same, f.keeps, g.keeps, f.at_most, g.at_most));
   }
 
-  -- none leaves
   pub leaves_self : (st : State K V S H) → Leaves st (contents st) st
   leaves_self st = record {
     is = refl;
@@ -83,7 +77,6 @@ module _ {K V S H : Type 0} where
     };
   }
 
-  -- what left in two steps left
   pub leaves_trans : (old mid new : State K V S H) (some all : Contents K V S) → Leaves old some mid
       → Leaves mid all new → Leaves old all new
   leaves_trans old mid new some all l m = record {
@@ -93,7 +86,6 @@ module _ {K V S H : Type 0} where
   }
 
 module _ {K V S H : Type 0} (rules : Rules K V S) where
-  -- one more leaves, after n did
   pub leaves_more : (n : ℕ) (old before new : State K V S H) → Leaves old (pops rules n (contents old)) before
       → Leaves before (pop rules (contents before)) new → Leaves old (pops rules (suc n) (contents old)) new
   leaves_more n old before new first last =
@@ -101,21 +93,18 @@ module _ {K V S H : Type 0} (rules : Rules K V S) where
       ∙ sym (pops-more rules n (contents old)))
       (leaves_trans old before new (pops rules n (contents old)) (pop rules (contents before)) first last)
 
-  -- evictions of the oldest pair, one after another, are the pops of as many
   pub oldest_leaves : (hash n : ℕ) (old new : State K V S H) → OldestEvicted rules hash n old new
       → Leaves old (pops rules n (contents old)) new
   oldest_leaves hash zero old new h = rw h (leaves_self old)
   oldest_leaves hash (suc n) old new (before, first, no_bucket, last) = leaves_more n old before new
       (oldest_leaves hash n old before first) last
 
--- what is trimmed after some left
 pub leaves_trimmed : {K V S H : Type 0} (rules : Rules K V S) (old mid new : State K V S H) (left : Contents K V S)
     → Leaves old left mid →
     Leaves mid (trim rules (contents mid)) new → Leaves old (trim rules left) new
 leaves_trimmed rules old mid new left some rest = leaves_trans old mid new left (trim rules left) some
     (subst (λ c. Leaves mid (trim rules c) new) (ap contents some.is) rest)
 
--- in a table of up to 16 buckets, one that leaves makes room
 pub room_after : {K V S H : Type 0} (rules : Rules K V S) (n : ℕ) (mid left : State K V S H)
     → Leaves mid (pops rules n (contents mid)) left
     → buckets mid ≤ 16 → n ≤ length mid.pairs → room mid ≡ 0 → room left ≡ 0 → n ≡ 0

@@ -17,22 +17,18 @@ pub ok-not_err : {A : Type 0} (result : Result Bool AllocError) → IsOk result 
 ok-not_err (Ok b) h k = absurd (grind (arith, k))
 ok-not_err (Err e) h k = absurd (grind (arith, h))
 
--- what holds of a value implies more
 pub if_ok : {T E : Type 0} (result : Result T E) (P Q : T → Type 0) → ((v : T) → P v → Q v) → IfOk result P
     → IfOk result Q
 if_ok (Ok v) P Q more h = more v h
 if_ok (Err e) P Q more h = h
 
--- what a value, or an error, implies leads to more
 pub on_ok : {T E P Q : Type 0} (result : Result T E) → (P → Q) → OnOk result P → OnOk result Q
 on_ok (Ok v) more h = more h
 on_ok (Err e) more h = h
 
--- what holds anyway holds at an error
 pub on_err : {T E P : Type 0} (result : Result T E) → P → OnErr result P
 on_err (Ok v) h = tt
 on_err (Err e) h = h
 
--- equal results have equal flags
 pub same_kept : {E : Type 0} (x y : Bool) → ◌≡◌ {A = Result Bool E} (Ok x) (Ok y) → x ≡ y
 same_kept x y e = cc

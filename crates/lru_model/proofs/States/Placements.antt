@@ -26,12 +26,10 @@ use Rattle.lru_model.proofs.Theorems.Fronts.{front_pops, front_absent}
 use Rattle.lru_model.specs.Lists.{lookup_entry, IsFront}
 
 module _ {K V S H : Type 0} (st : State K V S H) (ok : IsSized st) where
-  -- without buckets there are no pairs
   pub none_without_buckets : buckets st ≡ 0 → st.pairs ≡ []
   none_without_buckets none = nil_from_length st.pairs
       (omega (arith, fits ok, full_capacity-at_most (buckets st), none))
 
-  -- and with pairs there are buckets, in a number that a table can have
   pub power_with_pairs : 0 < length st.pairs → IsPowerFromFour (buckets st)
   power_with_pairs some = go ok.table.count
     where
@@ -63,7 +61,6 @@ module _ {K V S H : Type 0} (rules : Rules K V S) (hash_of : H → K → ℕ) (p
     outgrown_by : IsOutgrown (hash_of old.hasher pair.0) old
     outgrown_by = subst (λ h. IsOutgrown h old) is_hash outgrown
 
-    -- the oldest pairs were evicted, because the table cannot grow
     evicts_place : (mid : State K V S H) → CannotGrow rules old mid → Evicts rules hash pair mid mid outcome new
         → Place rules hash_of pair old outcome new
     evicts_place mid cannot e = not_grown outgrown_by mid cannot
@@ -109,20 +106,17 @@ module _ {K V S H : Type 0} (rules : Rules K V S) (hash_of : H → K → ℕ) (p
           (denied count bytes next refusal (ap {A = S} {B = State K V S H} (λ l. record old { limiter = l }) queried))
           step
 
-    -- there is no larger table
     pub no_target_place : table_for 1 old ≡ no_table → Evicts rules hash pair old old outcome new
         → Place rules hash_of pair old outcome new
     no_target_place none step = evicts_place old (no_target none refl) step
 
 module _ {K V S H : Type 0} (st : State K V S H) (ok : IsSized st) (hash : ℕ) where
-  -- a table that fills a bucket holds fewer pairs than it may
   pub fills_within : (new : TableState) → FillsBucket hash st.table new → length st.pairs < full_capacity (buckets st)
   fills_within new fills = elim fills.spends [
     | inl e ↦ omega (arith, e.1, fits ok)
     | inr d ↦ omega (arith, (deleted_first_large ok hash (fills.bucket, fills.first, d.0)).1)
   ]
 
-  -- no bucket takes a pair for which the table has no place
   pub no_place_bucket : HasNoPlace st.table.marks hash → HasNoBucket hash st
   no_place_bucket (inl none) = record {
     no_room = no_room st.table.marks none;

@@ -18,7 +18,6 @@ module _ {K V : Type 0} (names : K → Bool) where
   length-back_pairs xs = sym (total-one (back names xs)) ∙ total-back (λ _. 1) names xs ∙ total-one xs
 
 module _ {K V S H : Type 0} (st : State K V S H) where
-  -- a table is as sound with as many pairs
   sized_with : (pairs : List (K × V)) → length pairs ≡ length st.pairs → IsSized st
       → IsSized (record st { pairs = pairs })
   sized_with pairs same ok =
@@ -57,7 +56,6 @@ module _ {K V S H Q : Type 0} {names : Q → K → Bool} {eq : K → K → Bool}
       (written_is_map (promoted (names q) old) (names q) left (promoted_is_map ok))
   get_is_map result new (absent none r e) ok = rw e ok
 
--- so it is for the keys that equal one
 pub equal_is_map : {K V S H : Type 0} {eq : K → K → Bool} → IsEquivalence eq → (key : K) (old : State K V S H)
     → IsMap eq old
     → IsMap eq (promoted (eq key) old)

@@ -8,7 +8,6 @@ use Rattle.lru_model.proofs.States.LeavingPairs.{leaves_self}
 use Rattle.lru_model.proofs.Theorems.Fronts.{without_none}
 
 module _ {K V S H : Type 0} (rules : Rules K V S) (names : K → Bool) where
-  -- if no pair is named, none leaves
   pub none_removed : (st : State K V S H) → lookup_entry names st.pairs ≡ None → RemoveEntry rules names st None st
   none_removed st none = record {
     pair = ap (left_of rules st.limiter) (sym none);
@@ -19,7 +18,6 @@ module _ {K V S H : Type 0} (rules : Rules K V S) (names : K → Bool) where
         }) (leaves_self st);
   }
 
-  -- of a pair that was removed, the value may be returned alone
   pub value_removed : (old : State K V S H) (pair : Option (K × V)) (new : State K V S H)
       → RemoveEntry rules names old pair new → Remove rules names old (option_map (λ p. p.1) pair) new
   value_removed old pair new h = record { value = ap (option_map (λ p. p.1)) h.pair; state = h.state }

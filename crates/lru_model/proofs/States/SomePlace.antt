@@ -26,12 +26,10 @@ use Rattle.lru_model.proofs.States.Outcomes.{placed-not_no_memory}
 use Rattle.lru_model.proofs.TableSizes.FilledBuckets.{deleted_large, fills_free}
 use Rattle.lru_model.proofs.TableSizes.SomeMarks.{marked, length-marked, room-marked, sized-marked}
 
--- a count stays within 64 bits
 counted : (n more : ℕ) → count_up n more < 2 ^ 64
 counted n more = omega arith
 
 module _ {K V S H : Type 0} where
-  -- some pairs can be evicted, so that each gives growth left back
   pub some_leave : (old : State K V S H) (c : Contents K V S) → IsSized old → length c.pairs ≤ length old.pairs
       → (new : State K V S H) × Leaves old c new × IsSized new
       × (length c.pairs + room new ≡ length old.pairs + room old)
@@ -106,7 +104,6 @@ module _ {K V S H : Type 0} where
               (counted old.counts.placed 1) refl,
         )
 
-    -- it can fill the first free one, with growth left or if that one is deleted
     fill_first : (hash b : ℕ) → b < buckets old → IsFirstFree old.table.marks hash b → MayFill old.table.marks b
         → (new : State K V S H) × IsPlaced pair (buckets old) (room new) 0 old new
         × FillsBucket hash old.table new.table × IsSized new
@@ -176,7 +173,6 @@ module _ {K V S H : Type 0} where
           shrunk = ok.shrunk;
         }
 
-    -- with growth left it does
     some_filled : (hash : ℕ) → 0 < room old
         → (new : State K V S H) × IsPlaced pair (buckets old) (room new) 0 old new
         × FillsBucket hash old.table new.table × IsSized new
@@ -200,20 +196,17 @@ module _ {K V S H : Type 0} (rules : Rules K V S) (hash_of : H → K → ℕ) (p
   abbrev hash : ℕ
   hash = hash_of old.hasher pair.0
 
-  -- the pairs and the deleted buckets are what is used
   spent : room old ≡ full_capacity (buckets old) - (length old.pairs + deletions)
   spent = omega (arith, room_is old.table.marks, used_count-split old.table.marks, ok.taken)
 
   spent_within : length old.pairs + deletions ≤ full_capacity (buckets old)
   spent_within = omega (arith, used_count-split old.table.marks, ok.taken, ok.table.used_within)
 
-  -- with growth left a bucket is filled
   roomy_ends : 0 < room old → Ends
   roomy_ends r =
       let (new, is, fills, sized) = some_filled pair old ok hash r in
       (placed, new, in_bucket (omega (arith, r, spent)) (inl r) fills refl is, sized)
 
-  -- without growth left a deleted one is filled
   deleted_ends : 0 < length old.pairs → room old ≡ 0 → (free : FirstFreeIs deleted hash old.table.marks)
       → free.0 < buckets old → Ends
   deleted_ends l none free below =
@@ -221,7 +214,6 @@ module _ {K V S H : Type 0} (rules : Rules K V S) (hash_of : H → K → ℕ) (p
       let (new, is, fills, sized) = fill_first pair old ok hash free.0 below free.1 (inr free.2) in
       (placed, new, in_bucket (omega (arith, spare)) (inr l) fills refl is, sized)
 
-  -- if the table cannot grow, the oldest pair is evicted, or the new one is not stored
   evicted_ends : IsOutgrown hash old → (s : S) → CannotGrow rules old (record old { limiter = s }) → Ends
   evicted_ends outgrown s cannot = elim (dec_lt 0 (length old.pairs)) [
     | yes some ↦ with_pairs some
@@ -286,7 +278,6 @@ module _ {K V S H : Type 0} (rules : Rules K V S) (hash_of : H → K → ℕ) (p
           ))
       go (new_table count bytes) t = asks count bytes t (rules.on_grow old.limiter bytes).allowed refl
 
-  -- without pairs a rehash needs no memory, and leaves no bucket deleted
   emptied_ends : length old.pairs ≡ 0 → HasNoBucket hash old → IsPowerFromFour (buckets old) → Ends
   emptied_ends no_pairs none power =
       let (new, is, sized) = some_bucket pair old ok 0 (omega (arith, no_pairs, full_capacity-some (buckets old) power))
@@ -301,7 +292,6 @@ module _ {K V S H : Type 0} (rules : Rules K V S) (hash_of : H → K → ℕ) (p
         sized,
       )
 
-  -- no bucket takes the pair
   pairs_end : 0 < length old.pairs → HasNoBucket hash old → Ends
   pairs_end some none = elim (dec_lt half (length old.pairs + 1)) [
     | yes more ↦ growing_ends (record { no_bucket = none; above_half = more; begun = inr some })

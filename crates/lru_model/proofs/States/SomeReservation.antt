@@ -19,7 +19,6 @@ use Rattle.lru_model.specs.declared.results.ReserveError.{ReserveError}
 use Rattle.lru_model.specs.declared.results.ReserveError.TheVariants.{TooLarge, Refused, Memory}
 use Rattle.lru_model.proofs.TableSizes.SomeMarks.{marked, length-marked, room-marked, sized-marked}
 
--- an emptied table is sound
 pub cleared_sized : {K V S H : Type 0} (rules : Rules K V S) (old : State K V S H) → IsSized old
     → IsSized (cleared rules old)
 cleared_sized {K = K} {V = V} rules old ok =
@@ -34,7 +33,6 @@ module _ {K V S H : Type 0} (rules : Rules K V S) (n : ℕ) (old : State K V S H
   CanReserve = (result : Result (Unit {0}) ReserveError) × (new : State K V S H) × Reserve rules n old result new
       × IsSized new
 
-  -- the table is rehashed at its size
   some_remade : NeedsGrowthFor n old → table_for n old ≡ same_table → CanReserve
   some_remade needs_growth is =
       let within : length old.pairs + 0 ≤ full_capacity (buckets old) = omega
@@ -54,7 +52,6 @@ module _ {K V S H : Type 0} (rules : Rules K V S) (n : ℕ) (old : State K V S H
         sized-marked old ok old.pairs 0 within (λ _. refl) new.counts ok.moved ok.placed refl,
       )
 
-  -- the limiter is asked for a larger one
   some_asked : NeedsGrowthFor n old → (count bytes : ℕ) → table_for n old ≡ new_table count bytes → (allowed : Bool)
       → (rules.on_grow old.limiter bytes).allowed ≡ allowed → CanReserve
   some_asked needs_growth count bytes is true grants =

@@ -12,7 +12,6 @@ use Rattle.lru_model.specs.Shrinks.{Shrink, IsLooseFor, shrink_counted, kept, sh
 use Rattle.lru_model.specs.State.{State, empty_table, buckets, IsSized}
 use Rattle.lru_model.proofs.States.EmptyMaps.{empty_is_sound}
 
--- no pairs need no buckets
 pub none_needed : (max count : ℕ) → buckets_for max 0 ≡ Some count → count ≡ 0
 unfolding buckets_for
 none_needed max count is = sym (same_Some 0 count is)
@@ -26,7 +25,6 @@ module _ {K V S H : Type 0} (old : State K V S H) (ok : IsSized old) where
   abbrev pub CanShrink : Type 0
   CanShrink = (result : Result Bool AllocError) × (new : State K V S H) × Shrink old result new × IsSized new
 
-  -- without pairs the table is given back, and else no memory may be found
   some_loose : (count : ℕ) → IsLooseFor count old → (pairs : List (K × V)) → old.pairs ≡ pairs → CanShrink
   some_loose count loose [] none =
       let few : length old.pairs ≡ 0 = ap length none in

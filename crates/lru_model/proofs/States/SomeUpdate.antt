@@ -38,6 +38,5 @@ module _ {K V S H I : Type 0} (rules : Rules K V S) (offers : Offers K V S I) (n
   by_entry None absent = (_, old, not_there absent refl refl, ok)
   by_entry (Some pair) found = there pair found _ refl
 
-  -- (result, state, update, sound table)
   pub some_update : Updates
   some_update = by_entry _ refl

@@ -12,12 +12,10 @@ use Rattle.lru_model.specs.Sizes.{bytes_of, usage, IsGreatestUsage}
 use Rattle.lru_model.specs.State.{State, buckets, IsSized}
 use Rattle.lru_model.proofs.TableSizes.Growth.{usage_bytes, usage_addressable}
 
--- no buckets use nothing
 no_usage : (e n : ℕ) → n ≡ 0 → usage e n ≡ Some 0
 unfolding usage
 no_usage e n z = rw z refl
 
--- more buckets use more
 pub bytes_mono : (e m n : ℕ) → m ≤ n → bytes_of e m ≤ bytes_of e n
 bytes_mono e m n h = let less : e * m ≤ e * n = mul-le-mul_left e h in omega (arith, less, h)
 
@@ -25,7 +23,6 @@ usage_mono : (e m n a b : ℕ) → 0 < m → m ≤ n → usage e m ≡ Some a �
 usage_mono e m n a b some h p q = omega
     (arith, (usage_bytes e m a some p).0, (usage_bytes e n b (omega (arith, some, h)) q).0, bytes_mono e m n h)
 
--- bytes that are a number of bytes are the usage
 usage_is : (e n : ℕ) → 0 < n → bytes_of e n ≤ 2 ^ 63 - 16 → usage e n ≡ Some (bytes_of e n)
 unfolding usage
 usage_is e n some fits = go (n == 0) (nat_le (bytes_of e n) (2 ^ 63 - 16)) (λ z. grind (arith, nat_tests))
@@ -37,7 +34,6 @@ usage_is e n some fits = go (n == 0) (nat_le (bytes_of e n) (2 ^ 63 - 16)) (λ z
     go false true z l = refl
     go false false z l = absurd (omega (arith, l refl, fits))
 
--- fewer buckets can be, and use no more
 pub usage_fewer : (e m n bytes : ℕ) → m ≤ n → usage e n ≡ Some bytes
     → (less : ℕ) × (usage e m ≡ Some less) × (less ≤ bytes)
 usage_fewer e m n bytes fewer is = elim (dec_lt 0 m) [
@@ -58,7 +54,6 @@ module _ (max e budget : ℕ) where
   pub best_none : IsBest 0 0
   best_none = record { within = omega arith; of_table = inl refl; greatest = λ j other p. absurd (omega (arith, p)) }
 
-  -- the next table fits
   pub best_takes : (k best bytes : ℕ) → IsBest k best → 4 * 2 ^ k < max → usage e (4 * 2 ^ k) ≡ Some bytes → bytes
       ≤ budget → IsBest (k + 1) bytes
   best_takes k best bytes ok reached is fits = record {
@@ -68,7 +63,6 @@ module _ (max e budget : ℕ) where
         (let less : 2 ^ j ≤ 2 ^ k = pow_mono {i = j} {j = k} (omega (arith, p)) in omega (arith, less)) u is;
   }
 
-  -- it does not
   pub best_stays : (k best : ℕ) → IsBest k best → ((other : ℕ) → 4 * 2 ^ k < max → usage e (4 * 2 ^ k) ≡ Some other
       → other ≤ budget → ⊥) → IsBest (k + 1) best
   best_stays k best ok none = record {
@@ -80,7 +74,6 @@ module _ (max e budget : ℕ) where
     ];
   }
 
-  -- no table has 2 ^ 64 buckets or more
   pub best_of_all : (best : ℕ) → IsBest 62 best → IsGreatestUsage max e budget best
   best_of_all best ok = record {
     within = ok.within;
@@ -95,7 +88,6 @@ module _ (max e budget : ℕ) where
 usage_none : (e n bytes : ℕ) → n ≡ 0 → usage e n ≡ Some bytes → bytes ≡ 0
 usage_none e n bytes z h = same_Some bytes 0 (sym h ∙ no_usage e n z)
 
--- the usage of a map's table is the greatest within itself
 pub usage_is_budget : {K V S H : Type 0} (st : State K V S H) (bytes best : ℕ) → IsSized st
     → usage st.entry_bytes (buckets st) ≡ Some bytes → IsGreatestUsage st.max st.entry_bytes bytes best → best ≡ bytes
 usage_is_budget st bytes best ok is g = elim ok.table.count [

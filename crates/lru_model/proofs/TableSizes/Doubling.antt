@@ -16,7 +16,6 @@ pub least_power_upper : (n : ℕ) → 0 < n → least_power n < 2 * n
 unfolding least_power
 least_power_upper n h = first_power_upper 64 n 1 (omega arith)
 
--- the buckets that n pairs need
 IsNeed : ℕ → ℕ → Type 0
 IsNeed c n = ((c < 4) × (n ≤ 4)) ⊎ ((4 ≤ c) × (c < 8) × (n ≡ 8))
     ⊎ ((8 ≤ c) × (n < 2 * (8 * c / 7)) × ((j : ℕ) × (n ≡ 2 ^ j)))
@@ -47,14 +46,12 @@ need_is max c n =
         inr (inr (l, omega (arith, u, w), (shape.0, sym w ∙ shape.1)))
     pick false false false false p q r s t h = absurd (grind arith)
 
--- the buckets that c pairs need take fewer than 4 * c
 need_small : (c n : ℕ) → 0 < c → IsNeed c n → full_capacity n < 4 * c
 unfolding full_capacity IsNeed
 need_small c n p (inl h) = grind (arith, nat_tests, h.0, h.1)
 need_small c n p (inr (inl h)) = grind (arith, nat_tests, h.0, h.2)
 need_small c n p (inr (inr h)) = grind (arith, nat_tests, h.0, h.1)
 
--- a table of twice as many buckets does
 double_small_large : (k b c max n : ℕ) → b ≡ 4 * 2 ^ k → 16 ≤ b → b / 8 * 8 ≡ b → full_capacity b / 2 < c
     → IsNeed (full_capacity (2 * b)) n → 2 * b ≤ n → full_capacity n < 4 * c
 unfolding full_capacity IsNeed
@@ -112,7 +109,6 @@ double_small k b c max n size f h = go k size (sizes_of k b size)
         eighths zero s l = absurd (omega arith)
         eighths (suc k) s l = let p : b ≡ 8 * 2 ^ k = omega (arith, s, pow-add 2 k 1) in omega arith
 
--- what a table grows to that is to be more than half full takes fewer than four times the pairs
 pub target_small : (k max e b c n bytes : ℕ) → b ≡ 4 * 2 ^ k → full_capacity b / 2 < c → target max e b c
     ≡ new_table n bytes → full_capacity n < 4 * c
 unfolding target
@@ -132,7 +128,6 @@ target_small k max e b c n bytes size f = from (buckets_for max c) refl
         split false true h = absurd (grind arith)
         split false false h = double_small k b c max n size f (table_with_is e n bytes _ h).0
 
--- at most half of what a table takes needs no larger one
 pub half_needs : (k max b c : ℕ) → b ≡ 4 * 2 ^ k → b < max → b < 2 ^ 63 → c ≤ full_capacity b / 2 → (need : ℕ)
     × (buckets_for max c ≡ Some need) × (need ≤ b)
 unfolding buckets_for
@@ -169,7 +164,6 @@ half_needs k max b c size reached addressable half =
     pick false false false false p q r = absurd
         (omega (arith, r refl, half, eighths (omega (arith, q refl, most, half)), gap, size, pow-add 2 k 2))
 
--- so it is kept
 pub target_keeps : (k max e b c : ℕ) → b ≡ 4 * 2 ^ k → b < max → b < 2 ^ 63 → c ≤ full_capacity b / 2
     → target max e b c ≡ same_table
 unfolding target

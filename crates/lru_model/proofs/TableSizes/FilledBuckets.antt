@@ -16,7 +16,6 @@ empty-not_deleted e = cc
 
 module _ {n entry_bytes max : ℕ} {marks : List Mark} {counts : Counts} (ok : IsSound n entry_bytes max marks counts)
   where
-    -- a table with a deleted bucket has more than 16, and its pairs and its growth left are less than its full capacity
     pub deleted_large : (b : ℕ) → b < length marks → bucket_at marks b ≡ deleted → (16 < length marks)
         × (n + room marks < full_capacity (length marks))
     deleted_large b within there = (
@@ -31,7 +30,6 @@ module _ {n entry_bytes max : ℕ} {marks : List Mark} {counts : Counts} (ok : I
         large (yes l) = l
         large (no l) = absurd (omega (arith, some, ok.table.none_deleted (omega arith)))
 
-    -- so does one in which a search finds a deleted bucket first
     pub deleted_first_large : (hash : ℕ) → FirstFreeIs deleted hash marks → (16 < length marks)
         × (n + room marks < full_capacity (length marks))
     deleted_first_large hash (b, first, there) = go (dec_lt b (length marks))
@@ -42,7 +40,6 @@ module _ {n entry_bytes max : ℕ} {marks : List Mark} {counts : Counts} (ok : I
 
 module _ {n entry_bytes max : ℕ} {counts : Counts} (old new : TableState)
     (ok : IsSound n entry_bytes max old.marks counts) (hash : ℕ) where
-  -- a filled bucket of a table with no deleted one was empty
   pub fills_exact : FillsBucket hash old new → n + room old.marks ≡ full_capacity (length old.marks)
       → room new.marks + 1 ≡ room old.marks
   fills_exact fills exact = elim fills.spends [

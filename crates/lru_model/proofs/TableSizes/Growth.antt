@@ -14,13 +14,11 @@ use Rattle.group_table.proofs.SizeLemmas.{full_capacity-large, power_pos}
 use Rattle.lru_model.specs.Sizes.{bytes_of, usage, same_table, new_table, table_of, table_with, target_from}
 use Rattle.lru_model.specs.Sizes.{target}
 
--- 4, 8, or at least 16
 pub sizes_of : (k b : ℕ) → b ≡ 4 * 2 ^ k → (b ≡ 4) ⊎ ((b ≡ 8) ⊎ (16 ≤ b))
 sizes_of zero b e = inl e
 sizes_of (suc zero) b e = inr (inl e)
 sizes_of (suc (suc k)) b e = inr (inr (omega (arith, e, doubled 4 (suc k), doubled 8 k, pow_pos k)))
 
--- twice as many buckets take at least twice as many pairs
 pub full_capacity-double : (k b c : ℕ) → b ≡ 4 * 2 ^ k → 2 * b ≤ c → 2 * full_capacity b ≤ full_capacity c
 unfolding full_capacity
 full_capacity-double k b c e h = let s = sizes_of k b e in grind (arith, nat_tests, s)
@@ -37,7 +35,6 @@ pub least_power_shape : (n : ℕ) → (j : ℕ) × (least_power n ≡ 2 ^ j)
 unfolding least_power
 least_power_shape n = let s = first_power_shape 64 n 1 in (s.0, s.1 ∙ omega arith)
 
--- none, or a power of two
 pub IsSize : ℕ → Type 0
 IsSize n = (n ≡ 0) ⊎ ((j : ℕ) × (n ≡ 2 ^ j))
 
@@ -56,7 +53,6 @@ buckets_shape max c n = pick (c == 0) (nat_lt c 4) (nat_lt c 8) (nat_lt (8 * c) 
         inr (s.0, sym ((cond_some _ _ _ h).1) ∙ s.1)
     pick false false false false h = inl (grind arith)
 
--- the pairs that fill a table of 2 n buckets need at least that number
 buckets_double_large : (b max n : ℕ) → 16 ≤ b → (b / 8 * 8 ≡ b) → buckets_for max (full_capacity (2 * b)) ≡ Some n
     → 2 * b ≤ n
 unfolding buckets_for full_capacity
@@ -100,7 +96,6 @@ table_with_is e n bytes None h = grind arith
 table_with_is e n bytes (Some m) h = let p = table_of_is m n bytes (usage e m) h in
     (ap Some p.0, ap (usage e) (sym p.0) ∙ p.1)
 
--- a new table has at least twice the buckets
 pub target_doubles : (k max e b c n bytes : ℕ) → b ≡ 4 * 2 ^ k → target max e b c ≡ new_table n bytes → 2 * b ≤ n
 unfolding target IsSize
 target_doubles k max e b c n bytes size = from (buckets_for max c) refl
@@ -122,7 +117,6 @@ target_doubles k max e b c n bytes size = from (buckets_for max c) refl
         split false true l h = grind arith
         split false false l h = buckets_double k b max n size (table_with_is e n bytes _ h).0
 
--- a table that has a usage can be addressed
 pub usage_addressable : (e n bytes : ℕ) → usage e n ≡ Some bytes → n + 16 < 2 ^ 63
 unfolding usage
 usage_addressable e n bytes h = go (n == 0) (nat_le (bytes_of e n) (2 ^ 63 - 16)) (λ z. grind (arith, nat_tests))
@@ -134,7 +128,6 @@ usage_addressable e n bytes h = go (n == 0) (nat_le (bytes_of e n) (2 ^ 63 - 16)
     go false true z l h = omega (arith, l refl)
     go false false z l h = absurd (grind arith)
 
--- with buckets the usage is their bytes
 pub usage_bytes : (e n bytes : ℕ) → 0 < n → usage e n ≡ Some bytes → (bytes_of e n ≡ bytes)
     × (bytes_of e n ≤ 2 ^ 63 - 16)
 unfolding usage
@@ -148,7 +141,6 @@ usage_bytes e n bytes some h = go (n == 0) (nat_le (bytes_of e n) (2 ^ 63 - 16))
     go false true z le h = (ap (λ o. unwrap_or o (bytes_of e n)) h, le refl)
     go false false z le h = absurd cc
 
--- a new table has the usage that is computed for it
 pub target_usage : (max e b c n bytes : ℕ) → target max e b c ≡ new_table n bytes → usage e n ≡ Some bytes
 unfolding target
 target_usage max e b c n bytes = from (buckets_for max c)
@@ -169,12 +161,10 @@ pub full_capacity-4 : full_capacity 4 ≡ 3
 unfolding full_capacity
 full_capacity-4 = refl
 
--- a table takes at least 3
 pub full_capacity-some : (b : ℕ) → IsPowerFromFour b → 3 ≤ full_capacity b
 unfolding full_capacity
 full_capacity-some b power = let s = sizes_of power.0 b power.1 in grind (arith, nat_tests)
 
--- what a table of more than 8 buckets takes has a half
 pub full_capacity-even : (b : ℕ) → IsPowerFromFour b → 8 < b → 2 * (full_capacity b / 2) ≡ full_capacity b
 full_capacity-even b (zero, e) h = absurd (omega (arith, e))
 full_capacity-even b (suc zero, e) h = absurd (omega (arith, e))
@@ -182,7 +172,6 @@ full_capacity-even b (suc (suc k), e) h =
     let eights : b ≡ 8 * (2 * 2 ^ k) = omega (arith, e, doubled 4 (suc k), doubled 8 k) in
     omega (arith, eights, full_capacity-large b h)
 
--- buckets that links reach
 pub buckets_below : (max c n : ℕ) → buckets_for max c ≡ Some n → 0 < n → n < max
 unfolding buckets_for
 buckets_below max c n = pick (c == 0) (nat_lt c 4) (nat_lt c 8) (nat_lt (8 * c) (2 ^ 64))
@@ -199,7 +188,6 @@ buckets_below max c n = pick (c == 0) (nat_lt c 4) (nat_lt c 8) (nat_lt (8 * c) 
     pick false false false true h p = reached (least_power (8 * c / 7)) h
     pick false false false false h p = absurd (grind arith)
 
--- a new table has as many buckets as some pairs need
 target_need : (max e b c n bytes : ℕ) → target max e b c ≡ new_table n bytes → (pairs : ℕ)
     × (buckets_for max pairs ≡ Some n)
 unfolding target
@@ -218,7 +206,6 @@ target_need max e b c n bytes = from (buckets_for max c) refl
         split false true h = absurd (grind arith)
         split false false h = (full_capacity (2 * b), (table_with_is e n bytes _ h).0)
 
--- a power of two that is 4 or more
 size_power : (n : ℕ) → 4 ≤ n → IsSize n → IsPowerFromFour n
 unfolding IsSize
 size_power n least (inl none) = absurd (omega (arith, least, none))
@@ -229,7 +216,6 @@ size_power n least (inr (j, e)) = go (dec_lt j 2)
         omega (arith, z, e, least))
     go (no large) = let f : j ≡ 2 + (j - 2) = omega arith in (j - 2, e ∙ ap (λ k. 2 ^ k) f ∙ pow-add 2 2 (j - 2))
 
--- links reach a new table, and it has a number of buckets that a table can have
 pub target_reached : (max e b c n bytes : ℕ) → IsPowerFromFour b → target max e b c ≡ new_table n bytes
     → IsPowerFromFour n × (n < max)
 unfolding IsSize
@@ -247,7 +233,6 @@ target_reached max e b c n bytes power h = (
     least : 4 ≤ b
     least = power_pos b power
 
--- some pairs need a table
 buckets_some : (max c n : ℕ) → 0 < c → buckets_for max c ≡ Some n → 4 ≤ n
 unfolding buckets_for
 buckets_some max c n some = pick (c == 0) (nat_lt c 4) (nat_lt c 8) (nat_lt (8 * c) (2 ^ 64))
@@ -264,7 +249,6 @@ buckets_some max c n some = pick (c == 0) (nat_lt c 4) (nat_lt c 8) (nat_lt (8 *
         omega (arith, (cond_some (nat_lt (least_power (8 * c / 7)) max) (least_power (8 * c / 7)) n h).1, l, m)
     pick false false false false p q r h = absurd (grind arith)
 
--- so does the first table
 first_least : (max e c n bytes : ℕ) → 0 < c → target max e 0 c ≡ new_table n bytes → 4 ≤ n
 unfolding target
 first_least max e c n bytes some = from (buckets_for max c) refl
@@ -283,7 +267,6 @@ first_least max e c n bytes some = from (buckets_for max c) refl
         split true p h = subst (λ m. 4 ≤ m) (same_Some need n (table_with_is e n bytes (Some need) h).0) least
         split false p h = absurd cc
 
--- what a table goes to that has none or some buckets, and is to take some pairs
 pub target_new : (max e b c n bytes : ℕ) → IsBucketCount b → 0 < c → target max e b c ≡ new_table n bytes
     → IsPowerFromFour n × (n < max) × (full_capacity b ≤ full_capacity n)
 target_new max e b c n bytes (inr power) some h =
@@ -305,7 +288,6 @@ target_new max e b c n bytes (inl none) some h =
       omega (arith, none, full_capacity-at_most b),
     )
 
--- the first table has 4 buckets
 pub first_target-count : (max e n bytes : ℕ) → target max e 0 1 ≡ new_table n bytes → n ≡ 4
 unfolding target buckets_for
 first_target-count max e n bytes = go (nat_lt 4 max)
@@ -318,7 +300,6 @@ first_target-count max e n bytes = go (nat_lt 4 max)
     go true h = by (usage e 4) h
     go false h = absurd (grind arith)
 
--- a table of the same size is kept if at most half of it is needed
 pub target-same : (max e b c : ℕ) → target max e b c ≡ same_table → c ≤ full_capacity b / 2
 unfolding target
 target-same max e b c = from (buckets_for max c)

@@ -41,13 +41,11 @@ module _ {K V S H : Type 0} (n : ℕ) (st : State K V S H) (ok : IsSized st) (so
               (target_doubles power.0 st.max st.entry_bytes (buckets st) (length st.pairs + n) count bytes power.1 is),
         )
 
-  -- the same of the table that a search for one returns
   pub if_larger : (P : ℕ × ℕ → Type 0) → ((count bytes : ℕ) → table_for n st ≡ new_table count bytes → P (count, bytes))
       → (answer : Option (ℕ × ℕ)) → larger answer ≡ table_for n st → IfSome answer P
   if_larger P holds None e = tt
   if_larger P holds (Some table) e = holds table.0 table.1 (sym e)
 
-  -- if at most half of the table is needed, it keeps its size
   pub stays : length st.pairs + n ≤ full_capacity (buckets st) / 2 → table_for n st ≡ same_table
   stays half = go ok.table.count ok.reachable
     where

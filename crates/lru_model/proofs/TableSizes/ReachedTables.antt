@@ -22,7 +22,6 @@ full_capacity-8 : full_capacity 8 ≡ 7
 unfolding full_capacity
 full_capacity-8 = refl
 
--- a table has a usage if a larger one has
 usage_of_less : (e m n bytes : ℕ) → m ≤ n → usage e n ≡ Some bytes → (other : ℕ) × (usage e m ≡ Some other)
 unfolding usage
 usage_of_less e m n bytes h is = elim (dec_lt 0 m) [
@@ -37,7 +36,6 @@ usage_of_less e m n bytes h is = elim (dec_lt 0 m) [
   | no p ↦ (0, rw (eq-eqb m 0 (omega (arith, p))) refl)
 ]
 
--- a table of twice the buckets takes at most one more than twice the pairs
 double_takes : (k b : ℕ) → b ≡ 4 * 2 ^ k → full_capacity (2 * b) ≤ 2 * full_capacity b + 1
 unfolding full_capacity
 double_takes zero b size = grind (arith, nat_tests, size)
@@ -50,7 +48,6 @@ capacity_mono : (m n : ℕ) → m ≤ n → full_capacity m ≤ full_capacity n
 unfolding full_capacity
 capacity_mono m n h = grind (arith, nat_tests)
 
--- a table that takes fewer has at most half of the buckets
 twice_within : (j k b count : ℕ) → b ≡ 4 * 2 ^ j → count ≡ 4 * 2 ^ k → full_capacity b < full_capacity count
     → 2 * b ≤ count
 twice_within j k b count power size fewer =
@@ -63,7 +60,6 @@ twice_within j k b count power size fewer =
     let gap : 2 * 2 ^ (j + 2) ≤ 2 ^ (k + 2) = power_gap (j + 2) (k + 2) (omega (arith, p, q, more)) in
     omega (arith, gap, p, q)
 
--- the pairs that a table takes need no larger one, if eight times as many do not overflow
 fit_needs : (k max b c : ℕ) → b ≡ 4 * 2 ^ k → b < max → 7 * b < 2 ^ 64 → c ≤ full_capacity b → (need : ℕ)
     × (buckets_for max c ≡ Some need) × (need ≤ b)
 unfolding buckets_for
@@ -151,7 +147,6 @@ module _ (k max e count bytes : ℕ) (size : count ≡ 4 * 2 ^ k) (reached : cou
       split need small false true f h = absurd (grind (arith, h))
       split need small false false f h = need_within (full_capacity (2 * b)) (twice (f refl) sized) h
 
-  -- a table that takes twice the pairs suffices, if eight times what it takes does not overflow
   pub has_target_of_half : 7 * count < 2 ^ 64 → (b c : ℕ) → IsBucketCount b → 2 * c ≤ full_capacity count
       → target max e b c ≢ no_table
   unfolding target
@@ -179,7 +174,6 @@ module _ (k max e count bytes : ℕ) (size : count ≡ 4 * 2 ^ k) (reached : cou
       split need small false true f h = absurd (grind (arith, h))
       split need small false false f h = doubles (f refl) sized h
 
-  -- so does a table that takes the pairs and has twice the buckets
   pub has_target_of_fit : 7 * count < 2 ^ 64 → (b c : ℕ) → IsBucketCount b → (IsPowerFromFour b → 2 * b ≤ count)
       → c ≤ full_capacity count → target max e b c ≢ no_table
   unfolding target
@@ -203,7 +197,6 @@ module _ (k max e count bytes : ℕ) (size : count ≡ 4 * 2 ^ k) (reached : cou
       split need small false true h = absurd (grind (arith, h))
       split need small false false h = doubles sized h
 
--- so there are tables for the pairs of a map, and one more
 pub has_tables : {K V S H : Type 0} (n : ℕ) (st : State K V S H) → HasTableFor n st → 8 * (length st.pairs + 1) ≤ n
     → IsSized st → HasTables st
 has_tables n st t few ok =
@@ -213,7 +206,6 @@ has_tables n st t few ok =
       target_for (length st.pairs + 0) ok.table.count (omega (arith, t.takes, few)),
     )
 
--- with links of 32 bits there is a table for one pair more, if half of the largest table takes them
 pub has_table_of_half : {K V S H : Type 0} (st : State K V S H) → st.max ≡ max_of_32_bits
     → st.entry_bytes < 2 ^ 32 - 1 → IsBucketCount (buckets st) → length st.pairs + 1 ≤ 939524096
     → table_for 1 st ≢ no_table

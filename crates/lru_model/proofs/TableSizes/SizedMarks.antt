@@ -7,14 +7,11 @@ use Rattle.lru_model.specs.State.{Counts, IsSound}
 
 module _ {n entry_bytes max : ℕ} {marks : List Mark} {counts : Counts} (ok : IsSound n entry_bytes max marks counts)
   where
-    -- the pairs and the growth left are what the table takes, or less
     pub fits : n + room marks ≤ full_capacity (length marks)
     fits = omega (arith, (facts ok.table).within, ok.taken)
 
-    -- up to 16 buckets they are all of it
     pub exact : length marks ≤ 16 → n + room marks ≡ full_capacity (length marks)
     exact small = omega (arith, (facts ok.table).exact small, ok.taken)
 
-    -- if there are buckets, their number is one that a table can have
     pub own_count : 0 < length marks → IsPowerFromFour (length marks)
     own_count some = elim ok.table.count [ inl none ↦ absurd (omega (arith, none, some)) | inr power ↦ power ]

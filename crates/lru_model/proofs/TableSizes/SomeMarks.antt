@@ -80,7 +80,6 @@ module _ {K V S H : Type 0} (old : State K V S H) (ok : IsSized old) (pairs : Li
       );
     }
 
-    -- With these pairs they are a map's, as large as old.
     pub sized-marked : (counts : Counts) → counts.moved < 2 ^ 64 → counts.placed < 2 ^ 64
         → counts.shrunk ≡ old.counts.shrunk → IsSound (length pairs) old.entry_bytes old.max marked counts
     sized-marked counts m p s = record {

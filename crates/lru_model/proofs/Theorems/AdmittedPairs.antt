@@ -95,7 +95,6 @@ module _ {K V S H : Type 0} (terms : Terms K V S) (rules : Rules K V S) (offers 
     pub keeps : OnErr result (new.pairs ≡ old.pairs)
     pub unchanged : 0 < room old → OnErr result (new ≡ old)
 
-  -- one call, by which the table has no growth left before, and the pairs stay
   refuses : (answer : Result (Unit {0}) ReserveError) (new : State K V S H) → room old ≡ 0
       → Reserve rules 1 old answer new → IsSized new → Says (Err (key, value)) new
   refuses answer new none step sized = record {

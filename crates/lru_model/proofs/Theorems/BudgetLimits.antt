@@ -21,7 +21,6 @@ use Rattle.lru_model.proofs.Theorems.Sums.{total, total-is}
 module _ {K V S : Type 0} {rules : Rules K V S} {offers : Offers K V S K} {account budget : S → ℕ}
     {accepts : S → K → V → Bool} {made : ℕ → S} {rebudgeted : ℕ → S → S}
     (laws : IsBudgeted rules offers account budget accepts made rebudgeted) where
-  -- no call sets the budget
   fixed : IsFixed rules offers budget
   fixed = record {
     offered = laws.offered;
@@ -31,7 +30,6 @@ module _ {K V S : Type 0} {rules : Rules K V S} {offers : Offers K V S K} {accou
     grown = laws.grown;
   }
 
-  -- a limiter that is not over its limit is within its budget
   pub not_over : (s : S) (n : ℕ) → rules.is_over_the_limit s n ≡ false → account s ≤ budget s
   not_over s n e =
       let within : nat_lt (budget s) (account s) ≡ false = sym (laws.over s n) ∙ e in
@@ -47,7 +45,6 @@ module _ {K V S : Type 0} {rules : Rules K V S} {offers : Offers K V S K} {accou
       abbrev Within : Type 0
       Within = account new.limiter ≤ budget new.limiter
 
-      -- if no greater sum is left, it is within the budget
       less : total pair_cost new.pairs ≤ total pair_cost old.pairs → Within
       less h = omega (arith, was, is, same, within, total-is pair_cost new.pairs, total-is pair_cost old.pairs, h)
 
@@ -66,7 +63,6 @@ module _ {K V S : Type 0} {rules : Rules K V S} {offers : Offers K V S K} {accou
     step_keeps_total old new s was within =
         ended old new was (step_summed sums old new s was) (step_budget old new s) within (step_total pair_cost s)
 
-    -- a write changes no limiter
     kept_total : (old new : State K V S H) → StepOrKeptWrite rules offers names hash_of cost old new
         → IsSummed cost account old → account old.limiter ≤ budget old.limiter
         → account new.limiter ≤ budget new.limiter
@@ -85,7 +81,6 @@ module _ {K V S : Type 0} {rules : Rules K V S} {offers : Offers K V S K} {accou
       → Run (StepOrWrite rules offers names hash_of) new old → budget new.limiter ≡ budget old.limiter
   run_budget {names = names} {hash_of} = run_keeps_number names hash_of fixed
 
--- a get that inserts is a step
 pub made-step : {K V S H : Type 0} {rules : Rules K V S} {offers : Offers K V S K} {names : K → K → Bool}
     {hash_of : H → K → ℕ} {makes : V → Type 0} (key : K) (old new : State K V S H) (result : Result Bool AllocError)
     → MakesNewest rules offers names hash_of makes key old result new → Step rules offers names hash_of old new

@@ -39,7 +39,6 @@ frees_trans b c d p q = record {
   owned = omega (arith, p.owned, q.owned);
 }
 
--- a table grows into one that is no smaller
 pub grows : (b max e c n bytes : ℕ) → IsBucketCount b → target max e b c ≡ new_table n bytes → b ≤ n
 grows b max e c n bytes (inl none) t = omega (arith, none)
 grows b max e c n bytes (inr power) t = omega (arith, target_doubles power.0 max e b c n bytes power.1 t)
@@ -187,7 +186,6 @@ module _ {K V : Type 0} (bytes_of : K → V → ℕ) where
           go true e = omega (arith, within_limit e)
           go false e = w
 
-      -- and if it permits the table, the map may move into it
       pub granted_counts : Grants rules bytes st → (new : State K V Bytes H) → new.entry_bytes ≡ st.entry_bytes
           → buckets new ≡ count → new.limiter ≡ (asked rules bytes st).limiter → Counts new
       granted_counts g new e b same = record {

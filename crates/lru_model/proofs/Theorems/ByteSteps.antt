@@ -43,13 +43,11 @@ use Rattle.lru_model.proofs.Theorems.Runs.{step_summed, kept_summed}
 use Rattle.lru_model.proofs.Theorems.Shrinks.{shrunk_list, shrink_uses}
 use Rattle.lru_model.proofs.Theorems.Sums.{total, total-is}
 
--- whatever the limiter accepts, the limit and the table stay
 either_stays : (accepts : Bool) (b : Bytes) (n : ℕ) → (let c : Bytes = if accepts then record b { owned = n } else b in
     (c.limit ≡ b.limit) × (c.table ≡ b.table))
 either_stays true b n = (refl, refl)
 either_stays false b n = (refl, refl)
 
--- what it rejects leaves it as it is
 rejected_frees : (accepts : Bool) (b c : Bytes) → accepts ≡ false → Frees b (if accepts then c else b)
 rejected_frees true b c e = absurd (true≢false e)
 rejected_frees false b c e = frees_self b
@@ -75,7 +73,6 @@ module _ {K V H : Type 0} (bytes_of : K → V → ℕ) (most : ℕ) where
       → Within bytes_of most 0 old → Ends new
   calm_ends old new c k w = (calm_counts bytes_of most old new c k, inl (calm_within bytes_of most 0 old new c w))
 
-  -- after a trim
   trimmed_ends : (old : State K V Bytes H) (left : Contents K V Bytes) (new : State K V Bytes H)
       → Leaves old (trim (rules bytes_of) left) new → (left.limiter.limit ≡ old.limiter.limit)
       × (left.limiter.table ≡ old.limiter.table) → Counts bytes_of most old → Ends new
@@ -199,7 +196,6 @@ module _ {K V H : Type 0} (bytes_of : K → V → ℕ) (most : ℕ) where
       inl (omega (arith, w, ap (λ c. c.owned) same, ap (λ c. c.table) same)),
     )
 
-    -- a clear of a map from which pairs may have left before
     cleared_calm : (mid : State K V Bytes H) → Calm bytes_of most mid (cleared (rules bytes_of) mid)
     cleared_calm mid = record {
       entry_bytes = refl;
@@ -207,7 +203,6 @@ module _ {K V H : Type 0} (bytes_of : K → V → ℕ) (most : ℕ) where
       limiter = record { limit = refl; table = refl; owned = omega arith };
     }
 
-    -- other pairs, in the same buckets
     order_calm : (pairs : List (K × V)) (places : List ℕ)
         → Calm bytes_of most old (record old { pairs = pairs; table = record old.table { places = places } })
     order_calm pairs places = record { entry_bytes = refl; table = refl; limiter = frees_self old.limiter }
@@ -241,7 +236,6 @@ module _ {K V H : Type 0} (bytes_of : K → V → ℕ) (most : ℕ) where
     step_ends (retains answers each h) = left_ends _ h (retained_frees bytes_of answers old.limiter)
 
 module _ {K V H : Type 0} (bytes_of : K → V → ℕ) where
-  -- if the limiter counts what pairs own, and is not over its limit, both are within the limit
   kept_at_end : (most : ℕ) (new : State K V Bytes H) → Ends bytes_of most new → IsSummed bytes_of (λ b. b.owned) new
       → KeepsBytes bytes_of new
   kept_at_end most new (k, end) is = record { counts = record { table = k.table; owned = is }; within = go end }
@@ -294,7 +288,6 @@ module _ {K V H : Type 0} (bytes_of : K → V → ℕ) where
         let step = kept_keeps_bytes old mid sized s k in
         let rest = run_keeps_bytes new mid next r step.1 in (rest.0 ∙ step.0, rest.1)
 
-    -- a `try_insert` is at most a reservation and an insert
     pub try_keeps_bytes : (key : K) (value : V) (old : State K V Bytes H) (result : Result (Unit {0}) (K × V))
         (new : State K V Bytes H) → IsSized old → TryInsert (bytes_terms bytes_of) (rules bytes_of) key value old
         (bytes_offers bytes_of) names hash_of result new → KeepsBytes bytes_of old → KeepsBytes bytes_of new
@@ -314,12 +307,10 @@ module _ {K V H : Type 0} (bytes_of : K → V → ℕ) where
         go (has_growth some e) = stored (subst IsSized (sym e) sized) (subst (KeepsBytes bytes_of) (sym e) k)
         go (got_growth none h ok) = stored ok (step_keeps_bytes old ready sized (reserves 1 _ h) k).1
 
-  -- a growth is permitted only if the table fits
   pub grown_fits : (st : State K V Bytes H) (bytes : ℕ) → ((rules bytes_of).on_grow st.limiter bytes).allowed ≡ true
       → st.limiter.owned + bytes ≤ st.limiter.limit
   grown_fits st bytes e = grind (arith, nat_tests)
 
-  -- a trim gets within a limit that was set, if the table is within it
   pub trim_keeps_bytes : (old new : State K V Bytes H) → CountsBytes bytes_of old
       → old.limiter.table ≤ old.limiter.limit → Trims (rules bytes_of) old new → KeepsBytes bytes_of new
   trim_keeps_bytes old new k fits h =
@@ -327,12 +318,10 @@ module _ {K V H : Type 0} (bytes_of : K → V → ℕ) where
       kept_at_end old.limiter.limit new end (step_summed {names = λ i key. false} {hash_of = λ hasher key. 0}
       (bytes-sums bytes_of) old new (trims h) k.owned)
 
-  -- what is kept is a bound on the memory
   pub kept_takes : (st : State K V Bytes H) → KeepsBytes bytes_of st → TakesAtMost bytes_of st.limiter.limit st
   kept_takes st k = let (bytes, is, few) = k.counts.table in
       (bytes, is, omega (arith, few, k.counts.owned, k.within))
 
-  -- a new map keeps to it
   pub empty_keeps_bytes : (limit : ℕ) (hasher : H) (entry_bytes max : ℕ) → KeepsBytes bytes_of
       (empty_map {K = K} {V = V} (record { limit = limit; owned = 0; table = 0 }) hasher entry_bytes max)
   unfolding usage

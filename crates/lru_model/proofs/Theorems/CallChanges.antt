@@ -40,7 +40,6 @@ module _ {K V S : Type 0} {rules : Rules K V S} {R : Contents K V S → Contents
   pops_first_keep zero c = k.way.self c
   pops_first_keep (suc n) c = k.way.trans (pop_first_keeps c) (pops_first_keep n (pop_first rules c))
 
--- all of the table is room
 pub room_cleared : (n : ℕ) → room_of (replicate n empty) ≡ full_capacity n
 unfolding room_of
 room_cleared n = omega (arith, none_used n, ap full_capacity (length-replicate {A = Mark} n empty))
@@ -54,7 +53,6 @@ unfolding room_of
 room_within marks = omega arith
 
 module _ {K V S H : Type 0} (rules : Rules K V S) (old : State K V S H) where
-  -- other pairs, no more than before
   pub pairs_calm : (pairs : List (K × V)) (places : List ℕ) → length pairs ≡ length old.pairs
       → Calm old (record old { pairs = pairs; table = record old.table { places = places } })
   pairs_calm pairs places same = record {
@@ -122,7 +120,6 @@ module _ {K V S H : Type 0} {rules : Rules K V S} {R : Contents K V S → Conten
 
 module _ {K V S H : Type 0} (rules : Rules K V S) (R : Contents K V S → Contents K V S → Type 0)
     (old : State K V S H) where
-  -- what a value that is written or a limiter that is set keeps is for the law to say
   pub written_changes : (test : K → Bool) (value : V) → R (contents old) (contents (written test value old))
       → Changes rules R 0 0 old (written test value old)
   written_changes test value r = calm_changes rules R 0 old _

@@ -11,11 +11,9 @@ use Rattle.lru_model.proofs.Theorems.TableGrowth.{Calm, calm_trans, self_calm, l
 use Rattle.lru_model.proofs.Theorems.Ways.{Lands, place_lands}
 
 module _ {K V S H : Type 0} where
-  -- nothing is placed
   calm_counts : (old new : State K V S H) → Calm old new → CountsPlacings old.counts new.counts
   calm_counts old new c = subst (CountsPlacings old.counts) (sym c.counts) (λ p m n. refl)
 
-  -- before and after the placings nothing is
   around_counts : (old mid end new : State K V S H) → Calm old mid → Calm end new → CountsPlacings mid.counts end.counts
       → CountsPlacings old.counts new.counts
   around_counts old mid end new first last counts = subst (CountsPlacings old.counts) (sym last.counts)

@@ -24,7 +24,6 @@ module _ {K V S H : Type 0} (rules : Rules K V S) (hash_of : H → K → ℕ) (p
       no : ◌≡◌ {A = Mark} deleted empty → ⊥
       no h = grind arith
 
-  -- so no empty bucket is filled
   of_deleted : FirstFreeIs deleted hash old.table.marks → (new : State K V S H)
       → FillsBucket hash old.table new.table → room new ≡ 0
   of_deleted p new f = elim f.spends [
@@ -32,7 +31,6 @@ module _ {K V S H : Type 0} (rules : Rules K V S) (hash_of : H → K → ℕ) (p
     | inr d ↦ omega (arith, d.2, no_room)
   ]
 
-  -- with no room, if the first free bucket is a deleted one, it is filled
   pub deleted_serves : FirstFreeIs deleted hash old.table.marks → (outcome : Outcome) (new : State K V S H)
       → Place rules hash_of pair old outcome new
       → (outcome ≡ placed) × IsPlaced pair (buckets old) 0 0 old new × FillsBucket hash old.table new.table
@@ -42,7 +40,6 @@ module _ {K V S H : Type 0} (rules : Rules K V S) (hash_of : H → K → ℕ) (p
   deleted_serves p outcome new (grown g count bytes t y m) = absurd (not_both p (g.no_bucket.first_empty some))
   deleted_serves p outcome new (not_grown g mid c e) = absurd (not_both p (g.no_bucket.first_empty some))
 
-  -- and no other placing ends as one into a deleted bucket does
   pub only_deleted : IsBounded old → (outcome : Outcome) (new : State K V S H) → outcome ≡ placed
       → Place rules hash_of pair old outcome new → IsPlaced pair (buckets old) 0 0 old new
       → FirstFreeIs deleted hash old.table.marks

@@ -70,7 +70,6 @@ module _ {K V S H : Type 0} (rules : Rules K V S) (hash_of : H → K → ℕ) (p
   same_pairs mid (no_target t e) = ap (λ st. st.pairs) e
   same_pairs mid (denied count bytes t d e) = ap (λ st. st.pairs) e
 
-  -- with pairs the oldest is evicted
   evicts_one : (mid : State K V S H) → CannotGrow rules old mid → 0 < length old.pairs
       → evicts rules pair (contents mid) ≡ lands rules pair (pops rules 1 (contents mid))
   evicts_one mid c some = rw (is_empty-some mid.pairs (omega (arith, ap length (same_pairs mid c), some))) refl
@@ -167,7 +166,6 @@ module _ {K V S I : Type 0} (rules : Rules K V S) (offers : Offers K V S I) (nam
       let d = determined old.limiter (length old.pairs) i v h.0 k.0 h.1 k.1 h.2 k.2 in
       alike (ending_new rules offers names land i v old k.0 k.1) (rw (← d.0, ← d.1) h.3) k.3
 
-  -- Two inserts of the same, if each pair lands alike, end alike.
   pub inserts_alike : EndsIfLanded rules offers names land i v old result new
       → EndsIfLanded rules offers names land i v old other others → EndsAlike result other new others
   inserts_alike h k = ends_alike (lookup_entry (names i) old.pairs) h k

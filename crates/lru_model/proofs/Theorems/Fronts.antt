@@ -33,13 +33,11 @@ module _ {X : Type 0} where
   front_without_last (x ∷ []) = (x ∷ [], refl)
   front_without_last (x ∷ y ∷ ys) = let p = front_without_last (y ∷ ys) in (p.0, ap (λ l. x ∷ l) p.1)
 
-  -- a front part of x ∷ xs is empty, or x and a front part of xs
   pub front_cons : (x : X) (xs zs : List X) → IsFront zs (x ∷ xs) → (zs ≡ [])
       ⊎ ((ys : List X) × IsFront ys xs × (zs ≡ x ∷ ys))
   front_cons x xs [] p = inl refl
   front_cons x xs (z ∷ zs) p = inr (zs, (p.0, grind arith), grind arith)
 
-  -- and it begins alike, if it is not empty
   pub front_first : (xs ys : List X) → IsFront xs ys → is_empty xs ≡ false → first xs ≡ first ys
   front_first [] ys f e = absurd cc
   front_first (x ∷ xs) ys f e = sym (ap first f.1)
@@ -48,7 +46,6 @@ module _ {X : Type 0} where
   front_more x ys xs p = (p.0, ap (λ l. x ∷ l) p.1)
 
 module _ {K V : Type 0} where
-  -- what is not among some pairs is not in front of them
   pub front_absent : (names : K → Bool) (xs ys : List (K × V)) → IsFront xs ys → lookup_entry names ys ≡ None
       → lookup_entry names xs ≡ None
   front_absent names [] ys front absent = refl
@@ -61,7 +58,6 @@ module _ {K V : Type 0} where
       go true f h = h
       go false f h = f h
 
-  -- if there is no such pair, all are others
   pub without_none : (names : K → Bool) (xs : List (K × V)) → lookup_entry names xs ≡ None → without names xs ≡ xs
   without_none names [] h = refl
   without_none names (x ∷ xs) h = go (names x.0) (without_none names xs) h
@@ -72,7 +68,6 @@ module _ {K V : Type 0} where
       go false f h = ap (λ l. x ∷ l) (f h)
 
 module _ {K V S : Type 0} (rules : Rules K V S) where
-  -- room is made from the old end
   pub front_way : KeepsWay rules (λ c d. IsFront d.pairs c.pairs)
   front_way = record {
     self = λ c. front_self c.pairs;
@@ -123,12 +118,10 @@ module _ {K V S H I : Type 0} (rules : Rules K V S) (offers : Offers K V S I) (n
     {eq : K → K → Bool} {query_input : I → List (List ℕ)} {key_input : K → List (List ℕ)}
     (looks_up : IsLookup names eq query_input key_input)
     (laws : IsInsertion names eq offers) (i : I) (v : V) (old : State K V S H) where
-  -- the pair that was given has a key that i names
   pub given_named : (s : S) (pair : K × V) → MayGive rules offers names i v (contents old) s (Some pair)
       → names i pair.0 ≡ true
   given_named s pair n = laws.names_given old.limiter (length old.pairs) i v s pair.0 pair.1 n
 
-  -- and so has the pair that was replaced
   pub replaced_named : (pair : K × V) → lookup_entry (names i) old.pairs ≡ Some pair
       → names i (replacement rules offers names pair i v (contents old)).key ≡ true
   replaced_named pair found =

@@ -20,7 +20,6 @@ use Rattle.lru_model.proofs.States.Outcomes.{ok-not_err}
 use Rattle.lru_model.specs.declared.results.GetOrInsertError.TheVariants.{Memory}
 use Rattle.std.specs.Prelude.{IsErr}
 
--- a named pair that is there comes first
 first_named : {K V : Type 0} (names : K → Bool) (xs : List (K × V)) (w : V) → lookup names xs ≡ Some w
     → IsNewest names (front names xs)
 first_named {K} {V} names xs w e = go (lookup_entry names xs) refl (sym (lookup-entry names xs) ∙ e)
@@ -41,7 +40,6 @@ module _ {K V S H : Type 0} (rules : Rules K V S) (names : K → Bool) (new : St
   says_newest (Ok false) s = s
   says_newest (Err e) s = s
 
-  -- the same if the error is one of two
   says_or_memory : (E : Type 0) (flag : Result Bool AllocError) → SaysNewest names flag new
       → SaysNewest {E = GetOrInsertError E} names (or_memory flag) new
   says_or_memory E (Ok true) s = s

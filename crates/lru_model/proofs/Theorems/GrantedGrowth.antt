@@ -38,11 +38,9 @@ module _ {K V S H : Type 0} (rules : Rules K V S) (pair : K × V) (old : State K
       → IsPlaced pair count spare moves old new → LandsBeside outcome new
   is_placed count spare moves outcome new o p = rw o (ap contents p.state)
 
-  -- filling a bucket uses at most one of the growth left
   spare : (hash : ℕ) (new : State K V S H) → FillsBucket hash old.table new.table → room old ≤ room new + 1
   spare hash new fills = elim fills.spends [ inl e ↦ omega (arith, e.1) | inr d ↦ omega (arith, d.2) ]
 
-  -- with growth left the pair is stored in the same table
   pub place_with_room : (hash_of : H → K → ℕ) → 0 < room old → (outcome : Outcome) (new : State K V S H)
       → Place rules hash_of pair old outcome new
       → (outcome ≡ placed) × IsPlaced pair (buckets old) (room new) 0 old new × (room old ≤ room new + 1)
@@ -54,7 +52,6 @@ module _ {K V S H : Type 0} (rules : Rules K V S) (pair : K × V) (old : State K
 
 module _ {K V S H : Type 0} (rules : Rules K V S) (grants : AlwaysGrants rules) (hash_of : H → K → ℕ) (pair : K × V)
     (old : State K V S H) (tables : table_for 1 old ≢ no_table) where
-  -- the limiter is asked and stays
   asked_same : (bytes : ℕ) → contents (asked rules bytes old) ≡ contents old
   asked_same bytes = ap (λ s. record { pairs = old.pairs; limiter = s }) (grants old.limiter bytes).1
 
@@ -71,7 +68,6 @@ module _ {K V S H : Type 0} (rules : Rules K V S) (grants : AlwaysGrants rules) 
   place_granted outcome new (not_grown g mid c e) = no_refusal mid c
 
 module _ {K V S H : Type 0} (rules : Rules K V S) (old : State K V S H) where
-  -- after room was made, the map has as many pairs as before, or one fewer
   way_length : (c : Contents K V S) → (length (make_room rules c).pairs ≡ length c.pairs)
       ⊎ (length (make_room rules c).pairs + 1 ≡ length c.pairs)
   way_length c = go (rules.is_over_the_limit c.limiter (length c.pairs + 1))
@@ -84,7 +80,6 @@ module _ {K V S H : Type 0} (rules : Rules K V S) (old : State K V S H) where
       ]
       go false = inl refl
 
-  -- so there is a table for the pair
   way_tables : HasTables old → (s : S) (ready : State K V S H)
       → Leaves (record old { limiter = s }) (make_room rules (record { pairs = old.pairs; limiter = s })) ready
       → table_for 1 ready ≢ no_table
@@ -138,13 +133,11 @@ module _ {K V S H I : Type 0} (rules : Rules K V S) (offers : Offers K V S I) (n
   insert_in_list beside (admitted a s pair n (ready, l, (outcome, landed, p, t))) =
       settles a s pair n ready (ap contents l.is) outcome landed (beside s pair n ready l outcome landed p) t
 
-  -- So it is if growth is permitted and there are tables,
   pub insert_granted : {hash_of : H → K → ℕ} → AlwaysGrants rules → HasTables old
       → Insert rules offers names hash_of i v old result new → EndsSo
   insert_granted {hash_of} grants tables = insert_in_list (λ s pair n ready l.
       place_granted rules grants hash_of pair ready (way_tables rules old tables s ready l))
 
-  -- and if growth is left.
   pub insert_with_room : {hash_of : H → K → ℕ} → 0 < room old
       → Insert rules offers names hash_of i v old result new → EndsSo
   insert_with_room {hash_of} some = insert_in_list (λ s pair n ready l outcome landed p.

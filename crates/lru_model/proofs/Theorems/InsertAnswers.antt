@@ -37,7 +37,6 @@ module _ {K V S : Type 0} (rules : Rules K V S) where
   unfolding trim
   trim_ends c = within_from (length c.pairs) c refl
 
-  -- what is left and is not empty is within the limit
   trim_within : (c : Contents K V S) → is_empty (trim rules c).pairs ≡ false
       → rules.is_over_the_limit (trim rules c).limiter (length (trim rules c).pairs) ≡ false
   unfolding trim
@@ -49,7 +48,6 @@ module _ {K V S : Type 0} (rules : Rules K V S) where
       go (inl e) = absurd (true≢false (sym (ap is_empty e) ∙ h))
       go (inr f) = f
 
-  -- what is left and is not empty begins as it did
   trim_newest : (names : K → Bool) (c : Contents K V S) → is_empty (trim rules c).pairs ≡ false
       → IsNewest names c.pairs → IsNewest names (trim rules c).pairs
   trim_newest names c h n = go
@@ -82,7 +80,6 @@ module _ {K V S H : Type 0} (rules : Rules K V S) (hash_of : H → K → ℕ) (p
       end no_memory mid f l = front_trans _ (front_same (ap (λ st. st.pairs) l)) f
 
 module _ {K V S H : Type 0} (rules : Rules K V S) (names : K → Bool) where
-  -- after a trimming that returns whether a pair is left
   trimmed_says : (mid : State K V S H) (c : Contents K V S) (result : Result Bool AllocError) (new : State K V S H)
       → Leaves mid (trim rules c) new
       → result ≡ Ok (not (is_empty new.pairs)) → IsNewest names c.pairs → SaysWhether rules names result new
@@ -99,7 +96,6 @@ module _ {K V S H : Type 0} (rules : Rules K V S) (names : K → Bool) where
       go false e = let k : is_empty (trim rules c).pairs ≡ false = rw same at e in
           (rw same (trim_newest rules names c k n), rw (same, same_limiter) (trim_within rules c k))
 
-  -- an error says that the key is not there
   err_says : (result : Result Bool AllocError) (new : State K V S H) → IsErr result → lookup_entry names new.pairs
       ≡ None → SaysWhether rules names result new
   err_says (Ok b) new h absent = absurd (grind (arith, h))
@@ -120,7 +116,6 @@ module _ {K V S H I : Type 0} {rules : Rules K V S} {offers : Offers K V S I} {n
     {hash_of : H → K → ℕ} {eq : K → K → Bool} {query_input : I → List (List ℕ)} {key_input : K → List (List ℕ)}
     (looks_up : IsLookup names eq query_input key_input) (laws : IsInsertion names eq offers) {i : I} {v : V}
     {old : State K V S H} where
-  -- The answer of an insert says whether the key is there.
   pub insert_says : {result : Result Bool AllocError} {new : State K V S H} → AreDistinct eq old.pairs
       → Insert rules offers names hash_of i v old result new → SaysWhether rules (names i) result new
   insert_says {result} {new} d (replaced pair found y r l) = trimmed_says rules (names i) old
@@ -147,7 +142,6 @@ module _ {K V S H I : Type 0} {rules : Rules K V S} {offers : Offers K V S I} {n
 
 module _ {K V S H I : Type 0} {rules : Rules K V S} {offers : Offers K V S I} {names : I → K → Bool} {i : I} {v : V}
     {old : State K V S H} where
-  -- The newest pair is the one that the insert stores.
   stored : (c : Contents K V S) (mid : State K V S H) (new : State K V S H) → Leaves mid (trim rules c) new
       → ◌≡◌ {A = Result Bool AllocError} (Ok true) (Ok (not (is_empty new.pairs)))
       → (pair : K × V) (rest : List (K × V))
@@ -179,7 +173,6 @@ module _ {K V S H I : Type 0} {rules : Rules K V S} {offers : Offers K V S I} {n
 
 module _ {K V S H I : Type 0} (rules : Rules K V S) (offers : Offers K V S I) (names : I → K → Bool) (i : I) (v : V)
     (old : State K V S H) where
-  -- if the limiter keeps values, the key is found with its own
   pub insert_found : KeepsValues offers → (new : State K V S H) → IsNewest (names i) new.pairs
       → IfSome (first new.pairs) (Stores rules offers names i v old) → lookup (names i) new.pairs ≡ Some v
   insert_found keeps new n h = rw n.first (rw n.named (ap Some (value n.pair (rw n.first at h))))

@@ -35,14 +35,12 @@ module _ {K V F : Type 0} {closure : Mut F (Bor K × (Bor V × Unit {0})) Bool} 
       (refused_fail pairs g (subst (λ j. Refuses closure j pairs g) next h.2))
 
   module _ {eq : K → K → Bool} {hash_of : K → ℕ} {all : List (K × V)} {hash : ℕ} where
-    -- the pair that is given passes
     given-passes : (pair : K × V) → GivesByHash eq hash_of all hash closure f pair → test pair.0 ≡ true
     given-passes pair given =
         let same = refused_same given.before given.between given.refused in
         let accepted = subst (λ j. Asks closure j pair true given.last) same given.accepted in
         sym (asks-test pair true given.last accepted).0
 
-    -- if none is given, no pair of the hash passes
     none-fails : GivesNoneByHash eq hash_of all hash closure f → (pair : K × V) → Contains all pair
         → hash_of pair.0 ≡ hash → test pair.0 ≡ false
     none-fails none pair there same =
@@ -55,7 +53,6 @@ module _ {K V F : Type 0} {eq : K → K → Bool} {hash_of : K → ℕ} {all : L
   given-among : Contains (given.before ++ pair ∷ []) pair
   given-among = Contains-append_right given.before (pair ∷ []) pair (zero, omega arith, refl)
 
-  -- the pair that is given is there, and its hash has the tag of the hash
   given-there : Contains all pair
   given-there = given.candidates.there pair given-among
 
@@ -63,7 +60,6 @@ module _ {K V F : Type 0} {eq : K → K → Bool} {hash_of : K → ℕ} {all : L
   given-tag = given.candidates.tags pair given-among
 
 module _ {K V : Type 0} {eq : K → K → Bool} (laws : IsEquivalence eq) (key : K) where
-  -- a pair of the key that is there is the one that is found
   there-found : (xs : List (K × V)) → AreDistinct eq xs → (pair : K × V) → Contains xs pair
       → eq key pair.0 ≡ true → lookup_entry (eq key) xs ≡ Some pair
   unfolding IsDistinct
@@ -77,7 +73,6 @@ module _ {K V : Type 0} {eq : K → K → Bool} (laws : IsEquivalence eq) (key :
       laws.congr key pair.0 x.0 same ∙ laws.symm pair.0 x.0 ∙ all_of (λ y. eq x.0 y ≡ false) xs pair d.0 later in
       rw other (there-found xs d.1 pair later same)
 
--- the pair that is found is there, and has the key
 found-there : {K V : Type 0} (names : K → Bool) (xs : List (K × V)) (pair : K × V)
     → lookup_entry names xs ≡ Some pair → Contains xs pair
 found-there names [] pair e = absurd (none-some pair e)
@@ -92,13 +87,11 @@ module _ {K V F : Type 0} {eq : K → K → Bool} (laws : IsEquivalence eq) (key
     {all : List (K × V)} {hash : ℕ} {closure : Mut F (Bor K × (Bor V × Unit {0})) Bool} {f : F}
     (tests : (k : Bor K) (value : Bor V) (r : Bool) (g : F) → Called closure f (k, (value, tt)) r g
     → (r ≡ eq key k.now) × (g ≡ f)) where
-  -- A closure that tests a key is given its pair,
   pub given-found : AreDistinct eq all → (pair : K × V) → GivesByHash eq hash_of all hash closure f pair
       → lookup_entry (eq key) all ≡ Some pair
   given-found distinct pair given = there-found laws key all distinct pair (given-there pair given)
       (given-passes (eq key) tests pair given)
 
-  -- or none, if the key is not there or has another hash.
   pub none-found : GivesNoneByHash eq hash_of all hash closure f → (pair : K × V)
       → lookup_entry (eq key) all ≡ Some pair → hash_of pair.0 ≡ hash → ⊥
   none-found none pair is same =

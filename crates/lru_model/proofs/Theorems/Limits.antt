@@ -31,7 +31,6 @@ module _ {K V : Type 0} (names : K → Bool) where
       go true h = omega arith
       go false h = omega (arith, h)
 
-  -- without a pair that is there, the list has one fewer
   pub length-without_found : (xs : List (K × V)) (pair : K × V) → lookup_entry names xs ≡ Some pair
       → length (without names xs) + 1 ≡ length xs
   length-without_found [] pair e = absurd (grind arith)
@@ -49,7 +48,6 @@ module _ {K V S : Type 0} {rules : Rules K V S} {offers : Offers K V S K} {numbe
   notified_fixed None s = refl
   notified_fixed (Some pair) s = fixed.removed s pair.0 pair.1
 
-  -- no call changes a number that no callback changes
   pub keeps_number : {names : K → K → Bool} → KeepsOffers rules offers names
       (λ c d. number d.limiter ≡ number c.limiter)
   keeps_number = record {
@@ -73,13 +71,11 @@ module _ {K V S : Type 0} {rules : Rules K V S} {offers : Offers K V S K} {numbe
   }
 
 module _ {K V : Type 0} (f : K × V → ℕ) where
-  -- the total of what is left without a named pair is at most the total of all
   pub total-without : (names : K → Bool) (xs : List (K × V)) → total f (without names xs) ≤ total f xs
   total-without names xs = split-least f xs (lookup_entry names xs) (without names xs) (split_named f names xs)
 
   module _ {S H I : Type 0} {rules : Rules K V S} {offers : Offers K V S I} {names : I → K → Bool}
       {hash_of : H → K → ℕ} {i : I} {v : V} {old : State K V S H} where
-    -- no greater total is left than there was, or the limiter is not over
     pub insert_within : {result : Result Bool AllocError} {new : State K V S H}
         → Insert rules offers names hash_of i v old result new → IsWithin rules (contents new)
         ⊎ (total f new.pairs ≤ total f old.pairs)
@@ -118,7 +114,6 @@ update_within f {names = names} {i} {old = old} result (rejected pair found y r 
     (omega (arith, ap (λ st. total f st.pairs) l.is, total-without f (names i) old.pairs))
 update_within f result (not_there a r e) = inr (omega (arith, ap (λ st. total f st.pairs) e))
 
--- an update leaves no more pairs
 pub length-update : {K V S H I : Type 0} {rules : Rules K V S} {offers : Offers K V S I} {names : I → K → Bool} {i : I}
     {v : V} {old new : State K V S H} (result : Updated V) → Update rules offers names i v old result new
     → length new.pairs ≤ length old.pairs

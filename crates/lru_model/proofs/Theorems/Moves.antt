@@ -26,26 +26,19 @@ module _ {K V S : Type 0} (rules : Rules K V S) where
   pub record KeepsWay (R : Contents K V S → Contents K V S → Type 0) : Type 0 where
     pub self : (c : Contents K V S) → R c c
     pub trans : {a b c : Contents K V S} → R a b → R b c → R a c
-    -- the limiter is queried for a table of this number of bytes
     pub asked : (bytes : ℕ) (c : Contents K V S) → R c (asks bytes c)
-    -- the oldest pair leaves
     pub popped : (c : Contents K V S) → R c (pop rules c)
 
   pub record Keeps (R : Contents K V S → Contents K V S → Type 0) : Type 0 where
     pub way : KeepsWay R
-    -- the first pair leaves whose key passes a test
     pub left : (test : K → Bool) (c : Contents K V S) → R c (removal rules test c)
-    -- a pair leaves that stands between others
     pub dropped : (newer older : List (K × V)) (pair : K × V) (s : S)
         → R (record { pairs = newer ++ pair ∷ older; limiter = s })
         (record { pairs = newer ++ older; limiter = notified_of rules (Some pair) s })
-    -- that pair comes first
     pub first : (test : K → Bool) (c : Contents K V S)
         → R c (record { pairs = front test c.pairs; limiter = c.limiter })
-    -- or last
     pub last : (test : K → Bool) (c : Contents K V S)
         → R c (record { pairs = back test c.pairs; limiter = c.limiter })
-    -- all pairs leave
     pub cleared : (c : Contents K V S) → R c (record { pairs = []; limiter = rules.on_cleared c.limiter })
 
 module _ {K V S I : Type 0} (rules : Rules K V S) (offers : Offers K V S I) (names : I → K → Bool) where
@@ -61,11 +54,9 @@ module _ {K V S I : Type 0} (rules : Rules K V S) (offers : Offers K V S I) (nam
 
   pub record KeepsOffers (R : Contents K V S → Contents K V S → Type 0) : Type 0 where
     pub keeps : Keeps rules R
-    -- the limiter gives a pair of a new key, which is in hand before all others
     pub came : (i : I) (v : V) (c : Contents K V S) (s : S) (pair : K × V) → lookup_entry (names i) c.pairs ≡ None
         → offers.on_insert c.limiter (length c.pairs) i v s (Some pair)
         → R c (record { pairs = pair ∷ c.pairs; limiter = s })
-    -- or none
     pub turned_down : (i : I) (v : V) (c : Contents K V S) (s : S)
         → offers.on_insert c.limiter (length c.pairs) i v s None → R c (record { pairs = c.pairs; limiter = s })
     pub exchanged : (i : I) (v : V) (c : Contents K V S) (pair : K × V) → lookup_entry (names i) c.pairs ≡ Some pair
@@ -73,7 +64,6 @@ module _ {K V S I : Type 0} (rules : Rules K V S) (offers : Offers K V S I) (nam
     pub rewritten : (i : I) (v : V) (c : Contents K V S) (pair : K × V) → lookup_entry (names i) c.pairs ≡ Some pair
         → R c (rewrite pair i v c)
 
--- nothing is to be kept
 pub keeps_any : {K V S : Type 0} {rules : Rules K V S} → Keeps rules (λ c d. Unit {0})
 keeps_any = record {
   way = record { self = λ c. tt; trans = λ p q. tt; asked = λ bytes c. tt; popped = λ c. tt };
@@ -84,7 +74,6 @@ keeps_any = record {
   cleared = λ c. tt;
 }
 
--- nor of an insert
 pub keeps_nothing : {K V S I : Type 0} {rules : Rules K V S} {offers : Offers K V S I} {names : I → K → Bool}
     → KeepsOffers rules offers names (λ c d. Unit {0})
 keeps_nothing = record {
@@ -95,7 +84,6 @@ keeps_nothing = record {
   rewritten = λ i v c pair found. tt;
 }
 
--- what left left these
 pub left_are : {K V S H : Type 0} (old : State K V S H) (left : Contents K V S) (new : State K V S H)
     → Leaves old left new → contents new ≡ left
 left_are old left new l = ap contents l.is
@@ -132,7 +120,6 @@ module _ {K V S : Type 0} (rules : Rules K V S) (R : Contents K V S → Contents
       go false = k.self c
 
   module _ {H : Type 0} where
-    -- what follows a placing
     pub settles_keep : (outcome : Outcome) (landed : State K V S H) (result : Result Bool AllocError)
         (new : State K V S H) → Settles rules outcome landed result new → R (contents landed) (contents new)
     settles_keep placed landed result new h = leaves_keep R landed _ new h.1 (trim_keeps (contents landed))
@@ -140,7 +127,6 @@ module _ {K V S : Type 0} (rules : Rules K V S) (R : Contents K V S → Contents
     settles_keep no_memory landed result new h = rw h.1 (k.self (contents landed))
 
 module _ {K V S : Type 0} (rules : Rules K V S) (R : Contents K V S → Contents K V S → Type 0) (k : Keeps rules R) where
-  -- room is made behind a pair in hand
   pub way_behind : (pair : K × V) → KeepsWay rules (λ c d. R (behind pair c) (behind pair d))
   way_behind pair = record {
     self = λ c. k.way.self (behind pair c);

@@ -35,7 +35,6 @@ use Rattle.lru_model.proofs.Theorems.RunLimits.{step_keeps_number, step_stays_sh
 use Rattle.lru_model.proofs.Theorems.Runs.{any_step_same}
 
 module _ {X : Type 0} where
-  -- all but the last of n + 1 elements are the first n
   but_last : (n : ℕ) (xs : List X) → length xs ≡ n + 1 → without_last xs ≡ take n xs
   but_last n [] e = absurd (omega (arith, e))
   but_last zero (x ∷ []) e = refl
@@ -43,7 +42,6 @@ module _ {X : Type 0} where
   but_last zero (x ∷ y ∷ ys) e = absurd (omega (arith, e))
   but_last (suc n) (x ∷ y ∷ ys) e = ap (λ zs. x ∷ zs) (but_last n (y ∷ ys) (omega (arith, e)))
 
-  -- the first n of a list that begins with x
   take_after : (n : ℕ) (x : X) (xs : List X) → 0 < n → take n (x ∷ xs) ≡ x ∷ take (n - 1) xs
   take_after zero x xs some = absurd (omega arith)
   take_after (suc n) x xs some = let e : n ≡ suc n - 1 = omega arith in ap (λ m. x ∷ take m xs) e
@@ -52,7 +50,6 @@ module _ {X : Type 0} where
   take_few n xs = omega (arith, length-take n xs)
 
 module _ {K V : Type 0} where
-  -- room is made for one more
   way_is : (most : ℕ) (pairs : List (K × V)) → 0 < most → length pairs ≤ most
       → make_room length_rules (record { pairs = pairs; limiter = most })
       ≡ record { pairs = take (most - 1) pairs; limiter = most }
@@ -71,7 +68,6 @@ module _ {K V : Type 0} where
       go (no loose) = rw (le-ltb most (length pairs + 1) (omega (arith, loose)))
           (ap (λ xs. record { pairs = xs; limiter = most }) (sym (take_all (most - 1) pairs (omega (arith, loose)))))
 
--- a pair is returned to be stored only if the length is not 0
 more_than_none : {K V : Type 0} (most : ℕ) (key : K) (value : V) (s : ℕ) (pair : K × V)
     → ReturnsPairIf (nat_lt 0 most) most key value s (Some pair) → 0 < most
 more_than_none most key value s pair n = elim (dec_lt 0 most) [
@@ -87,11 +83,9 @@ module _ {K V : Type 0} (eq : K → K → Bool) (key : K) (value : V) (old new :
   abbrev newest : List (K × V)
   newest = (stored_key (eq key) key old.pairs, value) ∷ without (eq key) old.pairs
 
-  -- a result, and what is left with it
   answered : new.pairs ≡ take old.limiter newest → EndsSo (Ok (nat_lt 0 old.limiter))
   answered is = record { answer = λ _. refl; newest = is; others = tt }
 
-  -- the pair that was stored or replaced is left, if it is the newest
   ended : (c : Contents K V ℕ) → length c.pairs ≤ c.limiter → 0 < length c.pairs → 0 < old.limiter
       → c.pairs ≡ take old.limiter newest → IsEnding (trimmed length_rules c) result new → EndsSo result
   ended c within some more is h =
@@ -100,7 +94,6 @@ module _ {K V : Type 0} (eq : K → K → Bool) (key : K) (value : V) (old new :
       ∙ sym (lt-ltb 0 old.limiter more) in
       rw (h.0 ∙ ap Ok flag) (answered (ap (λ d. d.pairs) (h.1 ∙ none) ∙ is))
 
-  -- the key is there
   there : (was : K × V) → lookup_entry (eq key) old.pairs ≡ Some was
       → EndsBy length_rules length_offers eq (lands length_rules) key value old (Some was) result new → EndsSo result
   there was found h =
@@ -112,7 +105,6 @@ module _ {K V : Type 0} (eq : K → K → Bool) (key : K) (value : V) (old new :
       (ap (λ k. (k, value) ∷ without (eq key) old.pairs) stored
       ∙ sym (take_all old.limiter newest (omega (arith, fewer, few)))) h
 
-  -- the key is new, and the pair is stored, or the length is 0
   absent : lookup_entry (eq key) old.pairs ≡ None
       → EndsBy length_rules length_offers eq (lands length_rules) key value old None result new → EndsSo result
   absent none (s, given, n, e) = go (dec_lt 0 old.limiter)
@@ -145,7 +137,6 @@ module _ {K V : Type 0} (eq : K → K → Bool) (key : K) (value : V) (old new :
           (answered (ap (λ d. d.pairs) stays.1 ∙ nil_from_length old.pairs (omega (arith, few, nothing))
           ∙ ap (λ m. take m newest) (sym zero_is)))
 
-  -- out of memory
   short : (result : Result Bool AllocError) → IsErr result → new.pairs ≡ take (old.limiter - 1) old.pairs
       → EndsSo result
   short (Ok b) h is = absurd (grind (arith, h))
@@ -166,14 +157,12 @@ module _ {K V : Type 0} (eq : K → K → Bool) (key : K) (value : V) (old new :
 
 module _ {K V H : Type 0} (eq : K → K → Bool) (key : K) (value : V) (old : State K V ℕ H)
     (result : Result Bool AllocError) (new : State K V ℕ H) where
-  -- with growth left
   pub leaves_with_room : {hash_of : H → K → ℕ} → length old.pairs ≤ old.limiter → 0 < room old
       → Insert length_rules length_offers eq hash_of key value old result new
       → LeavesTheNewest eq old.limiter key value old.pairs result new.pairs
   leaves_with_room few some step = list_leaves eq key value (contents old) (contents new) result few
       (insert_with_room length_rules length_offers eq key value old new result some step)
 
-  -- if the map keeps to its length
   pub leaves_newest : {hash_of : H → K → ℕ} → KeepsToLength old
       → Insert length_rules length_offers eq hash_of key value old result new
       → LeavesTheNewest eq old.limiter key value old.pairs result new.pairs
@@ -200,7 +189,6 @@ module _ {K V H : Type 0} (eq : K → K → Bool) (key : K) (value : V) (old : S
           (omega (arith, ap length left, take_few (old.limiter - 1) old.pairs, some, keeps.half))
 
 module _ {K V H : Type 0} (eq : K → K → Bool) (old new : State K V ℕ H) where
-  -- a map that keeps to its length goes on to do so
   pub keeps_on : {hash_of : H → K → ℕ} → KeepsToLength old → IsSized new
       → Step length_rules length_offers eq hash_of old new → KeepsToLength new
   keeps_on {hash_of} keeps sized step =
@@ -214,7 +202,6 @@ module _ {K V H : Type 0} (eq : K → K → Bool) (old new : State K V ℕ H) wh
         sized = sized;
       }
 
--- and so does one into which a value is written
 pub keeps_written : {K V H : Type 0} (names : K → Bool) (value : V) (old : State K V ℕ H) → KeepsToLength old
     → KeepsToLength (written names value old)
 keeps_written names value old keeps = record {

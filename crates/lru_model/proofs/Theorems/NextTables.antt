@@ -15,7 +15,6 @@ use Rattle.lru_model.proofs.TableSizes.Growth.{full_capacity-at_most}
 use Rattle.lru_model.proofs.TableSizes.ReachedTables.{has_target_of_fit}
 use Rattle.lru_model.proofs.Theorems.Reservations.{target_takes}
 
--- a table whose entries take bytes has fewer than 2 ^ 62 buckets
 few_buckets : (k e n bytes : ℕ) → n ≡ 4 * 2 ^ k → 0 < e → usage e n ≡ Some bytes → 7 * n < 2 ^ 64
 few_buckets k e n bytes size some usable =
     let b = usage_bytes e n bytes (omega (arith, size, pow_pos k)) usable in

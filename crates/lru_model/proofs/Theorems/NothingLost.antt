@@ -29,7 +29,6 @@ module _ {K V S : Type 0} where
   all_of c = c.pairs ++ reverse c.limiter.1
 
 module _ {K V S : Type 0} (rules : Rules K V S) (leaves : ChangesNoPair rules) where
-  -- a pair is put on the list as it was
   notified_same : (s : S) (pair : K × V)
       → ((rules.on_removed s pair.0 pair.1).key, (rules.on_removed s pair.0 pair.1).value) ≡ pair
   notified_same s pair = λ j. (leaves.key s pair.0 pair.1 j, leaves.value s pair.0 pair.1 j)
@@ -45,7 +44,6 @@ module _ {K V S : Type 0} (rules : Rules K V S) (leaves : ChangesNoPair rules) w
   pop_all (x ∷ []) s = ap reverse (noted_same s.1 s.0 x) ∙ reverse-append s.1 (x ∷ [])
   pop_all (x ∷ y ∷ ys) s = ap (λ zs. x ∷ zs) (pop_all (y ∷ ys) s)
 
-  -- so no step of making room loses one
   way_all : KeepsWay (noting rules) (λ c d. all_of d ≡ all_of c)
   way_all = record {
     self = λ c. refl;
@@ -103,7 +101,6 @@ module _ {K V S H I : Type 0} (rules : Rules K V S) (offers : Offers K V S I) (n
       ∙ make_room_keeps (noting rules) _ (way_all rules leaves) (record { pairs = old.pairs; limiter = s })
       ∙ ap (λ list. old.pairs ++ reverse list) n.1 ∙ append-nil old.pairs) m.lands t
 
--- a pair of another key is among the others
 contains_without : {K V : Type 0} (names : K → Bool) (p : K × V) → names p.0 ≡ false → (xs : List (K × V))
     → Contains xs p → Contains (without names xs) p
 contains_without names p other [] has = has
@@ -122,7 +119,6 @@ contains_without names p other (x ∷ xs) has = go (names x.0) refl (contains_wi
 
 module _ {K V S H I : Type 0} {rules : Rules K V S} {offers : Offers K V S I} {names : I → K → Bool} {i : I} {v : V}
     {old : State K V S H} {result : Result Bool AllocError} {passed : List (K × V)} {new : State K V S H} where
-  -- if the result is true, the stored pair comes first
   pub stored_first : LosesNothing rules offers names i v old result passed new → result ≡ Ok true
       → (pair : K × V) × Stores rules offers names i v old pair
       × (new.pairs ++ reverse passed ≡ pair ∷ without (names i) old.pairs)
@@ -132,7 +128,6 @@ module _ {K V S H I : Type 0} {rules : Rules K V S} {offers : Offers K V S I} {n
   stored_first (nothing_to_store a (inr (s, n, r)) h e) q = absurd (false≢true (same_kept false true (sym r ∙ q)))
   stored_first (pair_not_stored a s pair n untrue evicted h e) q = absurd (untrue q)
 
-  -- whatever it is, each pair of another key is left or passed on
   pub others_kept : LosesNothing rules offers names i v old result passed new → (p : K × V) → names i p.0 ≡ false
       → Contains old.pairs p → Contains new.pairs p ⊎ Contains passed p
   others_kept h p other has = go h

@@ -36,7 +36,6 @@ module _ {K V : Type 0} (test : K → Bool) where
   others_same : (xs ys : List (K × V)) → xs ≡ ys → IsFront (others test xs) (others test ys)
   others_same xs ys e = front_same (ap (others test) e)
 
-  -- a pair whose key passes the test is none of the others
   others_behind : (pair : K × V) (xs : List (K × V)) → test pair.0 ≡ true → others test (pair ∷ xs) ≡ others test xs
   others_behind pair xs passes = rw passes refl
 
@@ -108,7 +107,6 @@ module _ {K V : Type 0} (test : K → Bool) where
 module _ {K V S H I : Type 0} {rules : Rules K V S} {offers : Offers K V S I} {names : I → K → Bool}
     {hash_of : H → K → ℕ} {eq : K → K → Bool} {query_input : I → List (List ℕ)} {key_input : K → List (List ℕ)}
     (looks_up : IsLookup names eq query_input key_input) (laws : IsInsertion names eq offers) (test : K → Bool) where
-  -- a call evicts others from the old end alone
   pub step_keeps_newest : (old new : State K V S H) (step : AnyStep rules offers names hash_of old new)
       → NamesOnly rules offers names hash_of test old new step → IsFront (others test new.pairs) (others test old.pairs)
   step_keeps_newest old new (calls (inserts key value result h)) among =

@@ -19,7 +19,6 @@ use Rattle.lru_model.proofs.Theorems.InsertAnswers.{place_comes}
 use Rattle.lru_model.proofs.States.Outcomes.{placed-not_no_memory, refused-not_no_memory, ok-not_err}
 use Rattle.lru_model.proofs.TableSizes.Growth.{full_capacity-at_most}
 
--- no buckets, no room
 pub no_room : (marks : List Mark) → length marks ≡ 0 → room_of marks ≡ 0
 unfolding room_of
 no_room marks e = omega (arith, full_capacity-at_most (length marks))
@@ -43,7 +42,6 @@ module _ {K V S H : Type 0} (rules : Rules K V S) (hash_of : H → K → ℕ) (p
 module _ {K V S H I : Type 0} {rules : Rules K V S} {offers : Offers K V S I} {names : I → K → Bool}
     {hash_of : H → K → ℕ} {i : I} {v : V} {old : State K V S H} {result : Result Bool AllocError}
     {new : State K V S H} where
-  -- The limiter ran out of memory, or the table did.
   pub err_is : IsErr result → Insert rules offers names hash_of i v old result new
       → IsOutOfMemory rules offers names hash_of i v old new
   err_is h (replaced pair found y r l) = ok-not_err result (rw r refl) h
@@ -72,7 +70,6 @@ module _ {K V S H I : Type 0} {rules : Rules K V S} {offers : Offers K V S I} {n
       go refused p t = ok-not_err result (rw t.0 refl) h
       go no_memory p t = short (place_runs_out rules hash_of pair ready landed no_memory refl p)
 
-  -- It leaves a front part of the pairs.
   pub err_keeps : IsErr result → Insert rules offers names hash_of i v old result new → IsFront new.pairs old.pairs
   err_keeps h (replaced pair found y r l) = ok-not_err result (rw r refl) h
   err_keeps h (not_replaced pair found y r l) = ok-not_err result (rw r refl) h
@@ -89,7 +86,6 @@ module _ {K V S H I : Type 0} {rules : Rules K V S} {offers : Offers K V S I} {n
           (front_trans _ (front_same (ap (λ st. st.pairs) l.is))
           (front_make_room rules (record { pairs = old.pairs; limiter = s }))))
 
--- what an error implies, of a result that may be one
 pub on_err : {A : Type 0} (result : Result Bool AllocError) → (IsErr result → A) → OnErr result A
 on_err (Ok b) h = tt
 on_err (Err e) h = h refl

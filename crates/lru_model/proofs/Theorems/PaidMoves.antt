@@ -9,7 +9,6 @@ use Rattle.lru_model.proofs.Theorems.Potential.{Pays, bounded_of}
 use Rattle.lru_model.proofs.Theorems.TableGrowth.{Tables, IsNextCount, Changes}
 use Rattle.lru_model.proofs.PairLists.DistinctKeys.{AreDistinct}
 
--- if the count of shrinks has stopped, no count of moves is above it
 pub paid_ahead : {n : ℕ} {counts : Counts} → counts.moved < 2 ^ 64 → IsAhead n counts → IsPaid n counts
 paid_ahead {n} {counts} moved ahead = record { moved = go (dec_lt counts.shrunk (2 ^ 64 - 1)); ahead = ahead }
   where
@@ -18,7 +17,6 @@ paid_ahead {n} {counts} moved ahead = record { moved = go (dec_lt counts.shrunk 
     go (no ge) = omega (arith, moved, ge)
 
 module _ {K V S H : Type 0} where
-  -- a change that pays for its moves keeps the bound, if counts that cannot rise are as large as they can be
   pub paid_after : {anew : ℕ} (old new : State K V S H) → Pays anew old new → new.counts.moved < 2 ^ 64
       → buckets new < 2 ^ 63 → IsPaid (potential old) old.counts → IsPaid (potential new) new.counts
   paid_after {anew} old new p moved addressable paid = paid_ahead moved
@@ -29,7 +27,6 @@ module _ {K V S H : Type 0} where
       go below (yes lt) = omega (arith, p.moved lt, p.shrunk, below, paid.ahead (omega (arith, p.shrunk, below)))
       go below (no ge) = omega (arith, moved, addressable, full_capacity-at_most (buckets new))
 
-  -- what leaves costs nothing
   pub leaves_paid : (old : State K V S H) (left : Contents K V S) (new : State K V S H) → Leaves old left new
       → IsPaid (potential old) old.counts → IsPaid (potential new) new.counts
   leaves_paid old left new l paid =
@@ -50,7 +47,6 @@ module _ {K V S H : Type 0} where
 
   module _ (rules : Rules K V S) (P : S → Type 0) (more anew : ℕ) (old new : State K V S H)
       (t : Tables rules P more anew old new) where
-    -- a call pays for what it moves
     pub stays_paid : IsSized old → IsPaid (potential old) old.counts → IsPaid (potential new) new.counts
     stays_paid ok paid = paid_after old new (t.pays (bounded_of old ok)) (t.moved ok.moved) (addressable t.count) paid
       where

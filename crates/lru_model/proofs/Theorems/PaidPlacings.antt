@@ -131,7 +131,6 @@ module _ {K V S H I : Type 0} {rules : Rules K V S} {offers : Offers K V S I} {n
 
 module _ {K V S H : Type 0} (rules : Rules K V S) (n : ℕ) (old : State K V S H) (ok : IsSized old)
     (full : room old ≡ 0) where
-  -- without growth left the potential is the full capacity, and a reservation leaves none
   pub reserve_none : (result : Result (Unit {0}) _) (new : State K V S H) → Reserve rules n old result new
       → StoresNone old new
   reserve_none result new (unchanged why e) = rw e (calm_none old old (self_calm old))

@@ -191,7 +191,6 @@ module _ {K V S H I : Type 0} {rules : Rules K V S} {offers : Offers K V S I} {n
       (plain_leaves (noted before old) (noted after new) _ _ refl leaves)
   plain_update (not_there none r e) = not_there none r (ap plain e)
 
--- and so is a trim
 pub plain_trims : {K V S H : Type 0} (rules : Rules K V S) (before after : List (K × V)) (old new : State K V S H)
     → Trims (noting rules) (noted before old) (noted after new) → Trims rules old new
 plain_trims rules before after old new step = plain_leaves (noted before old) (noted after new) _

@@ -33,7 +33,6 @@ module _ {K V S H : Type 0} where
     moved = λ h. omega (arith, p.moved h);
   }
 
-  -- one after another
   pub moves_paid_self : (st : State K V S H) → PaysForMoves st st
   moves_paid_self st = record { placed = omega arith; shrunk = omega arith; moved = λ h below. omega arith }
 
@@ -56,7 +55,6 @@ module _ {K V S H : Type 0} where
     moved = λ h. omega (arith, p.placed, q.placed, p.moved (omega (arith, q.placed)), q.moved h);
   }
 
-  -- no count of moves changes, and the potential does not rise
   pub pays_calm : (old new : State K V S H) → old.counts.shrunk < 2 ^ 64
       → record new.counts { placings = old.counts.placings } ≡ old.counts
       → potential new ≤ potential old → Pays 0 old new
@@ -67,7 +65,6 @@ module _ {K V S H : Type 0} where
         moved = λ _. omega arith;
       }
 
-  -- a pair is placed
   pub pays_placing : (old new : State K V S H) (moves : ℕ) → old.counts.placed < 2 ^ 64 → old.counts.shrunk < 2 ^ 64
       → new.counts ≡ count_insert moves old.counts → moves + potential new ≤ potential old + 2 → Pays 0 old new
   pays_placing old new moves bound few e f =
@@ -97,6 +94,5 @@ module _ {K V S H : Type 0} where
     shrunk = ok.shrunk;
   }
 
-  -- with pairs there are buckets
   pub no_buckets : (st : State K V S H) → IsBounded st → 0 < length st.pairs → buckets st ≡ 0 → ⊥
   no_buckets st ok some none = omega (arith, some, ok.fits, none, full_capacity-at_most (buckets st))

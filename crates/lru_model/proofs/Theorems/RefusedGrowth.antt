@@ -41,7 +41,6 @@ module _ {K V S H : Type 0} (rules : Rules K V S) (hash_of : H → K → ℕ) (p
   left_if st new count spare moves no_memory o h = ap (λ x. x.pairs) h
   left_if st new count spare moves refused o h = absurd h
 
-  -- what the limiter grants is not refused
   not_granted : {A : Type 0} (count bytes : ℕ) → table_for 1 old ≡ new_table count bytes → Grants rules bytes old
       → (mid : State K V S H) → CannotGrow rules old mid → A
   not_granted count bytes t g mid (no_target u e) = absurd (no (sym t ∙ u))
@@ -54,7 +53,6 @@ module _ {K V S H : Type 0} (rules : Rules K V S) (hash_of : H → K → ℕ) (p
       same : new_table count bytes ≡ new_table count' bytes' → bytes ≡ bytes'
       same h = grind arith
 
-  -- how many are left after n of the oldest left
   pub left_length : (n : ℕ) (mid left : State K V S H) → CannotGrow rules old mid
       → OldestEvicted rules (hash_of old.hasher pair.0) n mid left
       → length left.pairs ≡ length old.pairs - n
@@ -82,7 +80,6 @@ module _ {K V S H : Type 0} (rules : Rules K V S) (hash_of : H → K → ℕ) (p
     },
   )
 
-  -- a pair is stored with all others, or growth is refused and the oldest are evicted
   pub place_keeps : (outcome : Outcome) (new : State K V S H) → outcome ≡ placed
       → Place rules hash_of pair old outcome new → KeepsAll new ⊎ (IsRefusedGrowth rules old × GivesWay new)
   place_keeps outcome new q (in_bucket l f s o n) = inl
@@ -110,7 +107,6 @@ module _ {K V S H : Type 0} (rules : Rules K V S) (hash_of : H → K → ℕ) (p
       eviction_keeps_half (some, b.no_bucket.no_room) b.above_half mid c n one left gone new
       (λ taken. omega (arith, half, taken)) (ap (λ st. st.pairs) p.state) p.table
 
-  -- if memory runs out after that, at least one fewer than half are left
   pub place_runs_out_half : IsRefusedGrowth rules old → (outcome : Outcome) (new : State K V S H) → outcome ≡ no_memory
       → Place rules hash_of pair old outcome new
       → full_capacity (buckets old) / 2 ≤ length new.pairs + 1
@@ -125,7 +121,6 @@ module _ {K V S H : Type 0} (rules : Rules K V S) (hash_of : H → K → ℕ) (p
   place_runs_out_half refusal outcome new q (not_grown b mid c (rehashes some n pos one half left gone m)) =
       omega (arith, ap length (left_if left new _ _ _ outcome q m), left_length n mid left c gone, half)
 
-  -- if memory runs out, all pairs are left, or growth was refused
   pub place_runs_out_keeps : (outcome : Outcome) (new : State K V S H) → outcome ≡ no_memory
       → Place rules hash_of pair old outcome new → (new.pairs ≡ old.pairs) ⊎ IsRefusedGrowth rules old
   place_runs_out_keeps outcome new q (in_bucket l f s o n) = placed-not_no_memory (sym o ∙ q)

@@ -15,7 +15,6 @@ use Rattle.lru_model.specs.declared.results.ReserveError.{ReserveError}
 use Rattle.lru_model.proofs.TableSizes.NextTable.{larger_takes}
 use Rattle.lru_model.proofs.TableSizes.Growth.{least_power_at_least, least_power_shape, table_with_is, target-same}
 
--- the buckets that some pairs need take them
 buckets_take : (max c n : ℕ) → buckets_for max c ≡ Some n → c ≤ full_capacity n
 unfolding buckets_for
 buckets_take max c n =
@@ -44,7 +43,6 @@ full_capacity-mono : (a b : ℕ) → a ≤ b → full_capacity a ≤ full_capaci
 unfolding full_capacity
 full_capacity-mono a b h = grind (arith, nat_tests)
 
--- and so does a new table
 pub target_takes : (max e b c n bytes : ℕ) → full_capacity b ≤ full_capacity n → target max e b c ≡ new_table n bytes → c
     ≤ full_capacity n
 unfolding target
@@ -64,7 +62,6 @@ target_takes max e b c n bytes larger = from (buckets_for max c) refl
         split false false f h = omega (arith, buckets_take max c need q, full_capacity-mono need b (f refl), larger)
 
 module _ {K V S H : Type 0} (rules : Rules K V S) (n : ℕ) (old : State K V S H) where
-  -- the pairs stay, and the counts
   pub reserved_list : (result : Result (Unit {0}) ReserveError) (new : State K V S H) → Reserve rules n old result new
       → (new.pairs ≡ old.pairs) × (new.counts.moved ≡ old.counts.moved) × (new.counts.placed ≡ old.counts.placed)
       × (new.counts.shrunk ≡ old.counts.shrunk)
@@ -83,7 +80,6 @@ module _ {K V S H : Type 0} (rules : Rules K V S) (n : ℕ) (old : State K V S H
   )
   reserved_list result new (asked_only l count bytes t f e) = rw e (refl, refl, refl, refl)
 
-  -- there is enough growth left after an `Ok`
   pub makes_room : (new : State K V S H) → IsSized old → Reserve rules n old (Ok tt) new → n ≤ room new
   makes_room new ok (unchanged (enough_room s l r) e) = rw e s
   makes_room new ok (unchanged (too_many l r) e) = absurd cc

@@ -9,7 +9,6 @@ use Rattle.lru_model.proofs.Theorems.Moves.{Keeps}
 use Rattle.lru_model.proofs.Theorems.Sums.{total}
 
 module _ {K V S : Type 0} (rules : Rules K V S) where
-  -- no greater total than was asked
   pub total-retained : (f : K × V → ℕ) (asked : List ((K × V) × Bool)) (s : S)
       → total f (retained rules asked s).pairs ≤ total f (map (λ one. one.0) asked)
   total-retained f [] s = omega arith

@@ -68,7 +68,6 @@ module _ {K V S H I : Type 0} (rules : Rules K V S) (offers : Offers K V S I) (n
     is_added w absent some = added_if_fits (λ ready same marks outcome landed.
         place_with_room rules pair ready hash_of (omega (arith, ap room_of marks, some)) outcome landed) w absent
 
-    -- without growth left, too, if the first free bucket that a search for the key meets is deleted
     pub deleted_adds : AcceptsNew rules offers names i v (contents old) pair → lookup_entry (names i) old.pairs ≡ None
         → HasPairsButNoGrowth old → FirstFreeIs deleted (hash_of old.hasher pair.0) old.table.marks
         → Insert rules offers names hash_of i v old result new → IsAdded rules offers names i v pair old result new

@@ -16,7 +16,6 @@ use Rattle.lru_model.specs.RunEvictions.{EachStep, InsertEvictsOldest}
 use Rattle.lru_model.proofs.PairLists.NamedPairs.{lookup-entry}
 use Rattle.lru_model.proofs.Theorems.Fronts.{found_named, front_self, insert_evicts}
 
--- a promotion evicts nothing
 front_evicts : {K V : Type 0} (names : K → Bool) (refuses : K × V → Type 0) (xs : List (K × V)) (w : V)
     → lookup names xs ≡ Some w → EvictsOldest names refuses xs (front names xs)
 front_evicts {K} {V} names refuses xs w e = go (lookup_entry names xs) refl (sym (lookup-entry names xs) ∙ e)

@@ -14,7 +14,6 @@ use Rattle.lru_model.proofs.Theorems.Runs.{step_changes}
 
 module _ {K V S H : Type 0} (rules : Rules K V S) (offers : Offers K V S K) (names : K → K → Bool)
     (hash_of : H → K → ℕ) where
-  -- a run of calls is one in which nothing is written
   pub nothing_written : {new : State K V S H} (old : State K V S H) → Run (Step rules offers names hash_of) new old
       → Run (StepOrWrite rules offers names hash_of) new old
   nothing_written old ends = ends
@@ -22,13 +21,11 @@ module _ {K V S H : Type 0} (rules : Rules K V S) (offers : Offers K V S K) (nam
 
 module _ {K V S H I : Type 0} (rules : Rules K V S) (offers : Offers K V S I) (names : I → K → Bool)
     (hash_of : H → K → ℕ) (cost : K → V → ℕ) where
-  -- a run of calls is one in which no write changes a cost,
   pub no_cost_written : {new : State K V S H} (old : State K V S H) → Run (Step rules offers names hash_of) new old
       → Run (StepOrKeptWrite rules offers names hash_of cost) new old
   no_cost_written old ends = ends
   no_cost_written old (goes_on mid step sized run) = goes_on mid (inl step) sized (no_cost_written mid run)
 
-  -- and such a run is one of calls and writes
   pub kept_written : {new : State K V S H} (old : State K V S H)
       → Run (StepOrKeptWrite rules offers names hash_of cost) new old → Run (StepOrWrite rules offers names hash_of) new old
   kept_written old ends = ends

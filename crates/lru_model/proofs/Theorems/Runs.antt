@@ -63,20 +63,17 @@ module _ {K V S H I : Type 0} {rules : Rules K V S} {offers : Offers K V S I} {n
     any_changes write set old new (sets_limiter s e) = rw e
         (_, _, inl refl, set_changes rules R old s (set (contents old) s))
 
-  -- no call changes what builds the hashers, how far links reach, and what a bucket takes
   pub any_step_same : (old new : State K V S H) → AnyStep rules offers names hash_of old new
       → (new.hasher ≡ old.hasher) × (new.max ≡ old.max) × (new.entry_bytes ≡ old.entry_bytes)
   any_step_same old new s =
       let tables = (any_changes keeps_nothing (λ c test value. tt) (λ c s. tt) old new s).3.tables in
       (tables.hasher, tables.max, tables.entry_bytes)
 
-  -- each call pays for what it moves,
   pub any_pays : (old new : State K V S H) → AnyStep rules offers names hash_of old new → IsSized old
       → PaysForMoves old new
   any_pays old new s ok = pays_for_moves ok.shrunk
       ((any_changes keeps_nothing (λ c test value. tt) (λ c s. tt) old new s).3.tables.pays (bounded_of old ok))
 
-  -- and by what it stores alone, unless it is a shrink
   pub any_stores : (old new : State K V S H) → AnyStep rules offers names hash_of old new → IsSized old
       → PaysByStoring old new ⊎ Shrink old (Ok true) new
   any_stores old new s ok =
@@ -97,7 +94,6 @@ module _ {K V S H I : Type 0} {rules : Rules K V S} {offers : Offers K V S I} {n
       → IsSummed cost account old → IsSummed cost account new
   step_summed laws old new s = stays_summed laws old new (step_changes (keeps_sums laws names) old new s).3.moves
 
-  -- and so does a call, or a write that keeps the cost
   pub kept_summed : {cost : K → V → ℕ} {account : S → ℕ} → IsAccount rules offers cost account
       → (old new : State K V S H) → StepOrKeptWrite rules offers names hash_of cost old new
       → IsSummed cost account old → IsSummed cost account new

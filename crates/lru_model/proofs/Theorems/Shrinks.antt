@@ -17,7 +17,6 @@ use Rattle.lru_model.proofs.Theorems.TableGrowth.{Changes, self_calm, calm_chang
 use Rattle.lru_model.proofs.Theorems.Potential.{Pays}
 
 module _ {K V S H : Type 0} (old : State K V S H) where
-  -- the pairs stay, and the limiter, and what inserts counted
   pub shrunk_list : (result : Result Bool AllocError) (new : State K V S H) → Shrink old result new
       → (new.pairs ≡ old.pairs) × (new.limiter ≡ old.limiter) × (new.counts.moved ≡ old.counts.moved)
       × (new.counts.placed ≡ old.counts.placed)
@@ -36,7 +35,6 @@ module _ {K V S H : Type 0} (old : State K V S H) where
   shrink_contents result new (shrunk count l r m) = ap contents m.state
   shrink_contents result new (no_memory_to_shrink count l some r e) = ap contents e
 
-  -- each pair that moves is counted, and the potential is at most their number then
   pub moved_pays : (count : ℕ) (new : State K V S H) → MovesTo count (shrink_counted old) new
       → Pays (length old.pairs) old new
   moved_pays count new m = record {
@@ -89,7 +87,6 @@ module _ {K V S H : Type 0} (old : State K V S H) where
         omega (arith, fewer.2, uses.2),
       )
 
-  -- what has moved has no more buckets than hold it
   pub shrink_again : (mid : State K V S H) (result : Result Bool AllocError) (new : State K V S H)
       → Shrink old (Ok true) mid → Shrink mid result new → result ≡ Ok false
   shrink_again mid result new (kept t r e) step = absurd cc

@@ -125,7 +125,6 @@ module _ {K V S H : Type 0} where
   shrink_is old result new (no_memory_to_shrink count l some r e) =
       rw (l.0, lt-ltb count (buckets old) l.1, r, said_err result r) (ap (λ st. (None, shape st)) (sym e))
 
-  -- two shrinks of maps that look alike, if both find memory or neither does
   pub shrinks_look_alike : (old other new last : State K V S H) → LookAlike old other
       → (result answer : Result Bool AllocError) → is_err result ≡ is_err answer → Shrink old result new
       → Shrink other answer last → (result ≡ answer) × LookAlike new last

@@ -31,7 +31,6 @@ module _ {K V S H : Type 0} where
   abbrev pub shape : State K V S H → Shape K V S H
   shape st = record { count = buckets st; spare = room st; bare = record st { table = empty_table } }
 
-  -- maps look alike exactly if they have the same shape
   pub same_shape : {st other : State K V S H} → LookAlike st other → shape other ≡ shape st
   same_shape a =
       (λ j. record { count = a.table j; spare = a.room j; bare = record (a.state j) { table = empty_table } })
@@ -75,7 +74,6 @@ module _ {K V S H : Type 0} where
   landed_shape pair count spare moves st new p =
       (λ j. record { count = p.table j; spare = p.room_left j; bare = record (p.state j) { table = empty_table } })
 
-  -- up to 16 buckets an empty one is filled
   fills_one : (hash : ℕ) (old new : State K V S H) → buckets old ≤ 16 → FillsBucket hash old.table new.table
       → room new + 1 ≡ room old
   fills_one hash old new small fills =
@@ -200,7 +198,6 @@ module _ {K V S H : Type 0} (rules : Rules K V S) (hash_of : H → K → ℕ) (p
       lt-leb (length old.pairs + 1) (full_capacity (buckets old) / 2) b.above_half,
     ) refl
 
-    -- a placing makes this of the shape
     pub place_is : (outcome : Outcome) (new : State K V S H) → Place rules hash_of pair old outcome new
         → place_in rules pair (is_no_memory outcome) (shape old) ≡ (outcome, shape new)
     place_is outcome new (in_bucket l f s o n) = let spends = fills_one _ old new small s in

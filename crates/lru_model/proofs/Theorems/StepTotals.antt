@@ -69,7 +69,6 @@ module _ {K V S H I : Type 0} (f : K × V → ℕ) {rules : Rules K V S} {offers
           ap (total f) each,
         ))
 
-  -- and neither does one of these, or the limiter is not over its limit then
   pub step_total : Step rules offers names hash_of old new
       → IsWithin rules (contents new) ⊎ (total f new.pairs ≤ total f old.pairs)
   step_total = step_ends (λ k v result h. insert_within f h) (λ k v result h. update_within f result h) inr

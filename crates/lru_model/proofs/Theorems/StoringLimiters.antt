@@ -15,7 +15,6 @@ use Rattle.lru_model.specs.Theorems.{Stores, left, given}
 use Rattle.lru_model.specs.Kept.{ChangesNoPair, AcceptsNew, stored_key}
 use Rattle.lru_model.proofs.Theorems.Fronts.{found_named}
 
--- a limiter that ignores its notifications changes no pair, nor do `ByWeight` and `ByCost`
 pub plain-changes_none : {K V S : Type 0} (over grants : S → ℕ → Bool) → ChangesNoPair
     (plain {K = K} {V = V} over grants)
 plain-changes_none over grants = record { key = λ s k v. refl; value = λ s k v. refl }
@@ -28,7 +27,6 @@ by_cost-changes_none cost = by_weight-changes_none (λ k v. cost v)
 
 module _ {K V S : Type 0} (rules : Rules K V S) (admits : S → K → V → Bool) (eq : K → K → Bool) (key : K)
     (value : V) where
-  -- a limiter that stores pairs as they come accepts a pair, if it admits that and is not over with one more
   pub offers_if-accepts : (c : Contents K V S) → admits c.limiter key value ≡ true
       → rules.is_over_the_limit c.limiter (length c.pairs + 1) ≡ false
       → AcceptsNew rules (offers_if admits) eq key value c (key, value)
@@ -60,7 +58,6 @@ pub charges-accepts : {K V : Type 0} (cost : V → ℕ) (eq : K → K → Bool) 
     → AcceptsNew (by_cost cost) (charges cost) eq key value c (key, value)
 charges-accepts cost = weighs-accepts (λ k v. cost v)
 
--- a key that equals no other key is stored as it came
 pub stored_key-same : {K V : Type 0} (names : K → Bool) (key : K) (pairs : List (K × V))
     → ((k : K) → names k ≡ true → key ≡ k) → stored_key names key pairs ≡ key
 stored_key-same {K} {V} names key pairs one = go (lookup_entry names pairs) refl
@@ -69,7 +66,6 @@ stored_key-same {K} {V} names key pairs one = go (lookup_entry names pairs) refl
     go None e = refl
     go (Some was) e = sym (one was.0 (found_named names pairs was e))
 
--- and a limiter that stores pairs as they come stores it with its value
 pub stored-came : {K V S H : Type 0} (rules : Rules K V S) (admits : S → K → V → Bool) (eq : K → K → Bool) (key : K)
     (value : V) (old : State K V S H) (pair : K × V) → ((k : K) → eq key k ≡ true → key ≡ k)
     → Stores rules (offers_if admits) eq key value old pair → pair ≡ (key, value)

@@ -25,7 +25,6 @@ module _ {X : Type 0} (f : X → ℕ) where
   total-append [] ys = omega arith
   total-append (x ∷ xs) ys = omega (arith, total-append xs ys)
 
-  -- the total of a front part is at most the total of the list
   pub total-least : (xs ys : List X) → IsFront xs ys → total xs ≤ total ys
   total-least xs ys h = omega (arith, ap total h.1, total-append xs h.0)
 
@@ -55,7 +54,6 @@ module _ {X : Type 0} (f : X → ℕ) where
   pub split_between : (newer older : List X) (x : X) → IsSplit (newer ++ x ∷ older) (Some x) (newer ++ older)
   split_between newer older x = omega (arith, total-append newer (x ∷ older), total-append newer older)
 
--- the number of elements is a total
 pub total-one : {X : Type 0} (xs : List X) → total (λ _. 1) xs ≡ length xs
 total-one [] = refl
 total-one (x ∷ xs) = omega (arith, total-one xs)
@@ -86,7 +84,6 @@ module _ {K V : Type 0} (cost : K × V → ℕ) (names : K → Bool) where
       go None ys h = omega (arith, total-append cost ys [], ap (total cost) h)
       go (Some x) ys h = omega (arith, total-append cost ys (x ∷ []), h)
 
-  -- the others, and the pair that is written
   pub total-set_entry : (q pair : K × V) (xs : List (K × V)) → lookup_entry names xs ≡ Some pair
       → total cost (set_entry names q xs) ≡ cost q + total cost (without names xs)
   total-set_entry q pair [] found = absurd (none-some pair found)
@@ -116,7 +113,6 @@ module _ {K V : Type 0} (cost : K × V → ℕ) (names : K → Bool) (v : V) whe
       go true keeps later = ap (λ n. n + total cost xs) keeps
       go false keeps later = ap (λ n. cost x + n) (later keeps)
 
-  -- then it keeps the sum
   pub sum-set : (xs : List (K × V)) → KeepsPair xs → sum_by cost (set_value names xs v) ≡ sum_by cost xs
   sum-set xs keeps = sym (total-is cost (set_value names xs v)) ∙ total-set xs keeps ∙ total-is cost xs
 
@@ -126,7 +122,6 @@ module _ {K V S I : Type 0} {rules : Rules K V S} {offers : Offers K V S I} {cos
   abbrev Holds : Contents K V S → Type 0
   Holds c = account c.limiter ≡ total (λ p. cost p.0 p.1) c.pairs
 
-  -- the cost of a pair that leaves is taken off
   notified_holds : (xs ys : List (K × V)) (o : Option (K × V)) (s : S) → IsSplit (λ p. cost p.0 p.1) xs o ys → account s
       ≡ total (λ p. cost p.0 p.1) xs → account (notified_of rules o s) ≡ total (λ p. cost p.0 p.1) ys
   notified_holds xs ys None s h e = e ∙ ap (total (λ p. cost p.0 p.1)) (sym h)
@@ -167,7 +162,6 @@ module _ {K V S I : Type 0} {rules : Rules K V S} {offers : Offers K V S I} {cos
     rewritten = rewritten_holds names;
   }
 
-  -- what makes these moves keeps the running total the sum of the costs
   pub stays_summed : {H : Type 0} (old new : State K V S H) → (Holds (contents old) → Holds (contents new))
       → IsSummed cost account old → IsSummed cost account new
   stays_summed old new r h = r (h ∙ omega (arith, total-is (λ p. cost p.0 p.1) old.pairs))

@@ -24,7 +24,6 @@ module _ {K V S H : Type 0} where
     pub fits : length old.pairs + room old ≤ full_capacity (buckets old) → length new.pairs + room new
         ≤ full_capacity (buckets old)
 
-  -- another limiter
   pub limiter_calm : (st : State K V S H) (s : S) → Calm st (record st { limiter = s })
   limiter_calm st s = record {
     hasher = refl;
@@ -65,7 +64,6 @@ module _ {K V S H : Type 0} where
     fits = λ h. omega (arith, h, l.room.at_most);
   }
 
-  -- what follows a placing
   pub settles_calm : (rules : Rules K V S) (outcome : Outcome) (landed : State K V S H)
       (result : Result Bool AllocError) (new : State K V S H)
       → Settles rules outcome landed result new → Calm landed new

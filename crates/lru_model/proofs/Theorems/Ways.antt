@@ -119,7 +119,6 @@ module _ {K V S H : Type 0} (rules : Rules K V S) (R : Contents K V S → Conten
   known mid (no_target t e) = rw e (self, self_calm old)
   known mid (denied count bytes t d e) = rw e (k.asked bytes (contents old), limiter_calm old _)
 
-  -- Storing a pair makes room for it first.
   pub place_lands : (outcome : Outcome) (new : State K V S H) → Place rules hash_of pair old outcome new
       → Ends outcome new
   place_lands outcome new (in_bucket l f s o n) = fills outcome new _ o n (λ ok. spends s)
@@ -141,7 +140,6 @@ module _ {K V S H : Type 0} (rules : Rules K V S) (R : Contents K V S → Conten
       }))
       (λ ok. large ok ok.count) (λ ok h. small ok ok.count)
     where
-      -- the first table has 4 buckets
       first : IsBounded old → buckets old ≡ 0 → (count ≡ 4) × (length old.pairs ≡ 0)
       first ok none =
           let no_pairs : length old.pairs ≡ 0 = omega (arith, ok.fits, none, full_capacity-at_most (buckets old)) in (
@@ -200,7 +198,6 @@ module _ {K V S H : Type 0} (rules : Rules K V S) (R : Contents K V S → Conten
   place_tables outcome new p = let m = place_lands outcome new p in
       lands_tables rules P pair old outcome m.mid new m.calm m.lands
 
--- if the pair is placed, there are pairs
 pub placed_some : {K V S H : Type 0} (rules : Rules K V S) (hash_of : H → K → ℕ) (pair : K × V)
     (old new : State K V S H) → Place rules hash_of pair old placed new → 0 < length new.pairs
 placed_some rules hash_of pair old new p =
@@ -259,7 +256,6 @@ module _ {K V S H I : Type 0} {rules : Rules K V S} {offers : Offers K V S I} {n
         limiter = (replacement rules offers names pair i v (contents old)).limiter;
       })) e r
 
-  -- what each move keeps, an update keeps
   pub update_changes : (result : Updated V) (new : State K V S H) → Update rules offers names i v old result new
       → Changes rules R 0 0 old new
   update_changes result new (updated pair found y r l) =
@@ -273,7 +269,6 @@ module _ {K V S H I : Type 0} {rules : Rules K V S} {offers : Offers K V S I} {n
   update_changes result new (not_there a r e) = rw e
       (calm_changes rules R 0 old old (self_calm old) (k.keeps.way.self (contents old)))
 
-  -- and so does an insert
   pub insert_changes : {hash_of : H → K → ℕ} (result : Result Bool AllocError) (new : State K V S H)
       → Insert rules offers names hash_of i v old result new → Changes rules R 1 0 old new
   insert_changes result new (replaced pair found y r l) =

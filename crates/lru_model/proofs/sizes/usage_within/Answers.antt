@@ -12,7 +12,6 @@ use Rattle.lru_model.proofs.sizes.usage_within.Goals.{then-buckets-max+in_defaul
 pub loop-k-init : goal.loop-k-init
 loop-k-init c = best_none c.args.max c.args.entry_bytes c.args.budget
 
--- the shift loses nothing
 size : (k : ℕ) → k < 62 → 4 * 2 ^ k % 2 ^ 64 ≡ 4 * 2 ^ k
 size k few = let least : 2 ^ k ≤ 2 ^ 61 = pow_mono {i = k} {j = 61} (omega (arith, few)) in
     mod-eq_of_lt (omega (arith, least))
