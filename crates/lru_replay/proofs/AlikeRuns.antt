@@ -42,7 +42,6 @@ use Rattle.lru_replay.proofs.ListRuns.{same_hasher, update_is}
 use Rattle.lru_replay.proofs.Wants.{head_same, tail_same, is_alone, is_short, wants_memory, given_wants, given_tells}
 use Rattle.lru_replay.proofs.Wants.{insert_wants, made_wants, reserved_wants, shrunk_wants}
 
--- a plain search finds the same in the same pairs
 found_alike : {K V : Type 0} (eq : K → K → Bool) (hash_of : K → ℕ)
     → ((k l : K) → IsTrue (eq k l) → hash_of k ≡ hash_of l) → (hash : ℕ) (key : K) (pairs : List (K × V))
     → (hash_tag (hash_of key) ≡ hash_tag hash → hash_of key ≡ hash) → (result other : Option V)
@@ -57,7 +56,6 @@ found_alike eq hash_of respects hash key pairs plain result other (not_found n r
     absurd (n q f (sym own ∙ plain (ap hash_tag own ∙ u)))
 found_alike eq hash_of respects hash key pairs plain result other (not_found n r) (not_found m s) = r ∙ sym s
 
--- what an update makes of the shape
 update_shape : {K V S H : Type 0} {rules : Rules K V S} {offers : Offers K V S K} {eq : K → K → Bool} {key : K} {v : V}
     {result : Updated V} (old new : State K V S H) → buckets old ≤ 16 → Update rules offers eq key v old result new
     → shape new ≡ with_left (updated_in_list rules offers eq key v (contents old)).1 (shape old)
@@ -67,7 +65,6 @@ update_shape old new small (not_there none r e) =
     let spare : (shape old).spare ≡ (shape old).spare + length old.pairs - length old.pairs = omega arith in
     rw none (ap shape e ∙ ap (λ n. record (shape old) { spare = n }) spare)
 
--- two maps of one shape have the same figures
 figures_alike : {K V S H : Type 0} (old other : State K V S H) (a b : Figures) → LookAlike old other
     → IsFigures old a → IsFigures other b → a ≡ b
 figures_alike old other a b alike f g =
@@ -102,14 +99,12 @@ module _ {K V S H : Type 0} (rules : Rules K V S) (offers : Offers K V S K) (eq 
 
   module _ (law : InsertsAlike) (determined : IsDetermined offers) (never : NeverRunsOut offers)
       (respects : (h : H) (k l : K) → IsTrue (eq k l) → hash_of h k ≡ hash_of h l) where
-    -- with a list the offers leave nothing more open
     noting_determined : IsDetermined (noting_offers offers)
     noting_determined s n i v t u x y h k =
         let same = determined s.0 n i v t.0 u.0 x y h.0 k.0 in
         let list = h.1 ∙ sym k.1 in
         ((λ j. (same.0 j, list j)), same.1)
 
-    -- maps whose limiters come with the same list look alike, and do without it
     noted_alike : (list : List (K × V)) (st st' : State K V S H) → LookAlike st st'
         → LookAlike (noted list st) (noted list st')
     noted_alike list st st' alike =
@@ -131,7 +126,6 @@ module _ {K V S H : Type 0} (rules : Rules K V S) (offers : Offers K V S K) (eq 
       same_pairs : other.pairs ≡ old.pairs
       same_pairs = ap (λ st. st.pairs) alike.state
 
-      -- a call that the shape determines
       replies_by : (R : Shape K V S H → Reply K V) (F : Shape K V S H → Shape K V S H) → reply ≡ R (shape old)
           → shape new ≡ F (shape old) → answer ≡ R (shape other) → shape last ≡ F (shape other) → AreAlike
       replies_by R F r n a l =
@@ -310,7 +304,6 @@ module _ {K V S H : Type 0} (rules : Rules K V S) (offers : Offers K V S K) (eq 
       step_alike wants (calls.SetLimiter s) plain (is, e) (is', e') = replies_by (λ sh. done)
           (λ sh. record sh { bare = record sh.bare { limiter = s } }) is (ap shape e) is' (ap shape e')
 
-    -- a call that stores pairs and finds memory for them returns more than a lack of memory
     stored_tells : (old new : State K V S H) (call : Call K V S) (reply : Reply K V) → StoresPairs call
         → ReplyStep rules offers eq hash_of old call reply new → is_alone (memory_report reply) ≡ false
     stored_tells old new (calls.InsertWith k v) reply stores (result, out, h, is) =

@@ -33,7 +33,6 @@ module _ {S : Type 0} {rules : Rules ℕ ℕ S} {offers : Offers ℕ ℕ S ℕ} 
     {r₀ r₁ w₀ w₁ : Option (List ℕ)} (so_far : RunsSoFar rules offers reported old r₀ r₁ w₀ w₁ now)
     (r₂ : Option (List ℕ))
     (line : List ℕ) where
-  -- a read failed in the next line
   pub read_failed : TakesPart r₁ r₂ line → Answers (IsTextOf rules offers reported old) r₀ r₂ w₀ w₁ (Err errors.Read)
   read_failed part = (
     so_far.lines,
@@ -44,7 +43,6 @@ module _ {S : Type 0} {rules : Rules ℕ ℕ S} {offers : Offers ℕ ℕ S ℕ} 
     so_far.wrote,
   )
 
-  -- the input's end came after a line feed
   pub all_answered : TakesRest r₁ r₂ line → line ≡ [] → Answers (IsTextOf rules offers reported old) r₀ r₂ w₀ w₁ (Ok tt)
   all_answered taken none = (
     IfSome_then r₀ (lines_at_end r₀ r₁ r₂ so_far.lines line so_far.reads taken) (λ input all. (
@@ -60,13 +58,11 @@ module _ {S : Type 0} {rules : Rules ℕ ℕ S} {offers : Offers ℕ ℕ S ℕ} 
   )
 
   module _ (new : Map S) (w₂ : Option (List ℕ)) (sized : IsSized new) where
-    -- the run with one line more
     run_on : (next : List ℕ) → LineStep rules offers reported now line next new
         → IsLineRun rules offers reported old (so_far.lines ++ line ∷ []) (so_far.text ++ fed next) new
     run_on next step = line_run-append rules offers reported old so_far.lines so_far.text now (line ∷ []) (fed next) new
         so_far.run (line_run-one rules offers reported now line next new step sized)
 
-    -- a line with its line feed was answered
     pub line_answered : TakesFed r₁ r₂ line → AnswersLine rules offers reported now line new w₁ w₂ (Ok tt)
         → RunsSoFar rules offers reported old r₀ r₂ w₀ w₂ new
     line_answered taken (next, step, answered) = record {
@@ -77,7 +73,6 @@ module _ {S : Type 0} {rules : Rules ℕ ℕ S} {offers : Offers ℕ ℕ S ℕ} 
       wrote = Appends-trans w₀ w₁ w₂ so_far.text (fed next) so_far.wrote answered;
     }
 
-    -- a write failed within its answer
     pub line_cut : (e : ReplayError) → TakesFed r₁ r₂ line → AnswersLine rules offers reported now line new w₁ w₂
         (Err e)
         → Answers (IsTextOf rules offers reported old) r₀ r₂ w₀ w₂ (Err e)

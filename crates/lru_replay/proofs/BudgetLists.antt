@@ -13,7 +13,6 @@ use Rattle.lru_replay.specs.BudgetReferences.{IsExact}
 use Rattle.lru_theory.specs.Budgets.{affordable}
 use Rattle.lru_theory.proofs.Affordable.{spent, affords_all}
 
--- if the keys cost more than n, the last one is not afforded
 pub fewer : {K : Type 0} (cost : K → ℕ) (n : ℕ) (keys : List K) → n < spent cost keys
     → affordable cost n (without_last keys) ≡ affordable cost n keys
 fewer cost n [] over = refl
@@ -31,7 +30,6 @@ module _ {K V : Type 0} (cost : V → ℕ) (value_of : K → V) where
   abbrev pub pair_of : K → K × V
   pair_of key = (key, value_of key)
 
-  -- what is found is a key with its value
   pub found_is : (test : K → Bool) (keys : List K) (p : K × V) → lookup_entry test (map pair_of keys) ≡ Some p
       → pair_of p.0 ≡ p
   found_is test [] p e = absurd cc
@@ -53,7 +51,6 @@ module _ {K V : Type 0} (cost : V → ℕ) (value_of : K → V) where
       go true e = refl
       go false e = ap (λ ps. pair_of x ∷ ps) e
 
-  -- if nothing is found, nothing is removed
   pub none_removed : (test : K → Bool) (keys : List K) → lookup_entry test (map pair_of keys) ≡ None
       → remove_key test keys ≡ keys
   none_removed test [] e = refl
@@ -65,7 +62,6 @@ module _ {K V : Type 0} (cost : V → ℕ) (value_of : K → V) where
       go true e later = absurd cc
       go false e later = ap (λ ks. x ∷ ks) (later e)
 
-  -- a key that is found costs what the keys cost more than the others
   pub spent_without : (eq : K → K → Bool) → IsExact eq → (key : K) (keys : List K) (p : K × V)
       → lookup_entry (eq key) (map pair_of keys) ≡ Some p
       → spent key_cost keys ≡ key_cost key + spent key_cost (remove_key (eq key) keys)
@@ -106,7 +102,6 @@ module _ {K V : Type 0} (cost : V → ℕ) (value_of : K → V) where
     taken_last (x ∷ []) = refl
     taken_last (x ∷ y ∷ keys) = ap (λ ps. pair_of x ∷ ps) (taken_last (y ∷ keys))
 
-    -- the oldest leaves
     pub popped : (more sum rest : ℕ) (key : K) (keys : List K) → sum ≡ more + spent key_cost (key ∷ keys)
         → rest ≡ more + spent key_cost (without_last (key ∷ keys))
         → pop (by_cost cost) (record { pairs = map pair_of (key ∷ keys); limiter = spending sum })
@@ -133,7 +128,6 @@ module _ {K V : Type 0} (cost : V → ℕ) (value_of : K → V) where
           (ap holding (sym (affords_all key_cost n (x ∷ keys) within)))
     ]
 
-    -- the oldest leave while they cost too much
     pub trimmed_is : (keys : List K) → trim (by_cost cost) (holding keys) ≡ holding (affordable key_cost n keys)
     unfolding trim
     trimmed_is keys = trimmed_from (length (map pair_of keys)) keys (sym (length-map keys pair_of))

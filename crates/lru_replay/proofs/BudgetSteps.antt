@@ -42,7 +42,6 @@ abbrev tail_of : {A : Type 0} → List A → List A
 tail_of [] = []
 tail_of (y ∷ ys) = ys
 
--- an offer that is accepted
 accepted : {K V S : Type 0} (accepts : Bool) (s more : S) (key : K) (v : V) (t : S) (given : Option (K × V))
     → accepts ≡ true → ReturnsPairIf accepts (cond accepts more s) key v t given → (t ≡ more) × (given ≡ Some (key, v))
 accepted true s more key v t given e h = (h.limiter, h.pair)
@@ -70,7 +69,6 @@ module _ {K V : Type 0} (cost : V → ℕ) (value_of : K → V) (n : ℕ) (fits 
   can sum c few cheap = rw (le-leb c n cheap, lt-ltb (sum + c) (2 ^ 64) (omega (arith, few, cheap, fits))) refl
 
   module _ (key : K) (keys : List K) (cheap : costs key ≤ n) (few : spent costs keys ≤ n) where
-    -- these keys with the new one in front
     in_front : (c : Left) (sum : ℕ) → c ≡ record {
       pairs = pair key ∷ map pair
           (remove_key (eq key) keys);
@@ -84,7 +82,6 @@ module _ {K V : Type 0} (cost : V → ℕ) (value_of : K → V) (n : ℕ) (fits 
         }) same)
         ∙ trimmed_is cost value_of n (key ∷ remove_key (eq key) keys)
 
-    -- the key is there
     there_ends : (p : K × V) → lookup_entry (eq key) (map pair keys) ≡ Some p
         → (ending_there (by_cost cost) (charges cost) eq (lands (by_cost cost)) key (value_of key) (held keys) p).left
         ≡ held (left_by key keys)
@@ -122,7 +119,6 @@ module _ {K V : Type 0} (cost : V → ℕ) (value_of : K → V) (n : ℕ) (fits 
       })) (omega arith)
       ∙ trimmed_is cost value_of n (key ∷ keys)
 
-  -- room is made for a new pair
   room_made : (key : K) (keys : List K) → costs key ≤ n
       → trim (by_cost cost) (onto key (make_room (by_cost cost) (offering key keys)))
       ≡ held (affordable costs n (key ∷ keys))
@@ -137,7 +133,6 @@ module _ {K V : Type 0} (cost : V → ℕ) (value_of : K → V) (n : ℕ) (fits 
     | inr within ↦ rw (le-ltb n (spent costs (x ∷ keys) + costs key) within) (fits_in key (x ∷ keys))
   ]
 
-  -- an insert of a key with its value
   insert_holds : (key : K) (keys : List K) (flag : Bool) (new : Left) → costs key ≤ n → spent costs keys ≤ n
       → InsertsInList (by_cost cost) (charges cost) eq key (value_of key) (held keys) (Ok flag) new
       → new ≡ held (left_by key keys)
@@ -161,7 +156,6 @@ module _ {K V : Type 0} (cost : V → ℕ) (value_of : K → V) (n : ℕ) (fits 
           ∙ room_made key keys cheap
           ∙ ap (λ ks. held (affordable costs n (key ∷ ks))) (sym (none_removed cost value_of (eq key) keys none))
 
-  -- a key that is there comes first
   fronted_holds : (key : K) (keys : List K) (p : K × V) → spent costs keys ≤ n
       → lookup_entry (eq key) (map pair keys) ≡ Some p
       → record (held keys) {
@@ -180,7 +174,6 @@ module _ {K V : Type 0} (cost : V → ℕ) (value_of : K → V) (n : ℕ) (fits 
       ∙ ap held (sym (affords_all costs n (key ∷ remove_key (eq key) keys) (omega (arith, all, few))))
 
   module _ (hash_of : K → ℕ) where
-    -- a reference that found memory
     call_holds : (call : Call K V Budget) (key : K) (keys : List K) (reply : Reply K V) (new : Left)
         → ListCallStep (by_cost cost) (charges cost) eq hash_of (held keys) call reply new
         → offered call ≡ Some (pair key) → memory_report reply ≡ found_all → costs key ≤ n
@@ -216,7 +209,6 @@ module _ {K V : Type 0} (cost : V → ℕ) (value_of : K → V) (n : ℕ) (fits 
         got (inr (none, is, same)) = absurd none
     call_holds call key keys reply new step e found cheap few = absurd (nothing e)
 
-    -- a run of references
     pub run_leaves : (Holds : Left → Type 0) (held_keys : List K) (old : Left) (calls : List (Call K V Budget))
         (replies : List (Reply K V)) (new : Left) (keys : List K)
         → IsRun (ListCallStep (by_cost cost) (charges cost) eq hash_of) Holds old calls replies new

@@ -9,26 +9,22 @@ pub short_front : (n : ℕ) (all s : List ℕ) → s ≡ take n all → length s
 short_front n all s e h = let k : length s ≡ length (take n all) = ap length e in e
     ∙ take_all n all (omega (arith, k, length-take n all))
 
--- one more byte is kept
 pub kept_more : (n : ℕ) (all s : List ℕ) (b : ℕ) → s ≡ take n all → length s < n → s ++ b ∷ [] ≡ take n (all ++ b ∷ [])
 kept_more n all s b e h =
     let same = short_front n all s e h in
     let fits : length (all ++ b ∷ []) ≤ n = simp length-append (omega (arith, ap length same)) in
     ap (λ l. l ++ b ∷ []) same ∙ sym (take_all n (all ++ b ∷ []) fits)
 
--- there is no room for more
 pub kept_full : (n : ℕ) (all s more : List ℕ) → s ≡ take n all → length s ≡ n → s ≡ take n (all ++ more)
 kept_full n all s more e h =
     let k : length s ≡ length (take n all) = ap length e in
     e ∙ sym (take-append-le n all more (omega (arith, k, length-take n all)))
 
--- what is kept of what is kept and more is kept of all
 pub kept_again : (n : ℕ) (all more : List ℕ) → take n (take n all ++ more) ≡ take n (all ++ more)
 kept_again zero all more = refl
 kept_again (suc n) [] more = refl
 kept_again (suc n) (b ∷ all) more = ap (λ l. b ∷ l) (kept_again n all more)
 
--- nothing is kept of nothing alone
 pub nothing_held : (n : ℕ) (all : List ℕ) → take (suc n) all ≡ (let none : List ℕ = [] in none) → all
     ≡ (let none : List ℕ = [] in none)
 nothing_held n [] e = refl
@@ -43,7 +39,6 @@ pub Lacks-append : (byte : ℕ) (xs ys : List ℕ) → Lacks byte xs → Lacks b
 Lacks-append byte [] ys p q = q
 Lacks-append byte (x ∷ xs) ys p q = (p.0, Lacks-append byte xs ys p.1 q)
 
--- the first place of a byte is one
 pub one_split : (byte : ℕ) (a b c d : List ℕ) → Lacks byte a → Lacks byte c → a ++ byte ∷ b ≡ c ++ byte ∷ d → (a ≡ c)
     × (b ≡ d)
 one_split byte [] b [] d p q e = (refl, cc)
@@ -60,7 +55,6 @@ pub Lacks-none : (byte : ℕ) (a b : List ℕ) → Lacks byte (a ++ byte ∷ b) 
 Lacks-none byte [] b p = p.0 refl
 Lacks-none byte (x ∷ a) b p = Lacks-none byte a b p.1
 
--- what is at its end after a read was so far known before
 pub Consumes_end : (a b c : Option (List ℕ)) (bytes : List ℕ) → Consumes a b bytes → OnSome b (IsAtEnd c)
     → OnSome a (IsAtEnd c)
 Consumes_end None b c bytes p q = tt

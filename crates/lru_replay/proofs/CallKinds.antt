@@ -62,7 +62,6 @@ module _ {K V S H : Type 0} {rules : Rules K V S} {offers : Offers K V S K} {eq 
   kind_of call reply (inl step) = step_kind call reply step
   kind_of call reply (inr (stores, is, e)) = stays e
 
-  -- so it is one of any steps of the map, or nothing changes
   pub named_step : (call : Call K V S) → Kind rules offers eq hash_of old new call
       → ((step : AnyStep rules offers eq hash_of old new) × Names rules offers eq hash_of old new call step)
       ⊎ (new ≡ old)

@@ -16,7 +16,6 @@ module _ {K V S H : Type 0} (eq : K → K → Bool) (Steps : State K V S H → S
     {IsStep : State K V S H → Call K V S → Reply K V → State K V S H → Type 0} {IsCall : Call K V S → Type 0}
     (moves : (old new : State K V S H) (call : Call K V S) (reply : Reply K V) → IsStep old call reply new
     → IsCall call → Steps old new ⊎ (new ≡ old)) where
-  -- a run of calls that are steps, or change nothing, is a run of these steps
   pub steps_run : (old : State K V S H) (calls : List (Call K V S)) (replies : List (Reply K V)) (new : State K V S H)
       → IsRun IsStep (IsMap eq) old calls replies new → AllByRecursion IsCall calls → Run Steps new old
   steps_run old [] [] new same all = subst (Run Steps new) same ends
@@ -31,7 +30,6 @@ module _ {K V S H : Type 0} {rules : Rules K V S} {offers : Offers K V S K} {eq 
     {IsStep : State K V S H → Call K V S → Reply K V → State K V S H → Type 0}
     (moves : (old new : State K V S H) (call : Call K V S) (reply : Reply K V) → IsStep old call reply new
     → AnyStep rules offers eq hash_of old new ⊎ (new ≡ old)) where
-  -- so it is one of any steps of the map
   pub any_run : (old : State K V S H) (calls : List (Call K V S)) (replies : List (Reply K V)) (new : State K V S H)
       → IsRun IsStep (IsMap eq) old calls replies new → Run (AnyStep rules offers eq hash_of) new old
   any_run old calls replies new run = steps_run eq (AnyStep rules offers eq hash_of)
@@ -70,7 +68,6 @@ module _ {K V S H N : Type 0} (rules : Rules K V S) (offers : Offers K V S K) (e
       subst (Stays old) (sym e) (writes (limit old.limiter) old key v (subst (Keeps old) is kept) within, refl)
   kind_within old new ok call none kept (sets_limiter s is e) within = absurd (subst SetsNoLimiter is none)
 
-  -- what is known of each state anyway stays known
   pub run_known : (n : N) (old : State K V S H) (calls : List (Call K V S)) (replies : List (Reply K V))
       (new : State K V S H) → IsRun IsStep Holds old calls replies new → AllByRecursion SetsNoLimiter calls
       → limit old.limiter ≡ n → Within n old → IsRun IsStep (λ st. Holds st × Within n st) old calls replies new
@@ -96,7 +93,6 @@ module _ {K V S H N : Type 0} (rules : Rules K V S) (offers : Offers K V S K) (e
 
 module _ {K V S H : Type 0} {rules : Rules K V S} {offers : Offers K V S K} {eq : K → K → Bool}
     {hash_of : H → K → ℕ} where
-  -- a call of either run is a step of the map, or changes nothing
   pub call_moves : (old new : State K V S H) (call : Call K V S) (reply : Reply K V)
       → CallStep rules offers eq hash_of old call reply new → AnyStep rules offers eq hash_of old new ⊎ (new ≡ old)
   call_moves old new call reply step = any_step call (kind_of call reply step)
@@ -107,13 +103,11 @@ module _ {K V S H : Type 0} {rules : Rules K V S} {offers : Offers K V S K} {eq 
   summing_moves cost account old new call reply (inl (keeps, step)) = call_moves old new call reply step
   summing_moves cost account old new call reply (inr (differs, is, same)) = inr same
 
-  -- of each call that is carried out nothing else is known,
   pub call_kinds : (old new : State K V S H) (call : Call K V S) (reply : Reply K V)
       → CallStep rules offers eq hash_of old call reply new
       → (Unit {0} × Kind rules offers eq hash_of old new call) ⊎ (new ≡ old)
   call_kinds old new call reply step = inl (tt, kind_of call reply step)
 
-  -- or, under a summing limiter, that it keeps the cost
   pub summing_kinds : (cost : K → V → ℕ) (account : S → ℕ) (old new : State K V S H) (call : Call K V S)
       (reply : Reply K V) → SummingStep rules offers eq hash_of cost account old call reply new
       → (KeepsCost eq cost account (contents old) call × Kind rules offers eq hash_of old new call) ⊎ (new ≡ old)

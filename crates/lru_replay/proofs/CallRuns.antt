@@ -9,7 +9,6 @@ use Rattle.lru_replay.specs.CallRuns.{IsRun}
 use Rattle.lru_replay.specs.Replies.{Reply, said, all_said}
 
 module _ {S C R : Type 0} (IsStep : S → C → R → S → Type 0) (Holds : S → Type 0) where
-  -- a run goes on by a run from where it ends
   pub run-append : (old : S) (calls : List C) (replies : List R) (mid : S) (more : List C) (others : List R) (new : S)
       → IsRun IsStep Holds old calls replies mid → IsRun IsStep Holds mid more others new
       → IsRun IsStep Holds old (calls ++ more) (replies ++ others) new
@@ -18,14 +17,12 @@ module _ {S C R : Type 0} (IsStep : S → C → R → S → Type 0) (Holds : S �
       (next, step, holds, run-append next calls replies mid more others new run rest)
   run-append old calls replies mid more others new none rest = absurd none
 
-  -- and by one more step
   pub run-push : (old : S) (calls : List C) (replies : List R) (mid : S) (call : C) (reply : R) (new : S)
       → IsRun IsStep Holds old calls replies mid → IsStep mid call reply new → Holds new
       → IsRun IsStep Holds old (calls ++ call ∷ []) (replies ++ reply ∷ []) new
   run-push old calls replies mid call reply new run step holds =
       run-append old calls replies mid (call ∷ []) (reply ∷ []) new run (new, step, holds, refl)
 
-  -- what holds at the start and in between holds at the end
   pub run_holds : (a : S) (calls : List C) (replies : List R) (b : S) → Holds a
       → IsRun IsStep Holds a calls replies b → Holds b
   run_holds a [] [] b holds same = subst Holds (sym same) holds
@@ -33,7 +30,6 @@ module _ {S C R : Type 0} (IsStep : S → C → R → S → Type 0) (Holds : S �
       run_holds mid calls replies b after run
   run_holds a calls replies b holds none = absurd none
 
-  -- if each call has a step, each list of calls has a run
   pub some_run : ((a : S) → Holds a → (call : C) → (reply : R) × (b : S) × IsStep a call reply b × Holds b)
       → (a : S) → Holds a → (calls : List C) → (replies : List R) × (b : S) × IsRun IsStep Holds a calls replies b
   some_run step a holds [] = ([], a, refl)
@@ -42,7 +38,6 @@ module _ {S C R : Type 0} (IsStep : S → C → R → S → Type 0) (Holds : S �
       let (replies, b, run) = some_run step mid after calls in
       (reply ∷ replies, b, (mid, is, after, run))
 
--- what each step keeps that is no step of an excluded call, a run keeps
 pub run_keeps : {S C R : Type 0} (IsStep : S → C → R → S → Type 0) {Holds Keeps : S → Type 0} {IsCall : C → Type 0}
     → ((old new : S) (call : C) (reply : R) → IsStep old call reply new → Holds new → IsCall call → Keeps old
     → Keeps new) → (old : S) (calls : List C) (replies : List R) (new : S) → IsRun IsStep Holds old calls replies new
@@ -57,7 +52,6 @@ pub any_call : {C : Type 0} (calls : List C) → AllByRecursion (λ call. Unit {
 any_call [] = tt
 any_call (call ∷ calls) = (tt, any_call calls)
 
--- what follows from what holds of each state holds of each
 pub run-follows : {S C R : Type 0} (IsStep : S → C → R → S → Type 0) {Holds Follows : S → Type 0}
     → ((s : S) → Holds s → Follows s) → (old : S) (calls : List C) (replies : List R) (new : S)
     → IsRun IsStep Holds old calls replies new → IsRun IsStep Follows old calls replies new
@@ -71,7 +65,6 @@ pub all_said-push : {K V : Type 0} (answers : List (Answer K V)) (answer : Answe
 all_said-push [] answer = refl
 all_said-push (a ∷ answers) answer = ap (λ l. said a ∷ l) (all_said-push answers answer)
 
--- Calls that a loop carries out one after another: those that were carried out, the next one, and those that are left.
 pub next_items : {K V S : Type 0} (done : List (Call K V S)) {all left later : List (Call K V S)} {call : Call K V S}
     → left ≡ call ∷ later → done ++ left ≡ all → (done ++ call ∷ []) ++ later ≡ all
 next_items done {later = later} {call} first items =
@@ -80,7 +73,6 @@ next_items done {later = later} {call} first items =
 -- What is known of those that were carried out.
 module _ {K V S A : Type 0} (IsStep : A → Call K V S → Reply K V → A → Type 0) (Holds : A → Type 0) (old : A)
     (done : List (Call K V S)) where
-  -- the next is carried out
   pub next_run : (answers after : List (Answer K V)) (mid : A) (call : Call K V S)
       (answer : Answer K V) (new : A) → after ≡ answers ++ answer ∷ []
       → IsRun IsStep Holds old done (all_said answers) mid
@@ -89,7 +81,6 @@ module _ {K V S A : Type 0} (IsStep : A → Call K V S → Reply K V → A → T
       let replies = ap all_said more ∙ all_said-push answers answer in
       rw replies (run-push IsStep Holds old done (all_said answers) mid call (said answer) new run step holds)
 
-  -- none is left
   pub whole_run : (all left : List (Call K V S)) (replies : List (Reply K V)) (new : A) → length left ≡ 0
       → done ++ left ≡ all → IsRun IsStep Holds old done replies new → IsRun IsStep Holds old all replies new
   whole_run all left replies new none items run =

@@ -23,7 +23,6 @@ spaced-more (q ∷ pairs) (Some p) =
     ∙ ap (λ l. rest_text pairs ++ l) (append-nil (32 ∷ pair_text p)))
     ∙ sym (append_assoc (pair_text q) (rest_text pairs) (32 ∷ pair_text p))
 
--- whether there are pairs, with the next
 pub some-more : (any also : Bool) (pairs : List (ℕ × ℕ)) (next : Option (ℕ × ℕ)) → any ≡ not (is_empty pairs) → also
     ≡ is_some next → (any || also) ≡ not (is_empty (pairs ++ option_to_list next))
 some-more any also [] None e f = rw (e, f) refl
@@ -31,7 +30,6 @@ some-more any also [] (Some p) e f = rw (e, f) refl
 some-more any also (q ∷ pairs) None e f = rw e refl
 some-more any also (q ∷ pairs) (Some p) e f = rw e refl
 
--- the text of all
 pub spaced-end : (pairs : List (ℕ × ℕ)) (any : Bool) → any ≡ not (is_empty pairs) → spaced pairs
     ++ (if any then [] else codes "-") ≡ pairs_text pairs
 spaced-end [] any e = rw e refl

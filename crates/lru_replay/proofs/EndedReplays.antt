@@ -34,19 +34,16 @@ use Rattle.lru_replay.proofs.AlwaysOffers.{AlwaysOffers, length_always, cost_alw
 use Rattle.lru_replay.proofs.SpelledLines.{limit_or}
 use Rattle.lru_replay.proofs.SpelledWords.{short_limit}
 
--- what is said of the lines after the first, said of all lines
 after_first : (a b : Option (List ℕ)) (first : List ℕ) (P Q : List ℕ → Type 0) → TakesFed a b first
     → ((rest input : List ℕ) → lines_of input ≡ first ∷ lines_of rest → P rest → Q input) → IfSome b P → IfSome a Q
 after_first None b first P Q taken f h = tt
 after_first (Some x) None first P Q (lacks, p) f h = absurd p
 after_first (Some x) (Some y) first P Q (lacks, p) f h = f y x (ap lines_of p ∙ lines_of-fed first y lacks) h
 
--- the input is one line, which no line feed ends
 only_first : (a b : Option (List ℕ)) (first : List ℕ) (Q : List ℕ → Type 0) → TakesRest a b first
     → ((input : List ℕ) → lines_of input ≡ lines_of first → Q input) → IfSome a Q
 only_first a b first Q taken f = IfSome_then a (lines_at_end a a b [] first (tt, tt, Consumes-nil a) taken) f
 
--- The first line names no limit, or there is none.
 none_first : (lines : List (List ℕ)) → lines ≡ [] → NamesNoLimit lines
 none_first lines e limit first others is spells = let h : [] ≡ first ∷ others = sym e ∙ is in absurd (cc)
 
@@ -101,7 +98,6 @@ no_lines_under (limits.Cost most) =
     (empty (record { limit = most; cost = 0 }) plain_entry_bytes max_of_64_bits, ([], refl, refl))
 no_lines_under limits.Compact = (empty (record {}) plain_entry_bytes max_of_32_bits, ([], refl, refl))
 
--- So each list of lines has something written of it,
 some_output : (lines : List (List ℕ)) → (text : List ℕ) × IsOutput lines text
 some_output [] = (no_limiter_text, inr (none_first [] refl, refl))
 some_output (first ∷ lines) = by (limit_or first)
@@ -112,7 +108,6 @@ some_output (first ∷ lines) = by (limit_or first)
         (text, inl (limit, first, lines, refl, spells, is))
     by (inr none) = (no_limiter_text, inr (none_named (first ∷ lines) lines first refl none, refl))
 
--- and what is written of the first n lines goes on for more.
 output_goes_on : (lines more : List (List ℕ)) (text : List ℕ) → SoFar IsOutput lines text → (u : List ℕ)
     × IsOutput (lines ++ more) (text ++ u)
 output_goes_on [] more text none = let (u, is) = some_output more in
@@ -129,7 +124,6 @@ output_goes_on (line ∷ lines) more text (inr (none, is)) = (
   ),
 )
 
--- What is cut within what the lines read write is cut within what all lines write.
 cut_of_all : (a b w v : Option (List ℕ)) → BeginsText IsOutput (SoFar IsOutput) a b w v
     → OfAll IsOutput a (Begins w v)
 cut_of_all a b w v (inl (cut, at_end)) = cut
@@ -153,7 +147,6 @@ finished a b w v replay at_end = record {
   at_end = at_end;
 }
 
--- What was read and written stays true while the writer's bytes stay the same.
 pub replays-kept : (a b w v u : Option (List ℕ)) (end : Result ReplayEnd ReplayError) → Keeps v u → Replays a b w v end
     → Replays a b w u end
 replays-kept a b w v u (Ok ends.Done) keeps h = finished a b w u
@@ -175,7 +168,6 @@ replays-kept a b w v u (Err errors.Write) keeps h = cut_off a b w u (elim h.read
       inr (lines, text, rest, is, reads, (part, front, Appends-kept w v u part wrote keeps))
 ])
 
--- all of a text is a beginning of it
 all_of : (w v : Option (List ℕ)) (text : List ℕ) → Appends w v text → Begins w v text
 all_of w v text wrote = (text, ([], sym (append-nil text)), wrote)
 
@@ -183,7 +175,6 @@ so_far_output : (lines : List (List ℕ)) (text : List ℕ) → SoFar IsReplay l
 so_far_output [] text is = is
 so_far_output (first ∷ others) text is = inl is
 
--- No limit is named, and a beginning of what is written then was written.
 unnamed_cut : (a b w v : Option (List ℕ)) → IfSome a (λ input. NamesNoLimit (lines_of input)) → TakesFirst a b
     → Begins w v no_limiter_text → BeginsText IsOutput (SoFar IsOutput) a b w v
 unnamed_cut None b w v none reads begun = inl (tt, tt)
@@ -202,7 +193,6 @@ unnamed_cut (Some x) (Some y) w v none (line, inl fed) begun =
       begun,
     )
 
--- The flush failed: all text of the lines that were read was written before.
 pub flush_failed : (a b w v : Option (List ℕ)) (end : Result ReplayEnd ReplayError) → Replays a b w v end
     → Replays a b w v (Err errors.Write)
 flush_failed a b w v (Ok ends.Done) h = cut_off a b w v (inl (
@@ -216,7 +206,6 @@ flush_failed a b w v (Err errors.Read) (lines, text, part, is, reads, wrote) =
     cut_off a b w v (inr (lines, text, part, so_far_output lines text is, reads, all_of w v text wrote))
 flush_failed a b w v (Err errors.Write) h = h
 
--- A read failed in the first line.
 pub first_failed : (a b w : Option (List ℕ)) (part : List ℕ) → TakesPart a b part → Replays a b w w (Err errors.Read)
 first_failed a b w part taken = ([], [], part, refl, (tt, taken.0, taken.1), Appends-nil w)
 
@@ -234,20 +223,17 @@ module _ (a b w v : Option (List ℕ)) (ending : Ending) (first : List ℕ)
   pub no_limiter : Appends w v no_limiter_text → Replays a b w v (Ok ends.NoLimiter)
   no_limiter wrote = record { unnamed = no_limit a b ending first taken none; reads = takes_first; writes = wrote }
 
-  -- a write of that failed
   pub no_limiter_cut : (e : ReplayError) → Fails e w v no_limiter_text → Replays a b w v (Err e)
   no_limiter_cut errors.Read (same, begun) = absurd (cc same)
   no_limiter_cut errors.Write (same, begun) =
       cut_off a b w v (unnamed_cut a b w v (no_limit a b ending first taken none) takes_first begun)
 
--- a line without a line feed is all that was left
 rest_taken : (a b : Option (List ℕ)) (ending : Ending) (line : List ℕ) → (ending ≡ endings.Feed → ⊥)
     → TakesLine a b ending line → TakesRest a b line
 rest_taken a b endings.Feed line not_fed taken = absurd (not_fed refl)
 rest_taken a b endings.InputEnd line not_fed taken = taken.0
 rest_taken a b endings.Nothing line not_fed taken = taken.0
 
--- The first line is all there is.
 pub done_first : (a b w : Option (List ℕ)) (ending : Ending) (first : List ℕ) (limit : Limit) → SpellsLimit first limit
     → (ending ≡ endings.Feed → ⊥) → TakesLine a b ending first
     → Replays a b w w (Ok ends.Done)

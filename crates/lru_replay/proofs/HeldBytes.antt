@@ -19,7 +19,6 @@ held_text : (line text : List ℕ) → length text ≤ LONGEST → line ≡ text
 held_text line text short e = take_all HELD line (omega (arith, ap length e, short)) ∙ e
 
 module _ {S : Type 0} (rules : Rules ℕ ℕ S) (offers : Offers ℕ ℕ S ℕ) (reported : S → Option ℕ) where
-  -- what is held of a line is answered as the line is
   whole_step : (old : Map S) (line text : List ℕ) (new : Map S)
       → LineStep rules offers reported old (take HELD line) text new → LineStep rules offers reported old line text new
   whole_step old line text new (inl (call, spells, is)) =

@@ -12,7 +12,6 @@ use Rattle.lru_replay.proofs.CallKinds.{Kind, calls_map, stays, writes_value, se
 use Rattle.lru_replay.proofs.SpelledWords.{HasLine, has_line}
 
 module _ {S : Type 0} (rules : Rules ℕ ℕ S) (offers : Offers ℕ ℕ S ℕ) (reported : S → Option ℕ) where
-  -- a line is a call of the map, or changes nothing
   line_moves : (old : Map S) (line text : List ℕ) (new : Map S) → LineStep rules offers reported old line text new
       → Step rules offers nat_eq hash_of old new ⊎ (new ≡ old)
   line_moves old line text new (inr (none, is, same)) = inr same

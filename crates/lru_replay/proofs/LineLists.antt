@@ -8,19 +8,16 @@ use Rattle.std.specs.Io.KnownBytes.{Consumes}
 use Rattle.std.proofs.KnownBytes.{Consumes-trans}
 use Rattle.lru_replay.specs.Lines.{Lacks, lines_of, onto_first, fed, TakesPart, TakesFed, TakesRest, TakesLines}
 
--- a line with its line feed comes first
 pub lines_of-fed : (line rest : List ℕ) → Lacks 10 line → lines_of (fed line ++ rest) ≡ line ∷ lines_of rest
 lines_of-fed [] rest lacks = refl
 lines_of-fed (b ∷ line) rest lacks = rw (ne_eqb b 10 lacks.0) (ap (onto_first b) (lines_of-fed line rest lacks.1))
 
--- so do several
 pub lines_of-all : (lines : List (List ℕ)) (rest : List ℕ) → AllByRecursion (Lacks 10) lines
     → lines_of (flat_map fed lines ++ rest) ≡ lines ++ lines_of rest
 lines_of-all [] rest lack = refl
 lines_of-all (line ∷ lines) rest lack = ap lines_of (append_assoc (fed line) (flat_map fed lines) rest)
     ∙ lines_of-fed line (flat_map fed lines ++ rest) lack.0 ∙ ap (λ l. line ∷ l) (lines_of-all lines rest lack.1)
 
--- the last line may lack its line feed
 pub lines_of-last : (line : List ℕ) → Lacks 10 line → 0 < length line → lines_of line ≡ line ∷ []
 lines_of-last [] lacks some = absurd (omega arith)
 lines_of-last (b ∷ line) lacks some = go b line lacks
@@ -29,7 +26,6 @@ lines_of-last (b ∷ line) lacks some = go b line lacks
     go b [] lacks = rw (ne_eqb b 10 lacks.0) refl
     go b (c ∷ line) lacks = rw (ne_eqb b 10 lacks.0) (ap (onto_first b) (go c line lacks.1))
 
--- one whole line more was read
 pub takes_line_more : (a b c : Option (List ℕ)) (lines : List (List ℕ)) (line : List ℕ) → TakesLines a b lines []
     → TakesFed b c line → TakesLines a c (lines ++ line ∷ []) []
 takes_line_more a b c lines line (lack, none, p) (lacks, q) =
@@ -44,7 +40,6 @@ takes_line_more a b c lines line (lack, none, p) (lacks, q) =
     same = ap (λ l. l ++ fed line) (append-nil (flat_map fed lines)) ∙ flat_map_more fed [] lines line
         ∙ sym (append-nil (flat_map fed (lines ++ line ∷ [])))
 
--- and a part of the next
 pub takes_part_more : (a b c : Option (List ℕ)) (lines : List (List ℕ)) (part : List ℕ) → TakesLines a b lines []
     → TakesPart b c part → TakesLines a c lines part
 takes_part_more a b c lines part (lack, none, p) (lacks, q) = (
@@ -54,7 +49,6 @@ takes_part_more a b c lines part (lack, none, p) (lacks, q) = (
       (Consumes-trans a b c _ _ p q),
 )
 
--- after the first line, the others
 pub takes_line_before : (a b c : Option (List ℕ)) (first : List ℕ) (lines : List (List ℕ)) (part : List ℕ)
     → TakesFed a b first → TakesLines b c lines part → TakesLines a c (first ∷ lines) part
 takes_line_before a b c first lines part (lacks, p) (lack, none, q) = (
@@ -64,13 +58,11 @@ takes_line_before a b c first lines part (lacks, p) (lack, none, q) = (
       (Consumes-trans a b c (fed first) (flat_map fed lines ++ part) p q),
 )
 
--- the lines of the input are the lines that were read, and the lines of what is left
 pub lines_left : (x y : List ℕ) (lines : List (List ℕ)) (part : List ℕ) → TakesLines (Some x) (Some y) lines part
     → lines_of x ≡ lines ++ lines_of (part ++ y)
 lines_left x y lines part (lack, none, p) = ap lines_of (p ∙ append_assoc (flat_map fed lines) part y)
     ∙ lines_of-all lines (part ++ y) lack
 
--- what was read up to the input's end are all its lines
 pub lines_at_end : (a b c : Option (List ℕ)) (lines : List (List ℕ)) (rest : List ℕ) → TakesLines a b lines []
     → TakesRest b c rest → IfSome a (λ input. lines_of input ≡ lines ++ lines_of rest)
 lines_at_end None b c lines rest p q = tt

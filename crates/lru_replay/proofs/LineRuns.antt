@@ -31,7 +31,6 @@ module _ {S : Type 0} (rules : Rules ℕ ℕ S) (offers : Offers ℕ ℕ S ℕ) 
       → IsSized b → IsLineRun rules offers reported a (line ∷ []) (fed text) b
   line_run-one a line text b step sized = (text ∷ [], (b, step, sized, refl), sym (append-nil (fed text)))
 
-  -- a run ends in a map with a sound table
   pub line_run_sized : (a : Map S) (lines : List (List ℕ)) (t : List ℕ) (b : Map S) → IsSized a
       → IsLineRun rules offers reported a lines t b → IsSized b
   line_run_sized a lines t b sized (texts, run, is) =
@@ -50,7 +49,6 @@ module _ {S : Type 0} (rules : Rules ℕ ℕ S) (offers : Offers ℕ ℕ S ℕ) 
             (text, new, inl (call, spells, (reply, is, refl)), after)
         by (inr none) = (bad_text, old, inr (none, refl, refl), ok)
 
-    -- So each list of lines has a run from each map.
     pub some_line_run : (old : Map S) → IsSized old → (lines : List (List ℕ)) → (text : List ℕ) × (new : Map S)
         × IsLineRun rules offers reported old lines text new
     some_line_run old ok lines =

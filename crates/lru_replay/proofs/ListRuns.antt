@@ -26,7 +26,6 @@ use Rattle.lru_replay.specs.Steps.{ReplyStep}
 use Rattle.lru_replay.specs.declared.calls.Call.{Call}
 use Rattle.lru_replay.specs.declared.calls.Call.TheVariants as calls
 
--- a value that is found is the value of the pair that comes to the front
 newest_found : {K V : Type 0} (names : K → Bool) (others xs : List (K × V)) (w : V) → lookup names xs ≡ Some w
     → newest_value (after (lookup_entry names xs) others) ≡ Some w
 newest_found names others [] w found = absurd (grind (arith, found))
@@ -38,12 +37,10 @@ newest_found names others (x ∷ xs) w found = go (names x.0) found (newest_foun
     go true found later = found
     go false found later = later found
 
--- what a call says and leaves
 both : {R C : Type 0} {says is : R} {leaves left : C} → is ≡ says → left ≡ leaves
     → ◌≡◌ {A = Option (R × C)} (Some (says, leaves)) (Some (is, left))
 both e f = λ j. Some (sym e j, sym f j)
 
--- what an update does to the list
 pub update_is : {K V S H : Type 0} {rules : Rules K V S} {offers : Offers K V S K} {eq : K → K → Bool} {key : K} {v : V}
     {old new : State K V S H} {result : Updated V} → Update rules offers eq key v old result new
     → (result ≡ (updated_in_list rules offers eq key v (contents old)).0)
@@ -72,7 +69,6 @@ module _ {K V S H : Type 0} (rules : Rules K V S) (offers : Offers K V S K) (eq 
       reserve_same n result (reserved l count bytes t g r m) = ap contents m.state ∙ asked_same bytes
       reserve_same n result (asked_only l count bytes t f e) = ap contents e ∙ asked_same bytes
 
-    -- with a list the limiter permits the same
     noting_grants : AlwaysGrants (noting rules)
     noting_grants s bytes = ((grants s.0 bytes).0, ap (λ t. (t, s.1)) (grants s.0 bytes).1)
 

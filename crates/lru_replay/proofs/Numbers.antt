@@ -29,7 +29,6 @@ decimal_starts n h =
 pub starts_of : (word : List ℕ) (n : ℕ) → SpellsNumber word n → StartsAsNumber word
 starts_of word n h = subst StartsAsNumber (sym h.1) (decimal_starts n h.0)
 
--- what parses is spelled so
 pub IfSome-parsed : {E : Type 0} (word : List ℕ) (r : Result ℕ E) → StartsAsNumber word → ParsesUnsigned 64 10 word r
     → IfSome (result_ok r) (λ n. SpellsNumber word n)
 IfSome-parsed {E} word (Err e) start h = tt
@@ -45,7 +44,6 @@ IfSome-parsed {E} word (Ok n) start h =
           (numerals_by_value _ tells_digits) word numeral.1 numeral.0 start.2 small),
     )
 
--- and what does not spells no number
 pub IfNone-parsed : {E : Type 0} (word : List ℕ) (r : Result ℕ E) → ParsesUnsigned 64 10 word r
     → IfNone (result_ok r) ((n : ℕ) → SpellsNumber word n → ⊥)
 IfNone-parsed word (Ok m) h = tt
@@ -70,7 +68,6 @@ pair_parts words a b k v lacks e s =
 pub no_pair : (words : List ℕ) (k v : ℕ) → Lacks 32 words → SpellsPair words k v → ⊥
 no_pair words k v lacks s = Lacks-none 32 (decimal k) (decimal v) (subst (Lacks 32) s.2 lacks)
 
--- what follows the first space spells no numbers
 pub no_numbers : (line rest first : List ℕ) → Lacks 32 first → line ≡ first ++ 32 ∷ rest
     → ((n : ℕ) → SpellsNumber rest n → ⊥) → ((k v : ℕ) → SpellsPair rest k v → ⊥) → (word : List ℕ) (given : Numbers)
     → IsSplit line word given → ⊥

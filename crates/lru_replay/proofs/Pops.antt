@@ -18,14 +18,12 @@ module _ {K V S : Type 0} where
     pub nothing : (c : Contents K V S) → all 0 c ≡ []
     pub given : (n : ℕ) (c : Contents K V S) → all (suc n) c ≡ gives c ++ all n (one c)
     pub shorter : (c : Contents K V S) → length (one c).pairs ≡ length c.pairs - 1
-    -- if there is no pair, nothing changes
     pub still : (c : Contents K V S) → length c.pairs ≤ 0 → one c ≡ c
     pub without : (c : Contents K V S) → length c.pairs ≤ 0 → gives c ≡ []
 
 module _ {K V S : Type 0} {one : Contents K V S → Contents K V S} {gives : Contents K V S → List (K × V)}
     {many : ℕ → Contents K V S → Contents K V S} {all : ℕ → Contents K V S → List (K × V)}
     (p : ArePops one gives many all) where
-  -- one more
   pub many-more : (n : ℕ) (c : Contents K V S) → many (suc n) c ≡ one (many n c)
   many-more zero c = p.more 0 c ∙ p.none (one c) ∙ sym (ap one (p.none c))
   many-more (suc n) c = p.more (suc n) c ∙ many-more n (one c) ∙ sym (ap one (p.more n c))
@@ -44,7 +42,6 @@ module _ {K V S : Type 0} {one : Contents K V S → Contents K V S} {gives : Con
   length-many (suc n) c = omega
       (arith, ap (λ d. length d.pairs) (p.more n c), length-many n (one c), p.shorter c)
 
-  -- if there is no pair, nothing is taken
   none_left : (n : ℕ) (c : Contents K V S) → length c.pairs ≤ 0 → many n c ≡ c
   none_left zero c few = p.none c
   none_left (suc n) c few = p.more n c ∙ ap (many n) (p.still c few) ∙ none_left n c few
@@ -54,7 +51,6 @@ module _ {K V S : Type 0} {one : Contents K V S → Contents K V S} {gives : Con
   nothing_given (suc n) c few =
       p.given n c ∙ ap (λ l. l ++ all n (one c)) (p.without c few) ∙ ap (all n) (p.still c few) ∙ nothing_given n c few
 
-  -- so with n pairs, n pops do what more pops do
   pub many_enough : (n k : ℕ) (c : Contents K V S) → k ≤ n → (k < n → length c.pairs ≤ k) → many k c ≡ many n c
   many_enough zero zero c most enough = refl
   many_enough zero (suc k) c most enough = absurd (omega arith)

@@ -12,7 +12,6 @@ use Rattle.lru_replay.specs.References.{Referenced, Did}
 use Rattle.lru_replay.proofs.ReferenceRuns.{after, did_keys}
 
 module _ {K V H : Type 0} {eq : K → K → Bool} (laws : IsEquivalence eq) (old other : State K V ℕ H) where
-  -- the keys of the smaller map are the newest keys of the larger one
   pub front_after : (trace : List K) (missed more : ℕ) (small large : State K V ℕ H)
       → Referenced eq old trace missed small → Referenced eq other trace more large → old.limiter ≤ other.limiter
       → AreEqual eq (keys_of old.pairs) (take old.limiter (keys_of other.pairs))
@@ -30,7 +29,6 @@ module _ {K V H : Type 0} {eq : K → K → Bool} (laws : IsEquivalence eq) (old
       (taken_equal eq n all (keys_of large.pairs)
       (equal_sym laws (keys_of large.pairs) all (after laws other trace more large others).keys))))
 
-  -- the larger map misses no more often
   pub fewer_missed : (trace : List K) (missed more : ℕ) (small large : State K V ℕ H)
       → Referenced eq old trace missed small → Referenced eq other trace more large → old.limiter ≤ other.limiter
       → IsIncluded eq old.limiter other.limiter (keys_of old.pairs) (keys_of other.pairs) → more ≤ missed
@@ -44,7 +42,6 @@ module _ {K V H : Type 0} {eq : K → K → Bool} (laws : IsEquivalence eq) (old
         (after laws other trace more large others).misses_so,
       )
 
-  -- the smaller map is included in the larger one
   pub included_after : (calls : List (KeyCall K)) (small large : State K V ℕ H) → Did eq old calls small
       → Did eq other calls large → old.limiter ≤ other.limiter
       → IsIncluded eq old.limiter other.limiter (keys_of old.pairs) (keys_of other.pairs)

@@ -68,7 +68,6 @@ module _ {K V H : Type 0} {eq : K → K → Bool} (laws : IsEquivalence eq) (old
         stored = λ some sized. h.stored ∙ was.stored some sized;
       }
 
-  -- the keys of the map before are the newest keys of a past
   newest_before : IsDistinct eq (keys_of old.pairs) → length old.pairs ≤ old.limiter
       → keys_of old.pairs ≡ take old.limiter (recency eq (keys_of old.pairs))
   newest_before distinct within =
@@ -91,7 +90,6 @@ module _ {K V H : Type 0} {eq : K → K → Bool} (laws : IsEquivalence eq) (old
       ∙ ap (λ keys. faults eq old.limiter keys trace) (newest_before distinct within)
       ∙ faults_is laws old.limiter (keys_of old.pairs) trace
 
-  -- a reference that found its key, and one that did not
   pub hit : (trace : List K) (missed : ℕ) (key : K) (w : V) (mid new : State K V ℕ H)
       → Referenced eq old trace missed mid → lookup (eq key) mid.pairs ≡ Some w → Reference eq key mid new
       → Referenced eq old (trace ++ key ∷ []) missed new
@@ -109,7 +107,6 @@ module _ {K V H : Type 0} {eq : K → K → Bool} (laws : IsEquivalence eq) (old
       (ap (λ b. missed + cond b 0 1) (absent (eq key) mid.pairs (no_pair (eq key) mid.pairs none)))
       (refers key trace missed mid new run h)
 
-  -- the keys after any calls
   pub did_keys : (calls : List (KeyCall K)) (new : State K V ℕ H) → Did eq old calls new
       → AreEqual eq (keys_of new.pairs) (after_calls eq old.limiter calls (keys_of old.pairs))
       × (new.limiter ≡ old.limiter)

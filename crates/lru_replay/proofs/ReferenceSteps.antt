@@ -46,7 +46,6 @@ pub record Known {K H : Type 0} (V : Type 0) (eq : K → K → Bool) (hash_of : 
 
 module _ {K V H : Type 0} {eq : K → K → Bool} {hash_of : H → K → ℕ} (laws : IsEquivalence eq)
     (known : Known V eq hash_of) where
-  -- the key under which a pair is stored equals the inserted key
   stored_equal : (key : K) (xs : List (K × V)) → eq (stored_key (eq key) key xs) key ≡ true
   stored_equal key xs = go (lookup_entry (eq key) xs) refl
     where
@@ -55,7 +54,6 @@ module _ {K V H : Type 0} {eq : K → K → Bool} {hash_of : H → K → ℕ} (l
       go None e = laws.refl key
       go (Some p) e = laws.symm p.0 key ∙ found_named (eq key) xs p e
 
-  -- a key that equals the key, before the others
   in_front : (n : ℕ) (key x : K) (keys : List K) → eq x key ≡ true
       → AreEqual eq (take n (x ∷ remove_key (eq key) keys)) (refer eq n key keys)
   in_front n key x keys same = taken_equal eq n (x ∷ remove_key (eq key) keys) (key ∷ remove_key (eq key) keys)
@@ -65,7 +63,6 @@ module _ {K V H : Type 0} {eq : K → K → Bool} {hash_of : H → K → ℕ} (l
   from_equal : (xs ys zs : List K) → xs ≡ ys → AreEqual eq ys zs → AreEqual eq xs zs
   from_equal xs ys zs e h = subst (λ ks. AreEqual eq ks zs) (sym e) h
 
-  -- an insert that found memory
   pub insert_refers : (key : K) (v : V) (old : State K V ℕ H) (flag : Bool) (new : State K V ℕ H) → KeepsToLength old
       → IsSized new → Insert length_rules length_offers eq hash_of key v old (Ok flag) new → Reference eq key old new
   insert_refers key v old flag new keeps sized h =
@@ -86,7 +83,6 @@ module _ {K V H : Type 0} {eq : K → K → Bool} {hash_of : H → K → ℕ} (l
             (leaves.answer refl ∙ ap Ok (lt-ltb 0 old.limiter some)) h;
       }
 
-  -- a key that is there, whatever is written
   pub got_refers : (names : K → Bool) (key : K) (w left : V) (old : State K V ℕ H) → names ≡ eq key
       → length old.pairs ≤ old.limiter → IsSized old → lookup names old.pairs ≡ Some w
       → Reference eq key old (written names left (promoted names old))
@@ -121,7 +117,6 @@ module _ {K V H : Type 0} {eq : K → K → Bool} {hash_of : H → K → ℕ} (l
             stored = λ some. rw is (same_count hash_of eq key w old old sized.placed);
           }
 
-  -- a get that inserts
   pub makes_refers : (makes : V → Type 0) (key : K) (old : State K V ℕ H) (flag : Bool) (new : State K V ℕ H)
       → KeepsToLength old → IsSized new
       → MakesNewest length_rules length_offers eq hash_of makes key old (Ok flag) new → Reference eq key old new
@@ -131,7 +126,6 @@ module _ {K V H : Type 0} {eq : K → K → Bool} {hash_of : H → K → ℕ} (l
       subst (Reference eq key old) (sym (same ∙ sym (read_back (eq key) old w found)))
       (got_refers (eq key) key w w old refl keeps.within keeps.sized found)
 
-  -- and one whose closure may fail
   pub makes_if_made : {E : Type 0} (makes : Result V E → Type 0) (key : K) (old : State K V ℕ H) (flag : Bool)
       (new : State K V ℕ H) → KeepsToLength old → IsSized new
       → MakesNewestIfMade length_rules length_offers eq hash_of makes key old (Ok flag) new → Reference eq key old new
@@ -140,7 +134,6 @@ module _ {K V H : Type 0} {eq : K → K → Bool} {hash_of : H → K → ℕ} (l
       makes_refers (λ v. makes (Ok v)) key old kept new keeps sized h
   makes_if_made makes key old flag new keeps sized (as_made (Err e) h is) = absurd cc
 
-  -- a reservation
   pub reserve_is : (n : ℕ) (old : State K V ℕ H) (result : Result (Unit {0}) ReserveError) (new : State K V ℕ H)
       → Reserve length_rules n old result new
       → (new.pairs ≡ old.pairs) × (new.limiter ≡ old.limiter) × (new.counts.placed ≡ old.counts.placed)
@@ -153,7 +146,6 @@ module _ {K V H : Type 0} {eq : K → K → Bool} {hash_of : H → K → ℕ} (l
   reserve_is n old result new (asked_only needs count bytes t f e) =
       (ap (λ st. st.pairs) e, ap (λ st. st.limiter) e, ap (λ st. st.counts.placed) e)
 
-  -- a reference after a step that leaves the keys
   after_ready : (key : K) (old ready new : State K V ℕ H) → KeepsToLength ready
       → (ready.pairs ≡ old.pairs) × (ready.limiter ≡ old.limiter) × (ready.counts.placed ≡ old.counts.placed)
       → Reference eq key ready new → Reference eq key old new
@@ -168,7 +160,6 @@ module _ {K V H : Type 0} {eq : K → K → Bool} {hash_of : H → K → ℕ} (l
         ∙ (λ i. count_up (placed i) (fault eq key (keys_of (pairs i))));
   }
 
-  -- an insert that evicts nothing
   pub tries_refers : (terms : Terms K V ℕ) (key : K) (v : V) (old new : State K V ℕ H) → KeepsToLength old
       → IsSized new → TryInsert terms length_rules key v old length_offers eq hash_of (Ok tt) new
       → Reference eq key old new
@@ -183,7 +174,6 @@ module _ {K V H : Type 0} {eq : K → K → Bool} {hash_of : H → K → ℕ} (l
       after_ready key old ready new goes (reserve_is 1 old (Ok tt) ready h)
       (insert_refers key v ready true new goes sized placing)
 
-  -- a reference to an equal key
   pub equal_refers : (key other : K) (old new : State K V ℕ H) → eq other key ≡ true → Reference eq other old new
       → Reference eq key old new
   equal_refers key other old new same h =

@@ -16,7 +16,6 @@ use Rattle.lru_replay.specs.declared.calls.Call.{Call}
 use Rattle.lru_replay.proofs.CallLaws.{run_within, call_kinds}
 use Rattle.lru_replay.proofs.CallRuns.{run-follows}
 
--- a table that takes no more bytes than one of 16 buckets has no more
 few_by_usage : (e n b c : ℕ) → usage e n ≡ Some b → usage e 16 ≡ Some c → b ≤ c → n ≤ 16
 few_by_usage e n b c is of fits = elim (dec_lt 16 n) [
   | no few ↦ omega (arith, few)
@@ -66,7 +65,6 @@ module _ {K V H : Type 0} where
           run-follows (CallStep rules offers eq hash_of) (λ st within. few_buckets old st small within) old calls
           replies new within
 
-  -- a map that looks alike has the same limit and takes the same bytes
   pub other_within : (st other : State K V ℕ H) → LookAlike st other → UsesAtMost st.limiter st → HasSmallBudget st
       → UsesAtMost other.limiter other × HasSmallBudget other
   other_within st other alike (bytes, is, within) (most, of, fits) =

@@ -19,13 +19,11 @@ table_of_is : (m n bytes : ℕ) (u : Option ℕ) → table_of m u ≡ new_table 
 table_of_is m n bytes None h = grind arith
 table_of_is m n bytes (Some x) h = grind arith
 
--- a table with fewer buckets than the pairs need grows to as many
 needed_is : (max e b c need n bytes : ℕ) (more : Bool) → nat_lt b need ≡ true
     → target_from max e b c (cond more (Some need) None) ≡ new_table n bytes → need ≡ n
 needed_is max e b c need n bytes true less h = table_of_is need n bytes (usage e need) (rw less at h)
 needed_is max e b c need n bytes false less h = grind arith
 
--- so does a full one of no, 4 or 8 buckets
 grows_from_none : (max e n bytes : ℕ) → target max e 0 1 ≡ new_table n bytes → 4 ≡ n
 unfolding target buckets_for
 grows_from_none max e n bytes h = needed_is max e 0 1 4 n bytes (nat_lt 4 max) refl h
@@ -54,7 +52,6 @@ full_16 : full_capacity 16 ≡ 14
 unfolding full_capacity
 full_16 = refl
 
--- a full table of up to 13 pairs grows to at most 16 buckets
 small_target : (max e b c n bytes : ℕ) → IsBucketCount b → b ≤ 16 → c ≤ 14 → c ≡ full_capacity b + 1
     → target max e b c ≡ new_table n bytes → n ≤ 16
 small_target max e b c n bytes count small few full h = by_count count
@@ -78,7 +75,6 @@ module _ {K V S H : Type 0} where
     pub count : IsBucketCount (buckets st)
     pub exact : length st.pairs + room st ≡ full_capacity (buckets st)
 
-  -- so is each sound table of up to 16 buckets
   pub small_of : (st : State K V S H) → IsSized st → buckets st ≤ 16 → IsSmall st
   small_of st sized few = record {
     few = few;
@@ -86,7 +82,6 @@ module _ {K V S H : Type 0} where
     exact = omega (arith, (facts sized.table).exact few, sized.taken);
   }
 
-  -- and so is the table of a map that looks alike
   pub small_alike : (st other : State K V S H) → LookAlike st other → IsSmall st → IsSmall other
   small_alike st other alike small = record {
     few = omega (arith, small.few, alike.table);

@@ -118,7 +118,6 @@ module _ {K V H : Type 0} (eq : K → K → Bool) (hash_of : H → K → ℕ) wh
   abbrev pub KeepsLength : ℕ → State K V ℕ H → Type 0
   KeepsLength n st = (length st.pairs ≤ n) × (st.limiter ≡ n)
 
-  -- with at most 14 pairs, at most 13 are left for a new one
   length_makes_room : (n : ℕ) → n ≤ 14 → (st : State K V ℕ H) → KeepsLength n st
       → MakesRoom length_rules length_offers eq hash_of st
   length_makes_room n few st within key v s pair given =
@@ -156,7 +155,6 @@ module _ {K V H : Type 0} (eq : K → K → Bool) (hash_of : H → K → ℕ) wh
         (call_small length_rules length_offers eq hash_of) (length_makes_room old.limiter few) old calls replies new
         small (within, refl) reserves known
 
--- a map that looks alike keeps to the same length
 pub other_short : {K V H : Type 0} (st other : State K V ℕ H) → LookAlike st other → st.limiter ≤ 14
     → length st.pairs ≤ st.limiter → (other.limiter ≤ 14) × (length other.pairs ≤ other.limiter)
 other_short st other alike few within =

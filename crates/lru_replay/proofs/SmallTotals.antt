@@ -19,7 +19,6 @@ use Rattle.lru_replay.proofs.CallLaws.{run_known, summing_kinds}
 use Rattle.lru_replay.proofs.SmallGrowth.{IsSmall, MakesRoom}
 use Rattle.lru_replay.proofs.SmallLengths.{summing_small, run_small}
 
--- n things that cost `least` or more each cost n times that or more
 sum_at_least : {X : Type 0} (f : X → ℕ) (least : ℕ) → ((x : X) → least ≤ f x) → (xs : List X)
     → least * length xs ≤ sum_by f xs
 sum_at_least f least each [] = omega arith
@@ -31,7 +30,6 @@ module _ {K V S H : Type 0} (cost : K → V → ℕ) (account : S → ℕ) where
   abbrev pub KeepsTotal : ℕ → State K V S H → Type 0
   KeepsTotal n st = IsSummed cost account st × (account st.limiter ≤ n)
 
-  -- if a pair costs `least` or more, and n is less than 14 times that, there are at most 13 pairs
   few_pairs : (least : ℕ) → ((key : K) (v : V) → least ≤ cost key v) → (n : ℕ) → n < 14 * least → (st : State K V S H)
       → KeepsTotal n st → length st.pairs ≤ 13
   few_pairs least costs n below st (summed, within) = elim (dec_lt 13 (length st.pairs)) [
@@ -51,7 +49,6 @@ module _ {K V S H : Type 0} (rules : Rules K V S) (offers : Offers K V S K) (eq 
       → account new.limiter ≤ budget new.limiter)
       (stays_so : (old new : State K V S H) → Run (StepOrWrite rules offers eq hash_of) new old
       → budget new.limiter ≡ budget old.limiter) where
-    -- a run keeps to the budget
     pub run_keeps_total : (old : State K V S H) (calls : List (Call K V S)) (replies : List (Reply K V))
         (new : State K V S H)
         → IsRun (SummingStep rules offers eq hash_of cost account) (IsMap eq) old calls replies new
@@ -95,7 +92,6 @@ module _ {K V S H : Type 0} (rules : Rules K V S) (offers : Offers K V S K) (eq 
           (run_keeps_total old calls replies new run none begun)
 
 module _ {K V S H : Type 0} (cost : K → V → ℕ) (account budget : S → ℕ) where
-  -- a map that looks alike keeps to the same budget
   pub other_cheap : (st other : State K V S H) → LookAlike st other → (least : ℕ) → budget st.limiter < 14 * least
       → KeepsTotal cost account (budget st.limiter) st
       → (budget other.limiter < 14 * least) × KeepsTotal cost account (budget other.limiter) other

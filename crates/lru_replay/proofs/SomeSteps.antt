@@ -29,7 +29,6 @@ module _ {S : Type 0} (rules : Rules ℕ ℕ S) (offers : Offers ℕ ℕ S ℕ) 
   CanEnd call = (reply : Reply ℕ ℕ) × (new : Map S)
       × AnswersCall rules offers old call reply new × IsSized new
 
-  -- a call after which some pairs have left can end
   leaving : (call : Call ℕ ℕ S) (reply : Reply ℕ ℕ) (left : Contents ℕ ℕ S) → length left.pairs ≤ length old.pairs
       → ((new : Map S) → Leaves old left new
       → ReplyStep rules offers nat_eq hash_of old call reply new) → CanEnd call

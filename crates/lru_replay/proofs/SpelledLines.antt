@@ -49,7 +49,6 @@ more_parts bytes rest lacks = slice_split_at (λ b. b == 32) bytes 32 rest (no_s
 value_of_decimal : (n : ℕ) → n < 2 ^ 64 → digits_value 10 (decimal n) ≡ n
 value_of_decimal n h = (decimal_is_IsNumeral n h).1
 
--- What was spelled is read.
 read_back : (word : List ℕ) (given : Numbers) → Lacks 32 word → Fit given
     → read (parts (word ++ numbers_text given)) ≡ (word, given)
 read_back word numbers.Zero lacks fits = ap (λ l. read (parts l)) (append-nil word) ∙ ap read (one_part word lacks)
@@ -63,16 +62,13 @@ read_back word (numbers.Two k v) lacks fits =
     ∙ ap (λ l. read (word ∷ decimal k ∷ l)) (one_part (decimal v) (decimal_lacks_space v fits.1))
     ∙ (λ j. (word, numbers.Two (value_of_decimal k fits.0 j) (value_of_decimal v fits.1 j)))
 
--- So a line is split in one way.
 split_once : (line word : List ℕ) (given : Numbers) → IsSplit line word given → read (parts line) ≡ (word, given)
 split_once line word given (lacks, fits, is) = ap (λ l. read (parts l)) is ∙ read_back word given lacks fits
 
--- What a test decides is decided.
 either_way : {P : Type 0} (r : Bool) → Decides r P → P ⊎ (P → ⊥)
 either_way true d = inl (d.0 refl)
 either_way false d = inr (not_from_Decides false d refl)
 
--- If two facts are decided, both together are.
 both_or : {P Q : Type 0} → P ⊎ (P → ⊥) → Q ⊎ (Q → ⊥) → (P × Q) ⊎ ((P × Q) → ⊥)
 both_or (inl p) (inl q) = inl (p, q)
 both_or (inl p) (inr q) = inr (λ h. q h.1)
@@ -106,7 +102,6 @@ split_or line word given =
 module _ {X : Type 0} (words : Words X) (line : List ℕ) where
   -- what a line means that is split
   module _ (word : List ℕ) (given : Numbers) (is : IsSplit line word given) where
-    -- is what it may mean
     one_meaning : (x : X) → Spells words line x → said_of words word given ≡ Some x
     one_meaning x (other, others, split, means) =
         ap (λ p. said_of words p.0 p.1) (sym (split_once line word given is) ∙ split_once line other others split)
@@ -133,7 +128,6 @@ module _ {X : Type 0} (words : Words X) (line : List ℕ) where
       by is (Some x) means = inl (x, (_, _, is, sym means))
       by is None means = inr (meant_none _ _ is None means)
 
--- each line spells a call, or spells none
 pub spelled_or : {S : Type 0} (line : List ℕ) → ((call : Call ℕ ℕ S) × SpellsCall line call)
     ⊎ ((call : Call ℕ ℕ S) → SpellsCall line call → ⊥)
 spelled_or line = spells_or call_words line
@@ -145,7 +139,6 @@ fits_limit limit = inl tt
 same_some : {X : Type 0} (x y : X) → Some x ≡ Some y → x ≡ y
 same_some x y e = cc
 
--- each line names a limit, or names none
 pub limit_or : (line : List ℕ) → ((limit : Limit) × SpellsLimit line limit)
     ⊎ ((limit : Limit) → SpellsLimit line limit → ⊥)
 limit_or line = elim (spells_or limit_words line) [
@@ -159,7 +152,6 @@ limit_or line = elim (spells_or limit_words line) [
     by limit (word, given, is, means) (inr none) = inr (λ other named. none (subst FitsLimit
         (same_some other limit (sym (one_meaning limit_words line word given is other named.1) ∙ means)) named.0))
 
--- no limit is named by what says none
 pub limit_none : (line word : List ℕ) (given : Numbers) → IsSplit line word given → (r : Option Limit)
     → IfNone r ((limit : Limit) → FitsLimit limit → said_of limit_words word given ≡ Some limit → ⊥)
     → IfNone r ((limit : Limit) → SpellsLimit line limit → ⊥)

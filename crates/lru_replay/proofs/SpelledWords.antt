@@ -25,7 +25,6 @@ IsWithin most word = (0 < length word) × (length word ≤ most)
 abbrev pub IsShort : List ℕ → Type 0
 IsShort line = IsWithin LONGEST line
 
--- a number has at most 20 digits
 short_number : (n : ℕ) → n < 2 ^ 64 → length (decimal n) < 21
 short_number n h = omega (arith, length-decimal-le 20 n (omega arith) (omega (arith, h)) h)
 
@@ -70,7 +69,6 @@ module _ {X : Type 0} (words : Words X) where
   AreShort = AllByRecursion (λ row. IsWithin LONGEST row.0) words.alone
       × AllByRecursion (λ row. IsWithin 27 row.0) words.one × AllByRecursion (λ row. IsWithin 6 row.0) words.two
 
-  -- no line that says something is longer than the longest
   short_said : AreShort → (word : List ℕ) (given : Numbers) → Fit given → (x : X) → said_of words word given ≡ Some x
       → IsShort (word ++ numbers_text given)
   short_said short word numbers.Zero fits x is =

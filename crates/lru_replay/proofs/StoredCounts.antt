@@ -33,7 +33,6 @@ module _ {K V : Type 0} where
   keys_taken (suc n) [] = refl
   keys_taken (suc n) (x ∷ xs) = ap (λ ks. x.0 ∷ ks) (keys_taken n xs)
 
-  -- whether a key is there
   pub there : (test : K → Bool) (xs : List (K × V)) (p : K × V) → lookup_entry test xs ≡ Some p → list_any test
       (keys_of xs) ≡ true
   there test [] p e = absurd (grind (arith, e))
@@ -67,7 +66,6 @@ module _ {K V : Type 0} where
       go false e later = later e
 
 module _ {K V H : Type 0} (hash_of : H → K → ℕ) where
-  -- each pair that leaves leaves the count of stored entries as it is
   oldest_placed : (hash n : ℕ) (old new : State K V ℕ H) → OldestEvicted length_rules hash n old new
       → new.counts.placed ≡ old.counts.placed
   oldest_placed hash zero old new e = ap (λ st. st.counts.placed) e
@@ -94,7 +92,6 @@ module _ {K V H : Type 0} (hash_of : H → K → ℕ) where
   cannot_placed old mid (no_target none same) = ap (λ st. st.counts.placed) same
   cannot_placed old mid (denied count bytes target denies same) = ap (λ st. st.counts.placed) same
 
-  -- a pair that is stored is counted
   placed_counts : (pair : K × V) (old : State K V ℕ H) (outcome : Outcome) (new : State K V ℕ H) → outcome ≡ placed
       → Place length_rules hash_of pair old outcome new → new.counts.placed ≡ count_up old.counts.placed 1
   placed_counts pair old outcome new e (in_bucket few some fills is h) = ap (λ st. st.counts.placed) h.state
@@ -108,7 +105,6 @@ module _ {K V H : Type 0} (hash_of : H → K → ℕ) where
     pub same_count : old.counts.placed < 2 ^ 64 → old.counts.placed ≡ count_up old.counts.placed 0
     same_count fits = omega (arith, fits)
 
-    -- an insert that returned true counts its key if the key was not there
     pub insert_counts : old.counts.placed < 2 ^ 64 → (result : Result Bool AllocError) → result ≡ Ok true
         → Insert length_rules length_offers eq hash_of key v old result new
         → new.counts.placed ≡ count_up old.counts.placed (cond (is_in eq key (keys_of old.pairs)) 0 1)

@@ -8,28 +8,23 @@ use Rattle.std.proofs.KnownBytes.{Appends-trans}
 use Rattle.lru_replay.specs.declared.lines.outcome.ReplayError.{ReplayError}
 use Rattle.lru_replay.specs.Output.{Writes, Begins, Fails, rest_text, pair_text}
 
--- a beginning of the next text, after one that was written
 pub begins_after : (a b c : Option (List ℕ)) (t u : List ℕ) → Appends a b t → Begins b c u → Begins a c (t ++ u)
 begins_after a b c t u p (part, (rest, is), q) =
     (t ++ part, (rest, ap (λ l. t ++ l) is ∙ sym (append_assoc t part rest)), Appends-trans a b c t part p q)
 
--- or of the first of two
 begins_front : (a b : Option (List ℕ)) (t u : List ℕ) → Begins a b t → Begins a b (t ++ u)
 begins_front a b t u (part, (rest, is), p) = (part, (rest ++ u, ap (λ l. l ++ u) is ∙ append_assoc part rest u), p)
 
--- the next text, after one that was written
 pub writes_after : {A : Type 0} (a b c : Option (List ℕ)) (t u : List ℕ) (r : Result A ReplayError) → Appends a b t
     → Writes b c r u → Writes a c r (t ++ u)
 writes_after a b c t u (Ok x) p q = Appends-trans a b c t u p q
 writes_after a b c t u (Err e) p (same, begun) = (same, begins_after a b c t u p begun)
 
--- a failure in the text between
 pub failed : (a b c : Option (List ℕ)) (t u v all : List ℕ) (e : ReplayError) → Appends a b t → Fails e b c u → all ≡ t
     ++ (u ++ v) → Fails e a c all
 failed a b c t u v all e p (same, begun) whole =
     (same, subst (Begins a c) (sym whole) (begins_after a b c t (u ++ v) p (begins_front b c u v begun)))
 
--- a failure in the first of two texts
 pub failed_front : (a b : Option (List ℕ)) (t u : List ℕ) (e : ReplayError) → Fails e a b t → Fails e a b (t ++ u)
 failed_front a b t u e (same, begun) = (same, begins_front a b t u begun)
 
@@ -38,7 +33,6 @@ rest_text-append [] ys = refl
 rest_text-append (x ∷ xs) ys = ap (λ l. (32 ∷ pair_text x) ++ l) (rest_text-append xs ys)
     ∙ sym (append_assoc (32 ∷ pair_text x) (rest_text xs) (rest_text ys))
 
--- one digit more, at the place before
 pub digit_put : (front digits : List ℕ) (at d : ℕ) → 1 ≤ at → at ≤ length digits → front
     ++ drop (at - 1) (set digits (at - 1) d) ≡ (front ++ d ∷ []) ++ drop at digits
 digit_put front digits at d some within =

@@ -6,7 +6,6 @@ use Rattle.lru_replay.specs.Output.{Fails}
 use Rattle.lru_replay.proofs.WrittenTexts.{writes_after, failed_front}
 use Rattle.lru_replay.proofs.lines.output.write_figures.Goals as goal
 
--- a failure after a text that was written
 later : (a b c : Option (List ℕ)) (t u : List ℕ) (e : ReplayError) → Appends a b t → Fails e b c u
     → Fails e a c (t ++ u)
 later a b c t u e = writes_after {A = Unit {0}} a b c t u (Err e)

@@ -2,7 +2,6 @@ use Rattle.std.proofs.Common.{◌≡◌, ◌+◌, ℕ, List, ◌∷◌, length, 
 use Rattle.lru_replay.proofs.WrittenTexts.{writes_after}
 use Rattle.lru_replay.proofs.lines.output.write_listed.Goals as goal
 
--- the pairs are the one that comes first, and the others
 split_pairs : (pairs : List (ℕ × ℕ)) (r : Option (Bor (ℕ × ℕ) × Bor (List (ℕ × ℕ)))) (first : Bor (ℕ × ℕ))
     (rest : Bor (List (ℕ × ℕ))) → r ≡ Some (first, rest)
     → MatchOption r (length pairs ≡ 0) (λ parts. (pairs ≡ parts.0.now ∷ parts.1.now)

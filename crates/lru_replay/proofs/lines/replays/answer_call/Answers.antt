@@ -13,7 +13,6 @@ use Rattle.lru_replay.specs.Replies.{Reply, listed, said}
 use Rattle.lru_replay.proofs.SpelledWords.{has_line}
 use Rattle.lru_replay.proofs.lines.replays.answer_call.Goals as goal
 
--- of the calls that store pairs, the others write them as they come
 stores_first : {S : Type 0} (call : Call ℕ ℕ S) → (call ≡ calls.List → ⊥)
     → ((front back : ℕ) → call ≡ calls.Drain front back → ⊥) → StoresPairs call → StoresFirst call
 stores_first (calls.InsertWith k v) not_list not_drain stores = tt

@@ -5,7 +5,6 @@ use Rattle.lru_replay.proofs.Numbers.{starts_of, number_is_text, IfSome-parsed, 
 use Rattle.lru_replay.proofs.Options.{MatchResult-some, MatchResult-none}
 use Rattle.lru_replay.proofs.lines.words.number.Goals as goal
 
--- what `from_utf8` says of a text, and of bytes that are none
 Text : List ℕ → Bor (List ℕ) → Type 0
 Text bytes text = (text.now ≡ bytes) × IsUtf8 bytes
 
