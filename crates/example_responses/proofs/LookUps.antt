@@ -33,7 +33,6 @@ ok-same : {T E : Type 0} {x y : T} → ◌≡◌ {A = Result T E} (Ok x) (Ok y) 
 ok-same {T} {E} {x} {y} p = ap (or-else x) p
 
 module _ {K V : Type 0} (names : K → Bool) where
-  -- the pair of a value that is found passes the test
   found-pair : (xs : List (K × V)) (v : V) → lookup names xs ≡ Some v
       → (p : K × V) × (lookup_entry names xs ≡ Some p) × (names p.0 ≡ true)
   found-pair [] v e = absurd (true≢false (sym (ap is_some e)))
@@ -45,7 +44,6 @@ module _ {K V : Type 0} (names : K → Bool) where
       go later true is e = (x, refl, is)
       go later false is e = later e
 
-  -- a pair that became the newest is removed
   without-front : (xs : List (K × V)) (v : V) → lookup names xs ≡ Some v
       → without names (front names xs) ≡ without names xs
   without-front xs v found =
@@ -54,7 +52,6 @@ module _ {K V : Type 0} (names : K → Bool) where
       ∙ ap (λ b. cond b (without names xs) (p ∷ without names (without names xs))) named
 
 module _ {K : Type 0} (names : K → Bool) (now : ℕ) (xs : List (K × Response)) where
-  -- the list after a get that finds nothing, or a fresh response
   front-looked_up : (found : Option Response) → lookup names xs ≡ found → fresh_at now found ≡ found
       → front names xs ≡ looked_up names now xs
   front-looked_up None is same = ap (λ o. after o (without names xs)) (no_pair names xs is)
@@ -62,7 +59,6 @@ module _ {K : Type 0} (names : K → Bool) (now : ℕ) (xs : List (K × Response
   front-looked_up (Some v) is same =
       sym (ap (λ o. cond (is_some o) (front names xs) (without names xs)) (ap (fresh_at now) is ∙ same))
 
-  -- the list after a stale response was removed
   stale-looked_up : (v : Response) → lookup names xs ≡ Some v → fresh_at now (lookup names xs) ≡ None
       → without names (front names xs) ≡ looked_up names now xs
   stale-looked_up v found stale = without-front names xs v found
@@ -70,7 +66,6 @@ module _ {K : Type 0} (names : K → Bool) (now : ℕ) (xs : List (K × Response
 
 module _ {K V : Type 0} {eq : K → K → Bool} (laws : IsEquivalence eq) (names : K → Bool)
     (one : (x y : K) → names x ≡ true → names y ≡ eq x y) where
-  -- after a removal the key is not there
   pub not-there : (xs : List (K × V)) (v : V) → lookup names xs ≡ Some v → IsDistinct eq (keys_of xs)
       → lookup names (remove_entry names xs) ≡ None
   not-there xs v found distinct =
@@ -78,14 +73,12 @@ module _ {K V : Type 0} {eq : K → K → Bool} (laws : IsEquivalence eq) (names
       ap (λ test. lookup test (remove_entry names xs)) (λ i y. one k y is i)
       ∙ lookup-remove_entry laws names one k xs distinct ∙ ap (λ b. cond b None (lookup (eq k) xs)) is
 
--- after a get the value is there, as before
 pub still-there : {K V L S : Type 0} (names : K → Bool) (map : State K V L S) (found : Option V)
     → lookup names map.pairs ≡ found → lookup names (promoted names map).pairs ≡ found
 still-there names map None none = ap (λ st. lookup names st.pairs) (promoted-absent names map none) ∙ none
 still-there names map (Some v) is = ap (λ st. lookup names st.pairs) (sym (read_back names map v is)) ∙ written-found
     names map v v is
 
--- no key of a tenant is there twice
 pub distinct-keys : {N K V L S : Type 0} {keys : K → K → Bool} {cost : K → V → ℕ} {account budget : L → ℕ}
     (cache : Cache N K V L S) (test : N → Bool) → All (IsTenant keys cost account budget) (values_of cache.tenants)
     → IfSome (tenant test cache) (λ map. IsDistinct keys (keys_of map.pairs))
@@ -95,7 +88,6 @@ distinct-keys {keys = keys} {cost = cost} {account = account} {budget = budget} 
     (λ map is. is.map.distinct)
     (values_of cache.tenants) all)
 
--- a response is fresh before it expires, and stale from then on
 pub fresh-before : (now : ℕ) (response : Response) → now < response.expires
     → fresh_at now (Some response) ≡ Some response
 fresh-before now response lt = grind (arith, lt)
@@ -103,7 +95,6 @@ fresh-before now response lt = grind (arith, lt)
 pub stale-from : (now : ℕ) (response : Response) → response.expires ≤ now → fresh_at now (Some response) ≡ None
 stale-from now response le = grind (arith, le)
 
--- two calls on a tenant, one after another, are one
 pub leaves-both : {N K V L S : Type 0} {eq : N → N → Bool} (name : N) (mid-left left : Option (State K V L S))
     (old mid new : Cache N K V L S) → Leaves eq name mid-left old mid → Leaves eq name left mid new
     → Leaves eq name left old new
@@ -120,7 +111,6 @@ leaves-both {N} {K} {V} {L} {S} {eq} name mid-left left old mid new first second
     go other false is = is
 
 module _ {K S : Type 0} (names : K → Bool) (now : ℕ) where
-  -- a get that finds nothing, or a fresh response
   pub get-finds : (was : Option (State K Response Budget S)) (found : Option Response)
       (left : Option (State K Response Budget S))
       → Gets names was (Ok found) left → fresh_at now found ≡ found
@@ -136,7 +126,6 @@ module _ {K S : Type 0} (names : K → Bool) (now : ℕ) where
         still-there names map found (sym value) ∙ sym same ∙ ap (fresh_at now) value,
       )
 
--- so a look-up ends with the get
 pub on-finds : {N K S : Type 0} {eq : N → N → Bool} (names : K → Bool) (now : ℕ) (host : N)
     (old mid : Cache N K Response Budget S)
     (answer : Result (Option Response) TenantError) (found : Option Response) → On eq host (Gets names) old answer mid
@@ -153,7 +142,6 @@ module _ {N K S : Type 0} {eq : N → N → Bool} (equal : IsEquivalence eq) {ke
     (names : K → Bool) (one : (x y : K) → names x ≡ true → names y ≡ keys x y) (now : ℕ)
     (rules : Rules K Response Budget)
     (host : N) (old mid new : Cache N K Response Budget S) (response : Response) where
-  -- what the get of a response leaves
   got-it : On eq host (Gets names) old (Ok (Some response)) mid
       → (map : State K Response Budget S) × (tenant (eq host) old ≡ Some map) × (lookup names map.pairs ≡ Some response)
       × (tenant (eq host) mid ≡ Some (promoted names map))
@@ -183,7 +171,6 @@ module _ {N K S : Type 0} {eq : N → N → Bool} (equal : IsEquivalence eq) {ke
   limit-stays keeps limiter None = refl
   limit-stays keeps limiter (Some pair) = keeps limiter pair.0 pair.1
 
-  -- a get that finds a stale response, and a removal
   pub stale-removed : KeepsLimit → (removed : Option Response) (answer : Result (Option Response) TenantError)
       → On eq host (Gets names) old answer mid → answer ≡ Ok (Some response)
       → fresh_at now (Some response) ≡ None

@@ -46,7 +46,6 @@ module _ {A : Type 0} where
   used_from_full deleted e = refl
   used_from_full (full held) e = refl
 
-  -- past the last bucket all are empty
   pub bucket_at-past : (buckets : List (Bucket A)) (b : ℕ) → length buckets ≤ b → bucket_at buckets b ≡ empty
   bucket_at-past buckets b p = get_or_past buckets b empty p
 
@@ -71,7 +70,6 @@ module _ {A : Type 0} where
       → bucket_at buckets b ≡ empty
   empty_mark buckets b e = mark_empty _ (sym (bucket_at-marks_of buckets b) ∙ e)
 
-  -- a bucket is full exactly if its mark is
   pub is_full-marks_of : (buckets : List (Bucket A)) (b : ℕ)
       → is_full (bucket_at (marks_of buckets) b) ≡ is_full (bucket_at buckets b)
   is_full-marks_of buckets b = ap is_full (bucket_at-marks_of buckets b) ∙ mark_of-full (bucket_at buckets b)
@@ -80,7 +78,6 @@ module _ {A : Type 0} where
       → count_by p (s ∷ rest) ≡ cond (p s) 1 0 + count_by p rest
   count_by-cons p s rest = sum_by-cons (λ x. cond (p x) 1 0) s rest
 
-  -- one bucket is written
   pub bucket_at-set_same : (buckets : List (Bucket A)) (b k : ℕ) (s : Bucket A) → k ≡ b → b < length buckets
       → bucket_at (set buckets b s) k ≡ s
   bucket_at-set_same buckets b k s e within = rw e (get_or-set_same buckets b s empty within)
@@ -89,7 +86,6 @@ module _ {A : Type 0} where
       → bucket_at (set buckets b s) k ≡ bucket_at buckets k
   bucket_at-set_other buckets b k s p = get_or-set_other buckets b k s empty p
 
-  -- what writing one bucket does to a count
   pub count_by-set : (p : Bucket A → Bool) (buckets : List (Bucket A)) (b : ℕ) (s : Bucket A) → b < length buckets
       → count_by p (set buckets b s) + cond (p (bucket_at buckets b)) 1 0 ≡ count_by p buckets + cond (p s) 1 0
   count_by-set p buckets b s within = sum_by-set (λ x. cond (p x) 1 0) buckets b s empty within
@@ -119,7 +115,6 @@ module _ {A : Type 0} where
       → count_by is_deleted (marks_of buckets) ≡ count_by is_deleted buckets
   deleted_count-marks_of buckets = count_by-marks_of is_deleted is_deleted mark_of-deleted buckets
 
-  -- used buckets are full ones and deleted ones
   pub used_count-split : (buckets : List (Bucket A))
       → count_by is_used buckets ≡ entry_count buckets + count_by is_deleted buckets
   used_count-split [] = refl
@@ -149,7 +144,6 @@ module _ {A : Type 0} where
         count_by-cons is_deleted (full held) rest,
       )
 
-  -- if no bucket is deleted, none is counted
   pub deleted_count-none : (buckets : List (Bucket A)) → ((b : ℕ) → bucket_at buckets b ≢ deleted)
       → count_by is_deleted buckets ≡ 0
   deleted_count-none [] none = refl
@@ -159,7 +153,6 @@ module _ {A : Type 0} where
   deleted_count-none (full held ∷ rest) none =
       omega (arith, deleted_count-none rest (λ b. none (suc b)), count_by-cons is_deleted (full held) rest)
 
-  -- if fewer buckets are used than there are, one is empty
   pub some_empty : (buckets : List (Bucket A)) → count_by is_used buckets < length buckets → (b : ℕ)
       × (b < length buckets) × (bucket_at buckets b ≡ empty)
   some_empty [] p = absurd (omega arith)

@@ -73,7 +73,6 @@ module _ (R : RattleType) where
   pub block_align : (n : ℕ) → capped (align (block_ty n)) ≡ capped (align (lone R.mir))
   block_align n = ap capped (align-raw (ty_array (lone R.mir) n))
 
--- a product that fits does not meet the cap on its second factor
 pub uncapped : (n k : ℕ) → n * k < 2 ^ 64 → n * capped k ≡ n * k
 uncapped zero k small = zero-mul (capped k) ∙ sym (zero-mul k)
 uncapped (suc n) k small = ap (λ j. suc n * j) (capped_is k (omega (arith, small, suc-mul n k)))
@@ -81,7 +80,6 @@ uncapped (suc n) k small = ap (λ j. suc n * j) (capped_is k (omega (arith, smal
 abbrev pub three_val : Val → Val → Val → Val
 three_val u v w = vstruct (vcons u (vcons v (vcons w vnil)))
 
--- a tuple of three
 pub three_made : {M : Type 1} {𝓤 : Ura M} (𝓛 : Logic 𝓤) (A B C : RattleType)
     (a : A.Denot) (b : B.Denot) (c : C.Denot) (u v w : Val)
     → ent 𝓤 (sep 𝓤 (sem 𝓛 (A.own_val a (u ∷ []))) (sep 𝓤 (sem 𝓛 (B.own_val b (v ∷ []))) (sem 𝓛 (C.own_val c (w ∷ [])))))

@@ -97,7 +97,6 @@ module _ (R : RattleType) where
         fjoin ! $
         rewrite ! 0 (λ (q : Ptr). ‵ (owns_cells R q after)) (sym e) refl $ done !)))
 
-    -- a place is put back, whatever it holds
     pub cell_in : (start : Ptr) (held : List Held) (b : ℕ) (at : ℕ × ℕ) (p : Held)
         → ent 𝓤 (sep 𝓤 (sem 𝓛 (place R at.0 (b * size + at.1) p)) (all 𝓤 (Back start held b at)))
         (sem 𝓛 (owns_cells R start (slice_set held b p)))
@@ -130,7 +129,6 @@ module _ (R : RattleType) where
           (place_seen block o held b (b * size + o) refl near) $
           show ! (Seen start held b) (block, o) $ check ! (lies start b (length held) (block, o) e near few) $ done !))
 
-    -- memory for n entries is a row of n places that hold none
     pub of_room : (block n o : ℕ)
         → ent 𝓤 (H.room (ty_array τ n) block o) (sem 𝓛 (places R block o (replicate n None)))
     of_room block zero o = qed 𝓛 (‵ (froom (ty_array τ 0) block o) ∷ []) ∵ keep ! [] $ done !
@@ -150,7 +148,6 @@ module _ (R : RattleType) where
         by ! (𝓛.laws.room_cons τ n block o)
 
   module _ {M : Type 1} {𝓤 : Ura M} {𝓛 : Logic 𝓤} {K : Type 0} {Γ : List (Item 𝓤)} {G : Goal 𝓤 𝓛.H} where
-    -- a place is taken out of the row
     pub takes_out : K → (start : Ptr) (held : List Held) (b : ℕ) → b < length held
         → ((at : ℕ × ℕ) → Lies start b at → Seq K 𝓛 (‵ (place R at.0 (b * size + at.1) (get_or held b None))
         ∷ raw (all 𝓤 (Back 𝓛 start held b at)) ∷ Γ) G)
@@ -160,7 +157,6 @@ module _ (R : RattleType) where
         ⊛ raw (all 𝓤 (Back 𝓛 start held b at))))) (cell_out 𝓛 start held b near) $
         pick t (λ at. learn t (λ lies. split t $ then at lies))
 
-    -- a `&` to the row shows one place
     pub looks_at : K → (κ : Lft) (start : Ptr) (held : List Held) (b : ℕ) → b < length held
         → ((at : ℕ × ℕ) → Lies start b at
         → Seq K 𝓛 (‵ (place_lent R at.0 (b * size + at.1) (get_or held b None) κ) ∷ Γ) G)

@@ -24,7 +24,6 @@ module _ (R : RattleType) (laws : RowLaws R) where
   of_places block o (first ∷ more) =
       beside_shr_laws _ _ (of_place block o first) (of_places block (o + type_size R) more)
 
-  -- what a `&` to them holds has the laws of what a `&` holds
   pub cells_lent_laws : (start : Ptr) (held : List (Option R.Denot)) → ShrLaws (lends_cells R start held)
   cells_lent_laws null_ptr held = said_shr_laws ffalse tt
   cells_lent_laws (block_ptr block o) held =
@@ -44,7 +43,6 @@ module _ {M : Type 1} {𝓤 : Ura M} (𝓛 : Logic 𝓤) (l : Lft) (R : RattleTy
       Lends-both 𝓛 (place R block o first) (places R block next more) (place_lent R block o first)
       (places_lent R block next more) l (lends_one block o first) (lends_each block next more)
 
-  -- what they own is lent
   pub lends_all : (start : Ptr) (held : List (Option R.Denot))
       → Lends 𝓛 (owns_cells R start held) (lends_cells R start held) l
   lends_all null_ptr held = Lends-false 𝓛 (said ffalse) l

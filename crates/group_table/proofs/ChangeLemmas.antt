@@ -9,11 +9,9 @@ use Rattle.group_table.specs.Change.{Places, Removes, count_up, placings, one_pl
 use Rattle.group_table.proofs.BucketLemmas.{bucket_at-set_same, bucket_at-set_other, count_by-set}
 use Rattle.group_table.proofs.BucketLemmas.{full_lt, is_full-marks_of, marks_of-set}
 
--- all insertions, with one more
 pub placings-placed : (c : Insertions) → placings (one_placed c) ≡ count_up (placings c) 1
 placings-placed c = omega arith
 
--- and with n moves
 pub placings-moved : (c : Insertions) (n : ℕ) → placings (some_moved c n) ≡ count_up (placings c) n
 placings-moved c n = omega arith
 
@@ -29,7 +27,6 @@ module _ {T : Type 0} (old new : Table T) (hash : ℕ) (entry : T) (b : ℕ) (pl
         let counted = count_by-set is_full old.slots b (full (record { tag = hash_tag hash; entry = entry })) within in
         ap entry_count places.slots ∙ omega (arith, counted, none)
 
-  -- the others stay
   pub bucket_at-placed_other : (k : ℕ) → k ≢ b → bucket_at new.slots k ≡ bucket_at old.slots k
   bucket_at-placed_other k other =
       ap (λ xs. bucket_at xs k) places.slots ∙ bucket_at-set_other old.slots b k
@@ -40,14 +37,12 @@ module _ {T : Type 0} (old new : List (Slot T)) (b : ℕ) where
   length-removed (inl w) = ap length w.1 ∙ length-set old b empty
   length-removed (inr w) = ap length w.1 ∙ length-set old b deleted
 
-  -- there is no entry in it now
   pub entry_at-removed : IsFull old b → Removes old new b → entry_at new b ≡ None
   entry_at-removed there (inl w) =
       ap entry_of (ap (λ xs. bucket_at xs b) w.1 ∙ bucket_at-set_same old b b empty refl (full_lt old b there))
   entry_at-removed there (inr w) =
       ap entry_of (ap (λ xs. bucket_at xs b) w.1 ∙ bucket_at-set_same old b b deleted refl (full_lt old b there))
 
-  -- the others stay
   pub bucket_at-removed_other : (k : ℕ) → k ≢ b → Removes old new b → bucket_at new k ≡ bucket_at old k
   bucket_at-removed_other k other (inl w) = ap (λ xs. bucket_at xs k) w.1 ∙ bucket_at-set_other old b k empty other
   bucket_at-removed_other k other (inr w) = ap (λ xs. bucket_at xs k) w.1 ∙ bucket_at-set_other old b k deleted other

@@ -27,18 +27,15 @@ module _ {T F : Type 0} (closure : Shared F (Bor T × Unit {0}) (Result T AllocE
   slot_copy byte None y h = rw h (free_copy (nat_eq byte 128))
   slot_copy byte (Some entry) y h = (h.0, h.1, ap (slot_of byte) h.2)
 
-  -- without entries no place holds one
   pub none_at : (n b : ℕ) → get_or {A = Option T} (replicate n None) b None ≡ None
   none_at zero b = refl
   none_at (suc n) zero = refl
   none_at (suc n) (suc b) = none_at n b
 
-  -- the byte of a place agrees with its copy
   pub copy_agrees : (byte : ℕ) (x y : Option T) → IsPlaceCopy closure f x y → Agrees byte x → Agrees byte y
   copy_agrees byte None y h agrees = subst (Agrees byte) (sym h) agrees
   copy_agrees byte (Some entry) y h agrees = subst (Agrees byte) (sym h.2) agrees
 
-  -- place by place
   pub place_copies : (xs ys : List (Option T)) → length ys ≡ length xs
       → ((b : ℕ) → b < length xs → IsPlaceCopy closure f (get_or xs b None) (get_or ys b None))
       → AllZip (IsPlaceCopy closure f) xs ys
@@ -48,7 +45,6 @@ module _ {T F : Type 0} (closure : Shared F (Bor T × Unit {0}) (Result T AllocE
   place_copies (x ∷ xs) (y ∷ ys) same each =
       (each 0 (omega arith), place_copies xs ys (omega arith) (λ b within. each (suc b) (omega arith)))
 
-  -- copies of the entries with the same bytes are a copy of the table
   pub Copies-places : (bytes : List ℕ) (xs ys : List (Option T)) → AllZip (IsPlaceCopy closure f) xs ys
       → Copies closure f (slots_of bytes xs) (slots_of bytes ys)
   Copies-places bytes [] [] h = tt
@@ -75,7 +71,6 @@ module _ {T F : Type 0} (closure : Shared F (Bor T × Unit {0}) (Result T AllocE
   mark_of-copy deleted n h = ap mark_of h
   mark_of-copy (full held) n h = ap mark_of h.2
 
-  -- the marks are the same
   pub marks_of-copies : (old new : List (Slot T)) → Copies closure f old new → marks_of new ≡ marks_of old
   marks_of-copies [] [] h = refl
   marks_of-copies [] (n ∷ new) h = absurd h
@@ -83,7 +78,6 @@ module _ {T F : Type 0} (closure : Shared F (Bor T × Unit {0}) (Result T AllocE
   marks_of-copies (s ∷ old) (n ∷ new) h =
       ap (λ m. m ∷ marks_of new) (mark_of-copy s n h.0) ∙ ap (λ ms. mark_of s ∷ ms) (marks_of-copies old new h.1)
 
-  -- a full bucket of the copy was full, with the same tag
   was_full : (s n : Slot T) (held : Tagged T) → IsCopyOf closure f s n → n ≡ full held → (was : Tagged T)
       × (s ≡ full was) × (held.tag ≡ was.tag)
   was_full empty n held h e = absurd (empty_not_full n h (ap is_full e))
@@ -95,7 +89,6 @@ module _ {T F : Type 0} (closure : Shared F (Bor T × Unit {0}) (Result T AllocE
   was_deleted deleted n h e = refl
   was_deleted (full was) n h e = absurd (full_not_deleted n (ap is_full h.2) e)
 
-  -- and so the hashes that fit
   pub Fits-copies : (old new : List (Slot T)) (hash_of : ℕ → ℕ) → Copies closure f old new → Fits old hash_of
       → Fits new hash_of
   Fits-copies old new hash_of h fits =

@@ -13,13 +13,11 @@ use Rattle.group_table.proofs.SizeLemmas.{power_is}
 use Rattle.group_table.specs.Control.{buckets_of, IsCircle, IsControl}
 use Rattle.group_table.specs.Layout.{IsLaidOut}
 
--- the bytes are for the buckets that the entries stand in
 pub buckets_are : {T : Type 0} (control : List ℕ) (entries : List (Option T)) → IsLaidOut control entries
     → buckets_of control ≡ length entries
 buckets_are control entries laid_out =
     elim laid_out.counts [ inl w ↦ omega (arith, w.0, w.1) | inr w ↦ omega (arith, w.1) ]
 
--- if there are buckets, the bytes have the form, and the number is the number of the last bucket
 pub circle_of : (control : List ℕ) (last : ℕ) → IsControl control last → 0 < buckets_of control → IsCircle control
 circle_of control last (inl none) some = let e : length control ≡ 0 = ap length none.0 in absurd (omega (arith, e))
 circle_of control last (inr w) some = w.0
@@ -29,7 +27,6 @@ pub last_of : (control : List ℕ) (last : ℕ) → IsControl control last → 0
 last_of control last (inl none) some = let e : length control ≡ 0 = ap length none.0 in absurd (omega (arith, e))
 last_of control last (inr w) some = w.1
 
--- the bytes of empty buckets have the form
 pub IsCircle-empty : (n : ℕ) → IsPowerFromFour n → n + 16 < 2 ^ 63 → IsCircle (replicate (n + 16) empty_byte)
 IsCircle-empty n power fits =
     let long : length (replicate (n + 16) empty_byte) ≡ n + 16 = length-replicate (n + 16) empty_byte in
@@ -82,7 +79,6 @@ module _ (control : List ℕ) (b byte : ℕ) (circle : IsCircle control) (within
             ∙ sym (other (p - max 16 n) (λ e. h (omega (arith, e))) (λ e. omega (arith, e)))
       ]
 
-  -- with the byte of a bucket written, and its repetition
   pub IsCircle-set : IsCircle (set (set control b byte) (b + max 16 (buckets_of control)) byte)
   IsCircle-set = record {
     power = rw same_buckets circle.power;
@@ -97,7 +93,6 @@ module _ (control : List ℕ) (b byte : ℕ) (circle : IsCircle control) (within
 
 -- sixteen places back on a circle, counted by words that wrap
 module _ (n b : ℕ) (power : IsPowerFromFour n) (fits : n < 2 ^ 64) (word : b < 2 ^ 64) where
-  -- a word's range is a number of turns
   turns : (q : ℕ) × (2 ^ 64 ≡ n * q) × (0 < q)
   turns = elim (dec_lt 62 power.0) [
     | yes p ↦ absurd (let m : 2 ^ 63 ≤ 2 ^ power.0 = pow_mono p in omega (arith, m, power.1, fits))
@@ -111,7 +106,6 @@ module _ (n b : ℕ) (power : IsPowerFromFour n) (fits : n < 2 ^ 64) (word : b <
         )
   ]
 
-  -- of 4 or 8 buckets sixteen are whole turns
   small_turns : n < 16 → (c : ℕ) × (16 ≡ n * c)
   small_turns p = elim (dec_lt power.0 1) [
     | yes q ↦ let e : power.0 ≡ 0 = omega (arith, q) in (4, omega (arith, power.1 ∙ ap (λ k. 4 * 2 ^ k) e))
@@ -121,7 +115,6 @@ module _ (n b : ℕ) (power : IsPowerFromFour n) (fits : n < 2 ^ 64) (word : b <
     ]
   ]
 
-  -- going back is going on by the rest of a turn
   around : (w c : ℕ) → w + 16 ≡ b + n * c → w % n ≡ (b + (n - 16)) % n
   around w c e = elim (dec_lt n 16) [
     | yes p ↦

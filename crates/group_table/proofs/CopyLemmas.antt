@@ -2,13 +2,11 @@
 use Rattle.std.proofs.Common.{◌≡◌, ℕ, zero, suc, ◌<◌, List, [], ◌∷◌, length, get_or, replicate, refl, ap, ◌∙◌, arith}
 
 module _ {X : Type 0} where
-  -- also past the end, where it is the default
   pub copy_at : (n k : ℕ) (x : X) → get_or (replicate n x) k x ≡ x
   copy_at zero k x = refl
   copy_at (suc n) zero x = refl
   copy_at (suc n) (suc k) x = copy_at n k x
 
-  -- a list of the same elements
   pub replicate-from : (xs : List X) (x d : X) → ((k : ℕ) → k < length xs → get_or xs k d ≡ x)
       → xs ≡ replicate (length xs) x
   replicate-from [] x d h = refl

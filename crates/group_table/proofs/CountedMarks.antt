@@ -10,13 +10,10 @@ use Rattle.group_table.proofs.ProbeLemmas.{probed-lt, probed-meets}
 use Rattle.group_table.proofs.FirstFree.{first_free_there}
 
 pub record TableFacts (marks : List Mark) : Type 0 where
-  -- the entries and the growth left are at most the full capacity, and up to 16 buckets they are all of it
   pub within : entry_count marks + room marks ≤ full_capacity (length marks)
   pub exact : length marks ≤ 16 → entry_count marks + room marks ≡ full_capacity (length marks)
-  -- with buckets, one is empty, and a search for any hash finds a free one
   pub some_empty : 0 < length marks → (b : ℕ) × (b < length marks) × (bucket_at marks b ≡ empty)
   pub some_free : 0 < length marks → (hash : ℕ) → (b : ℕ) × (b < length marks) × IsFirstFree marks hash b
-  -- in n steps a search of n buckets visits each
   pub visits_each : (hash b : ℕ) → b < length marks
       → (step : ℕ) × (step < length marks) × (probed (length marks) hash step ≡ b)
 

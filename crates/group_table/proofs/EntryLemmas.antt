@@ -11,7 +11,6 @@ module _ {T : Type 0} where
   some_held (Some entry) some = (entry, refl)
   some_held None some = absurd (false≢true some)
 
-  -- if a place holds an entry, the row's parts are of one block, and hold it
   pub held_there : {row : Option (Row T)} {there : Row T} {places : List (Option T)}
       (alloc : Global) (b : ℕ)
       → row ≡ Some there → IsRow row alloc → places_of row ≡ places → IsSome (get_or places b None)

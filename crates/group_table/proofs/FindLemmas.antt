@@ -82,7 +82,6 @@ module _ {T F : Type 0} (closure : Mut F (Bor T × Unit {0}) Bool) (slots : List
     (within : s < length slots) (none_before : (t : ℕ) → t < s → mark_probed (marks_of slots) hash t ≢ empty)
     (f between g : F)
     (before : RejectsEach closure slots f (candidates slots hash s) between) where
-  -- a search reaches each step of this group
   reached_here : (lanes : ℕ) → lanes ≤ 16 → (step earlier : ℕ) → step < s + lanes → earlier / 16 < step / 16
       → mark_probed (marks_of slots) hash earlier ≢ empty
   reached_here lanes small step earlier p q = none_before earlier (omega arith)
@@ -112,14 +111,12 @@ module _ {T F : Type 0} (closure : Mut F (Bor T × Unit {0}) Bool) (slots : List
         accepted = here.accepted;
       }
 
-  -- the whole group was refused
   pub refused_group : RejectsGroup closure slots (hash_tag hash) (probed (length slots) hash s) between g
       → RejectsEach closure slots f (candidates slots hash (s + min 16 (length slots))) g
   refused_group here =
       rw (candidates-group slots hash s (min 16 (length slots)) whole (omega arith))
       (FoldsTo-append _ f _ between _ g before here)
 
-  -- an empty bucket ends the search: what a search reaches was among the groups before, or in this one
   reached_by : (lane : ℕ) → lane < min 16 (length slots) → IsEmptyLane slots (probed (length slots) hash s) lane
       → (b : ℕ) → b < length slots
       → Reaches (marks_of slots) hash b → (t : ℕ) × (t < s + min 16 (length slots)) × (probed (length slots) hash t ≡ b)
@@ -175,7 +172,6 @@ module _ {T F : Type 0} (closure : Mut F (Bor T × Unit {0}) Bool) (slots : List
             (subst (λ h. Reaches (marks_of slots) h b) e (fitting.reached b there));
       }
 
--- with no buckets there is nothing to ask about
 pub FindsNone-empty : {T F : Type 0} (closure : Mut F (Bor T × Unit {0}) Bool) (slots : List (Slot T)) (hash : ℕ)
     (f : F) → length slots ≡ 0 → FindsNone closure slots hash f
 FindsNone-empty closure slots hash f e = record {
@@ -242,7 +238,6 @@ module _ {T F : Type 0} (closure : Mut F (Bor T × Unit {0}) Bool) (control : Li
   same : length slots ≡ length entries
   same = length-laid_out control entries laid_out
 
-  -- no bucket is before the first
   pub GoesPast-none : (f : F) (n : ℕ) → n ≡ 0 → GoesPast closure slots hash n f f
   GoesPast-none f n e = record {
     within = omega (arith, same, some.1, e);
@@ -262,7 +257,6 @@ module _ {T F : Type 0} (closure : Mut F (Bor T × Unit {0}) Bool) (control : Li
       power : IsPowerFromFour (length slots)
       power = rw same (power_of _ _ laid_out (omega (arith, some.1)))
 
-      -- and ends there
       pub Finds-here : (b : ℕ) → AcceptsIn closure slots tag probe.start between b g → Finds closure slots hash f b
       Finds-here b here =
           Finds-from closure slots hash (passed_by probe) power at_slots.whole past.within past.not_empty f between g

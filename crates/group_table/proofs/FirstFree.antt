@@ -32,7 +32,6 @@ module _ (marks : List Mark) (hash : ℕ) where
   first_free_within b first some =
       subst (λ k. k < length marks) first.there (probed-lt (length marks) hash first.step some)
 
-  -- the first steps come to full buckets alone, or one of them is the first to a free one
   scan : (steps : ℕ) → ((s : ℕ) → s < steps → IsFull marks (probed (length marks) hash s))
       ⊎ ((b : ℕ) × IsFirstFree marks hash b)
   scan zero = inl (λ s p. absurd (omega arith))
@@ -54,7 +53,6 @@ module _ (marks : List Mark) (hash : ℕ) where
       next h false e = inr
           (probed (length marks) hash steps, record { step = steps; there = refl; free_there = e; full_before = h })
 
-  -- if some bucket is free, a search finds a first one
   pub first_free_there : IsPowerFromFour (length marks) → (b : ℕ) → b < length marks
       → is_full (bucket_at marks b) ≡ false → (c : ℕ) × IsFirstFree marks hash c
   first_free_there power b p free =
@@ -69,7 +67,6 @@ some_bucket [] b (inl p) = absurd (omega (arith, p, room_is [], full_capacity-sm
 some_bucket [] b (inr e) = absurd (empty_not_deleted (bucket_at [] b) refl e)
 some_bucket (m ∷ marks) b may = omega arith
 
--- a bucket that an entry may go into is one of the table's
 pub fills_within : {A : Type 0} (buckets : List (Bucket A)) (hash b : ℕ) → IsFirstFree (marks_of buckets) hash b
     → MayFill (marks_of buckets) b → b < length buckets
 fills_within buckets hash b first may =

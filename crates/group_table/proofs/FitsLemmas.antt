@@ -74,7 +74,6 @@ Reaches-first marks hash b first = record {
 }
 
 module _ {T : Type 0} where
-  -- the hashes fit again, with the hash of the new entry
   pub Fits-reached : (slots : List (Slot T)) (hash_of : ℕ → ℕ) (hash b : ℕ) (entry : T) → b < length slots
       → Reaches (marks_of slots) hash b → Fits slots hash_of
       → Fits (set slots b (full (record { tag = hash_tag hash; entry = entry }))) (with_hash hash_of b hash)
@@ -106,7 +105,6 @@ module _ {T : Type 0} where
   Fits-placed slots hash_of hash b entry p first fits =
       Fits-reached slots hash_of hash b entry p (Reaches-first (marks_of slots) hash b first) fits
 
-  -- hashes fit that are the same if a bucket is full
   pub Fits-agree : (slots : List (Slot T)) (f g : ℕ → ℕ) → ((b : ℕ) → IsFull slots b → f b ≡ g b) → Fits slots f
       → Fits slots g
   Fits-agree slots f g agree fits = record {
@@ -130,7 +128,6 @@ module _ {T : Type 0} where
           (fits.reached k (sym (ap is_full (bucket_at-set_other slots b k s (was_full k there))) ∙ there)));
     }
 
-  -- the hashes of the entries that stay fit again
   pub Fits-removed : (old new : List (Slot T)) (hash_of : ℕ → ℕ) (b : ℕ) → b < length old → Removes old new b
       → Fits old hash_of → Fits new hash_of
   Fits-removed old new hash_of b p (inl w) fits =
@@ -141,7 +138,6 @@ module _ {T : Type 0} where
       (Reaches-set (marks_of old) b deleted (rw length-marks_of p)
       (λ e. empty_not_deleted {A = Unit {0}} deleted e refl)) fits)
 
-  -- if all buckets are empty, any hashes fit
   pub Fits-none : (slots : List (Slot T)) (hash_of : ℕ → ℕ) → ((b : ℕ) → bucket_at slots b ≡ empty) → Fits slots hash_of
   Fits-none slots hash_of none = record {
     tags = λ b held e. absurd (empty_not_full _ (none b) (ap is_full e));

@@ -24,7 +24,6 @@ module _ {A : Type 0} (p : Bucket A → Bool) (no : p empty ≡ false) where
       let one : ◌≡◌ {A = ℕ} (cond (p empty) 1 0) 0 = ap (λ t. cond {A = ℕ} t 1 0) no in
       omega (arith, sum_by-cons (λ s. cond (p s) 1 0) empty (replicate n empty), one, none_counted n)
 
--- without a full or a deleted bucket, all are empty
 pub all_empty : {A : Type 0} (buckets : List (Bucket A)) → count_by is_used buckets ≡ 0
     → buckets ≡ replicate (length buckets) empty
 all_empty [] none = refl
@@ -52,7 +51,6 @@ module _ (T : Type 0) where
         ]
       ]
 
-  -- so the invariant holds of a fresh table of any number of buckets
   pub IsValid-fresh : (n m : ℕ) → ((n ≡ 0) × (m ≡ 0)) ⊎ (IsPowerFromFour n × (m ≡ n + 16)) → m < 2 ^ 63
       → IsValid {T = T} (replicate m 255) (replicate n None) (full_capacity n)
   IsValid-fresh n m s p =
@@ -74,7 +72,6 @@ module _ (T : Type 0) where
   pub entry_count-fresh : (n m : ℕ) → n ≤ m → entry_count (slots_of {T = T} (replicate m 255) (replicate n None)) ≡ 0
   entry_count-fresh n m p = rw (slots_of-fresh n m p) (none_counted {A = Tagged T} is_full refl n)
 
-  -- the room is the full capacity
   pub room-fresh : (n : ℕ) → room (marks_of (replicate {A = Slot T} n empty))
       ≡ full_capacity (length (replicate {A = Slot T} n empty))
   room-fresh n =
@@ -91,13 +88,11 @@ module _ (T : Type 0) where
   pub Fits-fresh : (n : ℕ) (hash_of : ℕ → ℕ) → Fits {T = T} (replicate n empty) hash_of
   Fits-fresh n hash_of = Fits-none (replicate n empty) hash_of (λ b. copy_at n b empty)
 
--- if all buckets are empty, there is no entry
 pub entry_count-none : {T : Type 0} (slots : List (Slot T)) → ((b : ℕ) → bucket_at slots b ≡ empty)
     → entry_count slots ≡ 0
 entry_count-none slots none =
     ap entry_count (replicate-from slots empty empty (λ b within. none b)) ∙ none_counted is_full refl (length slots)
 
--- if no bucket is full, there is no entry
 pub none_left : {T : Type 0} (control : List ℕ) (entries : List (Option T)) → IsLaidOut control entries
     → entry_count (slots_of control entries) ≡ 0 → entries ≡ replicate (length entries) None
 none_left {T} control entries laid_out none =

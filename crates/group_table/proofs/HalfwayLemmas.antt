@@ -112,7 +112,6 @@ module _ {T N : Type 0} (number : N → ℕ) (none : N) (IsGiven : (ℕ → ℕ)
     hashes = half.hashes;
   }
 
-  -- an entry is placed there
   pub IsHalfway-placed : b < length whole → get_or control b 0 < 128
       → IsHalfway number none IsGiven whole now control links (b + 1)
   IsHalfway-placed within byte = passed_by (at (get_or half.placed b None) refl)
@@ -123,7 +122,6 @@ module _ {T N : Type 0} (number : N → ℕ) (none : N) (IsGiven : (ℕ → ℕ)
           let free = rw is at (half.valid.laid_out.agrees b (omega (arith, within, half.placed_length))) in
           absurd (elim free [ inl e ↦ omega (arith, e, byte) | inr e ↦ omega (arith, e, byte) ])
 
-  -- nothing stands there
   pub IsHalfway-none : place_at now b ≡ None → IsHalfway number none IsGiven whole now control links (b + 1)
   IsHalfway-none gone = passed_by (settled_by_none whole half.gone half.placed now b gone (half.each b))
 
@@ -188,7 +186,6 @@ module _ {T N : Type 0} (number : N → ℕ) (none : N) (IsGiven : (ℕ → ℕ)
           hashes = half.hashes;
         }
 
-  -- so the entry of a bucket where nothing is placed, if there is one, is the next
   pub IsInTurn-taken : 128 ≤ get_or control b 0
       → IsInTurn number none IsGiven whole (set now b None) control links (b + 1) b (place_at now b)
   IsInTurn-taken byte = at (place_at now b) refl

@@ -25,11 +25,9 @@ module _ {T : Type 0} (control : List ℕ) (entries : List (Option T)) (r : ℕ)
   capacity : full_capacity (length (slots_of control entries)) ≡ full_capacity (length entries)
   capacity = ap full_capacity (length-laid_out control entries valid.laid_out)
 
-  -- there is room
   pub some_room : 0 < r
   some_room = omega (arith, less, none_deleted, capacity, used_count-split (slots_of control entries), valid.room_left)
 
-  -- and so there are buckets
   pub some_buckets : 0 < length entries
   some_buckets = elim valid.laid_out.counts [
     | inl w ↦ let none : full_capacity (length entries) ≡ full_capacity 0 = ap full_capacity w.0 in
@@ -37,7 +35,6 @@ module _ {T : Type 0} (control : List ℕ) (entries : List (Option T)) (r : ℕ)
     | inr w ↦ omega (arith, power_pos (length entries) w.0)
   ]
 
-  -- the first free bucket is one that a search reaches
   pub first_reached : (hash b : ℕ) → IsFirst (full_at control) (probed (buckets_of control) hash) b
       → IsFreeFor control entries hash b
   first_reached hash b first =
@@ -61,7 +58,6 @@ module _ {T : Type 0} (control : List ℕ) (entries : List (Option T)) (r : ℕ)
     in_slots : b < length (slots_of control entries)
     in_slots = omega (arith, join_within, length-laid_out control entries valid.laid_out)
 
-    -- the free bucket is empty
     join_empty : bucket_at (slots_of control entries) b ≡ empty
     join_empty = elim free_there.0 [
       | inl e ↦ e

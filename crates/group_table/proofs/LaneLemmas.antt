@@ -19,7 +19,6 @@ use Rattle.group_table.proofs.WriteLemmas.{byte_at-bucket, byte_at-between, byte
 use Rattle.group_table.proofs.Circle.{distance}
 use Rattle.group_table.proofs.FindLemmas.{refused_passed, refused_asked, AcceptsIn-from}
 
--- 16, or the buckets if there are more, is a multiple of the buckets
 pub whole_rounds : (n : ℕ) → IsPowerFromFour n → (q : ℕ) × (max 16 n ≡ n * q)
 whole_rounds n power = elim (dec_lt n 16) [
   | yes p ↦ small power.0 power.1 p
@@ -99,7 +98,6 @@ module _ (n start : ℕ) where
         | no p ↦ omega arith
       ]
 
-      -- a lane that is not in the mask of the free ones
       pub full_lane : (mask : ℕ) → IsMaskAt (λ byte. 128 ≤ byte) control start mask → (lane : ℕ) → lane < 16
           → (HasLane mask lane → ⊥) → get_or control ((start + lane) % n) 0 < 128
       full_lane mask h lane p none = elim (dec_lt (get_or control (start + lane) 0) 128) [
@@ -107,7 +105,6 @@ module _ (n start : ℕ) where
         | no q ↦ absurd (none ((h lane).1 (p, omega arith)))
       ]
 
-      -- a free lane over a full bucket stands for none
       pub lane_between : (mask lane : ℕ) → IsMaskAt (λ byte. 128 ≤ byte) control start mask → HasLane mask lane
           → get_or control ((start + lane) % n) 0 < 128 → (n ≤ start + lane) × (start + lane < max 16 n)
       lane_between mask lane h set there = elim (real_or_between lane) [
@@ -115,7 +112,6 @@ module _ (n start : ℕ) where
         | inr w ↦ w
       ]
 
-      -- and then, if it is the first one, the first free bucket is the lowest of all
       pub free_before : (mask lane : ℕ) → IsMaskAt (λ byte. 128 ≤ byte) control start mask → lane < 16
           → ((i : ℕ) → HasLane mask i → lane ≤ i) → HasLane mask lane → get_or control ((start + lane) % n) 0 < 128
           → (all first : ℕ) → IsMaskOf (λ byte. 128 ≤ byte) control all → ((i : ℕ) → HasLane all i → first ≤ i)
@@ -172,7 +168,6 @@ module _ (n start : ℕ) where
             in_group = omega (arith, past.0, past.1);
           }
 
--- what is known of a table's bytes
 pub repeated_bytes : {T : Type 0} (control : List ℕ) (entries : List (Option T)) → IsLaidOut control entries
     → 0 < length entries → IsRepeated control (length entries)
 repeated_bytes control entries laid_out pos = record { again = again; between = between }
@@ -216,7 +211,6 @@ module _ {T : Type 0} (control : List ℕ) (entries : List (Option T)) (laid_out
   pos : 0 < length entries
   pos = omega arith
 
-  -- an empty lane ends the search: up to 16 buckets some bucket of the group is empty
   pub ended_lane : (e : ℕ) → e < length entries → bucket_at (marks_by control entries) e ≡ empty → (lane : ℕ)
       → lane < 16 → get_or control (start + lane) 0 ≡ 255
       → HasEmptyLane (slots_of control entries) start (width (slots_of control entries))
@@ -236,7 +230,6 @@ module _ {T : Type 0} (control : List ℕ) (entries : List (Option T)) (laid_out
             (d.0, omega (arith, d.1, same), rw (same, d.2) is)
       ]
 
-  -- and none lets it go on
   pub none_ended : ((lane : ℕ) → lane < 16 → get_or control (start + lane) 0 ≢ 255)
       → HasNoEmptyLane (slots_of control entries) start (width (slots_of control entries))
   none_ended used lane p e =
@@ -261,7 +254,6 @@ module _ {T : Type 0} (control : List ℕ) (entries : List (Option T)) (laid_out
           subst (λ k. RejectsEach closure slots f (tagged_lanes slots tag start k) f) none refl;
     }
 
-    -- lanes with other bytes add nothing
     skipped : (g : F) (k j : ℕ) → k + j ≤ 16 →
         ((lane : ℕ) → k ≤ lane → lane < k + j → get_or control (start + lane) 0 ≢ tag)
         → RejectsEach closure slots f (tagged_lanes slots tag start (passed n start k)) g
@@ -299,7 +291,6 @@ module _ {T : Type 0} (control : List ℕ) (entries : List (Option T)) (laid_out
           (skipped g so_far.lanes (lane - so_far.lanes) (omega arith)
           (λ i r s t. none i (omega arith) ((so_far.left i).1 (r, omega arith, t))) so_far.refused)
 
-      -- all lanes with the tag were refused
       pub RejectsGroup-from : ((lane : ℕ) → HasLane mask lane → ⊥)
           → RejectsGroup closure (slots_of control entries) tag start f g
       RejectsGroup-from none =
@@ -319,7 +310,6 @@ module _ {T : Type 0} (control : List ℕ) (entries : List (Option T)) (laid_out
         pub lane_within : b < length entries
         lane_within = rw is (mod-lt _ pos)
 
-        -- the bucket of the lane has the tag
         pub lane_tag : get_or control b 0 ≡ tag
         lane_tag =
             let w = (so_far.left lane).0 set in

@@ -35,13 +35,11 @@ module _ {T : Type 0} where
   slots_of-set (y ∷ bytes) (x ∷ entries) (suc b) byte e =
       ap (λ s. slot_of y x ∷ s) (slots_of-set bytes entries b byte e)
 
-  -- a byte below 128 means an entry, and any other byte means none
   pub some_by : (byte : ℕ) (place : Option T) → Agrees byte place → byte < 128 → IsSome place
   some_by byte (Some entry) a below = refl
   some_by byte None (inl e) below = absurd (omega arith)
   some_by byte None (inr e) below = absurd (omega arith)
 
-  -- a bucket for each place
   pub buckets_of-laid_out : (control : List ℕ) (entries : List (Option T)) → IsLaidOut control entries
       → buckets_of control ≡ length entries
   buckets_of-laid_out control entries laid_out = elim laid_out.counts [
@@ -58,7 +56,6 @@ module _ {T : Type 0} where
   is_full-slot_of byte None (inl e) = rw e
   is_full-slot_of byte None (inr e) = rw e
 
-  -- a bucket is empty exactly if its byte is 255
   pub slot_of-empty : (byte : ℕ) (e : Option T) → Agrees byte e → byte ≡ 255 → slot_of byte e ≡ empty
   slot_of-empty byte (Some entry) p e = absurd (omega arith)
   slot_of-empty byte None p e = rw e
@@ -83,7 +80,6 @@ module _ {T : Type 0} (control : List ℕ) (entries : List (Option T)) (laid_out
   pub entries_within : length entries ≤ length control
   entries_within = elim laid_out.counts [ inl w ↦ omega arith | inr w ↦ omega arith ]
 
-  -- a table with buckets has a power of two of them
   pub power_of : 0 < length entries → IsPowerFromFour (length entries)
   power_of p = elim laid_out.counts [ inl w ↦ absurd (omega arith) | inr w ↦ w.0 ]
 
@@ -104,7 +100,6 @@ module _ {T : Type 0} (control : List ℕ) (entries : List (Option T)) (laid_out
     pub is_full-byte : is_full (bucket_at (marks_by control entries) b) ≡ nat_lt (get_or control b 0) 128
     is_full-byte = is_full-marks_of (slots_of control entries) b ∙ is_full-laid_out
 
-    -- what the code reads as EMPTY
     pub mark_from_byte : get_or control b 0 ≡ 255 → bucket_at (marks_by control entries) b ≡ empty
     mark_from_byte e =
         bucket_at-marks_of (slots_of control entries) b
@@ -114,7 +109,6 @@ module _ {T : Type 0} (control : List ℕ) (entries : List (Option T)) (laid_out
     byte_from_mark e =
         empty_byte _ _ (laid_out.agrees b within) (sym bucket_at-laid_out ∙ empty_mark (slots_of control entries) b e)
 
-    -- what the code reads of a bucket with a tag
     pub bucket_at-read : (tag : ℕ) (entry : T) → get_or control b 0 ≡ tag → get_or entries b None ≡ Some entry
         → bucket_at (slots_of control entries) b ≡ full (record { tag = tag; entry = entry })
     bucket_at-read tag entry e found =
@@ -125,12 +119,10 @@ module _ {T : Type 0} (control : List ℕ) (entries : List (Option T)) (laid_out
     pub full_within : b < length entries
     full_within = let p = full_lt (slots_of control entries) b there in rw length-laid_out at p
 
-    -- a full bucket has an entry
     pub full_entry : (entry : T) × (get_or entries b None ≡ Some entry)
     full_entry =
         some_entry (get_or control b 0) (get_or entries b None) (rw (bucket_at-laid_out b full_within) at there)
 
-    -- and a byte below 128
     pub full_byte : get_or control b 0 < 128
     full_byte = let e = full_entry in rw e.1 at (laid_out.agrees b full_within)
 

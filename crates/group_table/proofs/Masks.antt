@@ -20,7 +20,6 @@ tells : (b : Bool) (P : Type 0) → (b ≡ true → P) → (P → b ≡ true) �
 tells true P f g = (λ h. f refl, λ h. refl)
 tells false P f g = (λ h. absurd (omega arith), λ h. ap (λ b. cond b 1 0) (g h))
 
--- the mask of a test of each lane
 pub mask_is : (t : ℕ → Bool) (P : ℕ → Type 0) (bytes : List ℕ) → length bytes ≡ 16
     → ((byte : ℕ) → t byte ≡ true → P byte) → ((byte : ℕ) → P byte → t byte ≡ true)
     → IsMaskOf P bytes (mask_l (map t bytes))
@@ -45,7 +44,6 @@ mask_is t P bytes long sound whole lane =
           )
     ]
 
--- `to_bitmask` of the comparison t with a splat on the right
 pub right_mask : (t : ℕ → ℕ → Bool) (bytes : List ℕ) (y : ℕ) → length bytes ≡ 16
     → mask_l (map (top 7) (zip2 (λ a b. cond (t a b) 255 0) bytes (replicate 16 y))) % 2 ^ 64
     ≡ mask_l (map (λ x. t x y) bytes)
@@ -53,7 +51,6 @@ right_mask t bytes y long =
     ap (λ ms. mask_l ms % 2 ^ 64) (tops_compared w8 t bytes (replicate 16 y) ∙ zip2_splat t bytes 16 y long)
     ∙ mask_l-mod (map (λ x. t x y) bytes) 64 (omega (arith, length-map bytes (λ x. t x y)))
 
--- the same with a splat on the left
 pub left_mask : (t : ℕ → ℕ → Bool) (bytes : List ℕ) (y : ℕ) → length bytes ≡ 16
     → mask_l (map (top 7) (zip2 (λ a b. cond (t a b) 255 0) (replicate 16 y) bytes)) % 2 ^ 64
     ≡ mask_l (map (λ x. t y x) bytes)
@@ -61,12 +58,9 @@ left_mask t bytes y long =
     ap (λ ms. mask_l ms % 2 ^ 64) (tops_compared w8 t (replicate 16 y) bytes ∙ zip2_splat_left t y 16 bytes long)
     ∙ mask_l-mod (map (λ x. t y x) bytes) 64 (omega (arith, length-map bytes (λ x. t y x)))
 
--- sixteen lanes make sixteen bits
 pub mask_fits : (t : ℕ → Bool) (bytes : List ℕ) → length bytes ≡ 16 → mask_l (map t bytes) < 65536
 mask_fits t bytes long = subst (λ n. mask_l (map t bytes) < 2 ^ n) (length-map bytes t ∙ long) (mask_l-lt (map t bytes))
 
--- ---- the lowest bit
--- no lane is below the lowest
 pub none_below : (mask low lane : ℕ) → ((i : ℕ) → i < low → bit_at mask i ≡ 0) → bit_at mask lane ≡ 1 → low ≤ lane
 none_below mask low lane zeros set =
     elim (cases_lt lane low) [
@@ -74,7 +68,6 @@ none_below mask low lane zeros set =
       | inr from ↦ from
     ]
 
--- n - 1 is 0 at the lowest 1 of n
 clear_at : (n t : ℕ) → 0 < n → bit_at n t ≡ 1 → ((i : ℕ) → i < t → bit_at n i ≡ 0) → bit_at (n - 1) t ≡ 0
 clear_at n zero some set zeros = omega (arith, bit_at_lowest n, bit_at_lowest (n - 1))
 clear_at n (suc t) some set zeros =
@@ -84,7 +77,6 @@ clear_at n (suc t) some set zeros =
     ∙ clear_at (n / 2) t (omega arith) (sym (bit_at-suc n t) ∙ set)
     (λ i l. sym (bit_at-suc n i) ∙ zeros (suc i) (omega arith))
 
--- n - 1 is n above its lowest 1
 same_above : (n t i : ℕ) → 0 < n → bit_at n t ≡ 1 → ((j : ℕ) → j < t → bit_at n j ≡ 0) → t < i
     → bit_at (n - 1) i ≡ bit_at n i
 same_above n t zero some set zeros l = absurd (omega arith)
@@ -100,7 +92,6 @@ same_above n (suc t) (suc i) some set zeros l =
     (λ j k. sym (bit_at-suc n j) ∙ zeros (suc j) (omega arith)) (omega arith)
     ∙ sym (bit_at-suc n i)
 
--- n - 1 is 1 below the lowest 1 of n
 set_below : (n t i : ℕ) → 0 < n → bit_at n t ≡ 1 → ((j : ℕ) → j < t → bit_at n j ≡ 0) → i < t → bit_at (n - 1) i ≡ 1
 set_below n zero i some set zeros l = absurd (omega arith)
 set_below n (suc t) zero some set zeros l =
@@ -113,7 +104,6 @@ set_below n (suc t) (suc i) some set zeros l =
     ∙ set_below (n / 2) t i (omega arith) (sym (bit_at-suc n t) ∙ set)
     (λ j k. sym (bit_at-suc n j) ∙ zeros (suc j) (omega arith)) (omega arith)
 
--- `(n - 1) & !n` has the bits below the lowest of n
 low_ones : (n t : ℕ) → 0 < n → n < 4294967296 → t < 32 → bit_at n t ≡ 1 → ((i : ℕ) → i < t → bit_at n i ≡ 0)
     → bit_and (n - 1) (4294967295 - n) ≡ 2 ^ t - 1
 low_ones n t some fits within set zeros =
@@ -139,7 +129,6 @@ low_ones n t some fits within set zeros =
       ]
     ])
 
--- `n & (n - 1)` has the bits of n but its lowest
 pub lowest_cleared : (n t lane : ℕ) → 0 < n → bit_at n t ≡ 1 → ((i : ℕ) → i < t → bit_at n i ≡ 0)
     → (bit_at (bit_and n (n - 1)) lane ≡ 1) ↔ ((bit_at n lane ≡ 1) × (lane ≢ t))
 lowest_cleared n t lane some set zeros =
@@ -154,13 +143,10 @@ lowest_cleared n t lane some set zeros =
           omega (arith, both, same_above n t lane some set zeros above),
     )
 
--- ---- counts of lanes
--- a mask of none holds no lane
 pub none_of_zero : (mask lane : ℕ) → mask ≡ 0 → bit_at mask lane ≡ 1 → ⊥
 none_of_zero mask lane none set = let z : ◌≡◌ {A = ℕ} 0 1 =
     sym (ap (λ m. bit_at m lane) none ∙ bit_at-zero lane) ∙ set in omega arith
 
--- one that holds some has a lowest
 pub some_lane : (mask : ℕ) → mask < 65536 → mask ≢ 0 → (lane : ℕ) × (lane < 16) × (bit_at mask lane ≡ 1)
 some_lane mask fits some = let h = bit_at-trailing_zeros w16 mask (omega (arith, some)) fits in (_, h.0, h.1)
 
@@ -201,7 +187,6 @@ module _ (mask : ℕ) (fits : mask < 65536) where
         absurd (omega (arith, p, ap (count_leading_zeros 16) z ∙ leading_of_zero 16))
   ]
 
--- the lanes below the lowest one of a mask, in 32 bits
 pub lanes_under : (mask : ℕ) → mask < 65536 → mask ≢ 0
     → bit_and ((mask + 4294967295) % 4294967296) (4294967295 - mask) ≡ 2 ^ count_trailing_zeros 16 mask - 1
 lanes_under mask fits some =
@@ -211,12 +196,10 @@ lanes_under mask fits some =
     ap (λ n. bit_and n (4294967295 - mask)) less
     ∙ low_ones mask (count_trailing_zeros 16 mask) q (omega arith) (omega (arith, h.0)) h.1 h.2
 
--- of an empty mask, all 32 bits
 pub lanes_under_none : (mask : ℕ) → mask ≡ 0
     → bit_and ((mask + 4294967295) % 4294967296) (4294967295 - mask) ≡ 2 ^ 32 - 1
 lanes_under_none mask none = ap (λ n. bit_and ((n + 4294967295) % 4294967296) (4294967295 - n)) none
 
--- a mask is above them as if they were at most sixteen
 pub lanes_under_mask : (low mask under : ℕ) → mask < 65536 → (low ≢ 0 → under ≡ 2 ^ count_trailing_zeros 16 low - 1)
     → (low ≡ 0 → under ≡ 2 ^ 32 - 1) → nat_lt under mask ≡ nat_lt (2 ^ count_trailing_zeros 16 low - 1) mask
 lanes_under_mask low mask under fits some none = elim (dec_lt 0 low) [
@@ -229,7 +212,6 @@ lanes_under_mask low mask under fits some none = elim (dec_lt 0 low) [
       (omega (arith, ap (λ n. 2 ^ n) all)))
 ]
 
--- a mask is above the lanes below another one if its highest lane is not below the lowest of that one
 pub masks_meet : (mask f : ℕ) → mask < 65536 → nat_lt (2 ^ f - 1) mask ≡ nat_lt (count_leading_zeros 16 mask + f) 16
 masks_meet mask f fits = elim (dec_lt 0 mask) [
   | yes q ↦
@@ -250,7 +232,6 @@ masks_meet mask f fits = elim (dec_lt 0 mask) [
       le-ltb (2 ^ f - 1) mask (omega arith) ∙ sym (le-ltb (count_leading_zeros 16 mask + f) 16 (omega (arith, all)))
 ]
 
--- a mask of a group that was read is one of the bytes that it was read from
 pub mask_at : (P : ℕ → Type 0) (group bytes : List ℕ) (start mask : ℕ)
     → ((lane : ℕ) → lane < 16 → get_or group lane 0 ≡ get_or bytes (start + lane) 0)
     → IsMaskOf P group mask → IsMaskAt P bytes start mask

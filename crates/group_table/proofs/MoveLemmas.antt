@@ -20,7 +20,6 @@ use Rattle.group_table.proofs.FitsLemmas.{Fits-reached, Fits-agree, with_hash-th
 use Rattle.group_table.proofs.JoinLemmas.{entry_at-joined, bucket_at-joined_other}
 
 module _ {T N : Type 0} (number : N → ℕ) (none : N) where
-  -- no entry has moved
   pub Moves-none : (old : ℕ → Option T) (new : List (Slot T)) (links : List N) → ((b : ℕ) → old b ≡ None)
       → ((b : ℕ) → bucket_at new b ≡ empty)
       → ((b : ℕ) → get_or links b none ≡ none) → Moves number none old new links
@@ -61,7 +60,6 @@ module _ {T N : Type 0} (number : N → ℕ) (none : N) where
     linked_elsewhere : (k : ℕ) → k ≢ b → moved_to number none linked k ≡ moved_to number none links k
     linked_elsewhere k other = ap number (get_or-set_other links b k (link c) none other)
 
-    -- an old entry is in another bucket
     apart_from : (k : ℕ) (x : T) → old k ≡ Some x → moved_to number none links k ≢ c
     apart_from k x e same =
         empty_not_full (bucket_at new c) joins.was_empty
@@ -152,7 +150,6 @@ module _ {T : Type 0} (places : List (Option T)) (b : ℕ) (within : b < length 
   counted = ap (count_by is_some) next_place
       ∙ sum_by-append (λ o. cond {A = ℕ} (is_some o) 1 0) (take b places) (get_or places b None ∷ []) ∙ omega arith
 
-  -- what the next place counts
   pub count_one : is_some (get_or places b None) ≡ true
       → count_by is_some (take (b + 1) places) ≡ count_by is_some (take b places) + 1
   count_one some =
@@ -166,7 +163,6 @@ module _ {T : Type 0} (places : List (Option T)) (b : ℕ) (within : b < length 
       ap (λ o. cond {A = ℕ} (is_some o) 1 0) gone in
       omega (arith, counted, none)
 
-  -- an entry that is still to come is not counted among those that have
   pub come_fewer : is_some (get_or places b None) ≡ true → count_by is_some (take b places) < count_by is_some places
   come_fewer some =
       let all = ap (count_by is_some) (sym (take-append-drop (b + 1) places)) in

@@ -36,7 +36,6 @@ module _ {T : Type 0} where
       let before : counts (get_or places b None) ≡ 1 = ap counts there in
       omega (arith, before, sum_by-set counts places b None None (place_within places b entry there))
 
-  -- a list whose places have what another has there, or nothing, has no more
   pub count-fewer : (some all : List (Option T)) → length some ≡ length all
       → ((b : ℕ) → (place_at some b ≡ None) ⊎ (place_at some b ≡ place_at all b))
       → count_by is_some some ≤ count_by is_some all

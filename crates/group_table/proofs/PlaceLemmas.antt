@@ -19,13 +19,11 @@ use Rattle.group_table.proofs.WriteLemmas.{IsValid-written, entry_count-written}
 use Rattle.group_table.proofs.TableLemmas.{empty_there, room_by, room_within}
 
 module _ {T : Type 0} where
-  -- a free bucket by its byte
   free_empty : (byte : ℕ) (e : Option T) → Agrees byte e → 128 ≤ byte → byte ≡ 255 → (slot_of byte e ≡ empty)
       × (e ≡ None)
   free_empty byte (Some entry) p q h = absurd (omega arith)
   free_empty byte None p q h = (rw h, refl)
 
-  -- and it has no entry
   pub free_slot : (byte : ℕ) (e : Option T) → Agrees byte e → 128 ≤ byte
       → ((slot_of byte e ≡ empty) ⊎ (slot_of byte e ≡ deleted)) × (e ≡ None)
   free_slot byte (Some entry) p q = absurd (omega arith)
@@ -57,7 +55,6 @@ module _ {T : Type 0} where
 abbrev pub IsFreeFor : {T : Type 0} → List ℕ → List (Option T) → ℕ → ℕ → Type 0
 IsFreeFor control entries hash b = Reaches (marks_by control entries) hash b × (128 ≤ get_or control b 0)
 
--- some byte says that its bucket is empty
 pub some_empty_byte : {T : Type 0} (control : List ℕ) (entries : List (Option T)) (r : ℕ) → IsValid control entries r
     → 0 < length entries → (b : ℕ) × (b < length entries) × (get_or control b 0 ≡ 255)
 some_empty_byte control entries r valid pos =
@@ -65,13 +62,11 @@ some_empty_byte control entries r valid pos =
     let within : w.0 < length entries = omega (arith, w.1, length-marks_by control entries valid.laid_out) in
     (w.0, within, byte_from_mark control entries valid.laid_out w.0 within w.2)
 
--- or that it is free
 pub some_free_byte : {T : Type 0} (control : List ℕ) (entries : List (Option T)) (r : ℕ) → IsValid control entries r
     → 0 < length entries → (b : ℕ) × (b < length entries) × (128 ≤ get_or control b 0)
 some_free_byte control entries r valid pos = let w = some_empty_byte control entries r valid pos in
     (w.0, w.1, omega (arith, w.2))
 
--- and there are buckets, if there is room
 pub some_buckets : {T : Type 0} {control : List ℕ} {entries : List (Option T)} {r : ℕ} → IsValid control entries r
     → 0 < room (marks_by control entries) → 0 < buckets_of control
 some_buckets {T} {control} {entries} {r} valid some = omega (
@@ -120,7 +115,6 @@ module _ {T : Type 0} {control : List ℕ} {entries : List (Option T)} {r : ℕ}
   pub place_none : get_or entries b None ≡ None
   place_none = (free_slot _ _ (valid.laid_out.agrees b place_within) byte_free).1
 
-  -- its byte says whether it is empty or deleted
   pub place_byte : Agrees {T = T} (get_or control b 0) None
   place_byte = subst (λ e. Agrees (get_or control b 0) e) place_none (valid.laid_out.agrees b place_within)
 
@@ -133,7 +127,6 @@ module _ {T : Type 0} {control : List ℕ} {entries : List (Option T)} {r : ℕ}
     place_deleted h = bucket_at-laid_out control entries valid.laid_out b place_within
         ∙ (free_deleted _ _ (valid.laid_out.agrees b place_within) byte_free (λ e. h (read_is ∙ e))).0
 
-    -- at most one
     pub spends_one : spent ≤ 1
     spends_one = elim (cases_eq read 255) [
       | inl h ↦ omega (arith, spent_is ∙ ap (λ t. cond {A = ℕ} t 1 0) (eq-eqb read 255 h))
@@ -148,7 +141,6 @@ module _ {T : Type 0} {control : List ℕ} {entries : List (Option T)} {r : ℕ}
           | inr h ↦ inr (place_deleted h, spent_is ∙ ap (λ t. cond {A = ℕ} t 1 0) (ne_eqb read 255 h))
         ]
 
-    -- if the room is less than that, there is none, and the bucket is empty
     pub no_place_left : r < spent → HasNoPlace (marks_by control entries) hash
     no_place_left less =
         elim (cases_eq read 255) [
@@ -170,7 +162,6 @@ module _ {T : Type 0} {control : List ℕ} {entries : List (Option T)} {r spent 
     | inr w ↦ inr (bucket_at-marks_of (slots_of control entries) b ∙ rw w.0)
   ]
 
-  -- the room that it takes is what the bucket counted
   pub room_spent : room_at (marks_by control entries) b ≡ spent
   room_spent = elim spends [
     | inl w ↦ ap (λ m. cond {A = ℕ} (is_used m) 0 1) (bucket_at-marks_of (slots_of control entries) b ∙ ap mark_of w.0)

@@ -11,7 +11,6 @@ use Rattle.group_table.specs.Group.{IsProbe, passed_by}
 use Rattle.group_table.proofs.Circle.{distance, mod_cancel}
 use Rattle.group_table.proofs.Triangle.{IsTriangle, triangle_meets, triangles_apart, product_even}
 
--- a step by its group and its lane
 pub probed-at : (n hash s g lane : ℕ) → s ≡ 16 * g + lane → lane < 16
     → probed n hash s ≡ (hash + 8 * g * (g + 1) + lane) % n
 probed-at n hash s g lane e p =
@@ -22,11 +21,9 @@ probed-at n hash s g lane e p =
 pub probed-lt : (n hash s : ℕ) → 0 < n → probed n hash s < n
 probed-lt n hash s pos = mod-lt _ pos
 
--- a group begins at a bucket
 pub probe_within : (n hash : ℕ) (probe : Probe) → IsProbe n hash probe → 0 < n → probe.start < n
 probe_within n hash probe at pos = rw at.start (probed-lt n hash (passed_by probe) pos)
 
--- the steps of a search to a bucket of the first group are those on the circle
 pub probed-first_group : (n hash b steps : ℕ) → b < n → steps < 16 → steps ≡ (b + (n - hash % n)) % n
     → probed n hash steps ≡ b
 probed-first_group n hash b steps p q e =
@@ -40,7 +37,6 @@ probed-first_group n hash b steps p q e =
     at ∙ ap (λ k. k % n) turned ∙ ap (λ k. (k + hash) % n) e ∙ mod-add-mod (b + (n - hash % n)) n hash
     ∙ ap (λ k. k % n) round ∙ add-mul-mod_self_left b n (hash / n + 1) ∙ mod-eq_of_lt p
 
--- and such a bucket is fewer than 16 steps away
 pub probed-near : (n hash b step : ℕ) → 0 < n → step < 16 → probed n hash step ≡ b → (b + (n - hash % n)) % n < 16
 probed-near n hash b step pos p e =
     let below = mod-lt hash pos in
@@ -54,7 +50,6 @@ probed-near n hash b step pos p e =
     ∙ add-mul-mod_self_left step n (hash / n + 1) in
     omega (arith, is, p, div-add-mod step n)
 
--- the lanes of a group stand side by side on the circle
 pub probed-lane : (n hash s lane : ℕ) → s % 16 ≡ 0 → lane < 16 → probed n hash (s + lane) ≡ (probed n hash s + lane) % n
 probed-lane n hash s lane e p =
     let first : probed n hash s ≡ (hash + 8 * (s / 16) * (s / 16 + 1) + 0) % n =
@@ -63,7 +58,6 @@ probed-lane n hash s lane e p =
     probed-at n hash (s + lane) (s / 16) lane (omega arith) p ∙ ap (λ m. m % n) (sym add)
     ∙ sym (mod-add-mod (hash + 8 * (s / 16) * (s / 16 + 1) + 0) n lane) ∙ ap (λ m. (m + lane) % n) (sym first)
 
--- the next group begins 16 buckets later than the group before it did
 pub probed-next_group : (n hash s : ℕ) → s % 16 ≡ 0 → (probed n hash s + (s + 16)) % n ≡ probed n hash (s + 16)
 probed-next_group n hash s e =
     let g = s / 16 in
@@ -73,12 +67,10 @@ probed-next_group n hash s e =
     ap (λ m. (m + (s + 16)) % n) first ∙ mod-add-mod (hash + 8 * g * (g + 1) + 0) n (s + 16) ∙ ap (λ m. m % n) on
     ∙ sym (probed-at n hash (s + 16) (g + 1) 0 (omega (arith, whole)) (omega arith))
 
--- of 4 or 8 buckets the first group has all
 probed-small : (n hash s : ℕ) → s < 16 → probed n hash s ≡ (hash + s) % n
 probed-small n hash s p = let e : hash + 8 * 0 * (0 + 1) + s ≡ hash + s = omega arith in
     probed-at n hash s 0 s (omega arith) p ∙ ap (λ m. m % n) e
 
--- below 16 there are 4 or 8 buckets, and from 16 on a multiple of 16
 pub power_cases : (n : ℕ) → (power : IsPowerFromFour n) → 16 ≤ n → (m : ℕ) × (n ≡ 16 * 2 ^ m)
 power_cases n power p =
     elim (dec_lt 1 power.0) [
@@ -104,7 +96,6 @@ met_in_small n hash b p q r =
     let d = distance n (hash % n) b (mod-lt hash p) r in
     (d.0, d.1, probed-small n hash d.0 (omega (arith, d.1)) ∙ sym (mod-add-mod hash n d.0) ∙ d.2)
 
--- the way that a search has come at the t-th group
 way : (hash t lane q size r : ℕ) → IsTriangle size t q r
     → hash + 8 * t * (t + 1) + lane ≡ hash + (q * 16 + lane) + 16 * size * r
 way hash t lane q size r h = let e = h.is in omega arith
@@ -132,7 +123,6 @@ met_in_large m n hash b e p =
     subst (λ k. IsMet k hash b) (sym e)
     (met_by m hash b d.0 (omega (arith, d.1, e)) (subst (λ k. (hash % k + d.0) % k ≡ b) e d.2))
 
--- each bucket is met
 pub probed-meets : (n hash b : ℕ) → IsPowerFromFour n → b < n → IsMet n hash b
 probed-meets n hash b power p =
     elim (dec_lt n 16) [
@@ -140,7 +130,6 @@ probed-meets n hash b power p =
       | no q ↦ let w = power_cases n power (omega arith) in met_in_large w.0 n hash b w.1 p
     ]
 
--- if two steps come to one bucket, their lanes are one, and so are their groups
 apart_in_large : (m hash s t : ℕ) → s < 16 * 2 ^ m → t < 16 * 2 ^ m
     → probed (16 * 2 ^ m) hash s ≡ probed (16 * 2 ^ m) hash t → s ≡ t
 apart_in_large m hash s t p q e =
@@ -182,7 +171,6 @@ apart_in_small n hash s t l p q e =
     sym (mod-eq_of_lt p) ∙ mod_cancel n hash s t (omega arith)
     (sym (probed-small n hash s (omega arith)) ∙ e ∙ probed-small n hash t (omega arith)) ∙ mod-eq_of_lt q
 
--- in n steps over n buckets, no bucket is met twice
 pub probed-apart : (n hash s t : ℕ) → IsPowerFromFour n → s < n → t < n → probed n hash s ≡ probed n hash t → s ≡ t
 probed-apart n hash s t power p q e =
     elim (dec_lt n 16) [
@@ -194,7 +182,6 @@ probed-apart n hash s t power p q e =
     ]
 
 module _ (n hash s : ℕ) (whole : s % 16 ≡ 0) (P : ℕ → Type 0) where
-  -- what holds of the buckets of the steps before a group, and of the first lanes of the group, holds up to there
   pub up_to_lane : (lanes : ℕ) → lanes ≤ 16 → ((t : ℕ) → t < s → P (probed n hash t))
       → ((lane : ℕ) → lane < lanes → P ((probed n hash s + lane) % n)) → (t : ℕ) → t < s + lanes → P (probed n hash t)
   up_to_lane lanes small before here t p =
@@ -206,14 +193,12 @@ module _ (n hash s : ℕ) (whole : s % 16 ≡ 0) (P : ℕ → Type 0) where
             (subst P (sym (probed-lane n hash s (t - s) whole (omega arith))) (here (t - s) (omega arith)))
       ]
 
-  -- after the last group it holds of every bucket
   pub up_to_end : IsPowerFromFour n → n ≤ s + 16 → ((t : ℕ) → t < s + min 16 n → P (probed n hash t)) → (b : ℕ) → b < n
       → P b
   up_to_end power last all b p =
       let met = probed-meets n hash b power p in
       subst P met.2 (all met.0 (omega (arith, met.1)))
 
--- a group that is not past the end lies within the table
 pub group_within : (n s : ℕ) → IsPowerFromFour n → s % 16 ≡ 0 → s < n → s + min 16 n ≤ n
 group_within n s power whole p =
     elim (dec_lt n 16) [

@@ -22,7 +22,6 @@ module _ {T : Type 0} (control : List ℕ) (entries : List (Option T)) (room : �
   byte_below : get_or control b 0 < 128
   byte_below = full_byte control entries valid.laid_out b there
 
-  -- the bytes are as if the byte of the bucket were written again
   same_bytes : written control entries b (get_or control b 0) ≡ control
   same_bytes = written-same control entries valid.laid_out b within
 
@@ -53,7 +52,6 @@ module _ {T : Type 0} (control : List ℕ) (entries : List (Option T)) (room : �
       let count = entry_count-written control entries room valid b (get_or control b 0) (Some w) within byte_below in
       ap (λ all. entry_count (slots_of all (set entries b (Some w)))) (sym same_bytes) ∙ omega (arith, one, count)
 
--- a full bucket that is filled anew holds the new entry, and the others hold what they held
 pub entry_of-refilled : {T : Type 0} (s : Slot T) (w : T) → is_full s ≡ true → entry_of (refilled s w) ≡ Some w
 entry_of-refilled s w there = let held = held_by s there in ap (λ t. entry_of (refilled t w)) held.1
 
@@ -67,7 +65,6 @@ module _ {T : Type 0} (slots : List (Slot T)) (b : ℕ) (w : T) where
       → entry_at (set slots b (refilled (bucket_at slots b) w)) k ≡ entry_at slots k
   entry_at-refilled_other k other = ap entry_of (bucket_at-set_other slots b k _ other)
 
--- a write of an entry leaves the marks
 pub marks_of-refilled : {T : Type 0} (slots : List (Slot T)) (b : ℕ) (w : T)
     → marks_of (set slots b (refilled (bucket_at slots b) w)) ≡ marks_of slots
 marks_of-refilled {T} slots b w =
@@ -78,7 +75,6 @@ marks_of-refilled {T} slots b w =
     same deleted = refl
     same (full held) = refl
 
--- and so the hashes that fit
 pub Fits-refilled : {T : Type 0} (slots : List (Slot T)) (b : ℕ) (w : T) (hash_of : ℕ → ℕ) → IsFull slots b
     → Fits slots hash_of → Fits (set slots b (refilled (bucket_at slots b) w)) hash_of
 Fits-refilled {T} slots b w hash_of there fits =

@@ -13,7 +13,6 @@ use Rattle.group_table.proofs.BucketLemmas.{bucket_at-past, room_is, used_count-
 use Rattle.group_table.proofs.BucketLemmas.{length-marks_of}
 use Rattle.group_table.proofs.LayoutLemmas.{bucket_at-laid_out, length-laid_out, entries_within, is_full-test}
 
--- with no deleted bucket, room and entries are the full capacity
 pub room-none_deleted : {T : Type 0} (slots : List (Slot T)) → count_by is_deleted slots ≡ 0
     → entry_count slots ≤ full_capacity (length slots)
     → room (marks_of slots) + entry_count slots ≡ full_capacity (length slots)
@@ -70,6 +69,5 @@ module _ {T : Type 0} (control : List ℕ) (entries : List (Option T)) (laid_out
         ∙ sym (get_or_past entries b None (omega arith))
   ]
 
-  -- the entries in the buckets are those in the places
   pub entries_are : entry_at (slots_of control entries) ≡ place_at entries
   entries_are = λ i b. entry_at-laid_out b i

@@ -18,13 +18,11 @@ use Rattle.group_table.proofs.LayoutLemmas.{byte_from_mark}
 use Rattle.group_table.proofs.TableLemmas.{used_lt, room_by}
 use Rattle.group_table.proofs.WriteLemmas.{slots_of-written, IsValid-written, entry_count-written}
 
--- to subtract all ones is to add one
 pub room_gained : (gives : Bool) (room ones : ℕ) → ones ≡ cond gives (2 ^ 64 - 1) 0 → room < 2 ^ 64 - 1
     → (room + (2 ^ 64 - ones)) % 2 ^ 64 ≡ room + bool_byte gives
 room_gained true room ones all small = omega (arith, all)
 room_gained false room ones none small = omega (arith, none)
 
--- up to 16 buckets, 16 neighbours are all, and one of them is empty
 hemmed_in_small : (marks : List Mark) (b : ℕ) → IsHemmedIn (IsEmpty marks) (length marks) b → length marks ≤ 16
     → count_by is_used marks < length marks → ⊥
 hemmed_in_small marks b hemmed p q =
@@ -74,7 +72,6 @@ module _ {T : Type 0} (control : List ℕ) (entries : List (Option T)) (r : ℕ)
     pub removes : Removes (slots_of control entries) (slots_of (written control entries b byte) (set entries b None)) b
     pub gained_there : room_at (marks_by (written control entries b byte) (set entries b None)) b ≡ gained
 
-  -- what the bucket counts once it is written
   counts_as : (byte : ℕ) (s : Slot T) → slot_of byte None ≡ s
       → room_at (marks_by (written control entries b byte) (set entries b None)) b ≡ cond (is_used s) 0 1
   counts_as byte s is =

@@ -90,7 +90,6 @@ module _ (control : List ℕ) (n : ℕ) (power : IsPowerFromFour n) (repeated : 
             | no q ↦ omega arith
           ]
 
-  -- up to 16 buckets are all neighbours of each
   empty_beside : (e : ℕ) → e < n → get_or control e 0 ≡ 255 → n < 16 → HasEmptyNeighbours (IsEmptyAt control) n b
   empty_beside e within byte p start at q r =
       let d = distance n (start % n) e (mod-lt start (omega arith)) within in

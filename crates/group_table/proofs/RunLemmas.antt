@@ -25,7 +25,6 @@ pub record IsRunFrom (control : List ℕ) (buckets b run : ℕ) : Type 0 where
 
 module _ (control : List ℕ) (n b before after : ℕ) (pos : 0 < n) (bound : b < n)
     (runs_before : IsRunBefore control n b before) (runs_from : IsRunFrom control n b after) where
-  -- a place and the way to the bucket
   way_to : (start lane steps at : ℕ) → lane + steps ≡ at → (start + at) % n ≡ b → ((start + lane) % n + steps) % n ≡ b
   way_to start lane steps at e h =
       let f : start + lane + steps ≡ start + at = omega arith in
@@ -54,7 +53,6 @@ module _ (control : List ℕ) (n b before after : ℕ) (pos : 0 < n) (bound : b 
         )
       ]
 
-  -- 16 neighbours that begin n places before the bucket
   hemmed_at : (at : ℕ) → at < 16 → at ≤ before → 16 ≤ at + after → IsHemmedIn (IsEmptyAt control) n b
   hemmed_at at p q r =
       let d = distance n (at % n) b (mod-lt at pos) bound in
@@ -85,7 +83,6 @@ module _ (control : List ℕ) (n b before after : ℕ) (pos : 0 < n) (bound : b 
         ]
       ]
 
-  -- the sum of the two runs decides it
   pub run_tells : get_or control b 0 ≢ 255
       → MatchBool (nat_lt (before + after) 16) (HasEmptyNeighbours (IsEmptyAt control) n b)
       (IsHemmedIn (IsEmptyAt control) n b)

@@ -31,7 +31,6 @@ module _ {T : Type 0} where
   held_by deleted e = absurd (cc)
   held_by (full held) e = (held, refl)
 
-  -- a full bucket has an entry, and a bucket with an entry is full
   pub entry_by_full : (s : Slot T) → is_full s ≡ true → (entry : T) × (entry_of s ≡ Some entry)
   entry_by_full s there = let w = held_by s there in (w.0.entry, ap entry_of w.1)
 
@@ -57,12 +56,10 @@ module _ {T : Type 0} (slots : List (Slot T)) (tag : ℕ) where
       → tagged slots tag order (steps + 1) ≡ tagged slots tag order steps ++ if_tagged (order steps)
   tagged-next order steps = filter_of_map_range_with_len_more _ _ 0 steps steps (omega arith)
 
-  -- a lane with no such tag adds nothing
   pub tagged_lanes-skip : (start lane : ℕ) → has_tag tag (bucket_at slots ((start + lane) % length slots)) ≡ false
       → tagged_lanes slots tag start (lane + 1) ≡ tagged_lanes slots tag start lane
   tagged_lanes-skip start lane h = tagged-next _ lane ∙ rw h (append-nil _)
 
-  -- a lane with the tag adds its bucket
   pub tagged_lanes-more : (start lane : ℕ) → has_tag tag (bucket_at slots ((start + lane) % length slots)) ≡ true
       → tagged_lanes slots tag start (lane + 1) ≡ tagged_lanes slots tag start lane ++
       (start + lane) % length slots ∷ []
@@ -73,7 +70,6 @@ module _ {T : Type 0} (slots : List (Slot T)) (hash : ℕ) where
       ≡ candidates slots hash steps ++ if_tagged slots (hash_tag hash) (probed (length slots) hash steps)
   candidates-next steps = tagged-next slots (hash_tag hash) (probed (length slots) hash) steps
 
-  -- the candidates of a group follow the candidates of the groups before
   pub candidates-group : (s lanes : ℕ) → s % 16 ≡ 0 → lanes ≤ 16
       → candidates slots hash (s + lanes) ≡ candidates slots hash s ++ tagged_lanes slots (hash_tag hash)
       (probed (length slots) hash s) lanes
@@ -94,7 +90,6 @@ module _ {T : Type 0} (slots : List (Slot T)) (hash : ℕ) where
       (sym (tagged-next slots (hash_tag hash) (λ lane. (start + lane) % length slots) lanes)
       ∙ ap (tagged_lanes slots (hash_tag hash) start) f)
 
-  -- each candidate is there once
   pub candidates-distinct : (steps : ℕ) → IsPowerFromFour (length slots) → steps ≤ length slots
       → AllPairs ◌≢◌ (candidates slots hash steps)
   candidates-distinct steps power p =
@@ -105,7 +100,6 @@ module _ {T : Type 0} (slots : List (Slot T)) (hash : ℕ) where
       let same = probed-apart (length slots) hash i j power (omega arith) (omega arith) (sym first ∙ e ∙ second) in
       omega (arith, same))
 
-  -- a bucket with the tag that is visited is among them
   pub Contains-candidates : (s steps : ℕ) → s < steps
       → has_tag (hash_tag hash) (bucket_at slots (probed (length slots) hash s)) ≡ true
       → Contains (candidates slots hash steps) (probed (length slots) hash s)
@@ -131,7 +125,6 @@ module _ {T F : Type 0} (closure : Mut F (Bor T × Unit {0}) Bool) (slots : List
       }
 
   module _ (tag start lane : ℕ) where
-    -- one more refusal
     pub RejectsEach-more : (f between g : F) (entry : T)
         → RejectsEach closure slots f (tagged_lanes slots tag start lane) between
         → bucket_at slots ((start + lane) % length slots) ≡ full (record { tag = tag; entry = entry })
@@ -141,7 +134,6 @@ module _ {T F : Type 0} (closure : Mut F (Bor T × Unit {0}) Bool) (slots : List
         rw (tagged_lanes-more slots tag start lane (has_tag-full _ _ tag e refl))
         (FoldsTo-push _ f _ between _ g before asked)
 
-    -- a lane with no such tag
     pub RejectsEach-skip : (f between : F) → RejectsEach closure slots f (tagged_lanes slots tag start lane) between
         → has_tag tag (bucket_at slots ((start + lane) % length slots)) ≡ false
         → RejectsEach closure slots f (tagged_lanes slots tag start (lane + 1)) between

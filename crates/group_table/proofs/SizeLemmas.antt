@@ -21,7 +21,6 @@ power_pos n s = let z : 2 ^ 0 ≤ 2 ^ s.0 = pow_mono {i = 0} {j = s.0} (omega ar
 pub power_is : (n : ℕ) → (s : IsPowerFromFour n) → n ≡ 2 ^ (2 + s.0)
 power_is n s = s.1 ∙ sym (pow-add 2 2 s.0)
 
--- fewer entries than buckets
 pub full_capacity-lt : (n : ℕ) → IsPowerFromFour n → full_capacity n < n
 full_capacity-lt n s =
     elim (dec_lt 8 n) [
@@ -29,7 +28,6 @@ full_capacity-lt n s =
       | no q ↦ omega (arith, full_capacity-small n (omega arith), power_pos n s)
     ]
 
--- a power of two above 8 is a number of buckets, and a multiple of 8
 pub power_above : (n : ℕ) → IsPowerOfTwo n → 8 < n → (m : ℕ) × (n ≡ 8 * m) × (2 ≤ m) × IsPowerFromFour n
 power_above n s p =
     elim (dec_lt s.0 4) [
@@ -43,7 +41,6 @@ power_above n s p =
           (2 ^ k, omega (arith, d), omega (arith, z), (s.0 - 2, s.1 ∙ ap (λ j. 2 ^ j) f ∙ pow-add 2 2 (s.0 - 2)))
     ]
 
--- a power of two that is at least eight sevenths of c takes c entries
 pub takes_enough : (c n : ℕ) → IsPowerOfTwo n → 8 ≤ c → c * 8 / 7 ≤ n → IsBucketCount n × (c ≤ full_capacity n)
 takes_enough c n s p q =
     let w = power_above n s (omega arith) in

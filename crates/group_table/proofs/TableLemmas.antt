@@ -16,14 +16,12 @@ module _ {T : Type 0} (control : List ℕ) (entries : List (Option T)) (r : ℕ)
   used_is : count_by is_used (marks_by control entries) + r ≡ full_capacity (length entries)
   used_is = omega (arith, used_count-marks_of (slots_of control entries), valid.room_left)
 
-  -- the field is the room
   pub room_by : r ≡ room (marks_by control entries)
   room_by = let e = room_is (marks_by control entries) in let same = length-marks_by control entries valid.laid_out in
       (let f : r ≡ full_capacity (length entries) - count_by is_used (marks_by control entries) = omega
       (arith, used_is) in f)
       ∙ ap (λ n. full_capacity n - count_by is_used (marks_by control entries)) (sym same) ∙ sym e
 
-  -- there is less room than 2 ^ 63
   pub room_within : r ≤ length entries
   room_within = elim valid.laid_out.counts [
     | inl w ↦ let none : full_capacity (length entries) ≡ full_capacity 0 = ap full_capacity w.0 in

@@ -11,7 +11,6 @@ pub record IsTriangle (n t g q : ℕ) : Type 0 where
 mirrored : (t v g q : ℕ) → IsTriangle (t + v + 1) t g q → IsTriangle (t + v + 1) (t + v + 1 + v) g (q + 2 * v + 1)
 mirrored t v g q h = let e = h.is in record { is = omega arith }
 
--- the mirror image of t below 2 n has another triangular number
 mirror : (n t g q : ℕ) → t < n → IsTriangle n t g q → (v : ℕ) × (n + v < n + n) × IsTriangle n (n + v) g (q + 2 * v + 1)
 mirror n t g q p h =
     let v = n - t - 1 in
@@ -55,7 +54,6 @@ high n g w =
       | inr r ↦ (w.0, r.0, omega (arith, w.2), odd_half n w.0 g w.1 r.0 r.1 w.3)
     ]
 
--- each residue is met
 pub triangle_meets : (m g : ℕ) → g < 2 ^ m → Meets (2 ^ m) g
 triangle_meets zero g p = (0, 0, omega arith, record { is = omega arith })
 triangle_meets (suc m) g p =
@@ -67,7 +65,6 @@ triangle_meets (suc m) g p =
           subst (λ k. Meets (n + n) k) d (high n (g - n) (triangle_meets m (g - n) (omega arith)))
     ])
 
--- what an odd number and another multiply to is a multiple of a power of two only if the other is
 odd_divides : (k a b q : ℕ) → (2 * a + 1) * b ≡ 2 ^ k * q → (r : ℕ) × (b ≡ 2 ^ k * r)
 odd_divides zero a b q e = (b, omega arith)
 odd_divides (suc k) a b q e =
@@ -136,7 +133,6 @@ ordered_apart m t u p q l b e =
     differ n p q z l h = let i : p ≡ q + (p - q) = omega arith in let j : n * (q + (p - q)) ≡ z + n * q =
         ap (λ k. n * k) (sym i) ∙ h in omega arith
 
--- below 2 ^ m no two numbers have the same triangular number
 pub triangles_apart : (m t u p q : ℕ) → t < 2 ^ m → u < 2 ^ m
     → t * (t + 1) + 2 ^ suc m * p ≡ u * (u + 1) + 2 ^ suc m * q → t ≡ u
 triangles_apart m t u p q b c e =
@@ -148,7 +144,6 @@ triangles_apart m t u p q b c e =
       ]
     ]
 
--- t * (t + 1) is even
 pub product_even : (t : ℕ) → (u : ℕ) × (t * (t + 1) ≡ 2 * u)
 product_even zero = (0, omega arith)
 product_even (suc t) = let w = product_even t in (w.0 + t + 1, step t w.0 w.1)

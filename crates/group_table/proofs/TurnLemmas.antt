@@ -218,7 +218,6 @@ module _ {T N : Type 0} {number : N → ℕ} {none : N} {IsGiven : (ℕ → ℕ)
             (gives hash_at given) (half.hashes hash_at given);
       }
 
-    -- nothing stood there
     pub IsHalfway-last : place_at now b ≡ None → IsHalfway number none IsGiven whole (set now b (Some entry))
         (written control now b tag) (set links old (link b)) passed
     IsHalfway-last free =
@@ -262,7 +261,6 @@ module _ {T N : Type 0} {number : N → ℕ} {none : N} {IsGiven : (ℕ → ℕ)
           rw same_bytes (IsHalfway-then (set whole b None) (length-set whole b None) counted
           (λ k other. get_or-set_other whole b k None None other) there)
 
-    -- so what stood there, if anything did, is the next
     pub IsInTurn-next : IsInTurn number none IsGiven whole (set now b (Some entry)) (written control now b tag)
         (set links old (link b)) passed b (place_at now b)
     IsInTurn-next = at (place_at now b) refl

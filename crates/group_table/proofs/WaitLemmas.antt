@@ -9,7 +9,6 @@ use Rattle.group_table.proofs.LayoutLemmas.{none_by}
 
 module _ {T : Type 0} (whole now : List (Option T)) (control : List ℕ) (passed : ℕ)
     (stays : StaysWhereFree whole now control passed) where
-  -- the old bytes say what is in a place that is not passed
   pub agrees_before : (before : List ℕ) → IsLaidOut before whole → (b : ℕ) → passed ≤ b → b < length whole
       → 128 ≤ get_or control b 0 → Agrees (get_or before b 0) (place_at now b)
   agrees_before before laid_out b from within free = rw (stays b from within free) (laid_out.agrees b within)
@@ -17,7 +16,6 @@ module _ {T : Type 0} (whole now : List (Option T)) (control : List ℕ) (passed
   pub stays_past : StaysWhereFree whole now control (passed + 1)
   stays_past b from = stays b (omega arith)
 
-  -- an entry leaves a place that is passed
   pub stays_taken : (b : ℕ) (place : Option T) → b < passed → StaysWhereFree whole (set now b place) control passed
   stays_taken b place gone k from within free =
       get_or-set_other now b k place None (omega arith) ∙ stays k from within free
@@ -28,12 +26,10 @@ module _ {T : Type 0} (whole now : List (Option T)) (control : List ℕ) (passed
     other_byte k within other =
         get_or-set_other (set control b tag) _ k tag 0 (omega arith) ∙ get_or-set_other control b k tag 0 other
 
-    -- the bucket of a place that is passed is filled
     pub stays_tagged : b < passed → StaysWhereFree whole now (written control now b tag) passed
     stays_tagged gone k from within free =
         stays k from within (rw (other_byte k within (omega arith)) at free)
 
-    -- any bucket is filled, and its place
     pub stays_put : (place : Option T) → b < length control → b < length now → tag < 128
         → StaysWhereFree whole (set now b place) (written control now b tag) passed
     stays_put place in_control in_now tag_fits k from within free = elim (cases_eq k b) [

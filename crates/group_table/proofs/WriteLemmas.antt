@@ -42,7 +42,6 @@ module _ {T : Type 0} where
         → byte_at slots p ≡ byte_of (bucket_at slots (p - max 16 (length slots)))
     byte_at-again h q = rw (le-ltb p (length slots) h, le-ltb p 16 q)
 
-  -- a position keeps its byte if its bucket does
   pub byte_at-same : (old new : List (Slot T)) → length new ≡ length old → (p : ℕ)
       → byte_of (bucket_at new p) ≡ byte_of (bucket_at old p)
       → (16 ≤ p → length old ≤ p → byte_of (bucket_at new (p - max 16 (length old))) ≡ byte_of
@@ -59,7 +58,6 @@ module _ {T : Type 0} where
         ]
       ]
 
-  -- and each byte that is not of the written bucket stays
   byte_at-other : (slots : List (Slot T)) (b p : ℕ) (s : Slot T) → p ≢ b → p ≢ b + max 16 (length slots)
       → byte_at (set slots b s) p ≡ byte_at slots p
   byte_at-other slots b p s h k =
@@ -68,7 +66,6 @@ module _ {T : Type 0} where
       let there : p - max 16 (length slots) ≢ b = λ e. k (omega arith) in
       ap byte_of (bucket_at-set_other slots b _ s there))
 
-  -- the byte of a bucket that is written again leaves the bytes
   pub written-same : (control : List ℕ) (entries : List (Option T)) → IsLaidOut control entries → (b : ℕ)
       → b < length entries → written control entries b (get_or control b 0) ≡ control
   written-same control entries laid_out b within =
@@ -96,7 +93,6 @@ module _ {T : Type 0} (control : List ℕ) (entries : List (Option T)) (laid_out
   length-written : length (written control entries b byte) ≡ length control
   length-written = length-set (set control b byte) (b + max 16 (length entries)) byte ∙ length-set control b byte
 
-  -- the byte that is read at each position
   written_at : (p : ℕ) → p ≡ b → get_or (written control entries b byte) p 0 ≡ byte
   written_at p h =
       rw (get_or-set_other (set control b byte) (b + max 16 (length entries)) p byte 0 (λ k. omega arith), h)

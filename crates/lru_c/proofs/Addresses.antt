@@ -89,7 +89,6 @@ module _ (R Z : RattleType) (g : Ghosts Z.Denot) where
 
 module _ {M : Type 1} {𝓤 : Ura M} {𝓛 : Logic 𝓤} {K : Type 0} {Γ : List (Item 𝓤)} {G : Goal 𝓤 𝓛.H}
     (row : RattleType) where
-  -- a handle has the null pointer and no map, or the address of a map, which may be compared with null
   pub null_or_box : K → (start : Ptr) (map : Option row.Denot)
       → (map ≡ None → start ≡ null_ptr → Seq K 𝓛 Γ G)
       → ((m : row.Denot) (block o : ℕ) → map ≡ Some m → start ≡ block_ptr block o → Testable (block_ptr block o)

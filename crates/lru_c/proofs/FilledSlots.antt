@@ -30,7 +30,6 @@ counts_slot n [] pair rest small = absurd (omega arith)
 counts_slot zero (slot ∷ now) pair rest small = refl
 counts_slot (suc n) (slot ∷ now) pair rest small = counts_slot n now pair rest (omega arith)
 
--- one pair more was copied
 pub next_slot : (pairs : List (ℕ × ℕ)) (slots : List Entry) (n : ℕ) (pair : ℕ × ℕ) (rest : List (ℕ × ℕ))
     (now : List Entry)
     → FillsSoFar pairs slots n (pair ∷ rest) now → n < length now
@@ -47,7 +46,6 @@ no_slots : (rest : List (ℕ × ℕ)) → (filled rest [] ≡ []) × (fitting re
 no_slots [] = (refl, refl)
 no_slots (pair ∷ rest) = (refl, refl)
 
--- no slot is left
 pub all_slots : (pairs : List (ℕ × ℕ)) (slots : List Entry) (n : ℕ) (rest : List (ℕ × ℕ)) (now : List Entry)
     → FillsSoFar pairs slots n rest now → length now ≤ n → (now ≡ filled pairs slots) × (n ≡ fitting pairs slots)
 all_slots pairs slots n rest now so_far full =

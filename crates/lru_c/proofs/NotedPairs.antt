@@ -23,7 +23,6 @@ pub record Notes (old new : Held) (now : Option (ℕ × ℕ)) : Type 0 where
   pub pair : pair_of new ≡ now
   pub untouched : new.noted.now ≡ false → (old.noted.now ≡ false) × (new.place.now ≡ old.place.now)
 
--- what is noted after all of these
 noting_all : ℕ → Option (ℕ × ℕ) → List (ℕ × ℕ) → Option (ℕ × ℕ)
 noting_all key o [] = o
 noting_all key o (pair ∷ pairs) = noting_all key (noting_other key o pair) pairs

@@ -14,7 +14,6 @@ stays_within old new step few =
     subst (λ most. length new.pairs ≤ most) (sym (step_keeps_number nat_eq hash_of length-limits.fixed old new step))
     (step_stays_short nat_eq hash_of length-limits old new step few)
 
--- So does a map that is not over its limit.
 pub is_within : (map : Map) → IsWithin length_rules (contents map) → IsWithinLength map
 is_within map (inl none) = omega (arith, ap length none)
 is_within map (inr within) = grind (arith, nat_tests, within)

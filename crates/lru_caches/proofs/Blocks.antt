@@ -40,7 +40,6 @@ module _ {B D E S : Type 0} (d : device.Ghosts D B E S) where
   -- a device on which only the block of a cached page may have changed
   module _ (pages : List (ℕ × Page B)) (old new : D) (k : ℕ) (page : Page B)
       (there : lookup (nat_eq k) pages ≡ Some page) (others : (m : ℕ) → m ≢ k → d.blocks new m ≡ d.blocks old m) where
-    -- shows the same,
     pub shown-written_back : (n : ℕ) → block_at d pages new n ≡ block_at d pages old n
     shown-written_back n = go (lookup (nat_eq n) pages) refl
       where
@@ -50,7 +49,6 @@ module _ {B D E S : Type 0} (d : device.Ghosts D B E S) where
         go None e = others n (λ same. none-some page
             (sym e ∙ ap (λ m. lookup (nat_eq m) pages) same ∙ there))
 
-    -- and its clean pages stay clean, if that page was not, or is not changed
     pub clean-written_back : (IsGood d new → IsGood d old) → (page.is_dirty ≡ false → d.blocks new k ≡ d.blocks old k)
         → AreClean d pages old → AreClean d pages new
     clean-written_back before kept clean good n q found is_clean = go (nat_eq n k) refl
@@ -64,7 +62,6 @@ module _ {B D E S : Type 0} (d : device.Ghosts D B E S) where
             ∙ clean (before good) n q found is_clean
         go false e = others n (eqb-false n k e) ∙ clean (before good) n q found is_clean
 
-  -- a crash may leave the block of a dirty page that is written, or a torn one
   pub crash-written_back : (pages : List (ℕ × Page B)) (first old new : D) (k : ℕ) (page : Page B)
       → lookup (nat_eq k) pages ≡ Some page → CrashAdds d pages first old
       → ((m : ℕ) (b : S) → d.may_leave new m b → d.may_leave old m b
@@ -77,7 +74,6 @@ module _ {B D E S : Type 0} (d : device.Ghosts D B E S) where
       go (inl was) = before n b was
       go (inr is) = inr (subst (λ o. IsWritten d o b) (sym (ap (λ m. lookup (nat_eq m) pages) is.0 ∙ there)) (is.1, is.2))
 
-  -- the last page is as on the device, and is removed: the same is shown,
   pub shown-removed : (pages left : List (ℕ × Page B)) (it : D) (k : ℕ) (page : Page B)
       → pages ≡ left ++ (k, page) ∷ [] → d.blocks it k ≡ Some (d.seen page.block)
       → (n : ℕ) → block_at d left it n ≡ block_at d pages it n
@@ -94,24 +90,20 @@ module _ {B D E S : Type 0} (d : device.Ghosts D B E S) where
       go None e = rest (nat_eq n k) refl ∙ ap (λ o. block_or d o (d.blocks it n))
           (sym (ap (lookup (nat_eq n)) is ∙ found_behind (nat_eq n) left ((k, page) ∷ []) e))
 
-  -- clean pages stay clean,
   pub clean-removed : (pages left rest : List (ℕ × Page B)) (it : D) → pages ≡ left ++ rest
       → AreClean d pages it → AreClean d left it
   clean-removed pages left rest it is clean good n q found =
       clean good n q (ap (lookup (nat_eq n)) is ∙ found_longer (nat_eq n) left rest q found)
 
-  -- and the device has the numbers of those that are left
   pub there-removed : (pages left rest : List (ℕ × Page B)) (it : D) → pages ≡ left ++ rest
       → AreThere d pages it → AreThere d left it
   there-removed pages left rest it is there n q found =
       there n q (ap (lookup (nat_eq n)) is ∙ found_longer (nat_eq n) left rest q found)
 
-  -- no page: what is on the device is shown
   pub shown-absent : (pages : List (ℕ × Page B)) (it : D) (n : ℕ) → lookup (nat_eq n) pages ≡ None
       → d.blocks it n ≡ block_at d pages it n
   shown-absent pages it n none = ap (λ o. block_or d o (d.blocks it n)) (sym none)
 
-  -- a page that is written if it is dirty, and as on the device if it is clean
   pub is_back : (it : D) (k : ℕ) (page : Page B) → (page.is_dirty ≡ true → d.blocks it k ≡ Some (d.seen page.block))
       → (page.is_dirty ≡ false → d.blocks it k ≡ Some (d.seen page.block)) → d.blocks it k ≡ Some (d.seen page.block)
   is_back it k page written clean = go page.is_dirty refl
@@ -120,7 +112,6 @@ module _ {B D E S : Type 0} (d : device.Ghosts D B E S) where
       go true e = written e
       go false e = clean e
 
-  -- One page more is on the device: so is each block that is shown, if no page of its number is among the rest.
   pub written-more : (pages rest : List (ℕ × Page B)) (first old new : D) (k : ℕ) (page : Page B)
       → lookup (nat_eq k) pages ≡ Some page → d.blocks new k ≡ Some (d.seen page.block)
       → ((m : ℕ) → m ≢ k → d.blocks new m ≡ d.blocks old m)
@@ -134,7 +125,6 @@ module _ {B D E S : Type 0} (d : device.Ghosts D B E S) where
       go false e = others n (eqb-false n k e)
           ∙ before n (ap (λ b. cond b (Some page) (lookup (nat_eq n) rest)) e ∙ none)
 
-  -- a page that is added is as on the device, if it is clean
   pub clean-added : (pages : List (ℕ × Page B)) (it : D) (k : ℕ) (page : Page B)
       → (IsGood d it → page.is_dirty ≡ false → d.blocks it k ≡ Some (d.seen page.block))
       → AreClean d pages it → AreClean d ((k, page) ∷ pages) it
@@ -149,7 +139,6 @@ module _ {B D E S : Type 0} (d : device.Ghosts D B E S) where
           (is good (subst (λ (p : Page B). p.is_dirty ≡ false) (sym same) is_clean)))
       go false e found = clean good n q found is_clean
 
-  -- and the device has its number
   pub there-added : (pages : List (ℕ × Page B)) (it : D) (k : ℕ) (page : Page B) → IsTrue (d.has it k)
       → AreThere d pages it → AreThere d ((k, page) ∷ pages) it
   there-added pages it k page is there n q found = go (nat_eq n k) refl found
@@ -158,13 +147,11 @@ module _ {B D E S : Type 0} (d : device.Ghosts D B E S) where
       go true e found = subst (λ m. IsTrue (d.has it m)) (sym (eqb-true n k e)) is
       go false e found = there n q found
 
-  -- other numbers show what they did
   pub shown-added : (pages : List (ℕ × Page B)) (it : D) (k : ℕ) (page : Page B) (n : ℕ) → n ≢ k
       → block_at d ((k, page) ∷ pages) it n ≡ block_at d pages it n
   shown-added pages it k page n apart =
       ap (λ b. block_or d (cond b (Some page) (lookup (nat_eq n) pages)) (d.blocks it n)) (ne_eqb n k apart)
 
-  -- a device that failed in a later call failed in both together
   pub fault-since : (old between new : D) (e : PageError E) → d.faults between ≡ d.faults old
       → IsFault d between new e → IsFault d old new e
   fault-since old between new (Device e) same fault = λ is. fault (is ∙ sym same)
@@ -172,14 +159,12 @@ module _ {B D E S : Type 0} (d : device.Ghosts D B E S) where
   fault-since old between new NoBlock same fault = fault
   fault-since old between new Broken same fault = fault
 
-  -- a read makes no clean page differ from the device
   pub clean-read : (pages : List (ℕ × Page B)) (old new : D) → (IsGood d new → IsGood d old)
       → ((m : ℕ) (b : S) → d.blocks old m ≡ Some b → d.blocks new m ≡ Some b)
       → AreClean d pages old → AreClean d pages new
   clean-read pages old new before keeps clean good n page found is_clean =
       keeps n (d.seen page.block) (clean (before good) n page found is_clean)
 
-  -- pages that were made clean show the same,
   pub shown-cleaned : (pages : List (ℕ × Page B)) (n : ℕ) (block : Option S)
       → block_or d (lookup (nat_eq n) (cleaned pages)) block ≡ block_or d (lookup (nat_eq n) pages) block
   shown-cleaned [] n block = refl
@@ -192,13 +177,11 @@ module _ {B D E S : Type 0} (d : device.Ghosts D B E S) where
       go true later = refl
       go false later = later
 
-  -- are as on the device if that has what they show,
   pub clean-cleaned : (pages : List (ℕ × Page B)) (old new : D)
       → (d.IsHonest new → (n : ℕ) → d.blocks new n ≡ block_at d pages old n) → AreClean d (cleaned pages) new
   clean-cleaned pages old new written good n page found is_clean =
       written good.1 n ∙ sym (shown-cleaned pages n (d.blocks old n)) ∙ ap (λ o. block_or d o (d.blocks old n)) found
 
-  -- and have the same numbers
   pub there-cleaned : (pages : List (ℕ × Page B)) (it : D) → AreThere d pages it → AreThere d (cleaned pages) it
   there-cleaned pages it there n page found = go (lookup (nat_eq n) pages) refl
     where

@@ -13,7 +13,6 @@ use Rattle.lru_model.specs.Lists.{lookup_entry, without, after, front, last, wit
 use Rattle.lru_model.proofs.CallerLemmas.{found_named, length-front_pairs}
 
 module _ {X : Type 0} where
-  -- other numbers are found as before after the pair of n was removed,
   others_without : (m n : ℕ) → m ≢ n → (xs : List (ℕ × X))
       → lookup (nat_eq m) (without (nat_eq n) xs) ≡ lookup (nat_eq m) xs
   others_without m n apart [] = refl
@@ -26,7 +25,6 @@ module _ {X : Type 0} where
           ap (λ b. cond b (Some x.1) (lookup (nat_eq m) xs)) (sym other)
       go false e later = ap (cond (nat_eq m x.0) (Some x.1)) later
 
-  -- moved to the front
   others_front : (m n : ℕ) → m ≢ n → (xs : List (ℕ × X))
       → lookup (nat_eq m) (front (nat_eq n) xs) ≡ lookup (nat_eq m) xs
   others_front m n apart xs = go (lookup_entry (nat_eq n) xs) refl
@@ -40,7 +38,6 @@ module _ {X : Type 0} where
           ap (λ b. cond b (Some p.1) (lookup (nat_eq m) (without (nat_eq n) xs))) other
           ∙ others_without m n apart xs
 
-  -- or written
   others_set : (m n : ℕ) → m ≢ n → (xs : List (ℕ × X)) (w : X)
       → lookup (nat_eq m) (set_value (nat_eq n) xs w) ≡ lookup (nat_eq m) xs
   others_set m n apart [] w = refl
@@ -58,18 +55,15 @@ module _ {X : Type 0} where
       → lookup (nat_eq m) (set_value (nat_eq n) (front (nat_eq n) xs) w) ≡ lookup (nat_eq m) xs
   others_written m n apart xs w = others_set m n apart (front (nat_eq n) xs) w ∙ others_front m n apart xs
 
-  -- such a write leaves the number of pairs
   pub length-written : (test : ℕ → Bool) (xs : List (ℕ × X)) (w : X)
       → length (set_value test (front test xs) w) ≡ length xs
   length-written test xs w = length-set_value test (front test xs) w ∙ length-front_pairs test xs
 
-  -- a list ends with its last pair
   pub ends_with : (xs : List (ℕ × X)) (x : ℕ × X) → last xs ≡ Some x → xs ≡ without_last xs ++ x ∷ []
   ends_with [] x e = absurd (none-some x e)
   ends_with (y ∷ []) x e = let same : y ≡ x = grind arith in ap (λ z. z ∷ []) same
   ends_with (y ∷ z ∷ zs) x e = ap (λ l. y ∷ l) (ends_with (z ∷ zs) x e)
 
-  -- which is found, if no two pairs have one number
   pub last_found : (xs : List (ℕ × X)) (n : ℕ) (v : X) → IsDistinct nat_eq (keys_of xs) → last xs ≡ Some (n, v)
       → lookup (nat_eq n) xs ≡ Some v
   last_found xs n v distinct e =
@@ -77,13 +71,11 @@ module _ {X : Type 0} where
       (Contains-push (without_last xs) (n, v)) in
       lookup-from_Contains nat_eq_equiv n v xs distinct among
 
-  -- a list without a last pair is empty
   pub no_last : (xs : List (ℕ × X)) → last xs ≡ None → xs ≡ without_last xs
   no_last [] e = refl
   no_last (y ∷ []) e = absurd (none-some y (sym e))
   no_last (y ∷ z ∷ zs) e = ap (λ l. y ∷ l) (no_last (z ∷ zs) e)
 
-  -- what is found is found in a longer list
   pub found_longer : (test : ℕ → Bool) (xs rest : List (ℕ × X)) (v : X) → lookup test xs ≡ Some v
       → lookup test (xs ++ rest) ≡ Some v
   found_longer test [] rest v e = absurd (none-some v e)
@@ -95,7 +87,6 @@ module _ {X : Type 0} where
       go true e later = e
       go false e later = later e
 
-  -- a pair that is moved to the front, and written with the value that it has, is found as before
   pub read_same : (n : ℕ) (xs : List (ℕ × X)) (v : X) → lookup (nat_eq n) xs ≡ Some v
       → lookup (nat_eq n) (set_value (nat_eq n) (front (nat_eq n) xs) v) ≡ Some v
       → (m : ℕ) → lookup (nat_eq m) (set_value (nat_eq n) (front (nat_eq n) xs) v) ≡ lookup (nat_eq m) xs
@@ -107,7 +98,6 @@ module _ {X : Type 0} where
           (sym (eqb-true m n e)) (is ∙ sym was)
       go false e = others_written m n (eqb-false m n e) xs v
 
-  -- what is not found is not found in a list without the last pair
   pub absent_left : (test : ℕ → Bool) (xs rest : List (ℕ × X)) → lookup test (xs ++ rest) ≡ None → lookup test xs ≡ None
   absent_left test xs rest none = go (lookup test xs) refl
     where

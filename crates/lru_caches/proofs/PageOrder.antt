@@ -13,7 +13,6 @@ use Rattle.lru_caches.specs.declared.page_cache.pages.Page.{Page}
 use Rattle.lru_caches.specs.Pages.{cleaned}
 
 module _ {X : Type 0} where
-  -- a pair that is found and written comes first
   pub written-first : (n : ℕ) (xs : List (ℕ × X)) (v w : X) → lookup (nat_eq n) xs ≡ Some v
       → set_value (nat_eq n) (front (nat_eq n) xs) w ≡ (n, w) ∷ without (nat_eq n) xs
   written-first n xs v w found = go (lookup_entry (nat_eq n) xs) refl
@@ -27,7 +26,6 @@ module _ {X : Type 0} where
           ap (λ b. cond b ((p.0, w) ∷ ys) (p ∷ set_value (nat_eq n) ys w)) named
           ∙ ap (λ k. (k, w) ∷ ys) (sym (eqb-true n p.0 named))
 
-  -- all but the last are the first ones
   pub without_last-take : (xs : List (ℕ × X)) → without_last xs ≡ take (length xs - 1) xs
   without_last-take [] = refl
   without_last-take (y ∷ []) = refl
@@ -35,7 +33,6 @@ module _ {X : Type 0} where
       let one : length (y ∷ z ∷ zs) - 1 ≡ suc (length (z ∷ zs) - 1) = omega arith in
       ap (λ l. y ∷ l) (without_last-take (z ∷ zs)) ∙ ap (λ k. take k (y ∷ z ∷ zs)) (sym one)
 
-  -- a pair that comes is the newest of at most `capacity`
   pub used-new : (capacity n : ℕ) (v : X) (xs left new : List (ℕ × X)) → lookup (nat_eq n) xs ≡ None → 0 < capacity
       → left ≡ take (capacity - 1) xs → new ≡ (n, v) ∷ left → new ≡ take capacity ((n, v) ∷ without (nat_eq n) xs)
   used-new capacity n v xs left new none some is added =

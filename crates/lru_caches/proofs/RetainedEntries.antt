@@ -13,7 +13,6 @@ use Rattle.lru_model.specs.State.{State}
 use Rattle.lru_caches.proofs.TurnedEntries.{reverse-cons}
 
 module _ {X P : Type 0} (R : P → X → Bool → P → Type 0) where
-  -- one more answer
   returns_push : (p q u : P) (bs : List Bool) (xs : List X) (b : Bool) (x : X) → length bs ≡ length xs
       → ReturnsInTurn R p bs xs q → R q x b u → ReturnsInTurn R p (bs ++ b ∷ []) (xs ++ x ∷ []) u
   returns_push p q u [] [] b x same h step = (u, subst (λ s. R s x b u) (sym h) step, refl)
@@ -74,7 +73,6 @@ module _ {K V S : Type 0} (rules : Rules K V S) where
   left ((pair, false) ∷ rest) s = left rest s ∙ sym (append-nil (items_where_true (answers_of rest) (asked_of rest)))
       ∙ sym (picked_push (answers_of rest) (asked_of rest) false pair (same_length rest))
 
--- a retain asks about the entries oldest first, and leaves those with the answer true
 pub retains-filter : {K V S H F : Type 0} (closure : Mut F (Bor K × (Bor V × Unit {0})) Bool) (rules : Rules K V S)
     (f : F) (old new : State K V S H) → Retains closure rules f old new
     → IsFiltered (Asks closure) f (reverse old.pairs) (reverse new.pairs)

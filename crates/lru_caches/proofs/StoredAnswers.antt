@@ -7,7 +7,6 @@ use Rattle.std.proofs.lemmas.Option.{none-some}
 use Rattle.lru_caches.specs.Answers.{IsAnswer, AreAnswers}
 
 module _ {K V : Type 0} (eq : K → K → Bool) (laws : IsEquivalence eq) (post : K → V → Type 0) where
-  -- what a look-up finds is an answer
   pub found_answer : (key : K) (known : List (K × V)) (v : V) → AreAnswers eq post known
       → lookup (eq key) known ≡ Some v → IsAnswer eq post key v
   found_answer key [] v all found = absurd (none-some v found)
@@ -21,7 +20,6 @@ module _ {K V : Type 0} (eq : K → K → Bool) (laws : IsEquivalence eq) (post 
           (k, laws.congr key x.0 k named ∙ same, subst (post k) (ap (λ o. unwrap_or o v) e) returns)
       go false named e later = later e
 
-  -- what was inserted is an answer at the key that is stored
   pub inserted_answer : (key stored : K) (value v : V) → post key value → eq key stored ≡ true → v ≡ value
       → IsAnswer eq post stored v
   inserted_answer key stored value v returns named same =

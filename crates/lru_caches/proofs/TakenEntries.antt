@@ -16,14 +16,12 @@ module _ {X : Type 0} where
       go None nothing = absurd (omega (arith, ap length nothing.0))
       go (Some z) is = ap (λ l. x ∷ l) is
 
-  -- the last is taken, and the others are left
   pub taken_last : (xs ys : List X) (taken : Option X) → taken ≡ last xs → ys ≡ without_last xs
       → TakesLast (λ (x : X). x) xs taken ys
   taken_last xs ys taken is left =
       subst (λ l. TakesLast (λ (x : X). x) xs taken l) (sym left)
       (subst (λ o. TakesLast (λ (x : X). x) xs o (without_last xs)) (sym is) (ends xs))
 
-  -- which leaves a shorter list
   pub last_goes : (xs ys : List X) (taken : Option X) → TakesLast (λ (x : X). x) xs taken ys
       → MakesProgress (λ _. Unit {0}) (λ l. at_most (length l)) xs taken ys
   last_goes xs ys None is = record { on = λ _. tt; keeps = tt; rests = λ _. tt }

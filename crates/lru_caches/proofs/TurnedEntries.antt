@@ -17,11 +17,9 @@ use Rattle.lru_model.specs.Lists.{without, after, front, back, first, without_fi
 use Rattle.lru_model.proofs.PairLists.NamedPairs.{last_end, without_last_end}
 
 module _ {X : Type 0} where
-  -- the first comes last, and the last first
   pub reverse-cons : (x : X) (xs : List X) → reverse (x ∷ xs) ≡ reverse xs ++ x ∷ []
   reverse-cons x xs = reverse-append (x ∷ []) xs
 
-  -- so it is at the ends
   pub last-reverse : (xs : List X) → last (reverse xs) ≡ first xs
   last-reverse [] = refl
   last-reverse (x ∷ xs) = ap last (reverse-cons x xs) ∙ last_end (reverse xs) x
@@ -45,14 +43,12 @@ module _ {K X : Type 0} where
       ap keys_of (reverse-cons x xs) ∙ map-append (λ (p : K × X). p.0) (reverse xs) (x ∷ [])
       ∙ ap (λ l. l ++ x.0 ∷ []) (keys-reverse xs) ∙ sym (reverse-cons x.0 (keys_of xs))
 
-  -- distinct keys stay so
   pub distinct-reverse : {eq : K → K → Bool} → IsEquivalence eq → (xs : List (K × X)) → IsDistinct eq (keys_of xs)
       → IsDistinct eq (keys_of (reverse xs))
   distinct-reverse {eq} laws xs h = subst (IsDistinct eq) (sym (keys-reverse xs))
       (IsDistinct-IsPermutation eq laws.symm (keys_of xs) (reverse (keys_of xs)) (IsPermutation-reverse (keys_of xs)) h)
 
 module _ {K X : Type 0} (test : K → Bool) where
-  -- a search for a key passes by entries of other keys
   pub found_behind : (xs rest : List (K × X)) → lookup test xs ≡ None → lookup test (xs ++ rest) ≡ lookup test rest
   found_behind [] rest e = refl
   found_behind (x ∷ xs) rest e = go (test x.0) e (found_behind xs rest)
@@ -140,7 +136,6 @@ module _ {K X : Type 0} {eq : K → K → Bool} (test : K → Bool)
   no_more x (y ∷ ys) named h =
       ap (λ b. cond b (Some y) (lookup_entry test ys)) (one x y.0 named ∙ h.0) ∙ no_more x ys named h.1
 
-  -- the key finds the same entry in the list that is turned round,
   pub entry-reverse : (xs : List (K × X)) → IsDistinct eq (keys_of xs)
       → lookup_entry test (reverse xs) ≡ lookup_entry test xs
   entry-reverse [] d = refl
@@ -154,7 +149,6 @@ module _ {K X : Type 0} {eq : K → K → Bool} (test : K → Bool)
           entry_behind test (reverse xs) (x ∷ []) none ∙ ap (λ b. cond b (Some x) None) e
       go false e later = entry_before test x e (reverse xs) ∙ later
 
-  -- and so the same value
   pub lookup-reverse : (xs : List (K × X)) → IsDistinct eq (keys_of xs)
       → lookup test (reverse xs) ≡ lookup test xs
   lookup-reverse [] d = refl
@@ -168,7 +162,6 @@ module _ {K X : Type 0} {eq : K → K → Bool} (test : K → Bool)
           found_behind test (reverse xs) (x ∷ []) none ∙ ap (λ b. cond b (Some x.1) None) e
       go false e later = found_before test x e (reverse xs) ∙ later
 
-  -- it is removed there,
   pub without-reverse : (xs : List (K × X)) → IsDistinct eq (keys_of xs)
       → without test (reverse xs) ≡ reverse (without test xs)
   without-reverse [] d = refl
@@ -185,7 +178,6 @@ module _ {K X : Type 0} {eq : K → K → Bool} (test : K → Bool)
       go false e later = without_before test x e (reverse xs) ∙ ap (λ l. l ++ x ∷ []) later
           ∙ sym (reverse-cons x (without test xs))
 
-  -- and written
   pub set-reverse : (xs : List (K × X)) (w : X) → IsDistinct eq (keys_of xs)
       → set_value test (reverse xs) w ≡ reverse (set_value test xs w)
   set-reverse [] w d = refl
@@ -202,7 +194,6 @@ module _ {K X : Type 0} {eq : K → K → Bool} (test : K → Bool)
       go false e later = set_before test x e (reverse xs) w ∙ ap (λ l. l ++ x ∷ []) later
           ∙ sym (reverse-cons x (set_value test xs w))
 
-  -- its entry moves to the other end
   pub front-reverse : (xs : List (K × X)) → IsDistinct eq (keys_of xs)
       → reverse (front test xs) ≡ back test (reverse xs)
   front-reverse xs d = turned (lookup_entry test xs) (without test xs)
@@ -229,7 +220,6 @@ module _ {K X : Type 0} {eq : K → K → Bool} (test : K → Bool)
 
 -- two lists that are compared item by item
 module _ {X Y : Type 0} (eq : X → Y → Bool) where
-  -- an empty list differs from one with an item
   longer : (y : Y) (ys : List Y) → pointwise eq [] (ys ++ y ∷ []) ≡ false
   longer y [] = refl
   longer y (z ∷ zs) = refl
@@ -238,7 +228,6 @@ module _ {X Y : Type 0} (eq : X → Y → Bool) where
   shorter x [] = refl
   shorter x (z ∷ zs) = refl
 
-  -- if each gets one more item, they are equal if they were and the items are
   pointwise-push : (x : X) (y : Y) (xs : List X) (ys : List Y)
       → pointwise eq (xs ++ x ∷ []) (ys ++ y ∷ []) ≡ (pointwise eq xs ys && eq x y)
   pointwise-push x y [] [] = and-true (eq x y)
@@ -247,7 +236,6 @@ module _ {X Y : Type 0} (eq : X → Y → Bool) where
   pointwise-push x y (w ∷ ws) (z ∷ zs) = ap (λ b. eq w z && b) (pointwise-push x y ws zs)
       ∙ sym (and_assoc (eq w z) (pointwise eq ws zs) (eq x y))
 
-  -- if both are turned round, they compare as before
   pub pointwise-reverse : (xs : List X) (ys : List Y) → pointwise eq (reverse xs) (reverse ys) ≡ pointwise eq xs ys
   pointwise-reverse [] [] = refl
   pointwise-reverse [] (y ∷ ys) = ap (pointwise eq []) (reverse-cons y ys) ∙ longer y (reverse ys)

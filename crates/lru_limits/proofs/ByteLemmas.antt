@@ -8,14 +8,12 @@ use Rattle.std.specs.Int.{w64, from_le_bytes, bytes_low_first}
 use Rattle.std.specs.Int.Bits.{or_self, or_shifted_r}
 use Rattle.std.proofs.lemmas.Nat.{from_le_bytes-to_le_bytes_2, from_le_bytes-to_le_bytes_4, from_le_bytes-to_le_bytes_8}
 
--- the n bytes of a number that fits in n bytes make that number
 pub word-low_bytes_2 : (n : ℕ) → n < 2 ^ 16 → from_le_bytes w64 (bytes_low_first 0 2 n) ≡ n
 word-low_bytes_2 n fits = omega (arith, from_le_bytes-to_le_bytes_2 n fits)
 
 pub word-low_bytes_4 : (n : ℕ) → n < 2 ^ 32 → from_le_bytes w64 (bytes_low_first 0 4 n) ≡ n
 word-low_bytes_4 n fits = omega (arith, from_le_bytes-to_le_bytes_4 n fits)
 
--- the lowest eight bytes make the number less what is above them
 pub word-low_bytes_8 : (n : ℕ) → from_le_bytes w64 (bytes_low_first 0 8 n) ≡ n % 2 ^ 64
 word-low_bytes_8 n =
     let fits : n % 2 ^ 64 < 2 ^ 64 = omega arith in
@@ -29,7 +27,6 @@ word-low_bytes_8 n =
     let at_7 : n / 72057594037927936 % 256 ≡ n % 2 ^ 64 / 72057594037927936 % 256 = omega arith in
     rw (at_0, at_1, at_2, at_3, at_4, at_5, at_6, at_7) (from_le_bytes-to_le_bytes_8 (n % 2 ^ 64) fits)
 
--- the next eight bytes make what is above these
 pub word-high_bytes : (n : ℕ) → n < 2 ^ 128 → from_le_bytes w64 (bytes_low_first 8 8 n) ≡ n / 2 ^ 64
 word-high_bytes n fits =
     let high : n / 2 ^ 64 < 2 ^ 64 = omega arith in
@@ -42,7 +39,6 @@ word-high_bytes n fits =
     let at_7 : n / 2 ^ 120 ≡ n / 2 ^ 64 / 72057594037927936 = sym (div-div-eq-div-mul n (2 ^ 64) 72057594037927936) in
     rw (at_1, at_2, at_3, at_4, at_5, at_6, at_7) (from_le_bytes-to_le_bytes_8 (n / 2 ^ 64) high)
 
--- four to seven bytes: the first four, and of the last four those that are not among them
 pub word-of_4_to_7 : (bs : List ℕ) (first last : ℕ) → ((k : ℕ) → get_or bs k 0 < 256) → 4 ≤ length bs → length bs < 8
     → first ≡ get_or bs 0 0 + get_or bs 1 0 * 256 + get_or bs 2 0 * 65536 + get_or bs 3 0 * 16777216
     → last ≡ get_or bs (length bs - 4) 0 + get_or bs (length bs - 3) 0 * 256 + get_or bs (length bs - 2) 0 * 65536
@@ -78,7 +74,6 @@ word-of_4_to_7 (a ∷ b ∷ []) first last small four few f l = absurd (omega ar
 word-of_4_to_7 (a ∷ b ∷ c ∷ []) first last small four few f l = absurd (omega arith)
 word-of_4_to_7 (a ∷ b ∷ c ∷ d ∷ e ∷ g ∷ h ∷ i ∷ bs) first last small four few f l = absurd (omega arith)
 
--- one to three bytes: the first, the middle and the last one, of which some are the same
 pub word-of_1_to_3 : (bs : List ℕ) → ((k : ℕ) → get_or bs k 0 < 256) → 0 < length bs → length bs < 4
     → bit_or (get_or bs 0 0) (bit_or (get_or bs (length bs / 2) 0 * 2 ^ (8 * (length bs / 2)) % 18446744073709551616)
     (get_or bs (length bs - 1) 0 * 2 ^ (8 * (length bs - 1)) % 18446744073709551616)) ≡ from_le_bytes w64 bs

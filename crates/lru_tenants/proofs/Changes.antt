@@ -26,12 +26,10 @@ module _ {N K V L S : Type 0} where
       record { tenants = tenants.entries; hasher = hasher; entry_bytes = entry_bytes; total_limit = limit }
 
   module _ {eq : N → N → Bool} (laws : IsEquivalence eq) where
-    -- equal names name one tenant
     pub same-tenant : (name other : N) → eq name other ≡ true → (cache : Cache N K V L S)
         → tenant (eq name) cache ≡ tenant (eq other) cache
     same-tenant name other e cache = ap (λ named. tenant named cache) (λ i n. laws.congr name other n e i)
 
-    -- a cache that stays leaves the tenant as it is
     pub leaves-same : (name : N) (cache : Cache N K V L S) → Leaves eq name (tenant (eq name) cache) cache cache
     leaves-same name cache = record {
       tenants = λ other. same other (eq name other) refl;
@@ -45,7 +43,6 @@ module _ {N K V L S : Type 0} where
         same other true e = sym (same-tenant name other e cache)
         same other false e = refl
 
-  -- so it does if the table of tenants has another map at its name, or none
   pub leaves-updated : (eq : N → N → Bool) (name : N) (left : Option (State K V L S)) {hasher : S}
       {entry_bytes : ℕ} {limit : Option ℕ} (old new : HashMap N (State K V L S) S) → UpdatesBy eq (eq name) old new left
       → Leaves eq name left (cache_of old hasher entry_bytes limit) (cache_of new hasher entry_bytes limit)
@@ -62,12 +59,10 @@ module _ {K X S : Type 0} (P : X → Type 0) where
 module _ {N K V L S R : Type 0} {eq : N → N → Bool} (name : N)
     (Does : Option (State K V L S) → R → Option (State K V L S) → Type 0)
     (answer : R) where
-  -- what is done to the tenant is done to the cache, by what the tenant is before
   pub on-from : (old new : Cache N K V L S) (was left : Option (State K V L S)) → tenant (eq name) old ≡ was
       → Does was answer left → Leaves eq name left old new → On eq name Does old answer new
   on-from old new was left is does leaves = (left, subst (λ t. Does t answer left) (sym is) does, leaves)
 
-  -- if it stays, so does the cache
   pub on-same : IsEquivalence eq → (cache : Cache N K V L S) (was : Option (State K V L S)) → tenant (eq name) cache ≡
       was
       → Does was answer was → On eq name Does cache answer cache
@@ -85,7 +80,6 @@ open-again {N} {K} {V} {L} {S} {eq} laws name fresh over cache there = go (tenan
     go (Some map) is found = on-same name (Opens over fresh) (Err AlreadyOpen) laws cache (Some map) is (refl, refl)
     go None is found = absurd (true≢false (sym found))
 
--- what holds of each value of a table holds of the one that is found
 pub found-all : {K X S : Type 0} (P : X → Type 0) (test : K → Bool) (map : HashMap K X S) (x : X)
     → get_by test map ≡ Some x → All P (values map) → P x
 found-all P test map x found all = subst (λ o. IfSome o P) found (IfSome-lookup_from_All P test map.entries all)
@@ -98,12 +92,10 @@ module _ {N K V L S : Type 0} (names : N → N → Bool) where
     all-written was left writes all is = subst (λ entries. All Holds (values_of entries)) (sym writes.0)
         (All-values-set_value (names name) Holds old.entries left all is)
 
-    -- a tenant is removed from the table, or there is none
     pub all-removed : All Holds (values old)
         → IsPermutation (remove_entry (names name) old.entries) new.entries → All Holds (values new)
     all-removed all is = kept-removed Holds (names name) old new all is
 
-  -- it has what is written
   pub tenant-written : IsEquivalence names → (name : N) (old new : HashMap N (State K V L S) S)
       (was left : State K V L S) → get_by (names name) old ≡ Some was → WritesThrough names (names name) old left new
       → get_by (names name) new ≡ Some left

@@ -20,7 +20,6 @@ module _ {K V L S Q : Type 0} {names : Q → K → Bool} {eq : K → K → Bool}
     small = is.small;
   }
 
--- what a get returns, and what it leaves of a tenant that is open
 pub gets-open : {K V L S : Type 0} (names : K → Bool) (was : Option (State K V L S)) (map left : State K V L S)
     (found : Option V)
     → was ≡ Some map → found ≡ lookup names map.pairs → left ≡ promoted names map

@@ -18,12 +18,10 @@ use Rattle.lru_tenants.specs.Cache.{IsTenant, is_above, budgets_with}
 use Rattle.lru_tenants.specs.Inside.{Holds}
 use Rattle.lru_tenants.proofs.Changes.{cache_of, all-written, all-removed}
 
--- a sum that is not above the limit is at most the limit
 pub not-above : (limit : Option ℕ) (sum : ℕ) → is_above limit sum ≡ false → IfSome limit (λ most. sum ≤ most)
 not-above None sum e = tt
 not-above (Some most) sum e = grind (arith, e)
 
--- a smaller sum is not above it either
 pub not-above-less : (limit : Option ℕ) (sum less : ℕ) → is_above limit sum ≡ false → less ≤ sum
     → is_above limit less ≡ false
 not-above-less None sum less e le = refl
@@ -34,7 +32,6 @@ pub within-less : (limit : Option ℕ) (sum less : ℕ) → IfSome limit (λ mos
 within-less None sum less within le = tt
 within-less (Some most) sum less within le = omega (arith, within, le)
 
--- n terms below a bound add up to less than n times the bound
 pub sum-small : {X : Type 0} (f : X → ℕ) (bound : ℕ) (xs : List X) → All (λ x. f x < bound) xs
     → sum_by f xs ≤ length xs * bound
 sum-small f bound [] all = omega arith
@@ -48,7 +45,6 @@ sum-small f bound (x ∷ xs) all = omega (
 module _ {N K V L S : Type 0} {eq : K → K → Bool} {cost : K → V → ℕ} {account budget : L → ℕ} {hasher : S} {sum : ℕ}
     {limit : Option ℕ} (entry_bytes : ℕ) (old : HashMap N (State K V L S) S)
     (kept : Holds eq cost account budget old hasher sum limit) where
-  -- the sum of the budgets is small, whatever budget is added
   pub sum-fits : length old.entries < 2 ^ 63 → sum < 2 ^ 127
   sum-fits small = omega (
     arith,
@@ -59,7 +55,6 @@ module _ {N K V L S : Type 0} {eq : K → K → Bool} {cost : K → V → ℕ} {
         (λ map. budget map.limiter < 2 ^ 64) (λ map is. is.small) (values old) kept.tenants),
   )
 
-  -- the budget of a tenant is part of the sum
   pub own-within : (test : N → Bool) (was : State K V L S) → get_by test old ≡ Some was → budget was.limiter ≤ sum
   own-within test was there = omega (
     arith,
@@ -68,7 +63,6 @@ module _ {N K V L S : Type 0} {eq : K → K → Bool} {cost : K → V → ℕ} {
     ap (λ o. unwrap_or (option_map (λ map. budget map.limiter) o) 0) there,
   )
 
-  -- the sum with another budget of a tenant, or with one tenant more
   pub sum-with : (test : N → Bool) (was : State K V L S) → get_by test old ≡ Some was → (less own : ℕ)
       → less ≡ budget was.limiter
       → sum - less + own ≡ budgets_with budget test own (cache_of old hasher entry_bytes limit)
@@ -92,7 +86,6 @@ module _ {N K V L S : Type 0} (names : N → N → Bool) {eq : K → K → Bool}
     (kept : Holds eq cost account budget old hasher sum limit) where
   module _ (name : N) (was left : State K V L S) (there : get_by (names name) old ≡ Some was)
       (writes : WritesThrough names (names name) old left new) where
-    -- a tenant is written: the sum has the new budget in place of the old one
     pub sum-written : sum_by (λ map. budget map.limiter) (values new) + budget was.limiter
         ≡ sum + budget left.limiter
     sum-written = ap (λ entries. sum_by (λ map. budget map.limiter) (values_of entries) + budget was.limiter) writes.0
@@ -109,7 +102,6 @@ module _ {N K V L S : Type 0} (names : N → N → Bool) {eq : K → K → Bool}
       within = within;
     }
 
-    -- and so the sum stays if its budget does
     pub kept-written : IsTenant eq cost account budget left → budget left.limiter ≡ budget was.limiter
         → Holds eq cost account budget new hasher sum limit
     kept-written is same = kept-rebudgeted is sum (omega (arith, same)) kept.within
@@ -140,7 +132,6 @@ module _ {N K V L S : Type 0} (names : N → N → Bool) {eq : K → K → Bool}
       within = not-above-less limit sum next kept.within (omega (arith, is));
     }
 
-  -- a tenant is opened
   pub kept-opened : (name : N) (own : State K V L S) (found : Option (State K V L S)) → found ≡ get names old name →
       found ≡ None
       → PutsEntry names old new name own found → hasher_of new ≡ hasher_of old → IsTenant eq cost account budget own

@@ -10,7 +10,6 @@ use Rattle.lru_tenants.proofs.Changes.{same-tenant}
 use Rattle.lru_tenants.specs.Cache.{Cache, tenant, fresh, Leaves}
 use Rattle.lru_tenants.specs.Isolation.{Did, CacheRun, Chain, OwnRun}
 
--- each call of a run on the cache is one of the tenant, or leaves it as it is
 pub chain : {N K V L S : Type 0} {eq : N → N → Bool} → IsEquivalence eq → (name : N) (dids : List (Did N K V L S))
     (old new : Cache N K V L S) → CacheRun eq old dids new
     → Chain (λ n. eq n name) (tenant (eq name) old) dids (tenant (eq name) new)
@@ -28,7 +27,6 @@ chain {N} {K} {V} {L} {S} {eq} laws name (did ∷ more) old new (mid, found, lea
     )
     go rest false e now = inr (e, subst (λ t. Chain (λ n. eq n name) t more (tenant (eq name) new)) now rest)
 
--- a tenant that no call names stays
 pub stays-by-others : {N K V L S : Type 0} (eq : N → N → Bool) (name : N) (dids : List (Did N K V L S))
     (old new : Cache N K V L S) → CacheRun eq old dids new → All (λ did. eq did.name name ≡ false) dids
     → tenant (eq name) new ≡ tenant (eq name) old
@@ -38,7 +36,6 @@ stays-by-others eq name (did ∷ more) old new (mid, found, leaves, run) all =
     ∙ leaves.tenants name
     ∙ ap (λ b. cond b did.left (tenant (eq name) old)) (All-head (λ did. eq did.name name ≡ false) did more all)
 
--- a run on the cache goes on by one call
 pub run-push : {N K V L S : Type 0} (eq : N → N → Bool) (dids : List (Did N K V L S)) (old mid new : Cache N K V L S)
     (name : N) (left : Option (State K V L S)) → CacheRun eq old dids mid → Leaves eq name left mid new
     → CacheRun eq old (dids ++ record { name = name; found = tenant (eq name) mid; left = left } ∷ []) new
@@ -75,7 +72,6 @@ module _ {N K V L S C R : Type 0} (named : C → N)
   steps-push [] [] (did ∷ more) call answer found left steps does = absurd steps
   steps-push (other ∷ calls) (said ∷ answers) [] call answer found left steps does = absurd steps
 
-  -- so a tenant's own calls, with their answers, are a run of it
   pub own-run : (own : N → Bool) (calls : List C) (answers : List R) (dids : List (Did N K V L S))
       (old new : Option (State K V L S)) → AreSteps calls answers dids → Chain own old dids new
       → OwnRun named Does own old calls answers new
@@ -97,7 +93,6 @@ module _ {N K V L S C R : Type 0} (named : C → N)
   own-run own [] [] (did ∷ more) old new steps chained = absurd steps
   own-run own (other ∷ calls) (said ∷ answers) [] old new steps chained = absurd steps
 
--- caches whose hasher and bytes are the same open tenants with the same maps
 pub fresh-same : {N K V L S : Type 0} (made : ℕ → L) (max : ℕ) (old new : Cache N K V L S) → new.hasher ≡ old.hasher →
     new.entry_bytes ≡ old.entry_bytes
     → fresh made max new ≡ fresh made max old

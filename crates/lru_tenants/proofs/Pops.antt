@@ -28,7 +28,6 @@ module _ {X : Type 0} where
 module _ {K V L S : Type 0} (rules : Rules K V L)
     (leaves : (s : L) (k : K) (v : V) → ((rules.on_removed s k v).key ≡ k) × ((rules.on_removed s k v).value ≡ v))
     (old new : State K V L S) where
-  -- the limiter leaves the pair as it is
   left-same : (o : Option (K × V)) → left_of rules old.limiter o ≡ o
   left-same None = refl
   left-same (Some p) = let (key, value) = leaves old.limiter p.0 p.1 in λ i. Some (key i, value i)
@@ -37,7 +36,6 @@ module _ {K V L S : Type 0} (rules : Rules K V L)
   popped-last pair popped = last-end old.pairs pair (sym (popped.pair ∙ left-same (last old.pairs)))
       ∙ ap (λ l. l ++ pair ∷ []) (sym (ap (λ st. st.pairs) popped.state.is))
 
-  -- the pair that leaves comes first in the other order
   pub popped-reverse : (pair : K × V) → PopOldest rules old (Some pair) new
       → reverse old.pairs ≡ pair ∷ reverse new.pairs
   popped-reverse pair popped = ap reverse (popped-last pair popped) ∙ reverse-append new.pairs (pair ∷ [])

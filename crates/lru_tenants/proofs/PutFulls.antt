@@ -26,7 +26,6 @@ module _ {K V L S : Type 0} (accepts : L → K → V → Bool) (eq : K → K →
       go false (Some p) e = absurd (true≢false (sym e))
       go true found e = absurd (true≢false (sym e))
 
--- a put says of the key and of the value what the insert says
 pub kept-answer : {V : Type 0} (result : Result (Inserted V) AllocError)
     → kept_of (put_answer result) ≡ put_answer (kept_of result)
 kept-answer (Ok inserted) = refl

@@ -13,7 +13,6 @@ mapped f g [] = refl
 mapped f g (x ∷ xs) = sum_by-cons f (g x) (map g xs) ∙ ap (λ n. f (g x) + n) (mapped f g xs)
     ∙ sym (sum_by-cons (λ y. f (g y)) x xs)
 
--- if each term is at most another, so is the sum
 pub at-most : {X : Type 0} (f g : X → ℕ) (xs : List X) → All (λ x. f x ≤ g x) xs → sum_by f xs ≤ sum_by g xs
 at-most f g [] all = omega arith
 at-most f g (x ∷ xs) all = omega (
@@ -24,7 +23,6 @@ at-most f g (x ∷ xs) all = omega (
   at-most f g xs (All-tail (λ x. f x ≤ g x) x xs all),
 )
 
--- so the costs of all tenants add up to at most their budgets
 pub costs-within : {K V L S : Type 0} {eq : K → K → Bool} {cost : K → V → ℕ} {account budget : L → ℕ}
     (maps : List (State K V L S)) → All (IsTenant eq cost account budget) maps
     → sum_by (λ map. account map.limiter) maps ≤ sum_by (λ map. budget map.limiter) maps
@@ -32,7 +30,6 @@ costs-within {eq = eq} {cost = cost} {account = account} {budget = budget} maps 
     at-most (λ map. account map.limiter) (λ map. budget map.limiter) maps (All-weaker (IsTenant eq cost account budget)
     (λ map. account map.limiter ≤ budget map.limiter) (λ map is. is.within) maps all)
 
--- a sum with one term more, if nothing was replaced
 pub opened : {X : Type 0} (f : X → ℕ) (old : Option X) (new was own budget : ℕ) → old ≡ None
     → new + unwrap_or (option_map f old) 0 ≡ was + own → own ≡ budget → new ≡ was + budget
 opened f old new was own budget none sum is =

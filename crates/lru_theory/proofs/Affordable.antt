@@ -16,14 +16,12 @@ pub front_taken : {K : Type 0} (xs ys : List K) → Front xs ys → xs ≡ take 
 front_taken _ _ (none ys) = refl
 front_taken _ _ (both x xs ys h) = ap (λ zs. x ∷ zs) (front_taken xs ys h)
 
--- the first n keys are such a front
 pub front_of : {K : Type 0} (n : ℕ) (ys : List K) → Front (take n ys) ys
 front_of zero ys = none ys
 front_of (suc n) [] = none []
 front_of (suc n) (y ∷ ys) = both y (take n ys) ys (front_of n ys)
 
 module _ {K : Type 0} where
-  -- without a key
   pub front_without : (test : K → Bool) (xs ys : List K) → Front xs ys → Front (remove_key test xs) (remove_key test ys)
   front_without test _ _ (none ys) = none (remove_key test ys)
   front_without test _ _ (both x xs ys h) = go (test x) (front_without test xs ys h)
@@ -33,7 +31,6 @@ module _ {K : Type 0} where
       go true ih = h
       go false ih = both x (remove_key test xs) (remove_key test ys) ih
 
-  -- what is afforded of a front by a smaller limit
   front_afforded : (cost : K → ℕ) (n m : ℕ) (xs ys : List K) → n ≤ m → Front xs ys
       → Front (affordable cost n xs) (affordable cost m ys)
   front_afforded cost n m _ _ few (none ys) = none (affordable cost m ys)
@@ -44,7 +41,6 @@ module _ {K : Type 0} where
         (front_afforded cost (n - cost x) (m - cost x) xs ys (omega (arith, few)) h))
   ]
 
-  -- what a front contains
   pub front_in : (eq : K → K → Bool) (key : K) (xs ys : List K) → Front xs ys → is_in eq key xs ≡ true
       → is_in eq key ys ≡ true
   front_in eq key _ _ (none ys) e = absurd cc
@@ -96,13 +92,11 @@ module _ {K : Type 0} (cost : K → ℕ) where
   spent [] = 0
   spent (key ∷ keys) = cost key + spent keys
 
-  -- all are left if they cost at most n
   pub affords_all : (n : ℕ) (keys : List K) → spent keys ≤ n → affordable cost n keys ≡ keys
   affords_all n [] h = refl
   affords_all n (key ∷ keys) h = rw (le-leb (cost key) n (omega (arith, h)))
       (ap (λ ks. key ∷ ks) (affords_all (n - cost key) keys (omega (arith, h))))
 
-  -- what is left costs at most n
   pub affords_within : (n : ℕ) (keys : List K) → spent (affordable cost n keys) ≤ n
   affords_within n [] = omega arith
   affords_within n (key ∷ keys) = elim (cases_lt n (cost key)) [

@@ -12,7 +12,6 @@ use Rattle.lru_theory.proofs.Nexts.{absent_take}
 use Rattle.lru_theory.proofs.Inclusions.{clash}
 use Rattle.lru_theory.proofs.Nears.{near, near_few, near_stored, near_new, others, fresh, fresh_few}
 
--- whether the key was in the other cache, is in the keys of MIN, and is in the other cache then
 pays_once : (was in_min is : Bool) (f o p c : ℕ) → cond was 1 0 ≤ cond in_min 1 0 + c
     → f + cond (is && not was) 1 0 ≤ o → (is ≡ true → o ≤ p) → (is ≡ false → o + cond was 0 1 ≤ p)
     → cond in_min 0 1 ≤ c + p
@@ -69,7 +68,6 @@ module _ {K : Type 0} {eq : K → K → Bool} (laws : IsEquivalence eq) where
         (outside eq old new) p c (omega (arith, before 0, due_zero laws trace rest)) (fresh_few laws key old new)
         stored bypassed
 
-    -- without a limit of the places
     all : (d : ℕ) → near eq d trace (λ z. is_in eq z new)
         ≤ soon eq d trace key + due eq d trace rest + (c + p - fault eq key keys)
     all d = pays_for_all (is_in eq key old) (is_in eq key keys) (is_in eq key new) (soon eq d trace key)

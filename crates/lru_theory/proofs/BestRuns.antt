@@ -79,7 +79,6 @@ module _ {K : Type 0} {eq : K → K → Bool} (laws : IsEquivalence eq) where
       let here : fault eq x (x ∷ xs) ≡ 0 = rw (laws.refl x) refl in
       omega (arith, here, outside_more x xs xs, outside_self xs)
 
-  -- without the key, only keys of the old cache are there
   outside_absent : (n : ℕ) (old trace : List K) (key : K) (xs : List K)
       → is_in eq key (take n (put eq trace key xs)) ≡ false
       → outside eq old (take n (put eq trace key xs)) ≤ outside eq old xs
@@ -150,7 +149,6 @@ module _ {K : Type 0} {eq : K → K → Bool} (laws : IsEquivalence eq) where
   min_run_of zero trace some = absurd (omega (arith, some))
   min_run_of (suc n) trace some = min_run n trace []
 
-  -- so is LRU
   pub lru_run : (n : ℕ) (trace keys : List K)
       → (left : List K) × Served (Loads eq (suc n)) left keys trace (faults eq (suc n) keys trace)
   lru_run n [] keys = (keys, ends)

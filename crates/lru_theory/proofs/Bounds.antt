@@ -32,7 +32,6 @@ module _ {K : Type 0} {eq : K → K → Bool} (laws : IsEquivalence eq) (k h b :
     sum : before + later ≡ paid
     misses : faults eq k xs first ≡ j
     others : faults eq k (cached eq k xs first) rest ≡ missed - j
-    -- the window that begins there
     fits : length mid ≤ h
     start : List K
     long : length start ≡ b
@@ -89,17 +88,14 @@ module _ {K : Type 0} {eq : K → K → Bool} (laws : IsEquivalence eq) (k h b :
             }
       ]
 
-  -- the same keys
   all_within : (xs : List K) → Within eq xs xs
   all_within xs key e = e
 
-  -- some step of the policy, if LRU misses
   has_room : (new trace xs old : List K) (paid : ℕ) → 0 < faults eq k xs trace → Served IsStep new old trace paid
       → b ≤ h
   has_room new _ xs _ _ some ends = absurd (omega (arith, some))
   has_room new _ xs _ _ some (serves key trace old mid one paid is run) = (gains key old one mid is).room
 
-  -- up to k misses of LRU
   first_window : (trace xs old new : List K) (paid : ℕ) → faults eq k xs trace ≤ k
       → Served IsStep new old trace paid → faults eq k xs trace ≤ length old + paid
   first_window trace xs old new paid few run =
@@ -112,7 +108,6 @@ module _ {K : Type 0} {eq : K → K → Bool} (laws : IsEquivalence eq) (k h b :
       go (inl h) most = omega (arith, h, most)
       go (inr h) most = omega (arith, h, most, few)
 
-  -- k misses of LRU, after a reference
   next_window : (xs old new : List K) (missed paid j : ℕ) → 0 < k → missed ≡ j + k
       → (s : Split xs old new missed paid j) → k + b ≤ h + s.later
   next_window xs old new missed paid j some is s =

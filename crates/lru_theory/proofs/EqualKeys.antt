@@ -36,7 +36,6 @@ module _ {K : Type 0} (eq : K → K → Bool) where
       both_equal x (take n xs) y (take n ys) (head_equal x xs y ys e) (taken_equal n xs ys (tail_equal x xs y ys e))
 
 module _ {K : Type 0} {eq : K → K → Bool} (laws : IsEquivalence eq) where
-  -- equal keys are equal to the same keys
   pub named_alike : (key x y : K) → eq x y ≡ true → eq key x ≡ eq key y
   named_alike key x y same = laws.symm key x ∙ laws.congr x y key same ∙ laws.symm y key
 
@@ -90,7 +89,6 @@ module _ {K : Type 0} {eq : K → K → Bool} (laws : IsEquivalence eq) where
   faults_equal n (key ∷ trace) xs ys e = λ i. cond (is_in_equal key xs ys e i) 0 1
       + faults_equal n trace (refer eq n key xs) (refer eq n key ys) (refer_equal n key xs ys e) i
 
-  -- a call leaves equal keys of equal keys
   pub call_equal : (n : ℕ) (call : KeyCall K) (xs ys : List K) → AreEqual eq xs ys
       → AreEqual eq (after_call eq n call xs) (after_call eq n call ys)
   call_equal n (refers key) xs ys e = refer_equal n key xs ys e
@@ -107,7 +105,6 @@ module _ {K : Type 0} {eq : K → K → Bool} (laws : IsEquivalence eq) where
   call_equal n clears xs ys e = refl
   call_equal n looks xs ys e = e
 
-  -- a list of different keys is its recency list
   pub recency_distinct : (xs : List K) → IsDistinct eq xs → recency eq xs ≡ xs
   recency_distinct [] h = refl
   recency_distinct (x ∷ xs) h =

@@ -62,7 +62,6 @@ module _ {K : Type 0} {eq : K → K → Bool} (laws : IsEquivalence eq) where
       go true ih = sub_less key xs ys h
       go false ih = skips y (remove_key (eq key) xs) (remove_key (eq key) ys) ih
 
-  -- for lists that are equal key by key
   pub sub_equal : (xs others ys : List K) → AreEqual eq others xs → Sub xs ys → Sub others ys
   sub_equal _ [] _ e h = none _
   sub_equal _ (o ∷ others) _ e (none ys) = absurd cc
@@ -111,7 +110,6 @@ module _ {K : Type 0} {eq : K → K → Bool} (laws : IsEquivalence eq) where
       go true e = omega (arith, length-remove_key (eq key) xs e)
       go false e = omega (arith, ap length (without_missing key xs e))
 
-  -- a removal widens no gap
   gap_without : (d : ℕ) (key : K) (xs ys : List K) → Sub xs ys → length ys ≤ length xs + d
       → length (remove_key (eq key) ys) ≤ length (remove_key (eq key) xs) + d
   gap_without d key xs ys h few = go (is_in eq key xs) refl
@@ -174,7 +172,6 @@ module _ {K : Type 0} {eq : K → K → Bool} (laws : IsEquivalence eq) where
   all_calls n m less (call ∷ calls) xs ys h =
       all_calls n m less calls (after_call eq n call xs) (after_call eq m call ys) (one_call n m less call xs ys h)
 
-  -- the larger cache misses no more often
   pub included_faults : (n m : ℕ) → n ≤ m → (trace xs ys : List K) → IsIncluded eq n m xs ys
       → faults eq m ys trace ≤ faults eq n xs trace
   included_faults n m less [] xs ys h = omega arith
@@ -190,7 +187,6 @@ module _ {K : Type 0} {eq : K → K → Bool} (laws : IsEquivalence eq) where
       go false true h ih = omega (arith, ih)
       go false false h ih = omega (arith, ih)
 
-  -- for lists that are equal key by key
   pub included_equal : (n m : ℕ) (xs others ys more : List K) → AreEqual eq others xs → AreEqual eq more ys
       → IsIncluded eq n m xs ys → IsIncluded eq n m others more
   included_equal n m xs others ys more e h included = record {

@@ -9,7 +9,6 @@ use Rattle.std.specs.Set.{remove_key}
 use Rattle.lru_theory.specs.Traces.{is_in, recency, since, distance, is_far, misses, refer, cached, faults}
 use Rattle.lru_theory.specs.Traces.{past_after}
 
--- the first n of a list without an element need only the first n + 1
 pub take_without : {K : Type 0} (test : K → Bool) (n : ℕ) (xs : List K)
     → take n (remove_key test (take (suc n) xs)) ≡ take n (remove_key test xs)
 take_without test n [] = refl
@@ -22,7 +21,6 @@ take_without test n (x ∷ xs) = go (test x) n (λ m. take_without test m xs)
     go false (suc n) ih = ap (λ ys. x ∷ ys) (ih n)
 
 module _ {K : Type 0} (eq : K → K → Bool) where
-  -- a cache that contains the newest keys contains them after a reference
   pub refer_newest : (n : ℕ) (key : K) (past : List K)
       → refer eq n key (take n (recency eq past)) ≡ take n (recency eq (key ∷ past))
   refer_newest zero key past = refl
@@ -34,7 +32,6 @@ module _ {K : Type 0} (eq : K → K → Bool) where
   cached_is n past (key ∷ trace) =
       ap (λ keys. cached eq n keys trace) (refer_newest n key past) ∙ cached_is n (key ∷ past) trace
 
-  -- whether a key is among the first n
   pub is_in_take : (key : K) (n : ℕ) (xs : List K)
       → is_in eq key (take n xs) ≡ (is_in eq key xs && nat_lt (length (since eq key xs)) n)
   is_in_take key zero [] = refl
@@ -64,14 +61,12 @@ module _ {K : Type 0} (eq : K → K → Bool) where
       go true ih = sym (lt-ltb 0 (suc n) (omega arith))
       go false ih = ih ∙ within (is_in eq key xs)
 
--- a key that differs from another differs from each that equals the other
 pub apart_too : {K : Type 0} {eq : K → K → Bool} (laws : IsEquivalence eq) (key a x : K) → eq key a ≡ false
     → eq a x ≡ true → eq key x ≡ false
 apart_too {eq = eq} laws key a x apart same =
     laws.symm key x ∙ sym (laws.congr a x key same) ∙ laws.symm a key ∙ apart
 
 module _ {K : Type 0} {eq : K → K → Bool} (laws : IsEquivalence eq) where
-  -- without another key
   pub is_in_without : (key a : K) (xs : List K) → eq key a ≡ false
       → is_in eq key (remove_key (eq a) xs) ≡ is_in eq key xs
   is_in_without key a [] apart = refl
@@ -107,7 +102,6 @@ module _ {K : Type 0} {eq : K → K → Bool} (laws : IsEquivalence eq) where
       go false true same found ih = rw found refl
       go false false same found ih = rw (found, same) (ap (λ ys. x ∷ ys) ih)
 
-  -- the keys before a key in the recency list are the keys of the references after its last one
   pub since_recency : (key : K) (past : List K) → since eq key (recency eq past) ≡ recency eq (since eq key past)
   since_recency key [] = refl
   since_recency key (x ∷ past) = go (eq key x) refl (since_recency key past)
@@ -119,7 +113,6 @@ module _ {K : Type 0} {eq : K → K → Bool} (laws : IsEquivalence eq) where
       go false same ih = ap (λ ys. x ∷ ys)
           (since_without key x (recency eq past) same ∙ ap (remove_key (eq x)) ih)
 
-  -- a key is not among the n newest keys exactly if it is far
   pub missing_is_far : (n : ℕ) (key : K) (past : List K)
       → not (is_in eq key (take n (recency eq past))) ≡ is_far eq n key past
   missing_is_far n key past =
@@ -149,7 +142,6 @@ module _ {K : Type 0} {eq : K → K → Bool} (laws : IsEquivalence eq) where
       go true e ih = rw (← e, ih) refl
       go false e ih = rw (← e, ih) refl
 
--- more places never mean more misses
 pub fewer_misses : {K : Type 0} (eq : K → K → Bool) (n m : ℕ) → n ≤ m → (past trace : List K)
     → misses eq m past trace ≤ misses eq n past trace
 fewer_misses eq n m h past [] = omega arith
@@ -176,7 +168,6 @@ module _ {K : Type 0} (eq : K → K → Bool) (n m : ℕ) (few : n ≤ m) where
       front zero keys = refl
       front (suc n) keys = ap (λ ys. key ∷ ys) (take_without (eq key) n keys)
 
-  -- the newest keys of a cache of m places are the keys of one of n
   pub cached_taken : (trace keys : List K) → take n (cached eq m keys trace) ≡ cached eq n (take n keys) trace
   cached_taken [] keys = refl
   cached_taken (key ∷ trace) keys =

@@ -40,7 +40,6 @@ by_cases true f g = f refl
 by_cases false f g = g refl
 
 module _ {K : Type 0} {eq : K → K → Bool} (laws : IsEquivalence eq) where
-  -- fewer keys pass a stronger test
   pub near_fewer : (d : ℕ) (trace : List K) (p q : K → Bool) → ((z : K) → p z ≡ true → q z ≡ true)
       → near eq d trace p ≤ near eq d trace q
   near_fewer zero trace p q h = omega arith
@@ -103,7 +102,6 @@ module _ {K : Type 0} {eq : K → K → Bool} (laws : IsEquivalence eq) where
       split (eq key z) (p z) (not (eq x z)) parts.0 parts.1) in
       omega (arith, one, first, rest, ih)
 
-  -- one key more
   pub near_more : (d : ℕ) (trace : List K) (key : K) (p : K → Bool)
       → near eq d trace (λ z. eq key z || p z) ≤ soon eq d trace key + near eq d trace p
   near_more zero trace key p = omega arith
@@ -121,7 +119,6 @@ module _ {K : Type 0} {eq : K → K → Bool} (laws : IsEquivalence eq) where
   first_named : (key x : K) (xs : List K) (z : K) → is_in eq z (x ∷ xs) ≡ true → (eq x z || is_in eq z xs) ≡ true
   first_named key x xs z e = ap (λ b. b || is_in eq z xs) (laws.symm x z) ∙ e
 
-  -- a cache of n keys has at most n such keys
   pub near_few : (d : ℕ) (trace xs : List K) → near eq d trace (λ z. is_in eq z xs) ≤ length xs
   near_few d trace [] = omega (arith, near_none d trace (λ z. false) (λ z. refl))
   near_few d trace (x ∷ xs) = omega (
@@ -146,7 +143,6 @@ module _ {K : Type 0} {eq : K → K → Bool} (laws : IsEquivalence eq) where
       go false apart true at ih = or_right (eq key z) (eq z x || is_in eq z (remove_key (eq key) xs)) (rw at refl)
       go false apart false other ih = rw other (ih (sym (ap (λ b. b || is_in eq z xs) other) ∙ e))
 
-  -- if a key is there, the others are n - 1
   pub near_stored : (d : ℕ) (trace : List K) (key : K) (xs : List K) → is_in eq key xs ≡ true
       → near eq d trace (λ z. is_in eq z xs) + 1 ≤ soon eq d trace key + length xs
   near_stored d trace key xs at =
@@ -159,7 +155,6 @@ module _ {K : Type 0} {eq : K → K → Bool} (laws : IsEquivalence eq) where
         length-remove_key (eq key) xs at,
       )
 
-  -- equal keys are in the same lists
   pub named_also : (x y : K) (xs : List K) → eq x y ≡ true → is_in eq x xs ≡ is_in eq y xs
   named_also x y [] same = refl
   named_also x y (z ∷ zs) same = λ i. laws.congr x y z same i || named_also x y zs same i
@@ -238,7 +233,6 @@ module _ {K : Type 0} {eq : K → K → Bool} (laws : IsEquivalence eq) where
         bits false later was true f o e h = omega (arith, h)
         bits false later was false f o e h = omega (arith, h)
 
-    -- The keys of the new cache: the key, if it is there, those of the old one, and those that it paid for.
     pub near_new : (d : ℕ) (trace new : List K)
         → near eq d trace (λ z. is_in eq z new)
         ≤ cond (is_in eq key new) (soon eq d trace key) 0 + (near eq d trace others + fresh new)

@@ -30,7 +30,6 @@ module _ {K : Type 0} (eq : K → K → Bool) where
   due d trace (key ∷ keys) = soon d trace key + due d trace keys
 
 module _ {K : Type 0} {eq : K → K → Bool} (laws : IsEquivalence eq) where
-  -- A reference to another key comes one sooner now.
   until_next : (key x : K) (trace : List K) → eq key x ≡ false → until eq x (key ∷ trace) ≡ suc (until eq x trace)
   until_next key x trace other = ap (λ b. cond b 0 (suc (until eq x trace))) (laws.symm x key ∙ other)
 
@@ -74,7 +73,6 @@ module _ {K : Type 0} {eq : K → K → Bool} (laws : IsEquivalence eq) where
       let parts = or_false (eq key x) (is_in eq key xs) none in
       omega (arith, soon_next d key x trace parts.0, due_next d key trace xs parts.1)
 
-  -- of keys that come no sooner than one that comes later than now, none comes now
   none_now : (key x : K) (trace xs : List K) → eq key x ≡ false → Later eq (key ∷ trace) x xs → is_in eq key xs ≡ false
   none_now key x trace [] apart l = refl
   none_now key x trace (y ∷ ys) apart l = go (eq key y) refl (none_now key x trace ys apart l.2)

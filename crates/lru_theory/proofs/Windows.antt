@@ -68,7 +68,6 @@ module _ {K : Type 0} (eq : K → K → Bool) where
       go true e = refl
       go false e = e
 
-  -- what is in the second list may be in a larger one
   within_more : (xs ys zs : List K) → Within ys zs → Within (xs ++ ys) (xs ++ zs)
   within_more xs ys zs h key e =
       in_either key xs zs ∙ go (is_in eq key xs) (is_in eq key ys) (h key) (sym (in_either key xs ys) ∙ e)
@@ -97,7 +96,6 @@ module _ {K : Type 0} {eq : K → K → Bool} (laws : IsEquivalence eq) where
       go true e ih = in_named key x xs e ∙ h.0
       go false e ih = rw (e, ih) refl
 
-  -- different keys are no more than the keys among which they are
   pub pigeons : (xs ys : List K) → Apart eq xs → Within eq xs ys → length xs ≤ length ys
   pigeons [] ys h within = omega arith
   pigeons (x ∷ xs) ys h within =
@@ -146,7 +144,6 @@ module _ {K : Type 0} {eq : K → K → Bool} (laws : IsEquivalence eq) (k h b :
       pub many : (seen + missed ≤ count) ⊎ (k + 1 ≤ count)
       pub few : count ≤ length known + paid
 
-    -- `recent` are the keys that were referenced in the window, and `known` what the policy began with and paid for
     pub window : (new trace recent xs old known : List K) (paid : ℕ) → Apart eq recent
         → (length recent ≤ k → Front recent xs) → Within eq recent known → Within eq old known
         → Served IsStep new old trace paid → Ends (length recent) (faults eq k xs trace) paid known

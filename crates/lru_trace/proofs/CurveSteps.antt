@@ -20,7 +20,6 @@ use Rattle.lru_trace.proofs.Logs.{without_none}
 use Rattle.std.proofs.lemmas.Option.{same_Some}
 use Rattle.lru_trace.proofs.Numbered.{named_on, counted, position_within}
 
--- a key is at a place of a list exactly if it is in the list
 pub position_some : (key d : ℕ) (xs : List ℕ) → position key xs ≡ Some d
     → (is_in nat_eq key xs ≡ true) × (length (since nat_eq key xs) ≡ d)
 position_some key d xs e = go (is_in nat_eq key xs) refl e
@@ -38,7 +37,6 @@ position_none key xs e = go (is_in nat_eq key xs) refl e
     go true is e = absurd cc
     go false is e = is
 
--- how long the recency list is after a reference
 pub found_length : (key d : ℕ) (xs : List ℕ) → position key xs ≡ Some d
     → (length (key ∷ remove_key (nat_eq key) xs) ≡ length xs) × (d < length xs)
 found_length key d xs e =
@@ -69,7 +67,6 @@ sum_counted xs d h =
     omega (arith, ap sum left, ap sum right, all, small)
 
 module _ {trace : List (List ℕ)} {v : Counted} (of : IsOf trace v) where
-  -- more names
   pub of_names : (names : List (String Global × ℕ))
       → ((x : List ℕ) (n : ℕ) → number_in v.names x ≡ Some n → number_in names x ≡ Some n)
       → IsOf trace (record v { names = names })
@@ -81,7 +78,6 @@ module _ {trace : List (List ℕ)} {v : Counted} (of : IsOf trace v) where
     all = of.all;
   }
 
-  -- more counts of 0
   pub of_counts : (counts : List ℕ) → ((n : ℕ) → sum (take n counts) ≡ sum (take n v.counts))
       → IsOf trace (record v { counts = counts })
   of_counts counts same = record {
@@ -113,7 +109,6 @@ module _ {trace : List (List ℕ)} {v : Counted} (of : IsOf trace v) where
     longer : length (trace ++ key ∷ []) ≡ length trace + 1
     longer = omega (arith, length-append trace (key ∷ []))
 
-    -- a reference to a key that was referenced
     pub of_found : (d : ℕ) → position number v.recency ≡ Some d → d < length v.counts
         → IsOf (trace ++ key ∷ []) (record v {
           recency = number ∷ remove_key (nat_eq number) v.recency;
@@ -142,7 +137,6 @@ module _ {trace : List (List ℕ)} {v : Counted} (of : IsOf trace v) where
         split true = omega arith
         split false = omega arith
 
-    -- the first reference to a key
     pub of_first : position number v.recency ≡ None
         → IsOf (trace ++ key ∷ []) (record v {
           recency = number ∷ remove_key (nat_eq number) v.recency;
@@ -163,7 +157,6 @@ module _ {trace : List (List ℕ)} {v : Counted} (of : IsOf trace v) where
           all = omega (arith, of.all, longer);
         }
 
--- clauses on a result
 pub on_ok : {A E P Q : Type 0} (r : Result A E) → (P → Q) → OnOk r P → OnOk r Q
 on_ok (Ok x) f p = f p
 on_ok (Err e) f p = tt

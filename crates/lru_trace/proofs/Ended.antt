@@ -45,7 +45,6 @@ module _ (from mid : Option (List ℕ)) (first : List ℕ) where
     none = refl;
   }
 
-  -- the first line was the only one
   pub only_sizes : (ending : Ending) (sizes : List ℕ) (curve : Counted) → (ending ≡ endings.Feed → ⊥)
       → TakesLine from mid ending first → Some sizes ≡ sizes_from [] None first → IsOf [] curve
       → TraceRead from mid sizes curve 0
@@ -64,7 +63,6 @@ module _ (from mid : Option (List ℕ)) (first : List ℕ) where
     count = refl;
   }
 
-  -- others followed
   pub with_keys : (to : Option (List ℕ)) (sizes : List ℕ) (curve : Counted) (malformed : ℕ)
       → TakesLine from mid endings.Feed first → Some sizes ≡ sizes_from [] None first
       → KeysRead mid to curve malformed → TraceRead from to sizes curve malformed
@@ -95,7 +93,6 @@ module _ {from to : Option (List ℕ)} {sizes : List ℕ} {curve : Counted} {mal
     written = written;
   }
 
-  -- the flush failed
   pub all_begun : (old mid new : Option (List ℕ)) → Appends old mid report → Keeps mid new
       → Reported from to (Begins old new)
   all_begun old mid new written kept =

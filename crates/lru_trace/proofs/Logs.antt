@@ -31,7 +31,6 @@ newest_append (x ∷ xs) ys =
 pub newest_push : (xs : List (Option ℕ)) (key : ℕ) → newest (xs ++ Some key ∷ []) ≡ key ∷ newest xs
 newest_push xs key = newest_append xs (Some key ∷ [])
 
--- a key that is in no slot
 pub newest_absent : (key : ℕ) (xs : List (Option ℕ)) → ((i : ℕ) → get_or xs i None ≡ Some key → ⊥)
     → is_in nat_eq key (newest xs) ≡ false
 newest_absent key [] none = refl
@@ -48,7 +47,6 @@ newest_absent key (x ∷ xs) none =
         test false e = refl
         test true e = absurd (h (ap Some (sym (eqb-true key k e))))
 
--- the keys behind and before the slot of a key
 pub newest_split : (xs : List (Option ℕ)) (slot key : ℕ) → slot < length xs → get_or xs slot None ≡ Some key
     → newest xs ≡ newest (drop (slot + 1) xs) ++ key ∷ newest (take slot xs)
 newest_split xs slot key within is =
@@ -69,7 +67,6 @@ module _ (key : ℕ) where
   self : nat_eq key key ≡ true
   self = eq-eqb key key refl
 
-  -- a key that comes once
   pub is_in_middle : (xs ys : List ℕ) → is_in nat_eq key (xs ++ key ∷ ys) ≡ true
   is_in_middle [] ys = rw self refl
   is_in_middle (x ∷ xs) ys = go (nat_eq key x) (is_in_middle xs ys)
@@ -97,7 +94,6 @@ module _ (key : ℕ) where
       let parts = or_parts (nat_eq key x) (is_in nat_eq key xs) e in
       rw parts.0 (ap (λ zs. x ∷ zs) (without_none xs parts.1))
 
--- as many slots are marked as contain keys
 pub count_marks : (marks : List ℕ) (log : List (Option ℕ))
     → ((i : ℕ) → get_or marks i 0 ≡ cond (is_some (get_or log i None)) 1 0) → sum marks ≡ length (newest log)
 count_marks [] [] h = refl
@@ -142,7 +138,6 @@ taken_within n xs i key e = elim (cases_lt i n) [
   | inr h ↦ not_none key (sym (get_or_past (take n xs) i None (omega (arith, h, length-take n xs))) ∙ e)
 ]
 
--- no slot contains more than one key
 pub newest_few : (xs : List (Option ℕ)) → length (newest xs) ≤ length xs
 newest_few [] = omega arith
 newest_few (x ∷ xs) = omega (arith, newest_few xs, length-append (newest xs) (option_to_list x), go x)
@@ -161,7 +156,6 @@ module _ {Z : Type 0} {levels : ℕ} {log : Vec (Option ℕ) Z} {slots : List (O
       (λ i. get_or-drop (slot + 1) marks i 0 ∙ is.marked (slot + 1 + i)
       ∙ ap (λ o. cond (is_some o) 1 0) (sym (get_or-drop (slot + 1) log.items i None)))
 
-  -- a slot that contains a key is within
   pub slot_within : (slot key : ℕ) → get_or log.items slot None ≡ Some key → slot < length log.items
   slot_within slot key e = elim (cases_lt slot (length log.items)) [
     | inl h ↦ h
@@ -198,7 +192,6 @@ module _ {Z : Type 0} {levels : ℕ} {log : Vec (Option ℕ) Z} {slots : List (O
     taken_out = newest_freed log.items slot slot_in
         ∙ sym (ap (remove_key (nat_eq key)) whole ∙ without_middle key behind (newest (take slot log.items)) not_behind)
 
-    -- what is left is a log again
     pub freed_found : (k s : ℕ) → get_or (set slots key None) k None ≡ Some s → get_or (set log.items slot None) s
         None ≡ Some k
     freed_found k s e = elim (cases_eq k key) [
@@ -239,7 +232,6 @@ module _ {Z : Type 0} {levels : ℕ} {log : Vec (Option ℕ) Z} {slots : List (O
     referenced : is_in nat_eq key (newest log.items) ≡ true
     referenced = rw whole (is_in_middle key behind (newest (take slot log.items)))
 
-  -- a key that is not there has no slot
   pub no_slot : (key : ℕ) → is_in nat_eq key (newest log.items) ≡ false → get_or slots key None ≡ None
   no_slot key absent = go (get_or slots key None) refl
     where
@@ -300,7 +292,6 @@ module _ {Z : Type 0} {levels : ℕ} {log : Vec (Option ℕ) Z} {slots : List (O
     is_free = is.marked (length log.items)
         ∙ ap (λ o. cond (is_some o) 1 0) (get_or_past log.items (length log.items) None (omega arith))
 
-  -- of the keys before a slot, none is in it
   pub absent_before : (key slot : ℕ) → get_or log.items slot None ≡ Some key
       → is_in nat_eq key (newest (take slot log.items)) ≡ false
   absent_before key slot there = newest_absent key (take slot log.items) (λ i e.
@@ -309,7 +300,6 @@ module _ {Z : Type 0} {levels : ℕ} {log : Vec (Option ℕ) Z} {slots : List (O
       key slot there) in
       absurd (omega (arith, same, low)))
 
-  -- a key in a slot is one of the keys
   pub key_within : (key slot : ℕ) → get_or log.items slot None ≡ Some key → key < length slots
   key_within key slot there = elim (cases_lt key (length slots)) [
     | inl h ↦ h
@@ -326,7 +316,6 @@ module _ {Z : Type 0} {levels : ℕ} {log : Vec (Option ℕ) Z} {slots : List (O
   pub all_marks : sum marks ≡ length (newest log.items)
   all_marks = count_marks marks log.items is.marked
 
--- one slot more
 pub newest_more : (xs : List (Option ℕ)) (i : ℕ) (o : Option ℕ) → i < length xs → get_or xs i None ≡ o
     → newest (take (i + 1) xs) ≡ option_to_list o ++ newest (take i xs)
 newest_more xs i o h e =

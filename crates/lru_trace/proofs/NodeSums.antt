@@ -17,13 +17,11 @@ power_fits k h =
     let e : 1 * 2 ^ k ≡ 2 ^ k = omega arith in
     rw e (mod-eq_of_lt (omega (arith, pow_below k 60 h)))
 
--- at each level there are twice as many nodes as above it
 pub power_down : (levels level : ℕ) → level < levels → 2 ^ (levels - level) ≡ 2 * 2 ^ (levels - (level + 1))
 power_down levels level h =
     let e : levels - level ≡ suc (levels - (level + 1)) = omega (arith, h) in
     rw e (omega (arith, pow-suc 2 (levels - (level + 1))))
 
--- no level has more nodes than there are slots
 pub width_fits : (levels level : ℕ) → 2 ^ (levels - level) ≤ 2 ^ levels
 width_fits levels level = pow_mono (omega arith)
 
@@ -52,7 +50,6 @@ module _ {slots levels : ℕ} {t : List ℕ} (tree : IsTree slots levels t) wher
       ap (λ b. span t b (2 * n)) on ∙ span_pairs n (a + 1) (omega arith) (omega (arith, fits)) in
       rw twice (omega (arith, rest, tree.sums a some (omega (arith, fits))))
 
-  -- at an even node its sibling is behind it, and what is behind its parent
   pub behind_even : (v node : ℕ) → node % 2 ≡ 0 → node < 2 * (2 * v) → 2 * v ≤ slots
       → behind t node (2 * v) ≡ get_or t (node + 1) 0 + behind t (node / 2) v
   behind_even v node even within fits =
@@ -79,7 +76,6 @@ module _ {slots levels : ℕ} {t : List ℕ} (tree : IsTree slots levels t) wher
   leaf_span zero a h = omega arith
   leaf_span (suc n) a h = omega (arith, tree.leaves a h, leaf_span n (a + 1) (omega (arith, h)))
 
-  -- what is behind a leaf
   pub behind_leaf : (slot : ℕ) → slot < slots
       → behind t (slots + slot) slots ≡ sum (drop (slot + 1) (drop slots t))
   behind_leaf slot h =
@@ -102,7 +98,6 @@ pub record IsOff (slots up down : ℕ) (t : List ℕ) (node : ℕ) : Type 0 wher
   pub leaves : (i : ℕ) → slots ≤ i → get_or t i 0 ≤ 1
 
 module _ {slots up down : ℕ} where
-  -- the node is corrected, and now its parent is off
   pub corrected : (t : List ℕ) (node v : ℕ) → IsOff slots up down t node → 0 < node → node < 2 * slots
       → v + down ≡ get_or t node 0 + up → (slots ≤ node → v ≤ 1) → IsOff slots up down (set t node v) (node / 2)
   corrected t node v off some within is few = record {
@@ -151,7 +146,6 @@ module _ {slots up down : ℕ} where
                 rw (left, right) (omega (arith, whole, is, same))
           ])
 
-  -- a tree is off nowhere, and what is off nowhere is a tree
   pub off_leaf : {levels : ℕ} (t : List ℕ) (node : ℕ) → slots ≤ node → IsTree slots levels t → IsOff slots up down t
       node
   off_leaf t node leaf tree = record {
@@ -191,7 +185,6 @@ halves slots i whole a b h left right =
     let second : b * (2 * i + 1) ≡ 2 * (b * i) + b = grind arith in
     omega (arith, most, parts, first, second, left, right)
 
--- no node contains more than twice the number of slots
 pub few_in_node : (slots : ℕ) (t : List ℕ) → length t ≡ 2 * slots
     → ((i : ℕ) → 0 < i → i < slots → get_or t i 0 ≤ get_or t (2 * i) 0 + get_or t (2 * i + 1) 0)
     → ((i : ℕ) → slots ≤ i → get_or t i 0 ≤ 1) → (n i : ℕ) → 0 < i → slots ≤ i + n
@@ -206,7 +199,6 @@ few_in_node slots t len sums leaves (suc n) i pos deep =
       | inr leaf ↦ leaf_in_node slots t len leaves i leaf
     ]
 
--- no marks
 pub blank : (levels : ℕ) → IsTree (2 ^ levels) levels (replicate (2 * 2 ^ levels) 0)
 blank levels = record {
   power = refl;
@@ -251,7 +243,6 @@ corrects_on {slots} t node v h some is = record {
   leaves = drop-set-lt slots t node v h.inner ∙ h.leaves;
 }
 
--- a count that is to rise fits
 pub rising_fits : {slots levels : ℕ} {leaves : List ℕ} (t : List ℕ) (node : ℕ) → Corrects slots levels 1 0 leaves t node
     → 0 < node → get_or t node 0 ≤ 2 * slots
 rising_fits {slots} t node h some =

@@ -39,7 +39,6 @@ named_from number [] (n ∷ ns) e = absurd cc
 named_from number (x ∷ xs) [] e = absurd cc
 named_from number (x ∷ xs) (n ∷ ns) e = (ap (first_of None) e, named_from number xs ns (ap rest_of e))
 
--- names that stay keep the numbers
 pub named_on : (number new : List ℕ → Option ℕ) → ((x : List ℕ) (n : ℕ) → number x ≡ Some n → new x ≡ Some n)
     → (xs : List (List ℕ)) (ns : List ℕ) → map number xs ≡ map Some ns → map new xs ≡ map Some ns
 named_on number new keeps [] [] e = refl
@@ -110,7 +109,6 @@ module _ (number : List ℕ → Option ℕ)
   length_named (y ∷ xs) [] h = absurd h
   length_named (y ∷ xs) (k ∷ ns) h = ap suc (length_named xs ns h.1)
 
-  -- so both traces miss alike
   pub misses_named : (n : ℕ) (past : List (List ℕ)) (ps : List ℕ) (xs : List (List ℕ)) (ns : List ℕ)
       → Named number past ps → Named number xs ns → misses bytes_eq n past xs ≡ misses nat_eq n ps ns
   misses_named n past ps [] [] before h = refl
@@ -129,13 +127,11 @@ module _ (number : List ℕ → Option ℕ)
   past_named past ps (y ∷ xs) [] before h = absurd h
   past_named past ps (y ∷ xs) (k ∷ ns) before h = past_named (y ∷ past) (k ∷ ps) xs ns (h.0, before) h.1
 
-  -- and have as many keys
   pub keys_named : (xs : List (List ℕ)) (ns : List ℕ) → Named number xs ns
       → length (recency bytes_eq (past_after [] xs)) ≡ length (recency nat_eq (past_after [] ns))
   keys_named xs ns h = length_named (recency bytes_eq (past_after [] xs)) (recency nat_eq (past_after [] ns))
       (recency_named (past_after [] xs) (past_after [] ns) (past_named [] [] xs ns tt h))
 
--- the place of a key in a list is within the list
 pub position_within : (key : ℕ) (xs : List ℕ) → is_in nat_eq key xs ≡ true → length (since nat_eq key xs) < length xs
 position_within key [] e = absurd cc
 position_within key (x ∷ xs) e = go (nat_eq key x) e (position_within key xs)
@@ -146,7 +142,6 @@ position_within key (x ∷ xs) e = go (nat_eq key x) e (position_within key xs)
     go true e later = omega arith
     go false e later = omega (arith, later e)
 
--- one count more
 pub counted : (d n : ℕ) (counts : List ℕ) → d < length counts
     → sum (take n (set counts d (get_or counts d 0 + 1))) ≡ sum (take n counts) + cond (nat_le n d) 0 1
 counted d zero counts h = rw (le-leb 0 d (omega arith)) refl

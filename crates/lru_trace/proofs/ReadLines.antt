@@ -21,13 +21,11 @@ use Rattle.lru_trace.specs.declared.lines.Ending.{Ending}
 use Rattle.lru_trace.specs.declared.lines.Ending.TheVariants as endings
 use Rattle.lru_trace.specs.Outcome.{KeysRead}
 
--- a line with its line feed comes first
 pub lines_of-fed : (line rest : List ℕ) → LacksFeed line
     → lines_of (fed line ++ rest) ≡ line ∷ lines_of rest
 lines_of-fed [] rest lacks = refl
 lines_of-fed (b ∷ line) rest lacks = rw (ne_eqb b 10 lacks.0) (ap (onto_first b) (lines_of-fed line rest lacks.1))
 
--- the last line may lack its line feed
 pub lines_of-last : (line : List ℕ) → LacksFeed line → 0 < length line
     → lines_of line ≡ line ∷ []
 lines_of-last [] lacks some = absurd (omega arith)
@@ -37,7 +35,6 @@ lines_of-last (b ∷ line) lacks some = go b line lacks
     go b [] lacks = rw (ne_eqb b 10 lacks.0) refl
     go b (c ∷ line) lacks = rw (ne_eqb b 10 lacks.0) (ap (onto_first b) (go c line lacks.1))
 
--- what was read up to a line feed, or to the end of the input
 stops_before : (line more : List ℕ) (b : ℕ) → line ++ b ∷ [] ≡ more → StopsAt more 10 → LacksFeed line
 stops_before line more b is stops =
     let stops : StopsAt (line ++ b ∷ []) 10 = subst (λ l. StopsAt l 10) (sym is) stops in
@@ -103,7 +100,6 @@ pub nonempty : (n : ℕ) → false ≡ (n == 0) → 0 < n
 nonempty zero e = absurd cc
 nonempty (suc n) e = omega arith
 
--- what is at its end after a read was so far known before
 pub ended_before : (a b c : Option (List ℕ)) (bytes : List ℕ) → Consumes a b bytes → OnSome b (IsAtEnd c)
     → OnSome a (IsAtEnd c)
 ended_before None b c bytes p q = tt
@@ -139,7 +135,6 @@ malformed_more lines line = ap length (filter-append (λ l. not (is_key l)) line
 
 module _ {from mid : Option (List ℕ)} {old : Counted} {malformed : ℕ} (so_far : ReadSoFar from mid old malformed)
     (to : Option (List ℕ)) (line : List ℕ) where
-  -- at the end of the input
   pub all_read : TakesRest mid to line → line ≡ [] → KeysRead from to old malformed
   all_read taken none = record {
     input = so_far.bytes ++ line;
@@ -167,7 +162,6 @@ module _ {from mid : Option (List ℕ)} {old : Counted} {malformed : ℕ} (so_fa
             ∙ ap malformed_in (sym is),
       )
 
-      -- one line more
       pub line_read : TakesLine mid to endings.Feed line → ReadSoFar from to new more
       line_read taken =
           let one : (rest : List ℕ) → lines_of (so_far.bytes ++ (fed line ++ rest))
@@ -186,7 +180,6 @@ module _ {from mid : Option (List ℕ)} {old : Counted} {malformed : ℕ} (so_fa
             others = count.1;
           }
 
-      -- the last line, without a line feed
       pub last_read : TakesRest mid to line → 0 < length line → KeysRead from to new more
       last_read taken some =
           let is : lines_of (so_far.bytes ++ line) ≡ lines_of so_far.bytes ++ line ∷ []

@@ -37,13 +37,11 @@ use Rattle.schnellru.specs.declared.map.get_or_insert.NotLent.TheVariants.{NotKe
 use Rattle.schnellru.specs.contracts.map.get_or_insert.NotLent as NL
 use Rattle.schnellru.proofs.map.get_or_insert.NotLent.TheLaws as NL_laws
 
--- one typed value
 pub lone : (τ : Ty) (vs : List Val) → Typed (τ ∷ []) vs → (v : Val) × (vs ≡ v ∷ []) × (T (has_ty τ v) × WT v)
 lone τ [] t = absurd t
 lone τ (v ∷ []) t = (v, refl, t.0)
 lone τ (v ∷ w ∷ vs) t = absurd t.1
 
--- what holds at an error, if another fact does
 pub on_err_then : {T E P Q : Type 0} (r : Result T E) → (P → Q) → OnErr r P → OnErr r Q
 on_err_then (Ok x) f h = tt
 on_err_then (Err e) f h = f h

@@ -152,7 +152,6 @@ module _ {M : Type 1} {𝓤 : Ura M} (𝓛 : Logic 𝓤) (𝓜 : Model 𝓤 𝓛
     abbrev stayed : Stays T.signature.params T.kept
     stayed = (stay_dropped _ no, tt)
 
-    -- if `called` lends the pair
     pub next_meets : (base : Fn) (σ₁ σ₂ : Ty) (called name : Callee)
         → Meets 𝓛 (Of Two).signature (𝓣.C called) (closing 𝓛 (Of Two) Lends)
         → Closed 𝓤 𝓛.H 𝓣.C 𝓣.Λ name (fn base σ₁ σ₂ called) → Meets 𝓛 T.signature (𝓣.C name) (closing 𝓛 T Next)

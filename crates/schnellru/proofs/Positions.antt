@@ -24,12 +24,10 @@ module _ (order : List ℕ) (at b r : ℕ) (distinct : AllPairs ◌≢◌ order)
       go (suc n) e h = let there = slice_get-get_or order n r (omega (arith, slice_get_within order (suc n) b e)) in
           ap Some (is _ (before_at order (suc n) b distinct e ∙ there)) ∙ sym there
 
--- some of the first n is the last
 pub last_some : (order : List ℕ) (n b : ℕ) → last_of n order ≡ Some b → 0 < n
 last_some order zero b is = absurd (none-some b is)
 last_some order (suc n) b is = omega arith
 
--- none is, if n is 0
 pub last_none : (order : List ℕ) (n : ℕ) → n ≤ length order → last_of n order ≡ None → n ≡ 0
 last_none order zero few none = refl
 last_none order (suc n) few none = absurd (omega (arith, few, get_none order n none))
@@ -51,7 +49,6 @@ module _ (b : ℕ) where
   last_stays order zero d e = refl
   last_stays order (suc at) d e = earlier_stays order (suc at) at d e (omega arith)
 
--- the last of the first n
 pub last_place : (order : List ℕ) (n b : ℕ) → 0 < n → last_of n order ≡ Some b → slice_get order (n - 1) ≡ Some b
 last_place order zero b some is = absurd (none-some b is)
 last_place order (suc n) b some is = ap (slice_get order) (omega arith) ∙ is

@@ -26,7 +26,6 @@ use Rattle.ordered_table.proofs.Chains.LinkWrites.{older_link}
 use Rattle.ordered_table.proofs.Tables.PairSlots.{same_length, same_full, same_count}
 
 module _ (b : ℕ) where
-  -- the ends
   pub last-comes : (order : List ℕ) → last_bucket (order ++ b ∷ []) ≡ Some b
   last-comes [] = refl
   last-comes (c ∷ []) = refl
@@ -42,7 +41,6 @@ module _ (b : ℕ) where
     distinct-comes d = all_pairs_push ◌≢◌ order b d
         (λ k e p same. absent (subst (Contains order) same (Contains-get_or order k e p)))
 
-  -- b has none after it
   pub after-comes : (order : List ℕ) → (Contains order b → ⊥) → bucket_after b (order ++ b ∷ []) ≡ None
   after-comes [] absent = rw (eq-eqb b b refl) refl
   after-comes (c ∷ cs) absent =
@@ -50,7 +48,6 @@ module _ (b : ℕ) where
       (after-comes cs (λ w. absent (Contains-later c b cs w)))
 
   module _ (x : ℕ) where
-    -- the one that was last has b after it
     pub after-last_comes : (order : List ℕ) → AllPairs ◌≢◌ order → last_bucket order ≡ Some x
         → bucket_after x (order ++ b ∷ []) ≡ Some b
     after-last_comes [] d e = absurd (none-some x e)
@@ -60,7 +57,6 @@ module _ (b : ℕ) where
         (subst (Contains (n ∷ ns)) (sym same) (last_in (n ∷ ns) x e))))
         (after-last_comes (n ∷ ns) (distinct_tail c (n ∷ ns) d) e)
 
-    -- and the others those that they had
     pub after-other_comes : (order : List ℕ) → Contains order x → (last_bucket order ≡ Some x → ⊥)
         → bucket_after x (order ++ b ∷ []) ≡ bucket_after x order
     after-other_comes [] there p = absurd (Contains-nil x there)
@@ -98,7 +94,6 @@ module _ (b : ℕ) where
         ∙ before_from-comes x None order (λ e. absent (subst (Contains order) (sym e) there))
         ∙ sym (before_is x order d)
 
--- the oldest, taken out and put at the end, stands where it was
 pub oldest_again : (b : ℕ) (order : List ℕ) → AllPairs ◌≢◌ order → Contains order b → bucket_after b order ≡ None
     → order ≡ without_bucket b order ++ b ∷ []
 oldest_again b [] d there e = absurd (Contains-nil b there)
@@ -122,7 +117,6 @@ no_last [] e = refl
 no_last (c ∷ []) e = absurd (none-some c (sym e))
 no_last (c ∷ n ∷ ns) e = absurd (omega (arith, ap length (no_last (n ∷ ns) e)))
 
--- a bucket that is alone has none after it
 after-alone : (b : ℕ) (order : List ℕ) → AllPairs ◌≢◌ order → Contains order b
     → last_bucket (without_bucket b order) ≡ None → bucket_after b order ≡ None
 after-alone b [] d there e = refl
@@ -213,13 +207,11 @@ module _ {N : Type 0} {number : N → ℕ} {link : ℕ → N} {none : N}
   module _ {slots : List (Slot (Entry K V N))} {newest oldest : N} {order : List ℕ}
       (whole : IsWhole number link none slots newest oldest order) (b : ℕ) (there : Contains order b) where
     module _ (entry : Entry K V N) (is : entry_at slots b ≡ Some entry) where
-      -- the bucket with no older one is the oldest already
       pub oldest_already : entry.older ≡ none → order ≡ without_bucket b order ++ b ∷ []
       oldest_already e = oldest_again b order whole.chain.distinct there (end_by_link laws (bucket_after b order)
           (λ y k. chained_below whole.chain y (after_in b y order k))
           (sym (older_link laws whole.chain b there entry is) ∙ e))
 
-      -- if a bucket that has an older one leaves, the chain still has an oldest one
       pub oldest_left : {slots' : List (Slot (Entry K V N))} {newest' oldest' : N} → entry.older ≢ none
           → IsChain number link none slots' newest' oldest' (without_bucket b order) → oldest' ≢ none
       oldest_left older left e =
@@ -228,7 +220,6 @@ module _ {N : Type 0} {number : N → ℕ} {link : ℕ → N} {none : N}
           older (older_link laws whole.chain b there entry is
           ∙ ap (link_to link none) (after-alone b order whole.chain.distinct there alone))
 
-    -- a bucket became the oldest
     pub IsWhole-demoted : {s2 : List (Slot (Entry K V N))} {newest' oldest' : N} → pair_slots s2 ≡ pair_slots slots
         → IsChain number link none s2 newest' oldest' (without_bucket b order ++ b ∷ [])
         → IsWhole number link none s2 newest' oldest' (without_bucket b order ++ b ∷ [])

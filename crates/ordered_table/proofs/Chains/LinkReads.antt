@@ -27,13 +27,11 @@ last_some (c ∷ d ∷ ds) p e = last_some (d ∷ ds) (omega arith) e
 
 module _ {N : Type 0} {number : N → ℕ} {link : ℕ → N} {none : N}
     (laws : IsLinkType number link none) where
-  -- the bucket that a link leads to
   leads_to : (o : Option ℕ) (l : N) → l ≡ link_to link none o → ((y : ℕ) → o ≡ Some y → y < number none)
       → (o ≡ None → ⊥) → o ≡ Some (number l)
   leads_to None l e bounds some = absurd (some refl)
   leads_to (Some y) l e bounds some = ap Some (sym (ap number e ∙ laws.number_of_link y (bounds y refl)))
 
-  -- the number of a link to a bucket
   number_at : (o : Option ℕ) (l : N) → l ≡ link_to link none o → (c : ℕ) → o ≡ Some c → c < number none → number l ≡ c
   number_at o l is c e bound = ap number (is ∙ ap (link_to link none) e) ∙ laws.number_of_link c bound
 
@@ -47,7 +45,6 @@ module _ {N : Type 0} {number : N → ℕ} {link : ℕ → N} {none : N}
     oldest_shown p = leads_to (last_bucket order) oldest whole.chain.oldest_last
         (λ y e. chained_below whole.chain y (last_in order y e)) (last_some order p)
 
-    -- the last bucket has no older one
     pub none_older : (b : ℕ) → last_bucket order ≡ Some b → (entry : Entry K V N) → entry_at slots b ≡ Some entry
         → entry.older ≡ none
     none_older b last entry is = older_link laws whole.chain b (last_in order b last) entry is
@@ -61,7 +58,6 @@ module _ {N : Type 0} {number : N → ℕ} {link : ℕ → N} {none : N}
       inside = whole.all b full_entry
 
       module _ (entry : Entry K V N) (is : entry_at slots b ≡ Some entry) where
-        -- what its links lead to
         pub older_number : (c : ℕ) → bucket_after b order ≡ Some c → number entry.older ≡ c
         older_number c e = number_at (bucket_after b order) entry.older (older_link laws whole.chain b inside entry is) c e
             (chained_below whole.chain c (after_in b c order e))
@@ -70,13 +66,11 @@ module _ {N : Type 0} {number : N → ℕ} {link : ℕ → N} {none : N}
         newer_number c e = number_at (bucket_before b order) entry.newer (newer_link laws whole.chain b inside entry is)
             c e (chained_below whole.chain c (before_in b c order whole.chain.distinct e))
 
-        -- the bucket with no newer one is the newest already
         pub newest_already : entry.newer ≡ none → order ≡ b ∷ without_bucket b order
         newest_already e = newest_again b order whole.chain.distinct inside (end_by_link laws (bucket_before b order)
             (λ y k. chained_below whole.chain y (before_in b y order whole.chain.distinct k))
             (sym (newer_link laws whole.chain b inside entry is) ∙ e))
 
-        -- if a bucket that has a newer one leaves, the chain still has a newest one
         pub newest_left : {slots' : List (Slot (Entry K V N))} {newest' oldest' : N} → entry.newer ≢ none
             → IsChain number link none slots' newest' oldest' (without_bucket b order) → newest' ≢ none
         newest_left newer left e =

@@ -28,7 +28,6 @@ use Rattle.ordered_table.proofs.Chains.Neighbours.{last-left_stays, before-itsel
 use Rattle.ordered_table.proofs.Chains.Neighbours.{after-later}
 use Rattle.ordered_table.proofs.Tables.PairSlots.{same_length, same_full, pair_slots-refilled}
 
--- the buckets of a chain are below the number of none
 pub chained_below : {K V N : Type 0} {number : N → ℕ} {link : ℕ → N} {none : N} {slots : List (Slot (Entry K V N))}
     {newest oldest : N} {order : List ℕ}
     → IsChain number link none slots newest oldest order → (x : ℕ) → Contains order x → x < number none
@@ -36,7 +35,6 @@ chained_below {slots = slots} chain x there = omega (arith, full_lt slots x (cha
 
 module _ {K V N : Type 0} (slots : List (Slot (Entry K V N))) (b : ℕ) (entry : Entry K V N) (there : entry_at slots b
     ≡ Some entry) where
-  -- a write of both links
   pub SetsLinks-written : (newer older : N)
       → SetsLinks slots (set slots b
       (refilled (bucket_at slots b) (record { pair = entry.pair; newer = newer; older = older }))) b newer older
@@ -83,7 +81,6 @@ module _ {K V N : Type 0} (slots : List (Slot (Entry K V N))) (b : ℕ) (entry :
 
 module _ {N : Type 0} {number : N → ℕ} {link : ℕ → N} {none : N}
     (laws : IsLinkType number link none) where
-  -- a link to a bucket below the number of none
   pub number-link_to : (o : Option ℕ) (x : ℕ) → o ≡ Some x → x < number none → number (link_to link none o) ≡ x
   number-link_to o x e p = rw e (laws.number_of_link x p)
 
@@ -100,7 +97,6 @@ module _ {N : Type 0} {number : N → ℕ} {link : ℕ → N} {none : N}
   end_by_link (Some y) bounds e = absurd (link_below laws y (bounds y refl) e)
 
   module _ {K V : Type 0} where
-    -- a link of a chain leads to no bucket or to a full one
     pub leads_to_full : (slots : List (Slot (Entry K V N))) → length slots < number none → (o : Option ℕ)
         → ((y : ℕ) → o ≡ Some y → IsFull slots y)
         → (link_to link none o ≡ none) ⊎ IsFull slots (number (link_to link none o))
@@ -108,7 +104,6 @@ module _ {N : Type 0} {number : N → ℕ} {link : ℕ → N} {none : N}
     leads_to_full slots reached (Some y) is_full = inr
         (rw (laws.number_of_link y (omega (arith, full_lt slots y (is_full y refl), reached))) (is_full y refl))
 
-    -- no entry is at the link to no bucket, so none changes
     pub none_written : (slots : List (Slot (Entry K V N))) → length slots < number none → (to : N)
         → SetsNewer number slots slots none to
     none_written slots reached to = record {
@@ -121,14 +116,12 @@ module _ {N : Type 0} {number : N → ℕ} {link : ℕ → N} {none : N}
     module _ {slots : List (Slot (Entry K V N))} {newest oldest : N} {order : List ℕ}
         (chain : IsChain number link none slots newest oldest order) where
       module _ (b : ℕ) (there : Contains order b) (entry : Entry K V N) (is : entry_at slots b ≡ Some entry) where
-        -- the links of an entry are to its neighbours
         pub newer_link : entry.newer ≡ link_to link none (bucket_before b order)
         newer_link = same_Some _ _ (sym (ap (option_map (λ x. x.newer)) is) ∙ chain.newer b there)
 
         pub older_link : entry.older ≡ link_to link none (bucket_after b order)
         older_link = same_Some _ _ (sym (ap (option_map (λ x. x.older)) is) ∙ chain.older b there)
 
-        -- each leads to no bucket or to a full one
         pub newer_leads : (entry.newer ≡ none) ⊎ IsFull slots (number entry.newer)
         newer_leads = rw newer_link (leads_to_full slots chain.reached (bucket_before b order)
             (λ y e. chain.only y (before_in b y order chain.distinct e)))
@@ -137,7 +130,6 @@ module _ {N : Type 0} {number : N → ℕ} {link : ℕ → N} {none : N}
         older_leads = rw older_link (leads_to_full slots chain.reached (bucket_after b order)
             (λ y e. chain.only y (after_in b y order e)))
 
-        -- to take it out of the chain, whether or not its entry leaves the table first
         gap : (new : List (Slot (Entry K V N))) → length new ≡ length slots
             → ((c : ℕ) → c ≢ b → bucket_at new c ≡ bucket_at slots c)
             → IsGap number link none new newest oldest order b entry.newer entry.older
@@ -178,7 +170,6 @@ module _ {N : Type 0} {number : N → ℕ} {link : ℕ → N} {none : N}
       others_full : (x : ℕ) → Contains order x → x ≢ b → IsFull s0 x
       others_full x inside other = ap is_full (gap.others x other) ∙ gap.chain.only x inside
 
-      -- its links lead to no bucket or to full ones
       pub gap_newer_leads : (newer ≡ none) ⊎ IsFull s0 (number newer)
       gap_newer_leads = rw newer_to (leads_to_full s0 gap_reached (bucket_before b order) (λ y e.
           others_full y (before_in b y order gap.chain.distinct e) (before_other b y order gap.chain.distinct e)))
@@ -272,7 +263,6 @@ module _ {N : Type 0} {number : N → ℕ} {link : ℕ → N} {none : N}
         older = λ x w. let v = without_in b x order w in left_older x v.0 v.1;
       }
 
-    -- both links of a bucket outside of the chain are written
     pub IsChain-fields : {s0 s1 : List (Slot (Entry K V N))} {newest oldest newer older : N} (b : ℕ) {order : List ℕ}
         → IsChain number link none s0 newest oldest order → (Contains order b → ⊥) → SetsLinks s0 s1 b newer older
         → IsChain number link none s1 newest oldest order

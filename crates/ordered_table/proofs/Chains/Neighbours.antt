@@ -13,12 +13,10 @@ use Rattle.ordered_table.proofs.Chains.Orders.{distinct_head, distinct_tail, dis
 use Rattle.ordered_table.proofs.Chains.Orders.{before_from-in, before_from-some, before_is, last_is, before_first}
 use Rattle.ordered_table.proofs.Chains.Orders.{before_not_first, after_in, without-absent, distinct_without}
 
--- the buckets after b do not have it
 absent_after : (b c : ℕ) (cs : List ℕ) → AllPairs ◌≢◌ (c ∷ cs) → c ≡ b → Contains cs b → ⊥
 absent_after b c cs d h w = distinct_head c cs d (subst (Contains cs) (sym h) w)
 
 module _ (b x : ℕ) (other : x ≢ b) where
-  -- b leaves: x is then where b was in the order, if it came after b, and else stays
   before_from-next : (prev : Option ℕ) (order : List ℕ) → AllPairs ◌≢◌ order → bucket_after b order ≡ Some x
       → before_from prev x (without_bucket b order) ≡ before_from prev b order
   before_from-next prev [] d e = absurd (none-some x e)
@@ -45,7 +43,6 @@ module _ (b x : ℕ) (other : x ≢ b) where
         rw (ne_eqb c b h) (ap (λ t. cond (nat_eq c x) prev t) (before_from-stays (Some c) cs (distinct_tail c cs d) p'))
   ]
 
-  -- b follows the last of those before it, which is x
   first_after : (cs : List ℕ) → AllPairs ◌≢◌ cs → (Contains cs x → ⊥) → before_from (Some x) b cs ≡ Some x
       → first_bucket (without_bucket b cs) ≡ bucket_after b cs
   first_after [] d absent e = absurd (none-some x e)
@@ -118,7 +115,6 @@ module _ (b x : ℕ) (other : x ≢ b) where
         ≡ bucket_after x order
     after-stays p = after-stays_from None order d (λ e. p (before_is b order d ∙ e))
 
--- the ends, after b left
 last_from-left : (prev : Option ℕ) (b : ℕ) (order : List ℕ) → AllPairs ◌≢◌ order → Contains order b
     → bucket_after b order ≡ None → last_from prev (without_bucket b order) ≡ before_from prev b order
 last_from-left prev b [] d there e = absurd (Contains-nil b there)
@@ -274,7 +270,6 @@ module _ (m : ℕ → ℕ) where
     before-moved = before_is (m b) (map m order) (distinct-moved order apart d)
         ∙ before_from-moved None b order (λ c w e. apart c b w there e) ∙ ap (option_map m) (sym (before_is b order d))
 
--- the newest, taken out and put in front, stands where it was
 pub newest_again : (b : ℕ) (order : List ℕ) → AllPairs ◌≢◌ order → Contains order b → bucket_before b order ≡ None
     → order ≡ b ∷ without_bucket b order
 newest_again b [] d there e = absurd (Contains-nil b there)

@@ -12,11 +12,9 @@ use Rattle.lru_model.proofs.PairLists.Members.{Contains-here, Contains-later, Co
 use Rattle.ordered_table.specs.OrderedTable.{bucket_after, bucket_before}
 use Rattle.ordered_table.specs.OrderedTable.{without_bucket}
 
--- what is in a list is none that is not
 pub other_than : (b : ℕ) (order : List ℕ) → (Contains order b → ⊥) → (x : ℕ) → Contains order x → x ≢ b
 other_than b order absent x there e = absent (subst (Contains order) e there)
 
--- the head of distinct buckets is not in the tail
 pub distinct_head : (c : ℕ) (cs : List ℕ) → AllPairs ◌≢◌ (c ∷ cs) → Contains cs c → ⊥
 distinct_head c cs d w = d zero (suc w.0) c (omega arith) (omega (arith, w.1)) (sym w.2)
 
@@ -63,7 +61,6 @@ pub last_is : (order : List ℕ) → last_bucket order ≡ last_from None order
 last_is [] = refl
 last_is (c ∷ cs) = last_is_tail c cs
 
--- if the first bucket is this one, prev stands before it, and else prev stands before none but the first
 pub before_first : (prev : Option ℕ) (x : ℕ) (cs : List ℕ) → first_bucket cs ≡ Some x → before_from prev x cs ≡ prev
 before_first prev x [] e = absurd (none-some x e)
 before_first prev x (d ∷ ds) e = rw (eq-eqb d x (same_Some d x e)) refl
@@ -77,7 +74,6 @@ pub first_in : (cs : List ℕ) (x : ℕ) → first_bucket cs ≡ Some x → Cont
 first_in [] x e = absurd (none-some x e)
 first_in (c ∷ cs) x e = subst (Contains (c ∷ cs)) (same_Some c x e) (Contains-here c cs)
 
--- without elements there is no first one
 pub no_first : (order : List ℕ) → first_bucket order ≡ None → order ≡ []
 no_first [] e = refl
 no_first (c ∷ cs) e = absurd (none-some c (sym e))
@@ -87,7 +83,6 @@ last_in [] x e = absurd (none-some x e)
 last_in (c ∷ []) x e = subst (Contains (c ∷ [])) (same_Some c x e) (Contains-here c [])
 last_in (c ∷ d ∷ ds) x e = Contains-later c x (d ∷ ds) (last_in (d ∷ ds) x e)
 
--- a neighbour is in the order
 pub after_in : (b x : ℕ) (order : List ℕ) → bucket_after b order ≡ Some x → Contains order x
 after_in b x [] e = absurd (none-some x e)
 after_in b x (c ∷ cs) e = elim (cases_eq c b) [
@@ -114,7 +109,6 @@ before_in b x order d e = elim (before_from-in None b x order (sym (before_is b 
   | inr h ↦ h
 ]
 
--- and it is another bucket
 pub after_other : (b x : ℕ) (order : List ℕ) → AllPairs ◌≢◌ order → bucket_after b order ≡ Some x → x ≢ b
 after_other b x [] d e = absurd (none-some x e)
 after_other b x (c ∷ cs) d e = elim (cases_eq c b) [
@@ -162,7 +156,6 @@ lacks_unless b (c ∷ cs) absent = (
   lacks_unless b cs (λ w. absent (Contains-later c b cs w)),
 )
 
--- an order without a bucket
 pub without-lacking : (b : ℕ) (order : List ℕ) → Lacks b order → without_bucket b order ≡ order
 without-lacking b [] lacks = refl
 without-lacking b (c ∷ cs) lacks = rw lacks.0 (ap (λ xs. c ∷ xs) (without-lacking b cs lacks.1))
@@ -212,7 +205,6 @@ length-without b (c ∷ cs) d there = elim (cases_eq c b) [
   ]
 ]
 
--- the last bucket has none after it
 pub after-last : (b : ℕ) (order : List ℕ) → AllPairs ◌≢◌ order → last_bucket order ≡ Some b
     → bucket_after b order ≡ None
 after-last b [] d e = refl
@@ -222,7 +214,6 @@ after-last b (c ∷ x ∷ xs) d e =
     (subst (Contains (x ∷ xs)) (sym same) (last_in (x ∷ xs) b e)) in
     rw (ne_eqb c b other) (after-last b (x ∷ xs) (distinct_tail c (x ∷ xs) d) e)
 
--- a bucket that is alone has none before it
 pub before-alone : (b : ℕ) (order : List ℕ) → AllPairs ◌≢◌ order → Contains order b
     → first_bucket (without_bucket b order) ≡ None → bucket_before b order ≡ None
 before-alone b [] d there e = refl

@@ -64,7 +64,6 @@ module _ {N : Type 0} {number : N → ℕ} {link : ℕ → N} {none : N}
       one_along n slots (link c) (link_to link none (first_bucket cs)) (entry_at slots (number (link c))) leads
       ∙ ap (λ x. x ∷ along number n slots (link_to link none (first_bucket cs))) is ∙ ap (λ xs. c ∷ xs) rest
 
-  -- the order is the one that the table shows
   pub whole_order : {slots : List (Slot (Entry K V N))} {newest oldest : N} {order : List ℕ}
       → IsWhole number link none slots newest oldest order → along number (length slots) slots newest ≡ order
   whole_order {slots} {newest} {oldest} {order} whole =
@@ -108,7 +107,6 @@ module _ {N : Type 0} {number : N → ℕ} {link : ℕ → N} {none : N}
 
   module _ {s0 s2 : List (Slot (Entry K V N))} {newest oldest newest' oldest' : N} {order : List ℕ}
       (whole : IsWhole number link none s0 newest oldest order) (b : ℕ) where
-    -- a bucket became the newest
     pub IsWhole-promoted : IsFull s0 b → pair_slots s2 ≡ pair_slots s0 → IsChain number link none s2 newest' oldest'
         (b ∷ without_bucket b order)
         → IsWhole number link none s2 newest' oldest' (b ∷ without_bucket b order)

@@ -28,7 +28,6 @@ module _ {K V N : Type 0} (slots : List (Slot (Entry K V N))) (hash : ℕ) where
       (sym (ap (has_tag (hash_tag hash)) (bucket_at-pair_slots slots b)
       ∙ tag_of_pair (hash_tag hash) (bucket_at slots b)) i) (b ∷ same_candidates bs i) (same_candidates bs i)
 
-  -- a search of the entries is one of the pairs
   pub search_pairs : (asked : List ℕ) → IsSearch slots hash asked → IsSearch (pair_slots slots) hash asked
   search_pairs asked s = record {
     steps = s.steps;
@@ -44,7 +43,6 @@ module _ {K V N W F : Type 0} (closure : Mut F (Bor K × (Bor V × Unit {0})) Bo
     (asker : Mut W (Bor (Entry K V N) × Unit {0}) Bool) (state : W → F)
     (asks : (w : W) (x : Entry K V N) (r : Bool) (u : W) → CalledAt asker w x r u
     → Asks closure (state w) (pair_of x) r (state u)) (slots : List (Slot (Entry K V N))) where
-  -- a call with an entry is a call with its pair
   pub answers_pair : (w : W) (b : ℕ) (r : Bool) (u : W) → Answers asker slots w b r u
       → AnswersPair closure (pair_slots slots) (state w) b r (state u)
   answers_pair w b r u a = record {

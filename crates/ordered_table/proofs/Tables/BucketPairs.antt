@@ -80,13 +80,11 @@ module _ {K V : Type 0} (t : OrderedTable K V) (linked : IsLinked t) where
       pair_found = ap (lookup_entry names) cut_pairs ∙ cut_found names p named (entries_in t.slots cut_here.before)
           (entries_in t.slots cut_here.after) unnamed
 
-      -- the place of the pair
       pub place_found : place_of names (pairs_of t) t.order ≡ Some b
       place_found = (λ i. place_of names (cut_pairs i) (cut_here.whole i))
           ∙ place_cut t.slots names p named b cut_here.after cut_here.before
           (all_full t.slots cut_here.before (λ c w. linked.only c (before_in cut_here c w))) unnamed
 
-      -- and the places of the others
       pub other_places_are : other_places names (pairs_of t) t.order ≡ without_bucket b t.order
       other_places_are = (λ i. other_places names (cut_pairs i) (cut_here.whole i))
           ∙ places_cut t.slots names p named b cut_here.after cut_here.before
@@ -96,7 +94,6 @@ module _ {K V : Type 0} (t : OrderedTable K V) (linked : IsLinked t) where
       pub places_are : front_places names (pairs_of t) t.order ≡ b ∷ without_bucket b t.order
       places_are = λ i. after (place_found i) (other_places_are i)
 
-      -- the others, in their order
       pub others_are : without names (pairs_of t) ≡ entries_in t.slots (without_bucket b t.order)
       others_are = ap (without names) cut_pairs ∙ cut_without names p named (entries_in t.slots cut_here.before)
           (entries_in t.slots cut_here.after) unnamed
@@ -105,11 +102,9 @@ module _ {K V : Type 0} (t : OrderedTable K V) (linked : IsLinked t) where
   pub pairs-length : length (pairs_of t) ≡ length t.order
   pairs-length = entries-length t.slots t.order (all_full t.slots t.order linked.only)
 
-  -- without one bucket there is one pair fewer
   pub shorter : (b : ℕ) → IsFull t.slots b → suc (length (without_bucket b t.order)) ≡ length t.order
   shorter b h = omega (arith, length-without b t.order linked.distinct (linked.all b h))
 
-  -- if no bucket has a named key, no pair is named
   pub none_named : (names : K → Bool) → ((b : ℕ) (p : K × V) → entry_at t.slots b ≡ Some p → names p.0 ≡ false)
       → lookup_entry names (pairs_of t) ≡ None
   none_named names h = none_found names (pairs_of t) (go t.order (all_full t.slots t.order linked.only))
@@ -140,7 +135,6 @@ module _ {K V : Type 0} (t : OrderedTable K V) (linked : IsLinked t) where
           ∙ sym (entries-without t.slots first_cut.0 p there
           ∙ ap (λ l. entries_in t.slots l ++ entries_in t.slots first_cut.0.after) first_cut.1)
 
-  -- without pairs there is no first bucket
   pub none_first : first_bucket t.order ≡ None → pairs_of t ≡ []
   none_first e = ap (entries_in t.slots) (no_first t.order e)
 
@@ -168,7 +162,6 @@ module _ {K V : Type 0} (t : OrderedTable K V) (linked : IsLinked t) where
 
 -- a bucket was emptied
 module _ {T : Type 0} (old new : List (Slot T)) (b : ℕ) where
-  -- the others hold what they held
   pub removed-entries : Removes old new b → (order : List ℕ) → entries_in new (without_bucket b order)
       ≡ entries_in old (without_bucket b order)
   removed-entries (inl h) order = ap (λ s. entries_in s (without_bucket b order)) h.1

@@ -64,7 +64,6 @@ kept_pass p (c ∷ cs) b w = go (p c) refl w (λ k. kept_pass p cs b k)
 
 module _ {K V : Type 0} (t : OrderedTable K V) (linked : IsLinked t) {eq : K → K → Bool} (laws : IsEquivalence eq)
     (distinct : AreDistinct eq (pairs_of t)) (hash_of : K → ℕ) (fits : KeysFit hash_of t.slots) (hash : ℕ) where
-  -- pairs in different buckets have different keys
   pub apart : (b c : ℕ) (p q : K × V) → entry_at t.slots b ≡ Some p → entry_at t.slots c ≡ Some q → c ≢ b → eq p.0 q.0
       ≡ false
   apart b c p q there also other =

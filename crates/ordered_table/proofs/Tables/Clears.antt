@@ -24,7 +24,6 @@ pub marks_of-cleared : (T : Type 0) (n : ℕ) → marks_of {A = T} (replicate n 
 marks_of-cleared T zero = refl
 marks_of-cleared T (suc n) = ap (λ marks. empty ∷ marks) (marks_of-cleared T n)
 
--- no bucket is chained, and that is all of the full ones
 pub IsWhole-cleared : {K V N : Type 0} {number : N → ℕ} {link : ℕ → N} {none : N} (slots : List (Slot (Entry K V N)))
     (n : ℕ) → slots ≡ replicate n empty → n < number none
     → IsWhole number link none slots none none []

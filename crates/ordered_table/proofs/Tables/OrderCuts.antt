@@ -43,7 +43,6 @@ cut_at b (x ∷ xs) d (k, within, is) = go (nat_eq x b) refl k within is (λ h. 
       none_after = cut.none_after;
     }
 
--- cut at the first, none come before it
 pub cut_first : (b : ℕ) (order : List ℕ) → AllPairs ◌≢◌ order → first_bucket order ≡ Some b → (cut : Cut b order)
     × (cut.before ≡ [])
 cut_first b [] d e = absurd cc
@@ -58,7 +57,6 @@ cut_first b (x ∷ xs) d e = let same = same_Some x b e in (
   refl,
 )
 
--- cut at the last, none come after it
 pub cut_last : (b : ℕ) (order : List ℕ) → AllPairs ◌≢◌ order → last_bucket order ≡ Some b → (cut : Cut b order)
     × (cut.after ≡ [])
 cut_last b [] d h = absurd cc
@@ -86,7 +84,6 @@ module _ {b : ℕ} {order : List ℕ} (cut : Cut b order) where
   kept_through [] ys h k = let t : nat_eq b b ≡ true = grind (arith, nat_tests) in rw t (without-lacking b ys k)
   kept_through (x ∷ xs) ys h k = rw h.0 (ap (λ l. x ∷ l) (kept_through xs ys h.1 k))
 
-  -- the others, in their order
   pub cut_without : without_bucket b order ≡ cut.before ++ cut.after
   cut_without = ap (without_bucket b) cut.whole ∙ kept_through cut.before cut.after cut.none_before cut.none_after
 
@@ -106,7 +103,6 @@ module _ {T : Type 0} where
   entries-append slots (x ∷ xs) ys = ap (λ l. option_to_list (entry_at slots x) ++ l) (entries-append slots xs ys)
       ∙ sym (append_assoc (option_to_list (entry_at slots x)) _ _)
 
-  -- a change of one bucket changes no entry of the others
   pub entries-apart : (slots : List (Slot T)) (b : ℕ) (slot : Slot T) (xs : List ℕ) → Lacks b xs
       → entries_in (slice_set slots b slot) xs ≡ entries_in slots xs
   entries-apart slots b slot [] h = refl
@@ -117,7 +113,6 @@ module _ {T : Type 0} where
 
   module _ (slots : List (Slot T)) {b : ℕ} {order : List ℕ} (cut : Cut b order) (entry : T) (there : entry_at slots b
       ≡ Some entry) where
-    -- the entries, cut at the entry of the bucket
     pub entries-cut : entries_in slots order ≡ entries_in slots cut.before ++ entry ∷ entries_in slots cut.after
     entries-cut = ap (entries_in slots) cut.whole ∙ entries-append slots cut.before (b ∷ cut.after)
         ∙ ap (λ o. entries_in slots cut.before ++ (option_to_list o ++ entries_in slots cut.after)) there

@@ -63,7 +63,6 @@ module _ {K V N : Type 0} where
   entry_by_pair None pair e = absurd (cc)
   entry_by_pair (Some entry) pair e = let same : pair_of entry ≡ pair = cc in (entry, refl, same)
 
-  -- a pair in a bucket is the pair of an entry
   pub entry_of-pair_at : (slots : List (Slot (Entry K V N))) (b : ℕ) (pair : K × V) → entry_at (pair_slots slots) b
       ≡ Some pair
       → (entry : Entry K V N) × (entry_at slots b ≡ Some entry) × (pair_of entry ≡ pair)
@@ -95,7 +94,6 @@ module _ {K V N : Type 0} where
   held_pair (full was) held e = let same : record { tag = was.tag; entry = pair_of was.entry } ≡ held = cc in
       (was, refl, ap (λ h. h.tag) same)
 
-  -- the same hashes fit
   pub Fits-pair_slots : (slots : List (Slot (Entry K V N))) (hash_of : ℕ → ℕ) → Fits slots hash_of
       → Fits (pair_slots slots) hash_of
   Fits-pair_slots slots hash_of fits = record {
@@ -113,7 +111,6 @@ module _ {K V N : Type 0} where
         (fits.reached b (is_full-pair_slots slots b ∙ there));
   }
 
-  -- a removal of an entry is one of its pair
   pub Removes-pair_slots : (old new : List (Slot (Entry K V N))) (b : ℕ) → Removes old new b
       → Removes (pair_slots old) (pair_slots new) b
   Removes-pair_slots old new b (inl w) = inl (
@@ -142,7 +139,6 @@ module _ {K V N : Type 0} where
   refilled_slot deleted next = refl
   refilled_slot (full held) next = refl
 
-  -- an entry is written with another pair
   pub pair_slots-rewritten : (slots : List (Slot (Entry K V N))) (b : ℕ) (next : Entry K V N)
       → pair_slots (set slots b (refilled (bucket_at slots b) next))
       ≡ set (pair_slots slots) b (refilled (bucket_at (pair_slots slots) b) (pair_of next))
@@ -151,7 +147,6 @@ module _ {K V N : Type 0} where
       ∙ ap (set (pair_slots slots) b) (refilled_slot (bucket_at slots b) next ∙ ap (λ s. refilled s (pair_of next))
       (sym (bucket_at-pair_slots slots b)))
 
-  -- an entry is written with the same pair
   pub pair_slots-refilled : (slots : List (Slot (Entry K V N))) (b : ℕ) (entry next : Entry K V N) → entry_at slots b
       ≡ Some entry → next.pair ≡ entry.pair
       → pair_slots (set slots b (refilled (bucket_at slots b) next)) ≡ pair_slots slots

@@ -19,7 +19,6 @@ use Rattle.ordered_table.proofs.Tables.PairSlots.{pair_of, marks_of-pair_slots, 
 use Rattle.ordered_table.proofs.Tables.PairSlots.{same_marks}
 use Rattle.ordered_table.proofs.Tables.PairSlots.{Fits-pair_slots, Fits-entries}
 
--- the growth left is the growth left of the table with links
 pub linked_room : {K V N : Type 0} (slots : List (Slot (Entry K V N))) → 0 < room (marks_of (pair_slots slots))
     → 0 < room (marks_of slots)
 linked_room slots some = rw (← marks_of-pair_slots slots) some
@@ -32,7 +31,6 @@ module _ {N : Type 0} {number : N → ℕ} {link : ℕ → N} {none : N}
   within : b < length old.slots
   within = fills_within old.slots hash b places.first may
 
-  -- the chain of the others is there, and the bucket is not in it
   pub others_chained : (order : List ℕ) × IsChain number link none new.slots newest oldest order ×
       (Contains order b → ⊥)
   others_chained = (order, IsChain-placed laws whole places within, placed_absent laws whole places within)
@@ -41,7 +39,6 @@ module _ {N : Type 0} {number : N → ℕ} {link : ℕ → N} {none : N}
   there = ap (λ slots. entry_at slots b) places.slots
       ∙ ap entry_of (get_or-set_same old.slots b (filled hash entry) empty within)
 
-  -- and its entry has the links that it had
   pub placed_newer : {l : N} → entry.newer ≡ l → newer_at new.slots b ≡ Some l
   placed_newer is = ap (option_map (λ x. x.newer)) there ∙ ap Some is
 

@@ -18,19 +18,16 @@ use Rattle.ordered_table.proofs.Chains.Orders.{distinct_head, distinct_tail}
 use Rattle.lru_model.proofs.PairLists.DistinctKeys.{AreDistinct, all_of}
 use Rattle.ordered_table.proofs.Tables.BucketPairs.{AreFull}
 
--- what is at a position is in the list
 pub got_in : {T : Type 0} (xs : List T) (i : ℕ) (x : T) → slice_get xs i ≡ Some x → Contains xs x
 got_in [] i x e = absurd (none-some x e)
 got_in (y ∷ ys) zero x e = (0, omega arith, same_Some y x e)
 got_in (y ∷ ys) (suc i) x e = Contains-later y x ys (got_in ys i x e)
 
--- a position without an element is past the end
 pub get_none : {X : Type 0} (xs : List X) (at : ℕ) → slice_get xs at ≡ None → length xs ≤ at
 get_none [] at none = omega arith
 get_none (x ∷ xs) zero none = absurd (none-some x (sym none))
 get_none (x ∷ xs) (suc at) none = omega (arith, get_none xs at none)
 
--- in a list without duplicates an element has one position
 pub same_position : (order : List ℕ) (i j b : ℕ) → AllPairs ◌≢◌ order → slice_get order i ≡ Some b
     → slice_get order j ≡ Some b → i ≡ j
 same_position [] i j b d e f = absurd (none-some b e)
@@ -41,7 +38,6 @@ same_position (c ∷ cs) (suc i) zero b d e f =
     absurd (distinct_head c cs d (subst (Contains cs) (sym (same_Some c b f)) (got_in cs i b e)))
 same_position (c ∷ cs) (suc i) (suc j) b d e f = ap suc (same_position cs i j b (distinct_tail c cs d) e f)
 
--- the first bucket, and the last
 pub first_at : (order : List ℕ) → first_bucket order ≡ slice_get order 0
 first_at [] = refl
 first_at (x ∷ xs) = refl
@@ -51,7 +47,6 @@ last_at [] = refl
 last_at (x ∷ []) = refl
 last_at (x ∷ y ∷ ys) = last_at (y ∷ ys)
 
--- the bucket after the one at a position is that at the next
 pub after_at : (order : List ℕ) (i b : ℕ) → AllPairs ◌≢◌ order → slice_get order i ≡ Some b → bucket_after b order
     ≡ slice_get order (suc i)
 after_at [] i b d e = absurd (none-some b e)
@@ -67,7 +62,6 @@ before_none b (c ∷ x ∷ xs) absent =
     rw (ne_eqb x b (λ same. absent (Contains-later c b (x ∷ xs) (subst (Contains (x ∷ xs)) same (Contains-here x xs)))))
     (before_none b (x ∷ xs) (λ w. absent (Contains-later c b (x ∷ xs) w)))
 
--- and the one before it that at the place before
 pub before_at : (order : List ℕ) (i b : ℕ) → AllPairs ◌≢◌ order → slice_get order i ≡ Some b → bucket_before b order
     ≡ last_of i order
 before_at [] i b d e = absurd (none-some b e)
@@ -84,7 +78,6 @@ before_at (c ∷ x ∷ xs) (suc (suc i)) b d e =
     (subst (Contains xs) (sym same) (got_in xs i b e))))
     (before_at (x ∷ xs) (suc i) b (distinct_tail c (x ∷ xs) d) e)
 
--- the pair of the bucket at a position is at that position of the pairs
 pub pair_at : {T : Type 0} (slots : List (Slot T)) (order : List ℕ) (i b : ℕ) (x : T) → AreFull slots order
     → slice_get order i ≡ Some b → entry_at slots b ≡ Some x
     → slice_get (entries_in slots order) i ≡ Some x
@@ -96,7 +89,6 @@ pair_at slots (c ∷ cs) (suc i) b x full e there =
     ap (λ o. slice_get (option_to_list o ++ entries_in slots cs) (suc i)) first.1
     ∙ pair_at slots cs i b x full.1 e there
 
--- the bucket at the place of a named pair holds it
 pub place_holds : {K V : Type 0} (slots : List (Slot (K × V))) (names : K → Bool) (order : List ℕ) (b : ℕ)
     → AreFull slots order → place_of names (entries_in slots order) order ≡ Some b
     → (p : K × V) × (entry_at slots b ≡ Some p) × (names p.0 ≡ true)

@@ -17,7 +17,6 @@ use Rattle.ordered_table.proofs.Chains.Neighbours.{newest_again}
 use Rattle.ordered_table.proofs.Chains.LastBuckets.{oldest_again, last-comes}
 use Rattle.ordered_table.proofs.Tables.Places.{first_at, after_at, before_at}
 
--- the table with a full bucket in front is linked, too
 pub linked_promoted : {K V : Type 0} (t : OrderedTable K V) (front : Option ℕ) → IsLinked t
     → IfSome front (IsFull t.slots) → IsLinked (record t { order = in_front front t.order })
 linked_promoted t None linked full = linked
@@ -38,12 +37,10 @@ linked_promoted t (Some f) linked full = let there = linked.all f full in
       count = linked.count ∙ omega (arith, length-without f t.order linked.distinct there);
     }
 
--- what is in a list is at some index
 index_of : (order : List ℕ) (b : ℕ) → Contains order b → (i : ℕ) × (slice_get order i ≡ Some b)
 index_of order b (i, within, is) = (i, slice_get-get_or order i b within ∙ ap Some is)
 
 module _ (order : List ℕ) (d : AllPairs ◌≢◌ order) where
-  -- if c follows b, then b precedes c, and the other way round
   before_of : (b c : ℕ) → Contains order b → bucket_after b order ≡ Some c → bucket_before c order ≡ Some b
   before_of b c there e = let (i, at) = index_of order b there in
       before_at order (suc i) c d (sym (after_at order i b d at) ∙ e) ∙ at
@@ -55,11 +52,9 @@ module _ (order : List ℕ) (d : AllPairs ◌≢◌ order) where
       go zero at none = absurd (none-some b none)
       go (suc i) at before = after_at order i b d before ∙ at
 
-  -- none precedes the first
   before_first : (b : ℕ) → first_bucket order ≡ Some b → bucket_before b order ≡ None
   before_first b e = before_at order 0 b d (sym (first_at order) ∙ e)
 
--- a bucket that none precedes is the first, and one that none follows the last
 is_first : (order : List ℕ) (b : ℕ) → AllPairs ◌≢◌ order → Contains order b → bucket_before b order ≡ None
     → first_bucket order ≡ Some b
 is_first order b d there e = ap first_bucket (newest_again b order d there e)
@@ -68,17 +63,14 @@ is_last : (order : List ℕ) (b : ℕ) → AllPairs ◌≢◌ order → Contains
     → last_bucket order ≡ Some b
 is_last order b d there e = ap last_bucket (oldest_again b order d there e) ∙ last-comes b (without_bucket b order)
 
--- the last bucket stays the last with another one in front
 last_later : (f y : ℕ) (xs : List ℕ) → last_bucket xs ≡ Some y → last_bucket (f ∷ xs) ≡ Some y
 last_later f y [] e = absurd (none-some y e)
 last_later f y (x ∷ xs) e = e
 
--- an option is none or some
 none_or : (o : Option ℕ) → (o ≡ None) ⊎ ((y : ℕ) × (o ≡ Some y))
 none_or None = inl refl
 none_or (Some y) = inr (y, refl)
 
--- the bucket in front is full in another table with this order, too
 pub promoted_kept : {K V : Type 0} (t u : OrderedTable K V) (front : Option ℕ) → IsLinked t → IsLinked u
     → u.order ≡ t.order → IfSome front (IsFull t.slots) → IfSome front (IsFull u.slots)
 promoted_kept t u None linked other same full = tt
@@ -100,7 +92,6 @@ module _ (order : List ℕ) (d : AllPairs ◌≢◌ order) (f : ℕ) (there : Co
   distinct : AllPairs ◌≢◌ rest
   distinct = distinct_without f order d
 
-  -- the first of the rest: the first, or, if f is that, the one after it
   first_rest : first_bucket order ≡ Some f → first_bucket rest ≡ bucket_after f order
   first_rest e = first-left f order d there (before_first order d f e)
 
@@ -110,7 +101,6 @@ module _ (order : List ℕ) (d : AllPairs ◌≢◌ order) (f : ℕ) (there : Co
     | inr (y, e) ↦ first-left_stays f order d there y e
   ]
 
-  -- the oldest: the last by the links, or, if f is that and is not alone, the one before it
   pub oldest_kept : (b : ℕ) → last_bucket order ≡ Some b → f ≢ b → last_bucket (f ∷ rest) ≡ Some b
   oldest_kept b is apart = elim (none_or (bucket_after f order)) [
     | inl none ↦ absurd (apart (same_Some f b (sym (is_last order f d there none) ∙ is)))
@@ -132,7 +122,6 @@ module _ (order : List ℕ) (d : AllPairs ◌≢◌ order) (f : ℕ) (there : Co
     in_rest : b ≢ f → Contains rest b
     in_rest other = in_without f b order in_order other
 
-    -- the bucket after b
     after_next : b ≢ f → bucket_after b order ≡ Some f → bucket_after f order ≡ bucket_after b (f ∷ rest)
     after_next other e = sym (after-later f rest absent distinct b (in_rest other)
         ∙ after-previous f b other order d (before_of order d b f in_order e))
@@ -166,7 +155,6 @@ module _ (order : List ℕ) (d : AllPairs ◌≢◌ order) (f : ℕ) (there : Co
         | inr h ↦ leads.1 h c (after_other h (λ k. other (leads.1 h f k)) ∙ e)
       ]
 
-    -- the bucket before b: f if b is the first by the links
     before_front : b ≡ f → (c : ℕ) → bucket_before b (f ∷ rest) ≡ Some c → ⊥
     before_front h c e = none-some c
         (sym (before-itself f rest absent distinct) ∙ subst (λ x. bucket_before x (f ∷ rest) ≡ Some c) h e)
@@ -200,7 +188,6 @@ module _ (order : List ℕ) (d : AllPairs ◌≢◌ order) (f : ℕ) (there : Co
             ∙ before-next f b h order d follows) ∙ e)
       ]
 
-      -- f itself is next if it is the first by the links
       pub before_kept : (next ≡ f → first_bucket order ≡ Some f) → (c : ℕ) → bucket_before b (f ∷ rest) ≡ Some c
           → next ≡ c
       before_kept front c e = elim (cases_eq b f) [

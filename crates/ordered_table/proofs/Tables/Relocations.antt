@@ -62,7 +62,6 @@ module _ {N : Type 0} {number : N → ℕ} {none : N} {K V : Type 0} {before sta
       entry_at-pair_slots start (moved_to number none links b) ∙ ap (option_map pair_of) (moved_entry renumbers b there)
       ∙ sym (entry_at-pair_slots before b)
 
-  -- the pairs stand in the same order
   pub pairs-moved : {link : ℕ → N} {newest oldest : N} {order : List ℕ}
       → IsWhole number link none before newest oldest order
       → entries_in (pair_slots now) (map (moved_to number none links) order) ≡ entries_in (pair_slots before) order
@@ -71,7 +70,6 @@ module _ {N : Type 0} {number : N → ℕ} {none : N} {K V : Type 0} {before sta
       (λ b inside. ap (λ slots. entry_at slots (moved_to number none links b)) same
       ∙ pair_moved b (whole.chain.only b inside))
 
-  -- the hashes of the keys fit, which the entries had before
   pub KeysFit-moved : (hash_of : K → ℕ) → KeepsHashes number none (entry_at before) start links
       (hash_in hash_of (pair_slots before)) → KeysFit hash_of (pair_slots now)
   KeysFit-moved hash_of keeps =
@@ -79,7 +77,6 @@ module _ {N : Type 0} {number : N → ℕ} {none : N} {K V : Type 0} {before sta
       (λ b entry is. ap (λ o. unwrap_or (option_map (λ p. hash_of p.0) o) 0)
       (pair_moved b (full_by_entry (bucket_at before b) entry is)))))
 
--- the hash of the key of an entry
 pub hash_in-pair_slots : {K V N : Type 0} (hash_of : K → ℕ) (slots : List (Slot (Entry K V N))) (b : ℕ)
     (entry : Entry K V N) → entry_at slots b ≡ Some entry
     → hash_in hash_of (pair_slots slots) b ≡ hash_of entry.pair.key

@@ -10,7 +10,6 @@ use Rattle.ordered_table.proofs.Tables.BucketPairs.{none_named, all_full, place_
 use Rattle.ordered_table.proofs.Tables.Places.{place_holds}
 use Rattle.lru_model.proofs.PairLists.DistinctKeys.{AreDistinct}
 
--- tests that agree find the same pair
 pub lookup_alike : {K V : Type 0} (names others : K → Bool) → ((k : K) → names k ≡ others k) → (xs : List (K × V))
     → lookup_entry names xs ≡ lookup_entry others xs
 lookup_alike names others same [] = refl
@@ -19,7 +18,6 @@ lookup_alike names others same (x ∷ xs) = (λ i. cond (same x.0 i) (Some x) (l
 module _ {K V : Type 0} (t : OrderedTable K V) (linked : IsLinked t) (names : K → Bool) (hash_of : K → ℕ) (hash : ℕ)
     (hashes : (k : K) → names k ≡ true → hash ≡ hash_of k)
     (none : (b : ℕ) (p : K × V) → entry_at t.slots b ≡ Some p → hash_of p.0 ≡ hash → names p.0 ≡ false) where
-  -- if no entry of the hash is named, no pair is
   pub not_found : lookup_entry names (pairs_of t) ≡ None
   not_found = none_named t linked names (λ b p there. go b p there (names p.0) refl)
     where
@@ -37,7 +35,6 @@ module _ {K V : Type 0} (t : OrderedTable K V) (linked : IsLinked t) (names : K 
   found_place None h = h
   found_place (Some b) (pair, there, named) = place_found t linked b pair there names laws one distinct named
 
-  -- the pair whose place it is
   pub pair_of_place : (b : ℕ) → place_of names (pairs_of t) t.order ≡ Some b
       → (p : K × V) × (entry_at t.slots b ≡ Some p) × (names p.0 ≡ true)
   pair_of_place b at = place_holds t.slots names t.order b (all_full t.slots t.order linked.only) at

@@ -16,7 +16,6 @@ use Rattle.ordered_table.proofs.Chains.Orders.{before_is, last_from, last_is}
 use Rattle.ordered_table.proofs.Tables.BucketPairs.{entries-length, all_full, AreFull}
 use Rattle.ordered_table.proofs.Tables.OrderCuts.{entries-append}
 
--- a bucket behind others is in the list
 in_behind : (xs : List ℕ) (b : ℕ) (ys : List ℕ) → Contains (xs ++ b ∷ ys) b
 in_behind [] b ys = Contains-here b ys
 in_behind (x ∷ xs) b ys = Contains-later x b (xs ++ b ∷ ys) (in_behind xs b ys)
@@ -25,7 +24,6 @@ apart_behind : (x : ℕ) (xs : List ℕ) (b : ℕ) (ys : List ℕ) → AllPairs 
 apart_behind x xs b ys d e = distinct_head x (xs ++ b ∷ ys) d
     (subst (Contains (xs ++ b ∷ ys)) (sym e) (in_behind xs b ys))
 
--- from the first of the last buckets on
 from_cut : (xs : List ℕ) (b : ℕ) (ys : List ℕ) → AllPairs ◌≢◌ (xs ++ b ∷ ys)
     → from_bucket b (xs ++ b ∷ ys) ≡ b ∷ ys
 from_cut [] b ys d = rw (eq-eqb b b refl) refl
@@ -48,7 +46,6 @@ before_cut : (xs : List ℕ) (b : ℕ) (ys : List ℕ) → AllPairs ◌≢◌ (x
     ≡ last_bucket xs
 before_cut xs b ys d = before_is b (xs ++ b ∷ ys) d ∙ before_cut_from None xs b ys d ∙ sym (last_is xs)
 
--- the last of some buckets behind others
 last_behind : (xs : List ℕ) (y : ℕ) (ys : List ℕ) → last_bucket (xs ++ y ∷ ys) ≡ last_bucket (y ∷ ys)
 last_behind [] y ys = refl
 last_behind (x ∷ []) y ys = refl
@@ -73,13 +70,11 @@ module _ (P : ℕ → Type 0) where
   all_front [] ys h = tt
   all_front (x ∷ xs) ys h = (h.0, all_front xs ys h.1)
 
--- an option that is not none
 some_or : (o : Option ℕ) (d : ℕ) → (o ≡ None → ⊥) → o ≡ Some (unwrap_or o d)
 some_or None d some = absurd (some refl)
 some_or (Some b) d some = refl
 
 module _ {K V : Type 0} (t : OrderedTable K V) where
-  -- the whole order is left
   pub rest-whole : (front back : ℕ) → IsLinked t
       → (0 < length t.order → (first_bucket t.order ≡ Some front) × (last_bucket t.order ≡ Some back))
       → IsRest t front back (length t.order)
@@ -120,7 +115,6 @@ module _ {K V : Type 0} (t : OrderedTable K V) where
     rest-length = ap length rest-is ∙ entries-length t.slots rest.middle middle_full ∙ rest.count
 
   module _ (front back left : ℕ) (rest : IsRest t front back left) (some : 0 < left) where
-    -- the first that is left
     cut_front : (ms : List ℕ) × (rest.middle ≡ front ∷ ms)
     cut_front = go rest.middle rest.count (rest.first some)
       where
@@ -169,7 +163,6 @@ module _ {K V : Type 0} (t : OrderedTable K V) where
           ∙ ap (λ o. option_to_list o ++ entries_in t.slots cut_front.0) there
           ∙ ap (λ l. p ∷ l) (sym (rest-is next back (left - 1) front-next))
 
-    -- the last that is left
     cut_back : (ms : List ℕ) × (rest.middle ≡ ms ++ back ∷ [])
     cut_back = last_split back rest.middle (rest.last some)
 

@@ -29,7 +29,6 @@ module _ {K V S H : Type 0} (fields : Fields S H) where
     shrunk = s;
   }
 
--- a bucket counts one in the room, or none
 pub room_at-most : (marks : List Mark) (b : ℕ) → room_at marks b ≤ 1
 room_at-most marks b = go (is_used (bucket_at marks b))
   where
@@ -72,7 +71,6 @@ module _ {K V : Type 0} (old new : OrderedTable K V) (b : ℕ) (first : IsLinked
       olds = pairs-length old first
 
 module _ {K V S H : Type 0} (fields : Fields S H) where
-  -- a table of as many buckets is as usable
   pub sized_same : (t u : OrderedTable K V) (l : S) → IsSized (state_of t fields) → IsLinked u → length u.slots
       ≡ length t.slots
       → u.insertions.placed < 2 ^ 64 → IsSized (state_of u (record fields { limiter = l }))

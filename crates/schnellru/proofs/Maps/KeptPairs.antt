@@ -40,7 +40,6 @@ module _ {K V F : Type 0} (closure : Mut F (K × (V × Unit {0})) (Unit {0})) (k
             omega (arith, one.len (omega (arith, fits, more, all.capacity, all.len few)), all.len few, more);
       }
 
-  -- it has all that it got, from none on, if there is space for them
   pub all_kept : (passed : List (K × V)) (last : F) → vec_capacity (kept first).now ≡ room
       → (kept first).now.items ≡ [] → vec_len (kept first).now ≡ 0 → CalledWith closure first passed last
       → AllKept passed last

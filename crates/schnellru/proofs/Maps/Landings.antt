@@ -42,7 +42,6 @@ module _ {K V : Type 0} (t u : OrderedTable K V) (hash : ℕ) (pair : K × V) (b
   apart = lacks_unless b t.order (λ k. let f : IsFull t.slots b = linked.only b k in
       false≢true (sym lands.first.free_there ∙ is_full-marks_of t.slots b ∙ f))
 
-  -- it is the newest, before the others
   pub lands_pairs : pairs_of u ≡ pair ∷ pairs_of t
   lands_pairs = ap (entries_in u.slots) lands.order
       ∙ ap (λ s. entries_in s (b ∷ t.order)) lands.slots
@@ -51,7 +50,6 @@ module _ {K V : Type 0} (t u : OrderedTable K V) (hash : ℕ) (pair : K × V) (b
       (get_or-set_same t.slots b (full (record { tag = hash_tag hash; entry = pair })) empty lands_within)
       ∙ ap (λ l. pair ∷ l) (entries-apart t.slots b _ t.order apart)
 
-  -- its bucket is full
   pub lands_fills : {n entry_bytes max : ℕ} {counts : Counts} → IsSound n entry_bytes max (marks_of t.slots) counts
       → FillsBucket hash (table_state t) (table_state u)
   lands_fills sound = fills_free (table_state t) (table_state u) sound hash b
@@ -87,7 +85,6 @@ module _ {K V : Type 0} (t u : OrderedTable K V) (hash : ℕ) (pair : K × V) (b
         (omega (arith, lands.room, room_at-most (marks_of t.slots) b, ap full_capacity lands_placed.table)))
         sized.moved (omega (arith, sized.table.addressable, lands_placed.table)) paid
 
-    -- so what holds of every map holds, if its key was not there
     pub lands_holds : {eq : K → K → Bool} (hash_of : H → K → ℕ) → Holds eq hash_of t fields → IsLinked u
         → KeysFit (hash_of fields.hasher) u.slots
         → lookup_entry (eq pair.0) (pairs_of t) ≡ None → Holds eq hash_of u fields

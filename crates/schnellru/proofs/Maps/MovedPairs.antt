@@ -18,7 +18,6 @@ module _ {K V S H : Type 0} (t u : OrderedTable K V) (count : ℕ) (linked : IsL
     (table : length u.slots ≡ count)
     (pairs : pairs_of u ≡ pairs_of t) (left : room (marks_of u.slots) + length t.order ≡ full_capacity count)
     (counted : u.insertions ≡ some_moved t.insertions (length t.order)) (fields : Fields S H) where
-  -- nothing new was put into the table
   pub placed : u.insertions.placed ≡ t.insertions.placed
   placed = ap (λ c. c.placed) counted
 

@@ -16,7 +16,6 @@ use Rattle.lru_model.specs.Callbacks.{noting, noting_offers, noted, CalledWith}
 use Rattle.schnellru.specs.Inside.Passing.{Passes, PassesRemoved}
 use Rattle.schnellru.specs.Inside.Steps.{IsOffered}
 
--- the sink was passed one pair more
 pub takes_more : {K V F : Type 0} (closure : Mut F (K × (V × Unit {0})) (Unit {0})) (first : F) (before : List (K × V))
     (f : F) (pair : K × V) (g : F) → CalledWith closure first before f → Called closure f (pair.0, (pair.1, tt)) tt g →
     CalledWith closure first (before ++ pair ∷ []) g
@@ -41,7 +40,6 @@ module _ {K V S H : Type 0} where
   }
 
 module _ {K V S : Type 0} (rules : Rules K V S) (before : List (K × V)) (s : S) (pair : K × V) where
-  -- the pair that was answered goes to the list
   pub noted_notified : (was : Option (K × V)) → Some pair ≡ left_of rules s was
       → ◌≡◌ {A = S × List (K × V)} (notified_of rules was s, before ++ pair ∷ [])
       (notified_of (noting rules) was (s, before))
@@ -52,7 +50,6 @@ module _ {K V S : Type 0} (rules : Rules K V S) (before : List (K × V)) (s : S)
       (same_Some pair (notified.key, notified.value) e)
 
 module _ {K V S H : Type 0} (rules : Rules K V S) (before : List (K × V)) (old new : State K V S H) (pair : K × V) where
-  -- a pair is removed, and goes to the list
   pub noted_taken : (gone : Option (K × V)) (left : List (K × V)) → TakesOut rules gone left old (Some pair) new →
       Leaves (noted before old) (after_removal (noting rules) gone left (old.limiter, before))
       (noted (before ++ pair ∷ []) new)
@@ -66,22 +63,18 @@ module _ {K V S H : Type 0} (rules : Rules K V S) (before : List (K × V)) (old 
     room = step.state.room;
   }
 
-  -- so is the oldest
   pub noted_pop : PopOldest rules old (Some pair) new →
       Leaves (noted before old) (pop (noting rules) (contents (noted before old))) (noted (before ++ pair ∷ []) new)
   noted_pop = noted_taken (last old.pairs) (without_last old.pairs)
 
--- if the limiter would be over, room is made
 pub make_room-over : {K V S : Type 0} (rules : Rules K V S) (c : Contents K V S) →
     rules.is_over_the_limit c.limiter (length c.pairs + 1) ≡ true → make_room rules c ≡ pop rules c
 make_room-over rules c over = rw over refl
 
--- if it would not be, the map stays as it is
 pub make_room-within : {K V S : Type 0} (rules : Rules K V S) (c : Contents K V S) →
     rules.is_over_the_limit c.limiter (length c.pairs + 1) ≡ false → make_room rules c ≡ c
 make_room-within rules c within = rw within refl
 
--- nor does a map without pairs change
 pub make_room-empty : {K V S : Type 0} (rules : Rules K V S) (c : Contents K V S) → is_empty c.pairs ≡ true
     → make_room rules c ≡ c
 make_room-empty {K} {V} {S} rules c none = go c.pairs none (rules.is_over_the_limit c.limiter (length c.pairs + 1))
@@ -113,7 +106,6 @@ module _ {K V S H I F : Type 0} (closure : Mut F (K × (V × Unit {0})) (Unit {0
     (offer : IsOffered rules offers names i v old result new) (accepted : result.0 ≡ true → g ≡ f)
     (rejected : result.0 ≡ false
     → PassesRemoved closure rules (replacement rules offers names offer.pair i v (contents old)) f g) where
-  -- if it rejected that, the pair goes to the list
   pub noted_offer : Passes closure f g (λ before after. IsOffered (noting rules) (noting_offers offers) names i v
       (noted before old) result (noted after new))
   noted_offer first before taken = go result.0 refl

@@ -17,7 +17,6 @@ use Rattle.lru_model.proofs.States.Promotions.{length-front_pairs}
 use Rattle.lru_model.proofs.Theorems.Fronts.{replaced_named}
 use Rattle.lru_model.proofs.PairLists.SetEntries.{length-set_entry, place-set_entry, front-set_entry}
 
--- if a pair comes to the front, what left left
 promoted_leaves : {K V S H : Type 0} (names : K → Bool) (old mid : State K V S H) (left : Contents K V S)
     → Leaves old left mid
     → Leaves old (record { pairs = front names left.pairs; limiter = left.limiter }) (promoted names mid)
@@ -38,22 +37,18 @@ promoted_leaves names old mid left leaves =
 
 module _ {K V S H I : Type 0} {rules : Rules K V S} {offers : Offers K V S I} {names : I → K → Bool} {i : I} {v : V}
     {old new : State K V S H} {result : Bool × V} (offer : IsOffered rules offers names i v old result new) where
-  -- what is returned is the value that the map does not have then
   pub offered_unkept : Some result.1 ≡ unkept_value rules offers names i v (contents old)
   offered_unkept = ap Some offer.unkept
       ∙ ap (option_map (λ pair. unkept_of (replacement rules offers names pair i v (contents old)))) (sym offer.there)
 
-  -- the old one, if the limiter accepts
   pub offered_old : result.0 ≡ true → result.1 ≡
       (replacement rules offers names offer.pair i v (contents old)).old_value
   offered_old e = offer.unkept ∙ rw (offer.taken ∙ e) refl
 
-  -- and else the new one
   pub offered_new : result.0 ≡ false → result.1 ≡
       (replacement rules offers names offer.pair i v (contents old)).new_value
   offered_new e = offer.unkept ∙ rw (offer.taken ∙ e) refl
 
-  -- there is a pair
   pub offered_any : result.0 ≡ true → 0 < length new.pairs
   offered_any e = let r = replacement rules offers names offer.pair i v (contents old) in omega (
     arith,
@@ -68,7 +63,6 @@ module _ {K V S H I : Type 0} {rules : Rules K V S} {offers : Offers K V S I} {n
 
   module _ (accepted : result.0 ≡ true)
       (named : names i (replacement rules offers names offer.pair i v (contents old)).key ≡ true) where
-    -- the pair is in the same bucket
     pub offered_place : (b : ℕ) → place_of (names i) old.pairs old.table.places ≡ Some b
         → place_of (names i) new.pairs new.table.places ≡ Some b
     offered_place b at = (λ j. place_of (names i) ((offer.accepted accepted).is j).pairs (offer.place accepted j))
@@ -109,7 +103,6 @@ module _ {K V S H I : Type 0} (rules : Rules K V S) (offers : Offers K V S I) {n
       (contents (noted before old))) (noted between next)
   replaced_front = offered_front offer accepted named (noted between next) is
 
-  -- the callback may be called with each pair that is evicted then
   pub replaced_callable : {F : Type 0} (closure : Mut F (K × (V × Unit {0})) (Unit {0})) (f g : F) → g ≡ f
       → MayTakeReplaced rules closure offers names i v (contents old) f → MayTakeEach rules closure next.pairs g
   replaced_callable closure f g same may = subst (λ pairs. MayTakeEach rules closure pairs g)

@@ -34,7 +34,6 @@ module _ {K V S : Type 0} (rules : Rules K V S) (by : Replaced K V S) (old new :
   taken_is = same_Some out.pair (k, v)
       (sym out.takes.pair ∙ entry_at-refilled old.slots b (k, v) (full_by_entry (bucket_at old.slots b) was there))
 
-  -- a replacement was refused, and the pair taken out
   pub is_removed : IsRemoved rules by b old new l
   is_removed = record {
     slots = subst (λ p. Removes (with_pair old b p).slots new.slots b) pair_is out.takes.removed;
@@ -45,7 +44,6 @@ module _ {K V S : Type 0} (rules : Rules K V S) (by : Replaced K V S) (old new :
         (rules.on_removed (notified i) ((taken_is ∙ pair_is) i).0 ((taken_is ∙ pair_is) i).1).limiter);
   }
 
-  -- and it is as the limiter left it
   pub left_as_notified : let left = rules.on_removed by.limiter by.key by.old_value in
       ◌≡◌ {A = K × V} result (left.key, left.value)
   left_as_notified =

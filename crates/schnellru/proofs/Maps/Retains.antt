@@ -36,12 +36,10 @@ module _ {X : Type 0} where
   no_items [] e = refl
   no_items (x ∷ xs) e = absurd (omega (arith, e))
 
-  -- the element between two lists
   pub at_cut : (xs ys : List X) (x : X) → slice_get (xs ++ x ∷ ys) (length xs) ≡ Some x
   at_cut [] ys x = refl
   at_cut (z ∷ xs) ys x = at_cut xs ys x
 
-  -- without it there is one fewer, each of which was there
   fewer_cut : (xs ys : List X) (x : X) → Covers (xs ++ x ∷ ys) (xs ++ ys)
   fewer_cut [] ys x = covers_rest x ys
   fewer_cut (z ∷ xs) ys x = covers_cons z (xs ++ x ∷ ys) (xs ++ ys) (fewer_cut xs ys x)
@@ -65,7 +63,6 @@ module _ {K V S H F G : Type 0} (rules : Rules K V S) (closure : Mut F (Bor K ×
     pub notified : ◌≡◌ {A = S × List (K × V)} (st.limiter, passed) (after_asked asked).limiter
     pub leaves : Leaves (noted [] old) (contents (noted passed st)) (noted passed st)
 
-  -- the map has the pairs that are to be asked
   pub many_retained : (left : ℕ) (st : State K V S H) (f : F) (g : G) → IsRetainedTo left st f g → left ≤ length st.pairs
   many_retained left st f g so =
       omega (arith, ap length so.pairs, length-append so.rest (after_asked so.asked).pairs, so.many)
@@ -114,7 +111,6 @@ module _ {K V S H F G : Type 0} (rules : Rules K V S) (closure : Mut F (Bor K ×
         ∙ ap (λ p. (front ++ p ∷ []) ++ map (λ one. one.0) i.asked) (sym is_pair)
         ∙ ap (λ l. l ++ map (λ one. one.0) i.asked) (sym its_end.whole) ∙ i.whole
 
-    -- it stays
     pub retains_more : (h : F) → Asks closure f pair true h → IsRetainedTo (left - 1) st h g
     retains_more h answer = record {
       asked = (pair, true) ∷ i.asked;
@@ -174,7 +170,6 @@ module _ {K V S H F G : Type 0} (rules : Rules K V S) (closure : Mut F (Bor K ×
             length-append front (pair ∷ kept),
           )) g k
 
-  -- all were asked
   pub retains_all : (st : State K V S H) (f : F) (g : G) → (i : IsRetainedTo 0 st f g)
       → RetainPasses rules closure keep old i.passed st
   retains_all st f g i = record {

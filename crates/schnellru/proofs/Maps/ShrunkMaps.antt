@@ -20,7 +20,6 @@ use Rattle.lru_model.proofs.Theorems.PaidMoves.{paid_after}
 use Rattle.lru_model.proofs.Theorems.Shrinks.{moved_pays}
 
 module _ {K V S H : Type 0} (fields : Fields S H) (t : OrderedTable K V) (linked : IsLinked t) where
-  -- how many buckets the pairs of a map need, by the figures of its linked table
   pub needs : {most pairs : ℕ} {need : Option ℕ} → most ≡ fields.max → pairs ≡ length t.order
       → need ≡ buckets_for most pairs → buckets_for fields.max (length (pairs_of t)) ≡ need
   needs {most} {pairs} is_max is_pairs is =

@@ -17,7 +17,6 @@ use Rattle.ordered_table.proofs.Tables.BucketPairs.{shorter, others_are, removed
 
 module _ {K V S : Type 0} (rules : Rules K V S) (t u : OrderedTable K V) (b : ℕ) (limiter notified : S) (result : K × V)
     (out : IsTakenOut rules b t u limiter result notified) where
-  -- the others stay, in their order
   pub taken_pairs : pairs_of u ≡ entries_in t.slots (without_bucket b t.order)
   taken_pairs = ap (entries_in u.slots) out.takes.order ∙ removed-entries t.slots u.slots b out.takes.removed t.order
 
@@ -29,7 +28,6 @@ module _ {K V S : Type 0} (rules : Rules K V S) (t u : OrderedTable K V) (b : �
     pub taken_notified : notified ≡ notified_of rules pair limiter
     taken_notified = out.notified ∙ ap (λ o. notified_of rules o limiter) (sym is)
 
-  -- its bucket is free
   pub taken_frees : (place : Option ℕ) → place ≡ Some b → Frees place (table_state t) (table_state u)
   taken_frees place is = record {
     bucket = b;
@@ -51,7 +49,6 @@ module _ {K V S : Type 0} (rules : Rules K V S) (t u : OrderedTable K V) (b : �
           ∙ shorter t first b (full_by_entry (bucket_at t.slots b) out.pair out.takes.pair)) out.takes.room;
     }
 
-    -- what holds of a map holds of what is left
     pub taken_holds : {eq : K → K → Bool} → IsEquivalence eq → (hash_of : H → K → ℕ) → Holds eq hash_of t fields
         → KeysFit (hash_of fields.hasher) u.slots
         → Holds eq hash_of u (record fields { limiter = notified })

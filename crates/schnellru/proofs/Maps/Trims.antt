@@ -17,7 +17,6 @@ module _ {K V S H F : Type 0} (rules : Rules K V S) (closure : Mut F (K × (V ×
       Leaves (noted before old) (contents (noted after st)) (noted after st)
       × (trim (noting rules) (contents (noted before old)) ≡ trim (noting rules) (contents (noted after st))))
 
-  -- if the limiter is over, the oldest leaves
   pub trims_more : (st u : State K V S H) (f g : F) (pair : K × V) → 0 < length st.pairs
       → rules.is_over_the_limit st.limiter (length st.pairs) ≡ true → PopOldest rules st (Some pair) u
       → Called closure f (pair.0, (pair.1, tt)) tt g → IsTrimmedTo st f → IsTrimmedTo u g

@@ -25,7 +25,6 @@ use Rattle.ordered_table.proofs.Tables.BucketPairs.{cut_here, cut_pairs, unnamed
 use Rattle.schnellru.proofs.Maps.HeldMaps.{alike_holds}
 
 module _ {K V : Type 0} (t : OrderedTable K V) (b : ℕ) (q : K × V) where
-  -- the pair that is written comes first, if its bucket does
   pub written_first : IsFull t.slots b → (order : List ℕ) → entries_in (with_pair t b q).slots
       (b ∷ without_bucket b order) ≡ q ∷ entries_in t.slots (without_bucket b order)
   written_first h order =
@@ -35,13 +34,11 @@ module _ {K V : Type 0} (t : OrderedTable K V) (b : ℕ) (q : K × V) where
       (without_lacks b order))
 
 module _ {K V : Type 0} (names : K → Bool) (p : K × V) (named : names p.0 ≡ true) where
-  -- the first pair that is named is written
   set_end : (q : K × V) (xs ys : List (K × V)) → NoneNamed names xs → set_entry names q (xs ++ p ∷ ys) ≡ xs ++ q ∷ ys
   set_end q [] ys h = ap (λ y. cond y (q ∷ ys) (p ∷ set_entry names q ys)) named
   set_end q (x ∷ xs) ys h = ap (λ y. cond y (q ∷ (xs ++ p ∷ ys)) (x ∷ set_entry names q (xs ++ p ∷ ys))) h.0
       ∙ ap (λ l. x ∷ l) (set_end q xs ys h.1)
 
-  -- or its value
   value_end : (w : V) (xs ys : List (K × V)) → NoneNamed names xs → set_value names (xs ++ p ∷ ys) w
       ≡ xs ++ (p.0, w) ∷ ys
   value_end w [] ys h = ap (λ y. cond y ((p.0, w) ∷ ys) (p ∷ set_value names ys w)) named
@@ -50,7 +47,6 @@ module _ {K V : Type 0} (names : K → Bool) (p : K × V) (named : names p.0 ≡
       ∙ ap (λ l. x ∷ l) (value_end w xs ys h.1)
 
 module _ {K V : Type 0} (names : K → Bool) where
-  -- the bucket of the named key is one of the buckets
   place_there : (pairs : List (K × V)) (places : List ℕ) (b : ℕ) → place_of names pairs places ≡ Some b
       → Contains places b
   place_there [] places b at = absurd (none-some b at)
@@ -63,7 +59,6 @@ module _ {K V : Type 0} (names : K → Bool) where
       go later false is = Contains-later c b cs
           (later (ap (λ y. cond y (Some c) (place_of names ps cs)) (sym is) ∙ at))
 
-  -- what is written to the bucket of the named key is written to its pair
   pub written_there : (w : V) (pairs : List (K × V)) (places : List ℕ) (b : ℕ) → AllPairs ◌≢◌ places
       → place_of names pairs places ≡ Some b → set_value_in b w pairs places ≡ set_value names pairs w
   written_there w [] places b distinct at = refl
@@ -125,7 +120,6 @@ module _ {K V : Type 0} (t : OrderedTable K V) (linked : IsLinked t) (b : ℕ) (
         (marks_of-refilled t.slots b (p.0, w))
         (subst (IsDistinct eq) (sym (ap keys_of (kept_pairs w) ∙ keys-set_value names (pairs_of t) w)) distinct)
 
--- what a lender ends as, as a function of the last value written
 pub same_follow : {N W M E : Type 0} (n : N) (f g : W → M) → ((w : W) → f w ≡ g w)
     → ◌≡◌ {A = (N × (W → M)) ⊎ E} (inl (n, f)) (inl (n, g))
 same_follow n f g h = λ i. inl (n, λ w. h w i)

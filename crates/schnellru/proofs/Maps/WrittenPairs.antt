@@ -10,7 +10,6 @@ use Rattle.lru_model.specs.Lists.{set_value_at}
 use Rattle.lru_model.specs.State.{State}
 use Rattle.lru_model.specs.Written.{Writes, WritesEach}
 
--- what is at the position after a list
 get_after : {X : Type 0} (front rest : List X) → slice_get (front ++ rest) (length front) ≡ slice_get rest 0
 get_after [] rest = refl
 get_after (x ∷ front) rest = get_after front rest
@@ -72,7 +71,6 @@ module _ {K V F : Type 0} (closure : Mut F (Bor K × (MutBor V × Unit {0})) (Un
                 (w, g, new, subst (λ p. Writes closure f p w g) (sym same) writes, written, refl));
           }
 
-  -- into all of them
   pub written_all : (at : ℕ) (pairs : List (K × V)) (f : F) → IsWrittenTo at pairs f → slice_get pairs at ≡ None
       → WritesEach closure first old pairs f
   written_all at pairs f i none = go i.rest i.whole i.ahead
@@ -92,7 +90,6 @@ length-set [] at w = refl
 length-set (pair ∷ pairs) zero w = refl
 length-set (pair ∷ pairs) (suc at) w = ap suc (length-set pairs at w)
 
--- a map that differs in its pairs alone, with other pairs
 pub with_others : {K V S H : Type 0} (st old : State K V S H) (pairs : List (K × V)) → st ≡ record old
     { pairs = st.pairs }
     → record st { pairs = pairs } ≡ record old { pairs = pairs }

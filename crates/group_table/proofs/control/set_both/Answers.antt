@@ -6,7 +6,6 @@ use native.Mathlib.Decide.{dec_lt}
 use Rattle.group_table.specs.Control.{buckets_of}
 use Rattle.group_table.proofs.control.set_both.Goals as goal
 
--- the place of the repetition, or the place of the byte itself, which is written again
 written_again : (control : List ℕ) (n b byte : ℕ) → length control ≡ n + 16 → b < n
     → set (set control b byte) ((b + (n - 16)) % n + 16) byte ≡ set (set control b byte) (b + max 16 n) byte
 written_again control n b byte long bound = elim (dec_lt (b + (n - 16)) n) [
@@ -22,7 +21,6 @@ written_again control n b byte long bound = elim (dec_lt (b + (n - 16)) n) [
       ∙ sym (set_past (set control b byte) (b + max 16 n) byte (omega (arith, past)))
 ]
 
--- the same at the places that the code has
 written_at : (control : List ℕ) (m b place byte : ℕ) → m ≡ buckets_of control
     → length control ≡ buckets_of control + 16 → b < buckets_of control → place ≡ (b + (m - 16)) % m
     → set (set control b byte) (place + 16) byte ≡ set (set control b byte) (b + max 16 (buckets_of control)) byte

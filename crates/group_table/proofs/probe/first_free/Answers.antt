@@ -15,7 +15,6 @@ module _ (control : List ℕ) (hash : ℕ) (probe : Probe) (at : IsProbe (bucket
   abbrev n : ℕ
   n = buckets_of control
 
-  -- so a free bucket of this one is the first
   first_here : (b : ℕ) → IsFreeLane control n probe.start b → IsFirst (full_at control) (probed n hash) b
   first_here b here =
       let lane = here.first.step in
@@ -29,7 +28,6 @@ module _ (control : List ℕ) (hash : ℕ) (probe : Probe) (at : IsProbe (bucket
             (subst (λ s. (k : _) → k < lane → IsTrue (full_at control ((s + k) % n))) at.start here.first.full_before);
       }
 
-  -- and without one, the buckets of this group are full, too
   full_after : ((lane : ℕ) → lane < 16 → IsTrue (full_at control ((probe.start + lane) % n)))
       → (before : ℕ) → before < passed_by probe + 16 → IsTrue (full_at control (probed n hash before))
   full_after none = up_to_lane n hash (passed_by probe) at.whole (λ b. IsTrue (full_at control b)) 16 (omega arith)

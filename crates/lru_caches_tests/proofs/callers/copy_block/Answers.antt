@@ -5,7 +5,6 @@ on_err : {T E : Type 0} {P Q : Type 0} (r : Result T E) → (P → Q) → OnErr 
 on_err (Ok x) f p = tt
 on_err (Err e) f p = f p
 
--- what was shown before the read is shown after the write, because a good device was good between the two
 pub returns-clause-failed : goal.returns-clause-failed
 returns-clause-failed g c = on_err c.write.result (λ later good n block was.
     later good n block (c.read.ensures.keeps

@@ -5,7 +5,6 @@ use Rattle.std.proofs.lemmas.Map.Views.{Contains-from_lookup}
 use Rattle.lru_model.proofs.CallerLemmas.{read-all, inserted-all, inserted-only, offers_if-keeps}
 use Rattle.schnellru_tests.proofs.callers.memo.Goals as goal
 
--- a pair of the key and the value is as these are
 alike : (answers : ℕ → ℕ → Type 0) (key value : ℕ) → answers key value
     → (p : ℕ × ℕ) → nat_eq key p.0 ≡ true → p.1 ≡ value → answers p.0 p.1
 alike answers key value h p named same =

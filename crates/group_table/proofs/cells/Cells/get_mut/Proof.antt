@@ -62,7 +62,6 @@ module _ (R : RattleType) {M : Type 1} {𝓤 : Ura M} (𝓛 : Logic 𝓤) (c : (
   abbrev Last : R.Denot → Owner.Denot
   Last w = with_places c (slice_set c.places b (Some w))
 
-  -- with any entry in its place the owner is whole
   rejoins : (w : R.Denot) → ent 𝓤 (sep 𝓤 (sem 𝓛 ((mem R).own_at w at.0 (b * size R + at.1))) Rest)
       (sem 𝓛 ((mem Owner).own_at (Last w) rb ro))
   unfolding part_of

@@ -8,7 +8,6 @@ use Rattle.group_table.specs.FullBuckets.{IsAhead}
 use Rattle.group_table.specs.declared.full_buckets.FullBuckets.{FullBuckets}
 use Rattle.group_table.proofs.full_buckets.FullBuckets.next.Goals as goal
 
--- a bucket before all lanes that are ahead is free
 free_before : (control : List ℕ) (walk : FullBuckets) (from b : ℕ) → IsAhead control walk from → from ≤ b
     → b < walk.start + 16 → ((lane : ℕ) → HasLane walk.lanes lane → b < walk.start + lane)
     → IsFreeByte (slice_index control b)
@@ -26,7 +25,6 @@ free_before control walk from b ahead after within later = elim (cases_lt b walk
       ]
 ]
 
--- an empty mask has no lane
 no_lane : (mask : ℕ) → mask ≡ 0 → (lane : ℕ) → HasLane mask lane → ⊥
 no_lane mask none lane set = let zero : bit_at mask lane ≡ 0 = ap (λ m. bit_at m lane) none ∙ bit_at-zero lane in
     omega (arith, set, zero)

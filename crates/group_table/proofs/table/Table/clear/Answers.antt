@@ -44,7 +44,6 @@ returns-clause-table g c =
 pub returns-clause-fits : goal.returns-clause-fits
 returns-clause-fits g c hash_of = rw (returns-clause-slots g c) (Fits-fresh g.row.T.Denot _ hash_of)
 
--- with all growth left, no bucket is used
 pub returns-then-self-most-clause-slots : goal.returns-then-self-most-clause-slots
 returns-then-self-most-clause-slots g c =
     let valid = c.self.invariant.0 in

@@ -30,7 +30,6 @@ returns-then-self-eq0-clause-hashes g c hash_at gives moved_hash_of moved =
 pub returns-in-Err-clause-table : goal.returns-in-Err-clause-table
 returns-in-Err-clause-table g c = rw (← c.self.view_is) (IsTable-by _ _ _ c.self.invariant.0)
 
--- entries need buckets
 pub returns-in-Err-clause-succeeds : goal.returns-in-Err-clause-succeeds
 returns-in-Err-clause-succeeds g c = λ none.
     let some = c.self.invariant.1 in

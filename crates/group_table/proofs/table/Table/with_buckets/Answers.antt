@@ -4,7 +4,6 @@ use Rattle.group_table.proofs.TableLemmas.{IsTable-by}
 use Rattle.group_table.proofs.FreshLemmas.{IsValid-fresh, entry_count-fresh, slots_of-fresh, Fits-fresh}
 use Rattle.group_table.proofs.table.Table.with_buckets.Goals as goal
 
--- how many control bytes n buckets have
 counts : (n : ℕ) → IsBucketCount n → (n ≡ 0 → ⊥) → ((n ≡ 0) × (n + 16 ≡ 0)) ⊎ (IsPowerFromFour n × (n + 16 ≡ n + 16))
 counts n (inl e) some = absurd (some e)
 counts n (inr power) some = inr (power, refl)

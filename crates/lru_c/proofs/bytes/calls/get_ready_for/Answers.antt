@@ -12,7 +12,6 @@ succeeded : {E : Type 0} (result : Result (Unit {0}) E) → is_ok result ≡ tru
 succeeded (Ok done) ok = refl
 succeeded (Err error) ok = absurd (true≢false (sym ok))
 
--- a reservation that fails changes nothing, since this limiter stays as it is when it is queried
 failed_stays : (old new : BytesMap) (result : Result (Unit {0}) ReserveError) → Reserve bytes_rules 1 old result new
     → is_ok result ≡ false → new ≡ old
 failed_stays old new result (unchanged nothing same) failed = same

@@ -11,7 +11,6 @@ use Rattle.lru_c.proofs.bytes.calls.put.Goals as goal
 pub returns-then-weight_of-limit : goal.returns-then-weight_of-limit
 returns-then-weight_of-limit c = too_heavy (search rules) refl c.remove.result c.remove.ensures.step
 
--- an insert of a key that is there, or with growth left, finds the memory that it asks for
 no_lack : {k v : Bytes} {ready new : BytesMap} (key : List ℕ) → k.items ≡ key → FindsMemory key ready
     → IsOutOfMemory bytes_rules bytes_offers same_bytes hash_of_bytes k v ready new → ⊥
 no_lack {k} {v} {ready} {new} key is finds (new_key, inl out_of_memory) = out_of_memory.0

@@ -11,7 +11,6 @@ use Rattle.lru_caches.specs.Answers.{IsAnswer}
 use Rattle.lru_caches.proofs.StoredAnswers.{inserted_answer}
 use Rattle.lru_caches.proofs.memo.table.keep.Goals as goal
 
--- a result that is true, or an error that counts as false
 is_kept : (result : Result Bool AllocError) → result_unwrap_or result false ≡ true → result ≡ Ok true
 is_kept (Ok kept) e = ap Ok e
 is_kept (Err error) e = absurd (false≢true e)

@@ -7,7 +7,6 @@ use Rattle.lru_caches.specs.Pages.{is_dirty}
 use Rattle.lru_caches.proofs.PageOrder.{used-new}
 use Rattle.lru_caches.proofs.page_cache.PageCache.read.Goals as goal
 
--- if a look-up finds no block, it finds no page
 no_page : {X Y : Type 0} (f : X → Y) (o : Option X) → option_map f o ≡ None → o ≡ None
 no_page f None e = refl
 no_page f (Some x) e = absurd (none-some (f x) (sym e))

@@ -5,7 +5,6 @@ use Rattle.std.specs.Map.{lookup}
 use Rattle.lru_caches.proofs.PageOrder.{used-new}
 use Rattle.lru_caches.proofs.page_cache.PageCache.write.Goals as goal
 
--- a look-up that finds nothing returns none
 no_page : {X : Type 0} (o : Option X) → is_some o ≡ false → o ≡ None
 no_page None e = refl
 no_page (Some x) e = absurd (true≢false e)

@@ -3,7 +3,6 @@ use Rattle.lru_trace.specs.Counted.{Counted, IsOf, number_in}
 use Rattle.lru_trace.proofs.CurveSteps.{of_names, of_counts, on_ok, on_err, always_err}
 use Rattle.lru_trace.proofs.curve.Curve.refer.Goals as goal
 
--- more names, and more counts of 0, are of the same trace
 renamed : (past : List (List ℕ)) (old new : Counted) → new ≡ record old { names = new.names }
     → ((x : List ℕ) (n : ℕ) → number_in old.names x ≡ Some n → number_in new.names x ≡ Some n)
     → IsOf past old → IsOf past new

@@ -2,7 +2,6 @@ use Rattle.std.proofs.Common.{◌≡◌, ℕ, zero, suc, refl, None, List, [], �
 use Rattle.std.specs.Prelude.{Option}
 use Rattle.lru_trace.proofs.distances.Distances.add_key.Goals as goal
 
--- a free slot more says nothing
 free_more : (xs : List (Option ℕ)) (i : ℕ) → get_or (xs ++ None ∷ []) i None ≡ get_or xs i None
 free_more [] zero = refl
 free_more [] (suc i) = refl

@@ -3,7 +3,6 @@ use Rattle.ordered_table.proofs.Tables.PromotedOrders.{LeadsTo, front_skipped, f
 use Rattle.ordered_table.proofs.ordered.promoted.older_unless_last.Goals.{Joined-b-p, then-b-p, else-b-p}
 use Rattle.ordered_table.proofs.ordered.promoted.older_unless_last.Goals as goal
 
--- where the links lead to from b, or from the front
 leads : (g : _) (c : Joined-b-p g) → LeadsTo c.args.table.now.order c.in-Some.p c.args.b c.if-b-p.next
 leads g c = elim c.if-b-p.branch [
   | then-b-p w ↦ (λ _. w.newest-next.ensures.newest ∙ ap Some (sym w.next-is), λ other. absurd (other w.if-b-p.true))

@@ -9,7 +9,6 @@ use Rattle.ordered_table.proofs.linked.chain.Chain.rewrite.Goals.{then-not-is_ma
 pub loop-old-init : goal.loop-old-init
 loop-old-init g c = record { links = MovedUpTo-none; newest = refl; oldest = refl; insertions = refl }
 
--- the entry at the new number of an old bucket, which has its links of before
 pub move_links-requires-clause-newer : goal.move_links-requires-clause-newer
 move_links-requires-clause-newer g c l e =
     let link = get_or_read c.args.links.now c.loop-old.old c.index-links-old.result c.loop-old-test.true
