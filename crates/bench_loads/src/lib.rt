@@ -7,7 +7,6 @@ mod more;
 use schnellru::{ByLength, LruMap};
 use std::alloc::Global;
 
-/// Carries out a call of a load on a key: an insert, a get, a peek, a removal, or a get that inserts what is not there.
 #[inline]
 fn step_of_load(map: &mut LruMap<u64, u64>, kind: u8, key: u64, sum: u64) -> u64 {
     match kind {

@@ -2,7 +2,6 @@
 use schnellru::{ByCost, ByLength, LruMap, UnlimitedCompact};
 use std::alloc::Global;
 
-/// A map of at most `length` texts of `width` bytes, with their numbers.
 fn map_of_texts(alloc: Global, length: u32, texts: &str, width: usize) -> LruMap<String, u64> {
     let mut map = LruMap::new(alloc, ByLength::new(length), [1, 2, 3, 4], 40);
     let mut rest = texts;
@@ -93,7 +92,6 @@ pub extern "C" fn rattle_costs(alloc: Global, limit: u64, keys: &[u64]) -> u64 {
         .wrapping_add(map.limiter().cost())
 }
 
-/// A map of the keys below a count.
 fn filled(alloc: Global, count: u64) -> LruMap<u64, u64, UnlimitedCompact> {
     let mut map = LruMap::new(alloc, UnlimitedCompact, [1, 2, 3, 4], 16);
     for key in 0..count {

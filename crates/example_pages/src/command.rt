@@ -1,12 +1,7 @@
-//! What a line asks for.
-
-/// The number of blocks of the file.
 pub const BLOCKS: u64 = 8;
 
-/// A block of the file.
 pub type Block = [u8; 16];
 
-/// What a line asks for.
 #[derive(Clone, Copy)]
 pub enum Command<'a> {
     Read(u64),
@@ -30,7 +25,6 @@ pub fn command_of(line: &str) -> Option<Command<'_>> {
     }
 }
 
-/// The block of a text: its first 16 bytes, with spaces behind them if it is shorter.
 pub fn block_of(text: &str) -> Block {
     let mut block = [b' '; 16];
     for (place, byte) in block.iter_mut().zip(text.bytes()) {

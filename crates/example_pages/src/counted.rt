@@ -1,7 +1,6 @@
 //! A device that counts its writes.
 use lru_caches::BlockDevice;
 
-/// A device, and how many writes it was asked for.
 #[derive(Drop)]
 pub struct Counted<D> {
     device: D,

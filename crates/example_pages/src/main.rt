@@ -14,10 +14,8 @@ use std::fs::{File, OpenOptions};
 use std::process::ExitCode;
 use std::{fs, io};
 
-/// The file.
 const FILE: &str = "blocks";
 
-/// How many pages are cached.
 const CAPACITY: usize = 3;
 
 /// Opens the file for reading and writing. It is copied first, because the given one may be read-only.
@@ -30,7 +28,6 @@ fn open(rt: &HostRuntime) -> io::Result<File> {
     options.open(rt, FILE)
 }
 
-/// Answers each line.
 fn answer_lines(rt: &HostRuntime, session: &mut Session) -> io::Result<()> {
     for line in rt.lines(rt.alloc()) {
         session.answer(rt, line?.as_str())?;
@@ -38,7 +35,6 @@ fn answer_lines(rt: &HostRuntime, session: &mut Session) -> io::Result<()> {
     Ok(())
 }
 
-/// Prints the blocks of the file, one a line.
 fn print_file(rt: &HostRuntime) -> io::Result<()> {
     let bytes = fs::read(rt, FILE)?;
     for block in bytes.chunks(16) {

@@ -1,4 +1,3 @@
-//! The lines of a session, and what they print.
 use crate::command::{Block, Command, block_of, command_of};
 use crate::counted::Counted;
 use lru_caches::{FileDevice, FileError, PageCache, PageError, Unclosed};
@@ -7,19 +6,16 @@ use std::{io, str};
 
 type Cache = PageCache<Block, Counted<FileDevice<File, 16>>>;
 
-/// A cache, and how often the block of a line was cached, or not.
 pub struct Session {
     cache: Cache,
     hits: u64,
     misses: u64,
 }
 
-/// The text of a block, without the spaces at its end.
 pub fn text_of(block: &[u8]) -> &str {
     str::from_utf8(block).unwrap_or("?").trim_end()
 }
 
-/// Prints the word if a call is done, and else why it failed.
 fn say(rt: &HostRuntime, done: Result<(), PageError<FileError>>, word: &str) -> io::Result<()> {
     let text = match done {
         Ok(()) => word,
@@ -37,7 +33,6 @@ impl Session {
         }
     }
 
-    /// Counts a use of a block.
     fn count(&mut self, n: u64) {
         if self.cache.contains(n) {
             self.hits = self.hits.saturating_add(1);
@@ -67,7 +62,6 @@ impl Session {
         )
     }
 
-    /// Does what a line asks for, and prints the answer.
     pub fn answer(&mut self, rt: &HostRuntime, line: &str) -> io::Result<()> {
         match command_of(line) {
             Some(Command::Read(n)) => self.read(rt, n),
@@ -78,7 +72,6 @@ impl Session {
         }
     }
 
-    /// Closes the cache, and returns whether all its pages were written.
     pub fn close(self) -> bool {
         let Session {
             cache,

@@ -42,7 +42,6 @@ pub struct Counts {
 
 type Responses = TenantCache<String, String, Response, ByWeight<OVERHEAD>>;
 
-/// Returns the response of a host for a path, if there is one that is fresh. A stale one is removed.
 fn fresh_response(
     entries: &mut Responses,
     host: &String,
@@ -58,13 +57,11 @@ fn fresh_response(
     if now < response.expires {
         return Ok(Some(response));
     }
-    // Nothing at run time: it shows the proof that no path is there twice.
     let _len = entries.len();
     entries.remove(host, &path)?;
     Ok(None)
 }
 
-/// Copies a text.
 fn owned(alloc: Global, text: &str) -> Result<String, TenantError>
     ensures copy { IfOk result (λ copy. string_bytes copy ≡ text.now) }
     ensures memory { OnErr result (result ≡ Err Memory) }
@@ -75,7 +72,6 @@ fn owned(alloc: Global, text: &str) -> Result<String, TenantError>
     }
 }
 
-/// A cache of responses: a tenant for each host, and its counts.
 #[derive(Drop)]
 pub struct ResponseCache {
     alloc: Global,
@@ -92,12 +88,10 @@ impl ResponseCache {
         }
     }
 
-    /// Returns the counts of each host, by its name.
     pub fn counts(&self) -> &BTreeMap<String, Counts> {
         &self.counts
     }
 
-    /// Adds to the counts of a host.
     fn count(&mut self, host: &String, hits: u64, misses: u64, evictions: u64)
         ensures entries { self.new.entries ≡ self.old.entries }
     {
@@ -108,7 +102,6 @@ impl ResponseCache {
         }
     }
 
-    /// Opens a host that is not open.
     fn open(&mut self, name: String, budget: u64) -> Result<(), TenantError> {
         let counted = owned(self.alloc, name.as_str())?;
         self.entries.open(name, budget)?;
@@ -117,7 +110,7 @@ impl ResponseCache {
         Ok(())
     }
 
-    /// Sets the budget of a host, and opens it first if it is not open. Returns how many entries were evicted.
+    /// Returns how many entries were evicted.
     pub fn set_host(
         &mut self,
         host: &str,
@@ -157,7 +150,6 @@ impl ResponseCache {
         Ok((if stored? { "stored" } else { "rejected" }, evicted))
     }
 
-    /// Returns the response of a host for a path, if there is one that is fresh, and counts the look-up.
     pub fn look_up(
         &mut self,
         host: &str,
@@ -176,13 +168,12 @@ impl ResponseCache {
         Ok(found)
     }
 
-    /// Removes the response of a host for a path. Returns whether there was one.
+    /// Removes the response of a host for a path.
     pub fn purge(&mut self, host: &str, path: &str) -> Result<bool, TenantError> {
         let name = owned(self.alloc, host)?;
         Ok(self.entries.remove(&name, &path)?.is_some())
     }
 
-    /// Returns how many entries a host has, and what they cost together.
     pub fn size(&self, host: &String) -> (usize, u64) {
         match (self.entries.entries(host), self.entries.cost(host)) {
             (Ok(entries), Ok(cost)) => (entries, cost),

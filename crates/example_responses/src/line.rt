@@ -1,7 +1,6 @@
 //! The lines of the program.
 use crate::cache::Response;
 
-/// A line, with its words.
 pub enum Line<'a> {
     Now(u64),
     Host(&'a str, u64),
@@ -11,17 +10,14 @@ pub enum Line<'a> {
     Stats,
 }
 
-/// Returns a number, if the word is one.
 fn number(word: &str) -> Option<u64> {
     word.parse().ok()
 }
 
-/// Returns the first word of a text, and the rest after it, which is empty if there is one word.
 fn two(text: &str) -> (&str, &str) {
     text.split_once(' ').unwrap_or((text, ""))
 }
 
-/// Returns the response of these words.
 fn response(bytes: &str, expires: &str) -> Option<Response> {
     match (number(bytes), number(expires)) {
         (Some(bytes), Some(expires)) => Some(Response { bytes, expires }),
@@ -29,7 +25,6 @@ fn response(bytes: &str, expires: &str) -> Option<Response> {
     }
 }
 
-/// Returns the line that a text spells, if it spells one.
 pub fn parse(text: &str) -> Option<Line<'_>> {
     let (word, rest) = two(text);
     let (name, rest) = two(rest);

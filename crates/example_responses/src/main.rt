@@ -10,7 +10,6 @@ use line::Line;
 use lru_tenants::TenantError;
 use std::io;
 
-/// Why a call failed.
 fn text_of(error: TenantError) -> &'static str {
     match error {
         TenantError::NotOpen => "no host",
@@ -20,7 +19,6 @@ fn text_of(error: TenantError) -> &'static str {
     }
 }
 
-/// Prints what a call did, and how many entries were evicted.
 fn say_evicted(rt: &HostRuntime, done: Result<(&str, u64), TenantError>) -> io::Result<()> {
     match done {
         Ok((what, evicted)) => println!(rt; "{what}, {evicted} evicted"),
@@ -28,7 +26,6 @@ fn say_evicted(rt: &HostRuntime, done: Result<(&str, u64), TenantError>) -> io::
     }
 }
 
-/// Prints the counts of each host.
 fn stats(rt: &HostRuntime, cache: &ResponseCache) -> io::Result<()> {
     for (name, counts) in cache.counts() {
         let (entries, cost) = cache.size(name);
@@ -40,7 +37,6 @@ fn stats(rt: &HostRuntime, cache: &ResponseCache) -> io::Result<()> {
     Ok(())
 }
 
-/// Does what a line asks for at this time, and prints the answer.
 fn answer(
     rt: &HostRuntime,
     cache: &mut ResponseCache,

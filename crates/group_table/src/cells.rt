@@ -76,7 +76,6 @@ unsafe impl<T, A: Allocator + Send> Send for Deed<T, A> {}
 // SAFETY: it has no method that takes a `&`.
 unsafe impl<T, A: Allocator> Sync for Deed<T, A> {}
 
-// How many bytes a place has.
 #[inline]
 pub(crate) const fn bytes_of<T>() -> usize
     ensures { result ≡ capped (type_size T.row) }
@@ -84,7 +83,6 @@ pub(crate) const fn bytes_of<T>() -> usize
     size_of::<T>()
 }
 
-// Returns whether a block may have `count` places.
 #[inline]
 pub(crate) fn fits_in_block<T>(count: usize) -> bool
     ensures block { result ≡ true → FitsInBlock T.row count }
@@ -96,7 +94,6 @@ pub(crate) fn fits_in_block<T>(count: usize) -> bool
     }
 }
 
-// Takes a block of `count` places, none of which holds an entry.
 pub(crate) fn allocate<T, A: Allocator>(
     alloc: &A,
     count: usize,
@@ -120,7 +117,6 @@ pub(crate) fn allocate<T, A: Allocator>(
     }
 }
 
-// Gives a block back. No place holds an entry.
 pub(crate) fn deallocate<T, A: Allocator>(
     alloc: &A,
     block: Block<T>,
@@ -146,7 +142,6 @@ pub(crate) fn deallocate<T, A: Allocator>(
 impl<T> Cells<T> {
     ghost use Rattle.group_table.specs.CellLends.{lends_place};
 
-    // Puts an entry into a place that holds none.
     #[inline]
     pub(crate) fn write(&mut self, block: Block<T>, b: usize, entry: T)
         requires { (self.old.start ≡ block.start) × (b < length self.old.places)
@@ -158,7 +153,6 @@ impl<T> Cells<T> {
         unsafe { block.start.add(b).write(entry) }
     }
 
-    // Takes the entry out of a place.
     #[inline]
     pub(crate) fn read(&mut self, block: Block<T>, b: usize) -> T
         requires { (self.old.start ≡ block.start) × Holds self.old.places b }
@@ -170,7 +164,6 @@ impl<T> Cells<T> {
         unsafe { block.start.add(b).read() }
     }
 
-    // Returns the entry in a place.
     #[inline]
     pub(crate) fn get(&self, block: Block<T>, b: usize) -> &T
         requires { (self.now.start ≡ block.start) × Holds self.now.places b }
@@ -180,7 +173,6 @@ impl<T> Cells<T> {
         unsafe { &*block.start.add(b) }
     }
 
-    // Lends the entry in a place for writing.
     #[inline]
     pub(crate) fn get_mut(&mut self, block: Block<T>, b: usize) -> &mut T
         requires { (self.old.start ≡ block.start) × Holds self.old.places b }

@@ -11,13 +11,11 @@ use crate::group::Group;
 use std::alloc::{AllocError, Global};
 use std::marker::Model;
 
-// The control byte of an empty bucket.
 pub(crate) const EMPTY: u8 = 0xff;
 
-// The control byte of a deleted bucket.
 pub(crate) const DELETED: u8 = 0x80;
 
-// The control bytes of a table. Their number stays.
+// The control bytes of a table.
 #[derive(Drop)]
 pub(crate) struct Control {
     bytes: Vec<u8>,
@@ -37,7 +35,6 @@ impl Model for Control {
 }
 
 impl Control {
-    // The control bytes of no buckets, which take no memory.
     pub(crate) fn new(alloc: Global) -> Control
         ensures { result ≡ [] }
     {
@@ -47,7 +44,6 @@ impl Control {
         }
     }
 
-    // The control bytes of `buckets` empty buckets.
     pub(crate) fn with_buckets(alloc: Global, buckets: usize) -> Result<Control, AllocError>
         requires count { IsPowerFromFour buckets }
         requires addressable { buckets + 16 < 2 ^ 63 }
@@ -60,7 +56,6 @@ impl Control {
         })
     }
 
-    // Copies the bytes.
     pub(crate) fn copied(&self, alloc: Global) -> Result<Control, AllocError>
         ensures { IfOk result (λ c. c ≡ self.now) }
     {
@@ -71,7 +66,6 @@ impl Control {
         })
     }
 
-    // Returns whether there are no buckets.
     #[inline]
     pub(crate) fn is_empty(&self) -> bool
         ensures { result ≡ nat_eq (buckets_of self.now) 0 }
@@ -89,7 +83,6 @@ impl Control {
         hash as usize & self.last == 0 && self.bytes.len() + self.last == 0
     }
 
-    // Returns the number of buckets.
     #[inline]
     pub(crate) fn buckets(&self) -> usize
         ensures { result ≡ buckets_of self.now }
@@ -97,7 +90,6 @@ impl Control {
         if self.is_empty() { 0 } else { self.last + 1 }
     }
 
-    // Returns whether there is a bucket of this number.
     #[inline]
     pub(crate) fn has_bucket(&self, b: usize) -> bool
         requires { 0 < buckets_of self.now }
@@ -106,7 +98,6 @@ impl Control {
         b <= self.last
     }
 
-    // Returns the bucket at a position on the circle.
     #[inline]
     pub(crate) fn wrap(&self, place: usize) -> usize
         requires { 0 < buckets_of self.now }
@@ -127,7 +118,6 @@ impl Control {
         sixteen_before(b, self.last)
     }
 
-    // Returns the control byte of a bucket.
     #[inline]
     pub(crate) fn byte(&self, b: usize) -> u8
         requires { b < buckets_of self.now }
@@ -136,7 +126,6 @@ impl Control {
         self.bytes[b]
     }
 
-    // Returns the sixteen control bytes from a bucket on.
     #[inline]
     pub(crate) fn group(&self, start: usize) -> Group
         requires { start < buckets_of self.now }
@@ -146,7 +135,6 @@ impl Control {
         Group::load(self.bytes.as_slice(), start)
     }
 
-    // Writes the control byte of a bucket, and its repetition.
     #[inline]
     pub(crate) fn set(&mut self, b: usize, byte: u8)
         requires { b < buckets_of self.old }
@@ -155,7 +143,6 @@ impl Control {
         set_both(self.bytes.as_mut_slice(), self.last, b, byte);
     }
 
-    // Makes every bucket empty.
     pub(crate) fn clear(&mut self)
         ensures { self.new ≡ replicate (length self.old) empty_byte }
     {
@@ -192,7 +179,6 @@ pub(crate) fn room_taken(byte: u8) -> usize
     byte as usize & 1
 }
 
-// Writes the byte of a bucket, and its repetition, among all bytes.
 #[inline]
 fn set_both(bytes: &mut [u8], last: usize, b: usize, byte: u8)
     requires circle { IsCircle bytes.old }
@@ -206,7 +192,6 @@ fn set_both(bytes: &mut [u8], last: usize, b: usize, byte: u8)
     bytes[sixteen_before(b, last) + 16] = byte;
 }
 
-// Returns the bucket at a position on a circle whose last bucket has this number.
 #[inline]
 fn wrap(place: usize, last: usize) -> usize
     requires { IsPowerFromFour (last + 1) }
@@ -216,7 +201,6 @@ fn wrap(place: usize, last: usize) -> usize
     place & last
 }
 
-// Returns the bucket sixteen positions before a bucket on such a circle.
 #[inline]
 fn sixteen_before(b: usize, last: usize) -> usize
     requires power { IsPowerFromFour (last + 1) }

@@ -14,10 +14,9 @@ struct Row<T> {
     deed: Deed<T, Global>,
 }
 
-// The places. Without places there is no block. Only the control bytes know the number of places.
+// Without places there is no block. Only the control bytes know the number of places.
 //
-// A place has no tag: the control byte of a bucket says whether it holds an entry. So a caller of `free` must show that
-// no place holds one.
+// So a caller of `free` must show that no place holds one.
 pub(crate) struct Entries<T> {
     row: Option<Row<T>>,
     alloc: Global,
@@ -37,14 +36,12 @@ impl<T> Model for Entries<T> {
 impl<T> Entries<T> {
     ghost use Rattle.group_table.specs.EntryLends.{lends_held};
 
-    // No places, which take no memory.
     pub(crate) const fn new(alloc: Global) -> Entries<T>
         ensures { result ≡ [] }
     {
         Entries { row: None, alloc }
     }
 
-    // Takes `count` places without entries, in one request.
     pub(crate) fn with_places(alloc: Global, count: usize) -> Result<Entries<T>, AllocError>
         requires { 0 < count }
         ensures { IfOk result (λ e. e ≡ replicate count None) }
@@ -59,12 +56,10 @@ impl<T> Entries<T> {
         })
     }
 
-    // Returns the allocator of the places.
     pub(crate) fn allocator(&self) -> Global {
         self.alloc
     }
 
-    // Returns the entry in a place.
     #[inline]
     pub(crate) fn get(&self, b: usize) -> &T
         requires { IsSome (slice_index_or self.now b None) }
@@ -76,7 +71,6 @@ impl<T> Entries<T> {
         }
     }
 
-    // The same for writing.
     #[inline]
     pub(crate) fn get_mut(&mut self, b: usize) -> &mut T
         requires { IsSome (slice_index_or self.old b None) }
@@ -92,7 +86,6 @@ impl<T> Entries<T> {
         }
     }
 
-    // Puts an entry into a place that holds none.
     #[inline]
     pub(crate) fn write(&mut self, b: usize, entry: T)
         requires place { b < length self.old }
@@ -105,7 +98,6 @@ impl<T> Entries<T> {
         }
     }
 
-    // Takes the entry out of a place.
     #[inline]
     pub(crate) fn read(&mut self, b: usize) -> T
         requires { IsSome (slice_index_or self.old b None) }
@@ -118,7 +110,6 @@ impl<T> Entries<T> {
         }
     }
 
-    // Gives the memory of `count` places back. None of them holds an entry.
     pub(crate) fn free(self, count: usize)
         requires { self ≡ replicate count None }
     {

@@ -9,7 +9,6 @@ use crate::entries::Entries;
 use crate::link::LinkType;
 use std::alloc::{AllocError, Global};
 
-// Returns `count` links, each to no bucket.
 pub(crate) fn no_links<N: LinkType>(alloc: Global, count: usize) -> Result<Vec<N>, AllocError>
     ensures { IfOk result (λ v. v.items ≡ replicate count N.MAX) }
 {
@@ -35,7 +34,6 @@ pub(crate) fn drop_first<T: Drop>(control: &Control, entries: &mut Entries<T>, c
     }
 }
 
-// Drops all `len` entries.
 pub(crate) fn drop_entries<T: Drop>(control: &Control, entries: &mut Entries<T>, len: usize)
     requires laid_out { IsLaidOut control.now entries.old }
     requires none_left { len ≡ 0 → entries.old ≡ replicate (length entries.old) None }
@@ -46,7 +44,6 @@ pub(crate) fn drop_entries<T: Drop>(control: &Control, entries: &mut Entries<T>,
     }
 }
 
-// Writes the tag and the entry of a free bucket.
 #[inline]
 pub(crate) fn fill_bucket<T>(
     control: &mut Control,
@@ -65,7 +62,7 @@ pub(crate) fn fill_bucket<T>(
     entries.write(b, entry);
 }
 
-// Writes the tag and the entry of a bucket. Returns the entry that was there, if the control byte says that one was.
+// Writes the tag and the entry of a bucket.
 #[inline]
 pub(crate) fn put<T>(
     control: &mut Control,
@@ -93,7 +90,6 @@ pub(crate) fn put<T>(
     }
 }
 
-// Takes the entry out of a full bucket, and writes its byte.
 #[inline]
 pub(crate) fn empty_bucket<T>(
     control: &mut Control,

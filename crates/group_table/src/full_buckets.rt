@@ -10,14 +10,11 @@ use crate::group::{lowest_lane, without_lowest};
 // group from the last bucket on, it would have to wait for the step before.
 #[derive(Drop)]
 pub(crate) struct FullBuckets {
-    // The bucket of lane 0.
     start: usize,
-    // The full lanes that are still to come.
     lanes: u16,
 }
 
 impl FullBuckets {
-    // Begins a walk over all full buckets.
     pub(crate) fn of(control: &Control) -> FullBuckets
         requires { 0 < buckets_of control.now }
         ensures { IsAhead control.now result 0 }

@@ -9,8 +9,7 @@ use std::simd::prelude::*;
 
 /// Returns the lanes that hold the tag, of the control bytes of sixteen neighbouring buckets.
 ///
-/// Bit i of the result is set if and only if byte i is the tag. The bytes are compared at once. `docs/TABLE.md` shows a
-/// table of masks.
+/// Bit i of the result is set if and only if byte i is the tag. `docs/TABLE.md` shows a table of masks.
 ///
 /// ```
 /// let bytes: [u8; 16] = [0, 255, 128, 5, 255, 255, 255, 255, 255, 255, 255, 255, 255, 255, 255, 255];
@@ -27,7 +26,7 @@ pub fn match_tag(bytes: &[u8; 16], tag: u8) -> u16
 
 /// Returns the lanes of empty buckets, whose byte is 255.
 ///
-/// Bit i of the result is set if and only if bucket i is empty. The bytes are compared at once.
+/// Bit i of the result is set if and only if bucket i is empty.
 ///
 /// ```
 /// let bytes: [u8; 16] = [0, 255, 128, 5, 255, 255, 255, 255, 255, 255, 255, 255, 255, 255, 255, 255];
@@ -42,7 +41,7 @@ pub fn match_empty(bytes: &[u8; 16]) -> u16
 
 /// Returns the lanes of free buckets, whose byte has the top bit set: 255 if empty, 128 if deleted.
 ///
-/// Bit i of the result is set if and only if bucket i is free. The bytes are compared at once.
+/// Bit i of the result is set if and only if bucket i is free.
 ///
 /// ```
 /// let bytes: [u8; 16] = [0, 255, 128, 5, 255, 255, 255, 255, 255, 255, 255, 255, 255, 255, 255, 255];
@@ -64,7 +63,6 @@ pub(crate) struct Group {
 }
 
 impl Group {
-    // Reads the sixteen bytes from a position on.
     #[inline]
     pub(crate) fn load(bytes: &[u8], at: usize) -> Group
         requires { at + 16 ≤ length bytes.now }
@@ -75,7 +73,6 @@ impl Group {
         }
     }
 
-    // Returns the lanes that hold the tag.
     #[inline]
     pub(crate) fn match_tag(&self, tag: u8) -> u16
         ensures { IsMaskOf (λ byte. byte ≡ tag) self.now.lanes result }
@@ -83,7 +80,6 @@ impl Group {
         match_tag(&self.lanes, tag)
     }
 
-    // Returns the lanes of empty buckets.
     #[inline]
     pub(crate) fn match_empty(&self) -> u16
         ensures { IsMaskOf (λ byte. byte ≡ empty_byte) self.now.lanes result }
@@ -91,7 +87,6 @@ impl Group {
         match_empty(&self.lanes)
     }
 
-    // Returns the lanes of empty and deleted buckets.
     #[inline]
     pub(crate) fn match_free(&self) -> u16
         ensures { IsMaskOf IsFreeByte self.now.lanes result }
@@ -99,7 +94,6 @@ impl Group {
         match_free(&self.lanes)
     }
 
-    // Returns the lanes of full buckets.
     #[inline]
     pub(crate) fn match_full(&self) -> u16
         ensures { IsMaskOf IsTag self.now.lanes result }
@@ -110,7 +104,6 @@ impl Group {
     }
 }
 
-// Returns the lowest lane of a mask that is not empty.
 #[inline]
 pub(crate) fn lowest_lane(mask: u16) -> usize
     requires { mask ≢ 0 }
@@ -122,7 +115,6 @@ pub(crate) fn lowest_lane(mask: u16) -> usize
     mask.trailing_zeros() as usize
 }
 
-// Returns the mask without its lowest lane.
 #[inline]
 pub(crate) fn without_lowest(mask: u16) -> u16
     requires { mask ≢ 0 }

@@ -1,8 +1,7 @@
 //! The bucket table of the LRU map, and the widths of its links.
 #![tactic(auto)]
 
-// Marks code that is never reached, on hot paths. `unreachable!()` compiles to a test and a trap. This compiles to
-// nothing: it matches on what would be read from an array without elements.
+// Marks code that is never reached, on hot paths.
 macro_rules! nowhere {
     () => {{
         let none: [Option<()>; 0] = [];

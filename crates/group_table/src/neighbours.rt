@@ -1,4 +1,4 @@
-//! Whether the 16 neighbouring buckets around a bucket contain an empty one, by two groups of control bytes.
+//! Whether the 16 neighbouring buckets around a bucket contain an empty one.
 ghost use Rattle.std.specs.Prelude.{◌≡◌, ◌≢◌, ◌+◌, ◌-◌, ◌%◌, ◌^◌, ◌<◌, Bool, if◌then◌else◌, nat_lt, slice_index};
 ghost use Rattle.std.specs.Prelude.{MatchBool};
 ghost use Rattle.group_table.specs.Bytes.{empty_byte};
@@ -10,7 +10,6 @@ ghost use Rattle.group_table.specs.Lanes.{IsMaskAt};
 use crate::control::Control;
 use crate::group::lanes_below;
 
-// Returns the empty lanes of the group that ends directly before this bucket.
 #[inline]
 fn empty_before(control: &Control, b: usize) -> u16
     requires { b < buckets_of control.now }
@@ -21,7 +20,6 @@ fn empty_before(control: &Control, b: usize) -> u16
     control.group(control.sixteen_before(b)).match_empty()
 }
 
-// Returns the empty lanes of the group that begins at this bucket.
 #[inline]
 fn empty_from(control: &Control, b: usize) -> u16
     requires { b < buckets_of control.now }
@@ -30,7 +28,7 @@ fn empty_from(control: &Control, b: usize) -> u16
     control.group(b).match_empty()
 }
 
-// Returns all ones if the first number is less than the second, and 0 otherwise: the sign of their difference.
+// Returns all ones if the first number is less than the second, and 0 otherwise.
 #[inline]
 fn ones_if_less(low: u32, high: u16) -> usize
     ensures { result ≡ (if nat_lt low high then 2 ^ 64 - 1 else 0) }

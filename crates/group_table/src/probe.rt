@@ -12,8 +12,7 @@ use crate::control::{Control, DELETED, tag_of};
 use crate::entries::Entries;
 use crate::group::{lowest_lane, without_lowest};
 
-// The groups of a search. `start` is the first bucket of the present group, and the next group begins `stride` buckets
-// later: 16 for each group so far, the present one included.
+// `start` is the first bucket of the present group, and the next group begins `stride` buckets later.
 #[derive(Drop)]
 pub(crate) struct Probe {
     start: usize,
@@ -21,7 +20,6 @@ pub(crate) struct Probe {
 }
 
 impl Probe {
-    // The groups of a search for the hash, from its first one on.
     #[inline]
     fn of(control: &Control, hash: u64) -> Probe
         requires { 0 < buckets_of control.now }
@@ -35,7 +33,6 @@ impl Probe {
         }
     }
 
-    // Goes past a group: the next one begins 16, 32, 48, .. buckets later.
     #[inline]
     fn go_on(&mut self, control: &Control)
         requires fits { buckets_of control.now + 16 < 2 ^ 63 }
@@ -58,7 +55,6 @@ enum Searched {
     GoesOn,
 }
 
-// Calls `f` with the entries with the tag in the group that begins here, until it accepts one.
 #[inline(always)]
 fn search_group<T, F: FnMut(&T) -> bool>(
     control: &Control,
@@ -92,7 +88,6 @@ fn search_group<T, F: FnMut(&T) -> bool>(
     }
 }
 
-// Calls `f` with the entries with the tag of the hash, group by group, until it accepts one.
 #[inline]
 pub(crate) fn find_bucket<T, F: FnMut(&T) -> bool>(
     control: &Control,
@@ -125,7 +120,6 @@ pub(crate) fn find_bucket<T, F: FnMut(&T) -> bool>(
     }
 }
 
-// Returns the first bucket of the group that begins here that is empty or deleted.
 #[inline]
 fn free_in_group(control: &Control, start: usize) -> Option<usize>
     requires start { start < buckets_of control.now }
@@ -146,7 +140,6 @@ fn free_in_group(control: &Control, start: usize) -> Option<usize>
     Some(lowest_lane(control.group(0).match_free()))
 }
 
-// Returns the first bucket in the order of a search for the hash that is empty or deleted.
 #[inline(always)]
 pub(crate) fn first_free(control: &Control, hash: u64) -> usize
     requires { HasFreeByte control.now }

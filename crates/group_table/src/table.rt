@@ -1,4 +1,4 @@
-//! `Table`. A contract sees a table as its `slots`, one for each bucket, and the numbers of its `insertions`.
+//! A contract sees a table as its `slots`, one for each bucket, and the numbers of its `insertions`.
 ghost use Rattle.std.specs.Prelude.{◌≡◌, ℕ, ◌+◌, ◌^◌, ◌<◌, ◌≤◌, [], length, replicate, Some, IfSome, IfNone};
 ghost use Rattle.std.specs.Prelude.{IfOk, IfErr, OnErr, IsOk, nat_eq};
 ghost use Rattle.std.specs.Borrow.{sem};
@@ -152,7 +152,7 @@ impl<T> Table<T> {
         find_bucket(&self.control, &self.entries, hash, f)
     }
 
-    /// Returns the entry in a full bucket. It reads nothing of the table but the address of its entries.
+    /// Returns the entry in a full bucket.
     #[inline]
     pub fn get(&self, b: usize) -> &T
         requires { IsFull self.now.slots b }
@@ -230,7 +230,7 @@ impl<T> Table<T> {
         b
     }
 
-    /// The same for each table: without growth left, only a deleted bucket may take the entry.
+    /// As `place`, for each table: without growth left, only a deleted bucket may take the entry.
     ///
     /// # Errors
     ///
@@ -246,7 +246,6 @@ impl<T> Table<T> {
             Fits self.new.slots (with_hash hash_of b hash)) }
         ensures table { IsTable (marks_of self.new.slots) }
 
-        // An entry that found no bucket is returned, and the table stays.
         ensures returned { IfErr result (λ back. back ≡ entry) }
         ensures unchanged { OnErr result (self.new ≡ self.old) }
         ensures no_place { OnErr result (HasNoPlace (marks_of self.old.slots) hash) }
@@ -263,7 +262,6 @@ impl<T> Table<T> {
         Ok(b)
     }
 
-    // Puts an entry with this hash into the first free bucket, which takes this much of the growth left.
     #[inline(always)]
     fn fill_free(&mut self, b: usize, spent: usize, hash: u64, entry: T)
         requires bucket { b < length self.old.slots }
@@ -285,7 +283,6 @@ impl<T> Table<T> {
         self.placed += 1;
     }
 
-    // Makes every bucket of a table without entries empty.
     fn empty_buckets(&mut self)
         requires { entry_count self.old.slots ≡ 0 }
         ensures slots { self.new.slots ≡ replicate (length self.old.slots) empty }
@@ -296,7 +293,6 @@ impl<T> Table<T> {
         self.room = full_capacity(self.control.buckets());
     }
 
-    // Gives the memory of a table without entries back.
     fn free_unused(self)
         requires { entry_count self.slots ≡ 0 }
     {
@@ -304,7 +300,6 @@ impl<T> Table<T> {
         unused.free(control.buckets());
     }
 
-    // Returns the control bytes and the entries.
     fn into_parts(self) -> (Control, Entries<T>)
         ensures laid_out { IsLaidOut result.0 result.1 }
         ensures slots { slots_of result.0 result.1 ≡ self.slots }

@@ -7,7 +7,6 @@ use std::rc::Rc;
 use std::test::Fail;
 use test_helpers::check;
 
-// A table of 16 buckets with 14 entries. The count of their value is one more than the entries that live.
 fn sharing(alloc: Global, shared: &Rc<u64>) -> Result<Table<Rc<u64>>, AllocError> {
     let mut table = table_of(alloc, 16)?;
     for hash in 0..14u64 {
@@ -16,8 +15,7 @@ fn sharing(alloc: Global, shared: &Rc<u64>) -> Result<Table<Rc<u64>>, AllocError
     Ok(table)
 }
 
-// A copy calls its closure once for each entry. If the closure fails, those that were made are dropped. A clear drops
-// what it removes.
+// A copy calls its closure once for each entry. A clear drops what it removes.
 #[test]
 fn entries_are_dropped(rt: HostRuntime) -> Result<(), Fail> {
     let shared = Rc::new(rt.alloc(), 0u64)?;

@@ -8,8 +8,7 @@ use std::cell::Cell;
 use std::test::Fail;
 use test_helpers::{Hog, check};
 
-// Moves all entries into `buckets` buckets. Whether the keys are where the rules have them, and the hash of each entry
-// was asked for once.
+// Whether the keys are where the rules have them, and the hash of each entry was asked for once.
 fn moves(
     alloc: Global,
     table: &mut Table<u64>,
@@ -24,8 +23,6 @@ fn moves(
 
 const SIZES: [usize; 11] = [4, 8, 16, 32, 64, 128, 256, 512, 1024, 2048, 4096];
 
-// Moves the entries of a table into each size and back, and rehashes each size. The table is filled before each move,
-// and then every third bucket is taken. Whether all moves follow the rules.
 fn moves_up_and_down(
     alloc: Global,
     table: &mut Table<u64>,
@@ -54,7 +51,6 @@ fn up_and_down(rt: HostRuntime) -> Result<(), Fail> {
     Ok(())
 }
 
-// Rehashes, copies and relocates a table of 2^20 buckets. Whether the moves follow the rules.
 fn moves_many(alloc: Global, table: &mut Table<u64>) -> Result<bool, AllocError> {
     let next = fill(table, SCATTERED, 0);
     thin(table, 3, 0);
@@ -74,7 +70,6 @@ fn many_buckets(rt: HostRuntime) -> Result<(), Fail> {
     Ok(())
 }
 
-// Tries a move, with one more request met each time, until it succeeds. Returns how often it was refused.
 fn refusals(
     alloc: Global,
     table: &mut Table<u64>,
@@ -90,7 +85,6 @@ fn refusals(
         refused = refused.wrapping_add(1);
         hog.release();
     }
-    // If memory has no end, nothing is refused.
     Ok(if hog.took_all() {
         refused
     } else {

@@ -17,9 +17,7 @@ pub const NO_MAP: u32 = 3;
 #[repr(C)]
 #[derive(Drop)]
 pub struct Found {
-    /// The value, or 0.
     pub value: u64,
-    /// Whether there is one.
     pub found: bool,
 }
 
@@ -27,21 +25,15 @@ pub struct Found {
 #[repr(C)]
 #[derive(Drop)]
 pub struct Pair {
-    /// The key, or 0.
     pub key: u64,
-    /// The value, or 0.
     pub value: u64,
-    /// Whether there is one.
     pub found: bool,
 }
 
-/// An entry.
 #[repr(C)]
 #[derive(Clone, Copy)]
 pub struct Entry {
-    /// The key.
     pub key: u64,
-    /// The value.
     pub value: u64,
 }
 
@@ -49,17 +41,13 @@ pub struct Entry {
 #[repr(C)]
 #[derive(Drop)]
 pub struct Inserted {
-    /// The old value of the key, or 0.
     pub old_value: u64,
-    /// What a put returns.
     pub code: u32,
-    /// Whether the key was there.
     pub replaced: bool,
     /// Whether the insert evicted an entry.
     pub evicted: bool,
 }
 
-/// Returns the value for C.
 #[inline]
 pub fn as_found(value: Option<u64>) -> Found
     ensures { result ≡ found_of value }
@@ -73,7 +61,6 @@ pub fn as_found(value: Option<u64>) -> Found
     }
 }
 
-/// Returns the entry for C.
 #[inline]
 pub fn as_pair(entry: Option<(u64, u64)>) -> Pair
     ensures { result ≡ pair_of entry }
@@ -92,7 +79,6 @@ pub fn as_pair(entry: Option<(u64, u64)>) -> Pair
     }
 }
 
-/// Returns for C what an insert did.
 #[inline]
 pub fn as_inserted(code: u32, old_value: Option<u64>, evicted: bool) -> Inserted
     ensures { result ≡ inserted_of code old_value evicted }
@@ -113,7 +99,6 @@ pub fn as_inserted(code: u32, old_value: Option<u64>, evicted: bool) -> Inserted
     }
 }
 
-/// Returns for C what a put did.
 #[inline]
 pub fn as_code(done: Result<bool, AllocError>) -> u32
     ensures { result ≡ put_code done }
@@ -125,7 +110,6 @@ pub fn as_code(done: Result<bool, AllocError>) -> u32
     }
 }
 
-/// Writes an entry of another key to a place, unless one was noted there.
 #[inline]
 pub fn note_other(noted: &mut bool, place: &mut Entry, inserted: u64, key: u64, value: u64)
     ensures pair { noted_pair noted.new place.new

@@ -27,7 +27,6 @@ pub fn insert(map: &mut Map, key: u64, value: u64, place: &mut Entry) -> Inserte
     }
 }
 
-// Inserts a value, and notes the first entry of another key that leaves.
 #[inline]
 fn insert_and_note(
     map: &mut Map,
@@ -46,7 +45,6 @@ fn insert_and_note(
     map.insert_full(key, value, &mut |k, v| note_other(noted, place, key, k, v))
 }
 
-/// Returns the value of a key, whose entry becomes the newest.
 #[inline]
 pub fn get(map: &mut Map, key: u64) -> Found
     ensures value { result ≡ found_of (lookup (nat_eq key) map.old.pairs) }
@@ -58,7 +56,6 @@ pub fn get(map: &mut Map, key: u64) -> Found
     }
 }
 
-/// Returns the value of a key. The order stays.
 #[inline]
 pub fn peek(map: &Map, key: u64) -> Found
     ensures { result ≡ found_of (lookup (nat_eq key) map.now.pairs) }
@@ -69,7 +66,6 @@ pub fn peek(map: &Map, key: u64) -> Found
     }
 }
 
-/// Removes the entry of a key, and returns its value.
 #[inline]
 pub fn remove(map: &mut Map, key: u64) -> Found
     ensures { (value : Option ℕ) × (result ≡ found_of value) × Remove length_rules (nat_eq key) map.old value map.new }
@@ -77,7 +73,6 @@ pub fn remove(map: &mut Map, key: u64) -> Found
     as_found(map.remove(&key))
 }
 
-/// Removes the oldest entry, and returns it.
 #[inline]
 pub fn pop_oldest(map: &mut Map) -> Pair
     ensures { (pair : Option (ℕ × ℕ)) × (result ≡ pair_of pair) × PopOldest length_rules map.old pair map.new }
@@ -85,7 +80,6 @@ pub fn pop_oldest(map: &mut Map) -> Pair
     as_pair(map.pop_oldest())
 }
 
-/// Returns the oldest entry. The order stays.
 #[inline]
 pub fn peek_oldest(map: &Map) -> Pair
     ensures { result ≡ pair_of (last map.now.pairs) }
@@ -96,7 +90,6 @@ pub fn peek_oldest(map: &Map) -> Pair
     }
 }
 
-/// Returns the newest entry. The order stays.
 #[inline]
 pub fn peek_newest(map: &Map) -> Pair
     ensures { result ≡ pair_of (first map.now.pairs) }
@@ -107,7 +100,6 @@ pub fn peek_newest(map: &Map) -> Pair
     }
 }
 
-/// Returns a copy of the map, or none if there was no memory.
 pub fn copied(alloc: Global, map: &Map) -> Option<Box<Map>>
     ensures { IfSome result (λ copy. copy.value ≡ map.now) }
 {

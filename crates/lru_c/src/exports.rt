@@ -58,7 +58,7 @@ pub extern "C" fn lru_new(alloc: Global, lru: &mut Lru, max_length: u32, seeds: 
     }
 }
 
-/// Drops the map. The handle has none then.
+/// Drops the map.
 #[unsafe(no_mangle)]
 pub extern "C" fn lru_free(alloc: Global, lru: &mut Lru)
     ensures { lru.new.map ≡ None }
@@ -121,7 +121,7 @@ pub extern "C" fn lru_get(alloc: Global, lru: &mut Lru, key: u64) -> Found
     }
 }
 
-/// Returns the value of a key. The map stays as it is.
+/// Returns the value of a key.
 #[unsafe(no_mangle)]
 pub extern "C" fn lru_peek(alloc: Global, lru: &mut Lru, key: u64) -> Found
     ensures { OnMap (result ≡ found_of None)
@@ -201,7 +201,7 @@ pub extern "C" fn lru_pop_oldest(alloc: Global, lru: &mut Lru) -> Pair
     }
 }
 
-/// Returns the oldest entry. The map stays as it is.
+/// Returns the oldest entry.
 #[unsafe(no_mangle)]
 pub extern "C" fn lru_peek_oldest(alloc: Global, lru: &mut Lru) -> Pair
     ensures { OnMap (result ≡ pair_of None)
@@ -217,7 +217,7 @@ pub extern "C" fn lru_peek_oldest(alloc: Global, lru: &mut Lru) -> Pair
     }
 }
 
-/// Returns the newest entry. The map stays as it is.
+/// Returns the newest entry.
 #[unsafe(no_mangle)]
 pub extern "C" fn lru_peek_newest(alloc: Global, lru: &mut Lru) -> Pair
     ensures { OnMap (result ≡ pair_of None)
@@ -234,7 +234,6 @@ pub extern "C" fn lru_peek_newest(alloc: Global, lru: &mut Lru) -> Pair
 }
 
 /// Copies the newest entries, newest first, until the slice is full or no entry is left. Returns how many it copied.
-/// The map stays as it is.
 #[unsafe(no_mangle)]
 pub extern "C" fn lru_copy_newest(alloc: Global, lru: &mut Lru, entries: &mut [Entry]) -> usize
     ensures { OnMap ((result ≡ 0) × (entries.new ≡ entries.old))

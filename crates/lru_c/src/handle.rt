@@ -12,7 +12,6 @@ use std::ptr::null_mut;
 /// The map of a handle.
 pub type Map = LruMap<u64, u64>;
 
-// A map on the heap, or none: an address, which is null if there is no map.
 #[repr(C)]
 pub(crate) struct Slot {
     start: *mut u8,
@@ -24,21 +23,18 @@ impl Model for Slot {
 }
 
 impl Slot {
-    // Returns a handle without a map.
     fn vacant() -> Slot
         ensures { result.map ≡ None }
     {
         Slot { start: null_mut() }
     }
 
-    // Forgets a handle without a map.
     fn forget(self)
         requires { self.map ≡ None }
     {
         let Slot { start: _ } = self;
     }
 
-    // Returns a handle of the map.
     fn from_raw(map: RawBox<Map, Global>) -> Slot
         ensures { result.map ≡ Some map.value }
     {
@@ -48,7 +44,6 @@ impl Slot {
         }
     }
 
-    // Returns the map of the handle.
     fn into_raw(self) -> Option<RawBox<Map, Global>>
         ensures { option_map (λ map. map.value) result ≡ self.map }
     {
@@ -63,7 +58,6 @@ impl Slot {
         }
     }
 
-    // Takes the map out of the handle.
     #[inline]
     fn take(&mut self, alloc: Global) -> Option<Box<Map>>
         ensures map { option_map (λ map. map.value) result ≡ self.old.map }
@@ -75,7 +69,6 @@ impl Slot {
         }
     }
 
-    // Puts a map into a handle that has none.
     #[inline]
     fn put(&mut self, map: Box<Map>)
         requires { self.old.map ≡ None }
@@ -110,7 +103,6 @@ impl Model for Lru {
 }
 
 impl Lru {
-    /// Takes the map out of the handle.
     #[inline]
     pub fn take(&mut self, alloc: Global) -> Option<Box<Map>>
         ensures map { option_map (λ map. map.value) result ≡ self.old.map }
@@ -120,7 +112,6 @@ impl Lru {
         self.slot.take(alloc)
     }
 
-    /// Puts a map into a handle that has none.
     #[inline]
     pub fn put(&mut self, map: Box<Map>)
         requires none { self.old.map ≡ None }

@@ -19,7 +19,6 @@ impl<T, A: Allocator> Model for RawBox<T, A> {
 }
 
 impl<T: Drop, A: Allocator> RawBox<T, A> {
-    // Forgets the allocator of a box.
     pub(crate) fn from_box(boxed: Box<T, A>) -> RawBox<T, A>
         ensures value { result.value ≡ boxed.value }
         ensures alloc { result.alloc ≡ box_allocator boxed }
@@ -30,7 +29,6 @@ impl<T: Drop, A: Allocator> RawBox<T, A> {
         }
     }
 
-    // Returns the box, if it is given its allocator.
     pub(crate) fn into_box(self, alloc: A) -> Box<T, A>
         requires { self.alloc ≡ alloc }
         ensures value { result.value ≡ self.value }

@@ -8,9 +8,8 @@ ghost use Rattle.std.specs.Prelude.{◌≡◌, ◌≢◌, ◌⊎◌, ℕ, Bool, 
 /// only its own block, also if it fails or the machine stops in the middle of it. After a `sync` that failed, no clause
 /// says what the blocks are, and no call may be made.
 ///
-/// An impl defines the ghost members, and the prover checks that its code does what they say. For most devices
-/// contracts see of a block the block itself, by `ghost seen = { λ block. block };`. They do not tell blocks apart that
-/// `seen` does not.
+/// For most devices contracts see of a block the block itself, by `ghost seen = { λ block. block };`. They do not tell
+/// blocks apart that `seen` does not.
 ///
 /// ```
 /// let calls_left = Cell::new(2);           // the third call fails
@@ -49,8 +48,7 @@ pub trait BlockDevice<B> {
     /// anything. A device that writes a block as a whole defines it as `⊥`.
     ghost IsTorn: { Self.Seen → Type 0 } = { λ _. Unit {0} };
 
-    /// No read has returned anything but the known block. By default this is always so. For a file it is a premise that
-    /// no code can test, and it stands before each fact on what was read.
+    /// No read has returned anything but the known block: for a file a premise that no code can test.
     ghost IsHonest: { Self → Type 0 } = { λ _. Unit {0} };
 
     /// Returns whether the device has a block of this number.

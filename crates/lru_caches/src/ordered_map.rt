@@ -54,8 +54,7 @@ impl<K: Eq + Hash, V, S: KeyHasher<K>> Model for OrderedMap<K, V, S> {
 impl<K: Eq + Hash, V> OrderedMap<K, V, RandomState> {
     /// Makes an empty map with the default hasher.
     ///
-    /// The seeds of that hasher are 1, 2, 3 and 4, so everyone knows its hashes. If strangers choose the keys, call
-    /// `with_hasher` with seeds that nobody can guess. Cost: `O(1)`, and no memory.
+    /// Everyone knows its seeds: if strangers choose the keys, call `with_hasher`. Cost: `O(1)`, and no memory.
     ///
     /// ```
     /// let mut map: OrderedMap<u64, u64> = OrderedMap::new(alloc);
@@ -89,7 +88,7 @@ impl<K: Eq + Hash, V, S: KeyHasher<K>> OrderedMap<K, V, S> {
         }
     }
 
-    /// Returns the number of entries. No two keys are equal. Cost: `O(1)`.
+    /// Returns the number of entries. Cost: `O(1)`.
     ///
     /// ```
     /// assert_eq!(rt; map.len(), 2);
@@ -345,7 +344,6 @@ impl<K: Eq + Hash + Drop, V: Drop, S: KeyHasher<K>> OrderedMap<K, V, S> {
         ensures there { IsSome (lookup (K.eq key) self.old) → IsOk result }
     {
         distinct(&self.map);
-        // One search for a new key.
         let Err((key, value)) = self.map.try_insert(key, value) else {
             return Ok(None);
         };
@@ -389,7 +387,6 @@ impl<K: Eq + Hash + Drop, V: Drop, S: KeyHasher<K>> OrderedMap<K, V, S> {
     }
 }
 
-// Nothing at run time: it shows a proof that no two keys are equal.
 #[inline]
 fn distinct<K: Eq + Hash, V, S: KeyHasher<K>>(map: &LruMap<K, V, Unlimited, S>)
     ensures { IsDistinct K.eq (keys_of map.now.pairs) }

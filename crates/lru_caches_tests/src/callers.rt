@@ -34,7 +34,7 @@ pub fn write_durably<D: BlockDevice<u64>>(
     cache.flush()
 }
 
-/// Writes a value under a key that is there, and returns whether it is. The order stays.
+/// Writes a value under a key that is there, and returns whether it is.
 pub fn overwrite(map: &mut OrderedMap<u64, u64>, key: u64, value: u64) -> bool
     ensures there { result ≡ is_some (lookup (nat_eq key) map.old) }
     ensures written { result ≡ true → map.new ≡ set_value (nat_eq key) map.old value }

@@ -4,18 +4,15 @@ use std::alloc::Global;
 use std::io::Cursor;
 use test_helpers::{Random, all, check};
 
-// How many writes are made.
 const CALLS: u64 = 100_000;
 
-// The number of blocks of the file.
 const BLOCKS: u64 = 10_000;
 
-// A file of blocks that are zero. Out of memory, it lacks blocks.
+// A file of blocks that are zero.
 fn file(alloc: Global) -> Cursor<Vec<u8>> {
     Cursor::new(vec![in alloc; 0u8; 160_000].unwrap_or(Vec::new(alloc)))
 }
 
-// Reads a block, if the device has it and works.
 fn read<D: BlockDevice<[u8; 16], Error = FileError>>(device: &mut D, n: u64) -> Option<[u8; 16]> {
     if device.has(n) && device.is_usable() {
         device.read(n).ok()
@@ -24,7 +21,6 @@ fn read<D: BlockDevice<[u8; 16], Error = FileError>>(device: &mut D, n: u64) -> 
     }
 }
 
-// Writes a block, if the device has it and works.
 fn writes<D: BlockDevice<[u8; 16], Error = FileError>>(
     device: &mut D,
     n: u64,
@@ -33,8 +29,8 @@ fn writes<D: BlockDevice<[u8; 16], Error = FileError>>(
     device.has(n) && device.is_usable() && device.write(n, block).is_ok()
 }
 
-// Writes random blocks to both devices, and reads others. Returns after how many writes these agree with a list. If a
-// file does not contain the list in the end, none do. Of the hashed file only the checksums differ.
+// Returns after how many writes these agree with a list. If a file does not contain the list in the end, none do. Of
+// the hashed file only the checksums differ.
 fn calls_that_agree(alloc: Global) -> u64 {
     let mut plain: FileDevice<_, 16> = FileDevice::new(file(alloc), BLOCKS);
     let mut hashed: HashedFileDevice<_, 16> = HashedFileDevice::new(file(alloc), BLOCKS);
@@ -63,7 +59,6 @@ fn calls_that_agree(alloc: Global) -> u64 {
     }
 }
 
-// Whether a file consists of these blocks.
 fn contains(bytes: &[u8], model: &[[u8; 16]; BLOCKS as usize]) -> bool {
     let mut right = bytes.len() == 160_000;
     for (block, expected) in bytes.chunks(16).zip(model) {

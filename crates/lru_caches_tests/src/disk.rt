@@ -5,7 +5,6 @@ ghost use Rattle.std.proofs.Common.{inl, sym, ap, unwrap_or};
 use lru_caches::BlockDevice;
 use std::cell::Cell;
 
-/// The disk failed.
 #[derive(Clone, Copy, Debug, PartialEq)]
 pub struct DiskError;
 
@@ -27,7 +26,6 @@ pub struct Disk<'a> {
 }
 
 impl<'a> Disk<'a> {
-    /// Makes a disk of these blocks.
     pub fn new(blocks: [u64; 4], dropped: [bool; 4], calls_left: &'a Cell<u64>) -> Self
         ensures usable { IsTrue result.is_usable }
     {
@@ -41,7 +39,7 @@ impl<'a> Disk<'a> {
         }
     }
 
-    // Counts a call, and returns whether the disk works. After the call that fails, nearly 2^64 calls are left.
+    // Counts a call, and returns whether the disk works.
     fn works(&mut self) -> bool
         ensures same { self.new ≡ record self.old { faults = self.new.faults } }
         ensures faults { self.new.faults ≡ self.old.faults ↔ IsTrue result }
@@ -54,7 +52,6 @@ impl<'a> Disk<'a> {
         left > 0
     }
 
-    // Drops some of what is in the volatile cache, and writes the rest.
     fn lose(&mut self)
         ensures same { self.new ≡ record self.old { blocks = self.new.blocks; synced = self.new.synced } }
         ensures blocks { (n : ℕ) → (slice_index self.new.blocks n ≡ slice_index self.old.blocks n)
@@ -69,7 +66,6 @@ impl<'a> Disk<'a> {
         self.synced = self.blocks;
     }
 
-    /// Crashes, and starts again.
     pub fn crash(&mut self)
         ensures left { (n : ℕ) → (slice_index self.new.blocks n ≡ slice_index self.old.blocks n)
             ⊎ (slice_index self.new.blocks n ≡ slice_index self.old.synced n) }

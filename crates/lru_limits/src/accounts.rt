@@ -21,8 +21,8 @@ use std::hash::Hash;
 /// A value with a cost. An unsigned number of up to 64 bits costs itself, a text its bytes, and a vector the number of
 /// its items.
 ///
-/// The cost of a value is read again when its entry is evicted or removed, or the value is replaced. So if the cost
-/// changes in the map, the running total is no longer the sum of the costs.
+/// The cost is read again when the entry is evicted or removed, or the value is replaced. So if the cost changes in the
+/// map, the running total is no longer the sum of the costs.
 ///
 /// ```
 /// struct Page {
@@ -36,12 +36,12 @@ use std::hash::Hash;
 ///         self.bytes
 ///     }
 /// }
+///
+/// assert_eq!(rt; Page { bytes: 4096 }.cost(), 4096);
 /// ```
 pub trait Costed {
-    /// Returns the cost of the value.
     ghost cost: { Self → ℕ };
 
-    /// Returns the cost of the value.
     fn cost(&self) -> u64
         ensures { result ≡ cost self.now };
 }
@@ -91,7 +91,6 @@ impl Costed for usize {
     }
 }
 
-/// A text costs its bytes.
 impl Costed for String {
     ghost cost = { λ text. string_len text };
 
@@ -116,23 +115,20 @@ impl<T> Costed for Vec<T> {
 ///
 /// The total is the sum over the entries of the map after each call, unless somebody writes to the values or to the
 /// limiter through a reference: each callback changes the total as the laws say. The two laws that subtract a cost hold
-/// only if the total is at least that cost. `docs/LIMITERS.md` explains an impl.
+/// only if the total is at least that cost.
 ///
 /// ```
-/// assert_eq!(rt; Summing::<u64, u64, u64>::account(&limiter), 2);
+/// let limiter = ByCost::new(3);
+/// assert_eq!(rt; Summing::<u64, u64, u64>::account(&limiter), 0);
 /// ```
 pub trait Summing<K: Eq + Hash, V, I: LookupKey<K>>: Insertion<K, V, I> {
-    /// Returns the cost of an entry.
     ghost cost_of: { K → V → ℕ };
 
-    /// Returns the running total.
     ghost account: { Self → ℕ };
 
-    /// Returns the cost of an entry.
     fn cost_of(key: &K, value: &V) -> u64
         ensures { result ≡ cost_of key.now value.now };
 
-    /// Returns the running total.
     fn account(&self) -> u64
         ensures { result ≡ account self.now };
 
@@ -140,7 +136,6 @@ pub trait Summing<K: Eq + Hash, V, I: LookupKey<K>>: Insertion<K, V, I> {
     ghost laws: { IsAccount Self.rules Self.offers cost_of account };
 }
 
-// Returns the sum with this cost added, if the cost alone is within the limit and the sum fits.
 #[inline]
 fn sum_with(limit: u64, sum: u64, cost: u64) -> Option<u64>
     ensures { result ≡ (if can_add limit sum cost then Some (sum + cost) else None) }

@@ -7,9 +7,8 @@ use std::hash::Hash;
 
 /// A limiter that stores each entry as it came, and says in advance which it accepts.
 ///
-/// [`crate::Both`] queries two limiters by this trait, before either of them changes. The impl defines `terms`: which
-/// entries it accepts, and the limiter after it stored one. The laws say that the callbacks of [`Insertion`] do the
-/// same. For a limiter that never changes, `never_changes` of `specs/Admissions.antt` defines the terms in one line.
+/// [`crate::Both`] queries two limiters by this trait, before either of them changes. For a limiter that never changes,
+/// `never_changes` of `specs/Admissions.antt` defines the terms in one line.
 ///
 /// ```
 /// let limiter = ByLength::new(0);
@@ -19,7 +18,6 @@ pub trait Admission<K: Eq + Hash, V>: Insertion<K, V, K> {
     /// Which entries are accepted, and the limiter after it stored one.
     ghost terms: { Terms K V Self };
 
-    /// Returns whether `on_insert` accepts this entry.
     fn accepts(&self, length: usize, key: &K, value: &V) -> bool
         ensures { result ≡ terms.accepts self.now length key.now value.now };
 
@@ -27,7 +25,6 @@ pub trait Admission<K: Eq + Hash, V>: Insertion<K, V, K> {
     fn on_stored(&mut self, length: usize, key: &K, value: &V)
         ensures { self.new ≡ terms.on_stored self.old length key.now value.now };
 
-    /// Returns whether `on_replace` accepts the new value of a stored key.
     fn accepts_in_place(&self, length: usize, key: &K, old_value: &V, new_value: &V) -> bool
         ensures { result ≡ terms.accepts_in_place self.now length key.now old_value.now new_value.now };
 

@@ -9,10 +9,9 @@ use std::hash::{BuildHasher, Hash};
 /// A value that names at most one key, up to equality, and hashes as that key does.
 ///
 /// It is implemented for every key itself, and for `&str` if the keys are `String`s: `"a".is_key(&key)` returns whether
-/// the key is the text `a`, so a look-up makes no `String`. An impl of your own says by `names` which key it names,
-/// computes that test in `is_key`, and proves two laws: it names one key up to equality, and it writes to a hasher what
-/// that key writes. A derived `Hash` of a struct with one field writes what the field writes. `docs/LIMITERS.md` shows
-/// two such types.
+/// the key is the text `a`. An impl of your own says by `names` which key it names, computes that test in `is_key`, and
+/// proves two laws: it names one key up to equality, and it writes to a hasher what that key writes. A derived `Hash`
+/// of a struct with one field writes what the field writes.
 ///
 /// ```
 /// let key = String::from_str(rt.alloc(), "a")?;
@@ -20,7 +19,6 @@ use std::hash::{BuildHasher, Hash};
 /// assert!(rt; !"b".is_key(&key));
 /// ```
 pub trait LookupKey<K: Eq + Hash>: Hash {
-    /// Returns whether the value names this key.
     ghost names: { Self → K → Bool };
 
     /// Returns whether the value names this key.
@@ -31,7 +29,6 @@ pub trait LookupKey<K: Eq + Hash>: Hash {
     ghost laws: { IsLookup names K.eq Self.hash_input K.hash_input };
 }
 
-/// A key names the keys that are equal to it.
 impl<K: Eq + Hash> LookupKey<K> for K {
     ghost names = { K.eq };
 
@@ -46,7 +43,6 @@ impl<K: Eq + Hash> LookupKey<K> for K {
     }
 }
 
-/// A text names the `String` of its bytes.
 impl LookupKey<String> for &str {
     ghost names = { λ q k. names_text q.now k };
 
@@ -64,10 +60,8 @@ impl LookupKey<String> for &str {
 /// assert_eq!(rt; KeyHasher::<String>::hash_named(&state, &"a"), state.hash_one(&key));
 /// ```
 pub trait KeyHasher<K: Eq + Hash>: BuildHasher {
-    /// Returns the hash of a key.
     ghost hash_of: { Self → K → ℕ };
 
-    /// Returns the hash of the key that the value names.
     fn hash_named<Q: LookupKey<K>>(&self, key: &Q) -> u64
         ensures { (k : K) → IsTrue (Q.names key.now k) → result ≡ hash_of self.now k };
 
@@ -79,7 +73,6 @@ pub trait KeyHasher<K: Eq + Hash>: BuildHasher {
         hash_of s k ≡ hash_by K.hash_input Self.BuildHasher Self.Hasher.Hasher s k };
 }
 
-/// Hashes with the hasher that is built.
 impl<K: Eq + Hash, S: BuildHasher> KeyHasher<K> for S {
     ghost hash_of = { hash_by K.hash_input S.BuildHasher S.Hasher.Hasher };
 

@@ -1,7 +1,7 @@
 //! What a limiter is: the callbacks of a map, and their laws.
 //!
 //! A `ghost` member of a trait is a term that only the prover sees: each impl defines its own, its code is proved to
-//! compute it, and the contracts of the map cite it. `docs/LIMITERS.md` explains an impl.
+//! compute it, and the contracts of the map cite it.
 ghost use Rattle.std.specs.Prelude.{◌≡◌, IfOk, OnErr};
 ghost use Rattle.lru_limits.specs.Laws.{IsInsertion};
 ghost use Rattle.lru_limits.specs.Rules.{Rules, Offers};
@@ -14,13 +14,11 @@ use std::hash::Hash;
 /// Decides when a map is over its limit and whether its table may grow, and is notified of each entry that is evicted
 /// or removed.
 ///
-/// Each callback accepts every state, length, key and value. Its result and its effect are a function of these: the
-/// impl defines the four functions as `rules`, and the prover checks that the code computes them. So whoever knows the
-/// `rules` of a limiter knows what a map does under it. For a limiter that never changes, `plain` of
-/// `specs/Stores.antt` defines them in one line. The rules of this crate's limiters are in `specs/Limiters.antt` and
-/// `specs/Budget.antt`. `docs/LIMITERS.md` shows how to write a limiter.
+/// Each callback accepts every state, length, key and value. Its result and its effect are a function of these, which
+/// the impl defines as `rules`.
 ///
 /// ```
+/// let limiter = ByLength::new(3);
 /// assert!(rt; !Limiter::<u64, u64>::is_over_the_limit(&limiter, 3));
 /// assert!(rt; Limiter::<u64, u64>::is_over_the_limit(&limiter, 4));
 /// ```
@@ -28,7 +26,6 @@ pub trait Limiter<K, V> {
     /// The type of the links of the map, which limits the number of its entries.
     type LinkType: LinkType;
 
-    /// What the callbacks of this trait return and leave.
     ghost rules: { Rules K V Self };
 
     /// Returns whether a map of `length` entries is over the limit, so that its oldest entry is evicted.
@@ -76,15 +73,14 @@ pub trait Limiter<K, V> {
 /// `I` is the key itself, or something that names the key and becomes it only if it is stored, as a `&str` that becomes
 /// a `String`. The impl defines `offers`: what may be stored of an offered entry, when an offer may run out of memory,
 /// and what a replacement does to the key and the values. For a limiter that stores entries as they come, use
-/// [`crate::Storing`], or define the offers by `offers_if` of `specs/Admissions.antt` in one line, and the laws by
-/// `offers_if-lawful`.
+/// [`crate::Storing`].
 ///
 /// ```
+/// let mut limiter = ByCost::new(3);
 /// assert!(rt; limiter.on_insert(alloc, 0, 1u64, 2u64)?.is_some());
 /// assert!(rt; limiter.on_insert(alloc, 1, 2u64, 4u64)?.is_none());
 /// ```
 pub trait Insertion<K: Eq + Hash, V, I: LookupKey<K>>: Limiter<K, V> {
-    /// What the callbacks of this trait may leave.
     ghost offers: { Offers K V Self I };
 
     /// Called by an insert with a new key and its value, before anything is evicted for it from a map of `length`

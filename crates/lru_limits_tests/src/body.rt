@@ -3,7 +3,6 @@ ghost use Rattle.lru_limits.specs.Bytes.{both_own};
 
 use lru_limits::OwnedBytes;
 
-/// A body with its name.
 #[derive(Drop)]
 pub struct Body {
     pub name: String,

@@ -13,13 +13,11 @@ fn cost_of_both<V: Costed>(a: &V, b: &V) -> u64
     a.cost().saturating_add(b.cost())
 }
 
-/// Whether the value names the key and hashes as it does.
 fn names<K: Eq + Hash, Q: LookupKey<K>>(query: &Q, key: &K) -> bool {
     let state = RandomState::default();
     query.is_key(key) && state.hash_one(query) == state.hash_one(key)
 }
 
-/// Offers a pair, and removes it if it is stored, which leaves the running total as it was.
 fn offer_and_remove<K: Eq + Hash + Drop, V: Drop, I: LookupKey<K>, L: Summing<K, V, I>>(
     limiter: &mut L,
     alloc: Global,

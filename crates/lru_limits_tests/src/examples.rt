@@ -1,13 +1,13 @@
-//! The examples of the docs of public items.
+//! Written by `docs/examples.py` from the examples in the doc comments. Do not change it by hand.
 use lru_limits::{
-    Budgeted, ByBytes, ByCost, ByLength, ByMemoryUsage, ByWeight, Costed, Insertion, KeyHasher,
-    Limiter, LookupKey, OwnedBytes, RandomState, Storing, Summing, Unlimited, UnlimitedCompact,
+    Admission, Both, Budgeted, ByBytes, ByCost, ByLength, ByMemoryUsage, ByWeight, Costed,
+    Insertion, KeyHasher, Limiter, LookupKey, OwnedBytes, RandomState, Storing, Summing, Unlimited,
+    UnlimitedCompact,
 };
 use std::hash::{BuildHasher, Hash, Hasher};
 use std::test::Fail;
 use test_helpers::{all, check};
 
-/// A page whose cost is its bytes.
 struct Page {
     bytes: u64,
 }
@@ -21,86 +21,172 @@ impl Costed for Page {
 }
 
 #[test]
-fn of_limiters(rt: HostRuntime) {
-    let limiter = ByLength::new(3);
-    check!(rt; all!(
-        limiter.max_length() == 3,
-        !Limiter::<u64, u64>::is_over_the_limit(&limiter, 3),
-        Limiter::<u64, u64>::is_over_the_limit(&limiter, 4)
-    ));
-    let limiter = Storing(ByLength::new(3));
-    check!(rt; Limiter::<u64, u64>::is_over_the_limit(&limiter, 4));
-    let mut limiter = ByMemoryUsage::new(152);
-    check!(rt; all!(
-        limiter.max_memory_usage() == 152,
-        Limiter::<u64, u64>::on_grow(&mut limiter, 152),
-        !Limiter::<u64, u64>::on_grow(&mut limiter, 153),
-        !Limiter::<u64, u64>::is_over_the_limit(&Unlimited, usize::MAX),
-        !Limiter::<u64, u64>::is_over_the_limit(&UnlimitedCompact, usize::MAX)
-    ));
-}
-
-#[test]
-fn of_running_totals(rt: HostRuntime) -> Result<(), Fail> {
-    let alloc = rt.alloc();
-    let mut limiter = ByCost::new(3);
-    check!(rt; all!(
-        limiter.limit() == 3,
-        limiter.on_insert(alloc, 0, 1u64, 2u64)?.is_some(),
-        limiter.on_insert(alloc, 1, 2u64, 4u64)?.is_none(),
-        limiter.cost() == 2,
-        Summing::<u64, u64, u64>::account(&limiter) == 2
-    ));
-    let lower = limiter.with_limit(1);
-    check!(rt; (lower.limit(), lower.cost()) == (1, 2));
-    let mut limiter: ByWeight<16> = ByWeight::new(100);
-    check!(rt; all!(
-        limiter.limit() == 100,
-        limiter.on_insert(alloc, 0, 1u64, 2u64)?.is_some(),
-        limiter.on_insert(alloc, 1, 80u64, 5u64)?.is_none(),
-        limiter.cost() == 19
-    ));
-    let lower = limiter.with_limit(10);
-    check!(rt; (lower.limit(), lower.cost()) == (10, 19));
+fn of_accounts_budgeted(rt: HostRuntime) {
     let mut limiter = <ByCost as Budgeted<u64, u64>>::with_budget(3);
     Budgeted::<u64, u64>::set_budget(&mut limiter, 5);
     check!(rt; Budgeted::<u64, u64>::budget(&limiter) == 5);
-    Ok(())
 }
 
 #[test]
-fn of_bytes(rt: HostRuntime) -> Result<(), Fail> {
+fn of_accounts_by_bytes(rt: HostRuntime) -> Result<(), Fail> {
     let alloc = rt.alloc();
     let mut limiter = ByBytes::new(200);
+    let held = Limiter::<u64, Vec<u8>>::on_grow(&mut limiter, 152);
     let block: Vec<u8> = Vec::with_capacity(alloc, 17)?;
-    check!(rt; (block.owned_bytes(), 7u64.owned_bytes()) == (48, 0));
-    check!(rt; all!(
-        Limiter::<u64, Vec<u8>>::on_grow(&mut limiter, 152),
-        limiter.on_insert(alloc, 0, 1u64, block)?.is_some(),
-        !Limiter::<u64, Vec<u8>>::on_grow(&mut limiter, 153),
-        (limiter.owned(), limiter.table()) == (48, 152),
-        limiter.owned() == 48,
-        limiter.table() == 152,
-        limiter.limit() == 200,
-        limiter.with_limit(300).limit() == 300,
-        limiter.with_table(0).table() == 0
-    ));
+    let held = held
+        & all!(
+            limiter.on_insert(alloc, 0, 1u64, block)?.is_some(),
+            !Limiter::<u64, Vec<u8>>::on_grow(&mut limiter, 153),
+            (limiter.owned(), limiter.table()) == (48, 152),
+            limiter.with_limit(300).limit() == 300,
+            limiter.with_table(0).table() == 0,
+            limiter.limit() == 200,
+            limiter.owned() == 48,
+            limiter.table() == 152
+        );
+    check!(rt; held);
     Ok(())
 }
 
 #[test]
-fn of_keys_costs_and_hashes(rt: HostRuntime) -> Result<(), Fail> {
-    let key = String::from_str(rt.alloc(), "a")?;
+fn of_accounts_by_cost(rt: HostRuntime) -> Result<(), Fail> {
+    let alloc = rt.alloc();
+    let mut limiter = ByCost::new(3);
+    let held = all!(
+        limiter.on_insert(alloc, 0, 1u64, 2u64)?.is_some(),
+        limiter.on_insert(alloc, 1, 2u64, 4u64)?.is_none(),
+        limiter.cost() == 2
+    );
+    let lower = limiter.with_limit(1);
+    let held = held
+        & all!(
+            (lower.limit(), lower.cost()) == (1, 2),
+            limiter.limit() == 3
+        );
+    check!(rt; held);
+    Ok(())
+}
+
+#[test]
+fn of_accounts_by_weight(rt: HostRuntime) -> Result<(), Fail> {
+    let alloc = rt.alloc();
+    let mut limiter: ByWeight<16> = ByWeight::new(100);
+    let held = all!(
+        limiter.on_insert(alloc, 0, 1u64, 2u64)?.is_some(),
+        limiter.on_insert(alloc, 1, 80u64, 5u64)?.is_none(),
+        limiter.cost() == 19
+    );
+    let lower = limiter.with_limit(10);
+    let held = held
+        & all!(
+            (lower.limit(), lower.cost()) == (10, 19),
+            limiter.limit() == 100
+        );
+    check!(rt; held);
+    Ok(())
+}
+
+#[test]
+fn of_accounts_owned_bytes(rt: HostRuntime) -> Result<(), Fail> {
+    let alloc = rt.alloc();
+    let block: Vec<u8> = Vec::with_capacity(alloc, 17)?;
+    check!(rt; (block.owned_bytes(), 7u64.owned_bytes()) == (48, 0));
+    Ok(())
+}
+
+#[test]
+fn of_accounts(rt: HostRuntime) {
+    let held = Page { bytes: 4096 }.cost() == 4096;
+    let limiter = ByCost::new(3);
+    let held = held & all!(Summing::<u64, u64, u64>::account(&limiter) == 0);
+    check!(rt; held);
+}
+
+#[test]
+fn of_admission(rt: HostRuntime) {
+    let limiter = ByLength::new(0);
+    check!(rt; !limiter.accepts(0, &1u64, &2u64) && limiter.accepts_in_place(1, &1u64, &2u64, &3u64));
+}
+
+#[test]
+fn of_hasher(rt: HostRuntime) -> Result<(), Fail> {
+    let alloc = rt.alloc();
+    let key = String::from_str(alloc, "a")?;
     let state = RandomState::with_seeds([5, 6, 7, 8]);
-    check!(rt; all!(
-        "a".is_key(&key),
-        !"b".is_key(&key),
-        Page { bytes: 4096 }.cost() == 4096,
-        state.hash_one(&"a") == state.hash_one(&key),
-        KeyHasher::<String>::hash_named(&state, &"a") == state.hash_one(&key)
-    ));
+    let held = state.hash_one(&"a") == state.hash_one(&key);
     let mut hasher = state.build_hasher();
     key.hash(&mut hasher);
-    check!(rt; hasher.finish() == state.hash_one(&key));
+    let held = held & all!(hasher.finish() == state.hash_one(&key));
+    check!(rt; held);
     Ok(())
+}
+
+#[test]
+fn of_keys(rt: HostRuntime) -> Result<(), Fail> {
+    let alloc = rt.alloc();
+    let state = RandomState::with_seeds([5, 6, 7, 8]);
+    let key = String::from_str(rt.alloc(), "a")?;
+    let held = all!(
+        "a".is_key(&key),
+        !"b".is_key(&key),
+        KeyHasher::<String>::hash_named(&state, &"a") == state.hash_one(&key)
+    );
+    check!(rt; held);
+    Ok(())
+}
+
+#[test]
+fn of_limiter(rt: HostRuntime) {
+    let limiter = ByLength::new(3);
+    let held = all!(
+        !Limiter::<u64, u64>::is_over_the_limit(&limiter, 3),
+        Limiter::<u64, u64>::is_over_the_limit(&limiter, 4)
+    );
+    check!(rt; held);
+}
+
+#[test]
+fn of_limiters_both(rt: HostRuntime) -> Result<(), Fail> {
+    let alloc = rt.alloc();
+    let mut limiter = Both(ByCost::new(9), ByLength::new(3));
+    let held = all!(
+        Limiter::<u64, u64>::is_over_the_limit(&limiter, 4),
+        limiter.on_insert(alloc, 0, 1u64, 10u64)?.is_none() && limiter.0.cost() == 0,
+        limiter.on_insert(alloc, 0, 1u64, 8u64)?.is_some() && limiter.0.cost() == 8
+    );
+    check!(rt; held);
+    Ok(())
+}
+
+#[test]
+fn of_limiters_by_length(rt: HostRuntime) {
+    let limiter = ByLength::new(3);
+    check!(rt; limiter.max_length() == 3);
+}
+
+#[test]
+fn of_limiters_by_memory_usage(rt: HostRuntime) {
+    let mut limiter = ByMemoryUsage::new(152);
+    let held = all!(
+        Limiter::<u64, u64>::on_grow(&mut limiter, 152),
+        !Limiter::<u64, u64>::on_grow(&mut limiter, 153),
+        limiter.max_memory_usage() == 152
+    );
+    check!(rt; held);
+}
+
+#[test]
+fn of_limiters_storing(rt: HostRuntime) {
+    let limiter = Storing(ByLength::new(3));
+    check!(rt; Limiter::<u64, u64>::is_over_the_limit(&limiter, 4));
+}
+
+#[test]
+fn of_limiters_unlimited(rt: HostRuntime) {
+    check!(rt; !Limiter::<u64, u64>::is_over_the_limit(&Unlimited, usize::MAX));
+}
+
+#[test]
+fn of_limiters_unlimited_compact(rt: HostRuntime) {
+    check!(rt; !Limiter::<u64, u64>::is_over_the_limit(&UnlimitedCompact, usize::MAX));
 }

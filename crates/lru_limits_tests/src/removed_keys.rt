@@ -1,4 +1,4 @@
-//! A limiter that contains a vector, which clauses see as a list. `docs/LIMITERS.md` explains limiters.
+//! A limiter that contains a vector, which clauses see as a list.
 ghost use Rattle.std.specs.Prelude.{◌≡◌, ◌∷◌, [], ◌++◌, IfOk, true, false, length, nat_lt, if◌then◌else◌};
 ghost use Rattle.lru_limits.specs.Stores.{answers};
 
@@ -8,7 +8,6 @@ use std::marker::Model;
 
 const MOST: usize = 3;
 
-// Keeps the keys of the first three pairs that are removed. A clause sees it as these keys.
 #[derive(Drop)]
 struct RemovedKeys {
     keys: Vec<u64>,
@@ -50,7 +49,6 @@ impl<V> Limiter<u64, V> for RemovedKeys {
 
     fn on_removed(&mut self, key: &mut u64, _value: &mut V) {
         if self.keys.len() < MOST {
-            // The vector has the capacity for it, so the push cannot fail.
             let has_room = self.keys.push(*key).is_ok();
             prove!(has_room);
         }

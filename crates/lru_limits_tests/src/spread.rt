@@ -8,8 +8,6 @@ use test_helpers::{Random, check};
 
 const SEEDS: [[u64; 4]; 2] = [[1, 2, 3, 4], [11, 22, 33, 44]];
 
-// How many keys each group and each tag has. A search begins at the group of the low bits of the hash. The top 7 bits
-// are the tag.
 #[derive(Drop)]
 struct Counts {
     state: RandomState,
@@ -28,7 +26,6 @@ impl Counts {
         }
     }
 
-    // Counts a key of a table with this number of groups, a power of two.
     fn add(&mut self, key: u64, groups: usize) {
         let hash = self.state.hash_one(key);
         if let Some(n) = self
@@ -91,7 +88,6 @@ fn are_strides_even(words: [u64; 4], stride: u64) -> bool {
     counts.are_even(1024)
 }
 
-// A word with none, one and two of its bits turned: 2,081 keys in 4,096 buckets.
 fn are_turned_bits_even(words: [u64; 4], base: u64) -> bool {
     let mut counts = Counts::new(words);
     counts.add(base, 256);
@@ -105,7 +101,6 @@ fn are_turned_bits_even(words: [u64; 4], base: u64) -> bool {
     counts.are_even(256)
 }
 
-// Texts of zeros of each length have different hashes, and so has one text under seeds that differ in one word.
 fn are_different() -> bool {
     let zeros = [0u8; 20];
     let mut hashes = [0u64; 25];

@@ -87,7 +87,9 @@ pub enum GetOrInsertError<E> {
 /// shrinks have rehashed.
 ///
 /// ```
-/// assert_eq!(rt; map.move_report(), MoveReport { moved: 0, placed: 3, shrunk: 0 });
+/// let mut map: LruMap<u64, u64> = LruMap::with_limiter(alloc, ByLength::new(3));
+/// assert!(rt; map.insert(1, 10)?);
+/// assert_eq!(rt; map.move_report(), MoveReport { moved: 0, placed: 1, shrunk: 0 });
 /// ```
 #[derive(Clone, Copy, Debug, PartialEq, Eq)]
 pub struct MoveReport {

@@ -1,5 +1,5 @@
 //! Tests of `lru_replay` through its public calls: what no contract says, which is what a run does when it runs out of
-//! memory, and the printed texts. The examples of the documents are tested here too.
+//! memory, and the printed texts.
 //!
 //! The program `rows` has the worked rows as data, with readers and writers that fail, and random calls.
 #![tactic(auto)]

@@ -10,7 +10,6 @@ use std::alloc::{AllocError, Global};
 use std::test::Fail;
 use test_helpers::{Random, check};
 
-/// Counts the misses of a trace in a new map with this maximum length.
 fn misses_on_map(alloc: Global, texts: &[String], length: u32) -> Result<u64, AllocError>
     requires { length ≤ 939524096 }
     ensures { IfOk result (λ count. count ≡ misses string_eq length [] texts.now) }
@@ -20,7 +19,6 @@ fn misses_on_map(alloc: Global, texts: &[String], length: u32) -> Result<u64, Al
     read_through(&mut map, texts, &|_| 0)
 }
 
-/// Makes a reference to a text, for the map and for the curve. Out of memory, one of them lacks it.
 fn refer(alloc: Global, texts: &mut Vec<String>, curve: &mut Curve, key: u64) {
     if curve.references() == u64::MAX {
         return;
@@ -31,7 +29,6 @@ fn refer(alloc: Global, texts: &mut Vec<String>, curve: &mut Curve, key: u64) {
     }
 }
 
-/// Whether a map of this length, up to 999, misses as often as the curve says.
 fn agrees(alloc: Global, curve: &Curve, texts: &[String], length: u32) -> bool {
     length <= 999 && misses_on_map(alloc, texts, length) == Ok(curve.misses(length as usize))
 }

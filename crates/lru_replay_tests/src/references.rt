@@ -46,7 +46,6 @@ pub fn read_through<F: Fn(&String) -> u64>(
 {
     programs_make_references::<String, u64, RandomState>();
     references_keep_the_newest::<String, u64, RandomState>();
-    // Nothing at run time: it shows the proof that no two keys are equal.
     let _len = map.len();
     let mut count = 0u64;
     for text in texts {

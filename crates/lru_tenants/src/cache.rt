@@ -1,4 +1,4 @@
-//! `TenantCache`. A contract sees a cache as its open tenants, each with its map.
+//! `TenantCache`.
 ghost use Rattle.std.specs.Prelude.{◌≡◌, ◌+◌, [], length, Ok, None};
 ghost use Rattle.std.specs.Result.{OnErr};
 ghost use Rattle.std.specs.List.{IsDistinct};
@@ -50,7 +50,6 @@ pub struct TenantCache<
     tenants: HashMap<N, LruMap<K, V, L, S>, S, Global>,
     hasher: S,
     entry_bytes: usize,
-    // The sum of the budgets of all tenants, and what it is at most.
     budgets: u128,
     total_limit: Option<u64>,
     alloc: Global,
@@ -73,7 +72,6 @@ impl<N: Eq + Hash, K: Eq + Hash, V, L: Budgeted<K, V>, S: KeyHasher<K> + Copy> M
     ghost invariant = { λ c. Holds K.eq L.cost_of L.account L.budget_of c.tenants c.hasher c.budgets c.total_limit };
 }
 
-// Not derived, because each crate that drops a cache would then prove the drop of each field again.
 impl<
     N: Eq + Hash + Drop,
     K: Eq + Hash + Drop,
@@ -97,9 +95,7 @@ impl<
 impl<N: Eq + Hash, K: Eq + Hash + Drop, V: Costed + Drop> TenantCache<N, K, V> {
     /// Makes a cache without tenants and without a total limit, whose entries cost what their values cost.
     ///
-    /// The hashers of names and of all maps have these seeds, and each map counts `entry_bytes` bytes an entry, as
-    /// `LruMap::new` does. If strangers choose names or keys, take seeds that nobody can guess. Cost: `O(1)`, and no
-    /// memory.
+    /// If strangers choose names or keys, take seeds that nobody can guess. Cost: `O(1)`, and no memory.
     ///
     /// ```
     /// let mut cache: TenantCache<u64, u64, u64> = TenantCache::new(alloc, [1, 2, 3, 4], 32);
@@ -123,8 +119,8 @@ impl<N: Eq + Hash, K: Eq + Hash, V, L: Budgeted<K, V>, S: KeyHasher<K> + Copy> T
     /// Makes a cache without tenants and without a total limit, under any limiter with a budget, with this hasher of
     /// names and keys.
     ///
-    /// If strangers choose names or keys, take std's `RandomState::new(&rt)?`, whose hashes nobody can guess. Each map
-    /// counts `entry_bytes` bytes an entry, as `LruMap::with_hasher` does. Cost: `O(1)`, and no memory.
+    /// If strangers choose names or keys, take std's `RandomState::new(&rt)?`, whose hashes nobody can guess. Cost:
+    /// `O(1)`, and no memory.
     ///
     /// ```
     /// let mut weighed: TenantCache<u64, u64, u64, ByWeight<16>, _> =
@@ -192,8 +188,8 @@ impl<
     ///
     /// # Errors
     ///
-    /// `AlreadyOpen`; `OverTotal`: the sum of all budgets would be above the total limit; or `Memory`: out of
-    /// memory for one tenant more. An error changes nothing.
+    /// `AlreadyOpen`; `OverTotal`: the sum of all budgets would be above the total limit; or `Memory`: out of memory
+    /// for one tenant more.
     pub fn open(&mut self, name: N, budget: u64) -> Result<(), TenantError>
         ensures opens { On N.eq name (Opens (is_over L.budget_of (N.eq name) budget self.old)
             (fresh L.made (L.LinkType.number L.LinkType.MAX) self.old budget)) self.old result self.new }
@@ -204,7 +200,6 @@ impl<
         if self.tenants.contains_key(&name) {
             return Err(TenantError::AlreadyOpen);
         }
-        // Fewer than 2^63 budgets of a u64 add up to less than 2^127.
         let _len = self.tenants.len();
         let sum = self.budgets + budget as u128;
         if is_above(self.total_limit, sum) {
@@ -220,7 +215,6 @@ impl<
         }
     }
 
-    // The map with which a tenant opens.
     fn fresh(&self, budget: u64) -> LruMap<K, V, L, S>
         ensures map { result ≡ fresh L.made (L.LinkType.number L.LinkType.MAX) self.now budget }
         ensures tenant { IsTenant K.eq L.cost_of L.account L.budget_of result }
@@ -233,9 +227,8 @@ impl<
     /// Inserts a key with a value, as the newest entry of the tenant. Returns whether the key is there then.
     ///
     /// It is an `insert` into the map of the tenant. `ByCost` and `ByWeight` reject an entry that alone costs more than
-    /// the budget, or that would take the tenant's total past `u64::MAX`. Otherwise the tenant's oldest entries are
-    /// evicted until the total is within the budget. If the key is there and the new value is rejected, its entry is
-    /// removed.
+    /// the budget, or that would take the tenant's total past `u64::MAX`; if the key is there, its entry is removed
+    /// then. Otherwise the tenant's oldest entries are evicted until the total is within the budget.
     ///
     /// ```
     /// assert_eq!(rt; cache.put(&1, 8, 1), Ok(true));
@@ -257,7 +250,7 @@ impl<
         self.put_with(name, key, value, &mut |_, _| {})
     }
 
-    /// Removes a key of a tenant. Returns its value. The tenant's other entries keep their order.
+    /// Removes a key of a tenant. Returns its value.
     ///
     /// ```
     /// assert_eq!(rt; (cache.remove(&1, &7), cache.remove(&1, &7)), (Ok(Some(2)), Ok(None)));

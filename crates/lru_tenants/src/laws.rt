@@ -12,7 +12,7 @@ use std::hash::Hash;
 
 /// In any list of calls of any kind, for names, keys and values of any types, each call finds of its tenant what the
 /// last call of that tenant left, whatever calls of others come between (`own`). If each call names another tenant, a
-/// tenant's map stays as it is (`others`). `run_tenants` is one instance.
+/// tenant's map stays as it is (`others`).
 ///
 /// The premise: each call leaves every tenant but the one that it names, as each clause with `On` says.
 ///
@@ -49,7 +49,6 @@ pub fn costs_are_within_the_total_limit<
     ensures { IfSome cache.now.total_limit
         (λ limit. sum_by (λ map. L.account map.limiter) (values_of cache.now.tenants) ≤ limit) }
 {
-    // Nothing at run time: it shows the proof what holds of the tenants.
     let _len = cache.len();
     let _sum = cache.total_budget();
 }

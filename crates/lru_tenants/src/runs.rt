@@ -31,7 +31,7 @@ use std::hash::Hash;
 ///
 /// # Errors
 ///
-/// `Err` says that there was no memory for the answers. No call was made then.
+/// `Err` says that there was no memory for the answers.
 pub fn run_tenants<
     N: Copy + Eq + Hash + Drop,
     K: Copy + Eq + Hash + Drop,
@@ -43,7 +43,6 @@ pub fn run_tenants<
     cache: &mut TenantCache<N, K, V, L, S>,
     calls: Vec<TenantCall<N, K, V>>,
 ) -> Result<Vec<TenantAnswer<V>>, AllocError>
-    // Each tenant's own calls and answers are a run from what it was before, and its cost stays within its budget.
     ensures own { IfOk result (λ answers. (name : N) →
         IsOwnRun L.rules L.offers L.cost_of L.account L.budget_of K.eq S.hash_of
         (fresh L.made (L.LinkType.number L.LinkType.MAX) cache.old) cache.old.total_limit (λ n. N.eq n name)
@@ -53,13 +52,11 @@ pub fn run_tenants<
         (λ limit. sum_by (λ map. L.account map.limiter) (values_of cache.new.tenants) ≤ limit)) }
     ensures unmade { OnErr result (cache.new ≡ cache.old) }
 
-    // The calls change tenants alone.
     ensures hasher { cache.new.hasher ≡ cache.old.hasher }
     ensures entry_bytes { cache.new.entry_bytes ≡ cache.old.entry_bytes }
     ensures total_limit { cache.new.total_limit ≡ cache.old.total_limit }
 {
     each_tenant_has_its_own_run::<N, K, V, L, S>();
-    // Nothing at run time: it shows the proof what holds of the tenants.
     let _len = cache.len();
     let mut answers = Vec::with_capacity(alloc, calls.len())?;
     for call in calls {
@@ -69,7 +66,6 @@ pub fn run_tenants<
     Ok(answers)
 }
 
-/// Carries out a call.
 fn make_tenant_call<
     N: Copy + Eq + Hash + Drop,
     K: Copy + Eq + Hash + Drop,
@@ -83,12 +79,10 @@ fn make_tenant_call<
     ensures tenants { AreTenants K.eq L.cost_of L.account L.budget_of cache.new }
 {
     let answer = answer_to(cache, call);
-    // Nothing at run time: it shows the proof what holds of the tenants.
     let _len = cache.len();
     answer
 }
 
-/// Returns the answer to a call.
 fn answer_to<
     N: Copy + Eq + Hash + Drop,
     K: Copy + Eq + Hash + Drop,
@@ -109,7 +103,6 @@ fn answer_to<
     }
 }
 
-/// Returns a tenant's value of a key, and makes its entry the newest.
 fn get<N: Eq + Hash, K: Eq + Hash, V: Copy, L: Budgeted<K, V>, S: KeyHasher<K> + Copy>(
     cache: &mut TenantCache<N, K, V, L, S>,
     name: &N,

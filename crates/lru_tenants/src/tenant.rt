@@ -1,5 +1,4 @@
-//! What calls do to the map of a tenant. Each keeps what holds of it: the running total is the sum of the costs, and
-//! within the budget.
+//! What calls do to the map of a tenant. Each keeps the running total the sum of the costs, and within the budget.
 ghost use Rattle.std.specs.Prelude.{◌≡◌, true, false, List, length, reverse, Some, None, option_map, Ok, IfOk};
 ghost use Rattle.std.specs.Option.{option_copied};
 ghost use Rattle.lru_model.specs.Calls.{Remove, cleared};
@@ -16,8 +15,6 @@ use schnellru::{Inserted, KeyHasher, LookupKey, LruMap, laws};
 use std::alloc::AllocError;
 use std::hash::Hash;
 
-// An insert into the map of a tenant, whose budget stays. The callback gets the entries that are evicted or removed,
-// and the new one if it could not be stored.
 #[tactic(auto, using(lru_model::proofs::CallbackLemmas::may_take_always))]
 pub(crate) fn insert<
     K: Eq + Hash + Drop,
@@ -42,7 +39,6 @@ pub(crate) fn insert<
     map.insert_with(key, value, sink)
 }
 
-// An insert that returns the value that the map does not keep, a rejected one too.
 #[tactic(auto, using(lru_model::proofs::CallbackLemmas::may_take_always))]
 pub(crate) fn insert_full<
     K: Eq + Hash + Drop,
@@ -75,7 +71,6 @@ pub(crate) fn insert_full<
     map.insert_full(key, value, sink)
 }
 
-// Whether the limiter rejects an entry of a new key. The key is looked up only if it does.
 fn rejects<K: Eq + Hash, V, L: Budgeted<K, V>, S: KeyHasher<K>>(
     map: &LruMap<K, V, L, S>,
     key: &K,
@@ -86,7 +81,6 @@ fn rejects<K: Eq + Hash, V, L: Budgeted<K, V>, S: KeyHasher<K>>(
     !map.limiter().has_room_for(key, value) && !map.contains(key)
 }
 
-// A get that inserts the key if it is not there.
 pub(crate) fn get_or_insert<
     K: Eq + Hash + Drop,
     V: Drop,
@@ -105,7 +99,6 @@ pub(crate) fn get_or_insert<
     map.ensure_newest(key, make)
 }
 
-// The value of the newest pair.
 pub(crate) fn newest<K: Eq + Hash, V, L: Budgeted<K, V>, S: KeyHasher<K>>(
     map: &LruMap<K, V, L, S>,
 ) -> Option<&V>
@@ -117,7 +110,6 @@ pub(crate) fn newest<K: Eq + Hash, V, L: Budgeted<K, V>, S: KeyHasher<K>>(
     }
 }
 
-// A removal of a key.
 pub(crate) fn remove<
     K: Eq + Hash + Drop,
     V: Drop,
@@ -134,12 +126,10 @@ pub(crate) fn remove<
     laws::calls_keep_sums::<K, V, K, L, S>();
     laws::calls_keep_the_budget::<K, V, L, S>();
     let value = map.remove(key);
-    // Nothing at run time: it shows the proof what holds of the map.
     let _len = map.len();
     value
 }
 
-// A clear.
 pub(crate) fn clear<K: Eq + Hash + Drop, V: Drop, L: Budgeted<K, V>, S: KeyHasher<K>>(
     map: &mut LruMap<K, V, L, S>,
 )
@@ -151,11 +141,9 @@ pub(crate) fn clear<K: Eq + Hash + Drop, V: Drop, L: Budgeted<K, V>, S: KeyHashe
     laws::calls_keep_sums::<K, V, K, L, S>();
     laws::calls_keep_the_budget::<K, V, L, S>();
     map.clear();
-    // Nothing at run time: it shows the proof what holds of the map.
     let _len = map.len();
 }
 
-// Sets the budget. Passes the entries that are evicted for it to the callback.
 #[tactic(auto, using(lru_model::proofs::CallbackLemmas::may_take_always))]
 pub(crate) fn set_budget<
     K: Eq + Hash + Drop,
@@ -179,7 +167,6 @@ pub(crate) fn set_budget<
     map.trim_with(sink);
 }
 
-// Removes all pairs, oldest first, and passes each to the callback. Returns how many these were.
 pub(crate) fn empty<K: Eq + Hash, V, L: Budgeted<K, V>, S: KeyHasher<K>, F: FnMut(K, V)>(
     map: &mut LruMap<K, V, L, S>,
     sink: &mut F,

@@ -6,10 +6,8 @@ use test_helpers::{all, check};
 
 type Cache = TenantCache<u64, u64, u64, ByWeight<2>>;
 
-/// How many tenants are open at once.
 const TENANTS: u64 = 100_000;
 
-/// Opens the tenants with a budget of 20 by one list of calls, and returns how many answers came.
 fn open_all(alloc: Global, cache: &mut Cache) -> usize {
     let mut calls = Vec::new(alloc);
     for name in 0..TENANTS {

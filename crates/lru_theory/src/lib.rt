@@ -27,15 +27,14 @@ pub fn more_places_never_miss_more<K: Eq>()
     ensures { (n m : ℕ) (past trace : List K) → n ≤ m → misses K.eq m past trace ≤ misses K.eq n past trace }
 {}
 
-/// LRU is competitive, from any caches. Take any policy with h places, one that knows the whole trace in advance, and an
-/// LRU cache of k ≥ h places. The policy begins with the keys `first`, pays `paid` times, and each miss of LRU counts:
+/// LRU is competitive, from any caches. Take any policy with h places, one that knows the whole trace in advance, and
+/// an LRU cache of k ≥ h places. The policy begins with the keys `first`, pays `paid` times, and each miss of LRU
+/// counts:
 ///
-/// - If it stores each key that is referenced, and may load keys ahead, LRU misses at most
-///   k / (k + 1 - h) * paid + length first times (`loads`).
+/// - If it stores each key that is referenced, and may load keys ahead, LRU misses at most k / (k + 1 - h) * paid +
+///   length first times (`loads`).
 /// - So it is for a demand policy, which pays for its misses alone (`demands`).
 /// - If it need not store the key, LRU misses at most k / (k - h) * paid + length first times (`bypasses`).
-///
-/// A policy that begins with no keys has no additive term.
 pub fn lru_is_competitive<K: Eq>()
     ensures loads { (k h : ℕ) (past trace first left : List K) (paid : ℕ) → h ≤ k →
         Served (Loads K.eq h) left first trace paid →
@@ -49,9 +48,9 @@ pub fn lru_is_competitive<K: Eq>()
 {}
 
 /// After the same calls a smaller cache is included in a larger one, if it was before (`included`): its keys are keys
-/// of the larger cache, in the same order, and the larger cache contains at most m - n more. So what the smaller
-/// cache finds, the larger cache finds (`finds`), and it misses no more often at the references of a trace (`misses`).
-/// The calls may reference keys, make them the newest, remove them or look at them. Pops are left out.
+/// of the larger cache, in the same order, and the larger cache contains at most m - n more. So what the smaller cache
+/// finds, the larger cache finds (`finds`), and it misses no more often at the references of a trace (`misses`). The
+/// calls may reference keys, make them the newest, remove them or look at them.
 pub fn a_smaller_cache_is_included<K: Eq>()
     ensures included { (n m : ℕ) (calls : List (KeyCall K)) (small large : List K) → n ≤ m →
         IsIncluded K.eq n m small large →
@@ -63,8 +62,8 @@ pub fn a_smaller_cache_is_included<K: Eq>()
 {}
 
 /// A larger budget never means more misses. Take two LRU caches with limits of cost, and let the keys of the one with
-/// the smaller limit be the newest keys of the other. Then they are after any trace (`front`), and it misses at least as
-/// often (`misses`). The definitions are definitions of LRU caches if no key alone costs more than the smaller limit.
+/// the smaller limit be the newest keys of the other. Then they are after any trace (`front`), and it misses at least
+/// as often (`misses`).
 pub fn a_larger_budget_never_misses_more<K: Eq>()
     ensures front { (cost : K → ℕ) (n m some : ℕ) (keys trace : List K) → n ≤ m →
         let small = cached_within K.eq cost n (take some keys) trace in

@@ -19,18 +19,17 @@ use std::marker::Model;
 /// ```
 /// let mut curve = Curve::new(alloc)?;
 /// for key in ["a", "b", "a", "c", "a"] {
-///     curve.refer(key)?;
+///     if curve.references() < u64::MAX {
+///         curve.refer(key)?;
+///     }
 /// }
 /// assert_eq!(rt; (curve.misses(0), curve.misses(1), curve.misses(2)), (5, 5, 3));
 /// ```
 #[derive(Drop)]
 pub struct Curve {
-    /// The number of each key.
     numbers: HashMap<String, usize>,
     distances: Distances,
-    /// How many references had each reuse distance.
     counts: Vec<u64>,
-    /// How many references were the first to their key.
     firsts: usize,
     references: u64,
     alloc: Global,
@@ -66,7 +65,6 @@ impl Curve {
         })
     }
 
-    /// Returns the number of a key, which is added if it is not there.
     fn number_of(&mut self, key: &str) -> Result<usize, AllocError>
         ensures number { IfOk result (λ number. number_in self.new.names key.now ≡ Some number) }
         ensures others { (other : List ℕ) (number : ℕ) → number_in self.old.names other ≡ Some number →
@@ -84,7 +82,6 @@ impl Curve {
         Ok(number)
     }
 
-    /// Makes a count for one reuse distance more, unless there is one to spare.
     fn make_count(&mut self) -> Result<(), AllocError>
         ensures spare { OnOk result (length self.new.recency < length self.new.counts) }
         ensures rest { self.new ≡ record self.old { counts = self.new.counts } }
@@ -96,7 +93,6 @@ impl Curve {
         Ok(())
     }
 
-    /// Counts a reference to the key of this number.
     fn count(&mut self, key: &str, number: usize) -> Result<(), AllocError>
         requires fits { self.old.references < 2 ^ 64 - 1 }
         requires number { number_in self.old.names key.now ≡ Some number }
@@ -133,7 +129,6 @@ impl Curve {
         self.count(key, number)
     }
 
-    /// Returns how many references there were.
     pub fn references(&self) -> u64
         ensures value { result ≡ self.now.references }
         ensures all { (trace : List (List ℕ)) → IsOf trace self.now → result ≡ length trace }
@@ -141,7 +136,6 @@ impl Curve {
         self.references
     }
 
-    /// Returns how many keys were referenced.
     pub fn keys(&self) -> usize
         ensures value { result ≡ length self.now.recency }
         ensures all { (trace : List (List ℕ)) → IsOf trace self.now → result ≡ keys trace }

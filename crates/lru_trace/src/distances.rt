@@ -26,9 +26,7 @@ const MOST_LEVELS: u32 = 59;
 pub struct Distances {
     /// The key of each slot, unless the slot is free.
     log: Vec<Option<usize>>,
-    /// The slot of each key, if it was referenced.
     slots: Vec<Option<usize>>,
-    /// The slots that contain keys are marked.
     marks: Tree,
     levels: u32,
     alloc: Global,
@@ -50,7 +48,6 @@ impl Model for Distances {
 }
 
 impl Distances {
-    /// Makes an empty trace, without keys.
     pub fn new(alloc: Global) -> Result<Self, AllocError>
         ensures recency { IfOk result (λ trace. trace.recency ≡ []) }
         ensures keys { IfOk result (λ trace. trace.keys ≡ 0) }
@@ -58,7 +55,6 @@ impl Distances {
         Distances::with_levels(alloc, 0, FIRST_LEVELS)
     }
 
-    /// Makes an empty trace of this many keys, with a log of 2 ^ `levels` slots.
     fn with_levels(alloc: Global, keys: usize, levels: u32) -> Result<Self, AllocError>
         requires { levels < 60 }
         ensures { IfOk result (λ trace. trace ≡ record { recency = []; keys = keys; room = 2 ^ levels }) }
@@ -75,7 +71,6 @@ impl Distances {
         })
     }
 
-    /// Adds a key that was not referenced, and returns its number.
     pub fn add_key(&mut self) -> Result<usize, AllocError>
         ensures key { IfOk result (λ key. key ≡ self.old.keys) }
         ensures recency { self.new.recency ≡ self.old.recency }
@@ -87,7 +82,6 @@ impl Distances {
         Ok(key)
     }
 
-    /// Takes a key out, and returns how many keys were referenced after it, if it was referenced.
     fn take_out(&mut self, key: usize) -> Option<usize>
         requires { key < self.old.keys }
         ensures result { result ≡ position key self.old.recency }
@@ -104,7 +98,6 @@ impl Distances {
         Some(behind)
     }
 
-    /// Puts a key in front that is not there.
     fn append(&mut self, key: usize)
         requires key { key < self.old.keys }
         requires absent { is_in nat_eq key self.old.recency ≡ false }
@@ -119,7 +112,6 @@ impl Distances {
         self.marks.mark(slot);
     }
 
-    /// Moves the keys of a full log together.
     fn make_room(&mut self) -> Result<(), AllocError>
         requires { self.old.room ≡ 0 }
         ensures recency { self.new.recency ≡ self.old.recency }
@@ -127,7 +119,6 @@ impl Distances {
         ensures room { OnOk result (0 < self.new.room) }
     {
         let mut levels = self.levels;
-        // All marks, but perhaps not the mark of slot 0.
         if self.marks.len() / 2 <= self.marks.marks_behind(0) {
             levels += 1;
         }

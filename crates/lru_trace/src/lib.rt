@@ -1,7 +1,7 @@
 //! Miss-ratio curves: how often LRU caches of every size miss at a trace of keys, counted in one pass.
 //!
 //! [`Curve`] counts the references of a trace and returns the misses for each size. [`trace`] reads a trace from lines
-//! and writes a report; `docs/TRACE.md` shows it.
+//! and writes a report.
 #![tactic(auto)]
 
 mod curve;

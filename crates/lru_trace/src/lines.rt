@@ -14,18 +14,13 @@ use std::io::{BufRead, ErrorKind, Write};
 /// The most bytes of a key.
 const LONGEST_KEY: usize = 64;
 
-/// How a line ended.
 #[derive(Clone, Copy)]
 pub enum Ending {
-    /// By its line feed.
     Feed,
-    /// By the end of the input, after at least one byte.
     InputEnd,
-    /// There was no line: nothing was left of the input.
     Nothing,
 }
 
-/// Takes the line feed off the end, if there is one.
 fn take_feed(line: &mut Vec<u8>) -> Ending
     ensures { EndsSo result line.old.items line.new.items }
 {
@@ -40,7 +35,6 @@ fn take_feed(line: &mut Vec<u8>) -> Ending
     Ending::Feed
 }
 
-/// Reads the next line in place of what `line` held, without its line feed.
 pub fn read_line<R: BufRead>(reader: &mut R, line: &mut Vec<u8>) -> Result<Ending, TraceError>
     ensures ok { IfOk result
         (λ ending. TakesLine (R.remaining reader.old) (R.remaining reader.new) ending line.new.items) }
@@ -84,8 +78,7 @@ fn refer_line(curve: &mut Curve, line: &[u8]) -> Result<bool, AllocError>
 }
 
 /// References the key of each line that is left, and returns how many lines spell no key. A key is text of 1 to 64
-/// bytes. `line` is a buffer, whose bytes are not used. The number of lines is written to `progress` after each
-/// million.
+/// bytes. The number of lines is written to `progress` after each million.
 ///
 /// # Errors
 ///

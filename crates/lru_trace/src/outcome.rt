@@ -1,23 +1,17 @@
-//! How a trace ends, and the exit status of each end.
 ghost use Rattle.std.specs.Prelude.{◌≡◌};
 ghost use Rattle.lru_trace.specs.Outcome.{status_of};
 
 use std::alloc::AllocError;
 use thiserror::Error;
 
-/// How a trace ends if no read and no write fails.
 #[derive(Clone, Copy, Debug, PartialEq, Eq)]
 pub enum TraceEnd {
-    /// All lines were read, and the report was written.
     Done,
-    /// The first line names no sizes, or there is no line.
     NoSizes,
 }
 
-/// What cuts a trace off.
 #[derive(Clone, Copy, Debug, PartialEq, Eq, Error)]
 pub enum TraceError {
-    /// A read failed.
     #[error("read failed")]
     Read = 1,
     /// A write or the flush failed.

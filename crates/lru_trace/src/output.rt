@@ -1,11 +1,10 @@
-//! Writes that say how much was written.
 ghost use Rattle.std.specs.Prelude.{MatchBool};
 ghost use Rattle.std.specs.Io.KnownBytes.{Appends};
 ghost use Rattle.lru_trace.specs.Outcome.{Begins};
 
 use std::io::{ErrorKind, Write};
 
-/// Writes all the bytes, and returns whether no write failed. An interrupted write is repeated.
+/// An interrupted write is repeated.
 pub fn write_bytes<W: Write>(writer: &mut W, bytes: &[u8]) -> bool
     ensures { MatchBool result (Appends (W.contents writer.old) (W.contents writer.new) bytes.now)
         (Begins (W.contents writer.old) (W.contents writer.new) bytes.now) }

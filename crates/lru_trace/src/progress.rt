@@ -2,10 +2,8 @@
 use std::alloc::Global;
 use std::io::Write;
 
-/// After each of how many lines progress is written.
 const STEP: u64 = 1_000_000;
 
-/// Where progress is written, if anywhere.
 #[derive(Drop)]
 pub struct Progress<P> {
     alloc: Global,
@@ -18,8 +16,7 @@ impl<P: Write> Progress<P> {
         Progress { alloc, writer }
     }
 
-    /// Writes how many lines were read, after each million. A write that fails, or memory that runs out, changes
-    /// nothing else.
+    /// A write that fails, or memory that runs out, changes nothing else.
     pub fn note(&mut self, lines: u64) {
         if lines == 0 || lines % STEP != 0 {
             return;

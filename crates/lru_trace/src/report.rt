@@ -7,10 +7,8 @@ ghost use Rattle.lru_trace.specs.Report.{part, ratio_text, size_text, bar_text, 
 use crate::curve::Curve;
 use std::alloc::{AllocError, Global};
 
-/// The width of the longest bar.
 const WIDTH: u64 = 50;
 
-/// Returns the part that misses, in units of 1 / `scale`, rounded down.
 fn part(misses: u64, references: u64, scale: u64) -> u64
     requires { misses ≤ references }
     ensures { result ≡ part misses references scale }
@@ -22,7 +20,6 @@ fn part(misses: u64, references: u64, scale: u64) -> u64
     whole as u64
 }
 
-/// Adds copies of a byte to the report.
 fn add_copies(report: &mut Vec<u8>, byte: u8, copies: u64) -> Result<(), AllocError>
     ensures { OnOk result (report.new.items ≡ report.old.items ++ replicate copies byte) }
 {
@@ -32,7 +29,6 @@ fn add_copies(report: &mut Vec<u8>, byte: u8, copies: u64) -> Result<(), AllocEr
     Ok(())
 }
 
-/// Returns a number of ten-thousandths as a number with a point.
 fn ratio(alloc: Global, n: u64) -> Result<String, AllocError>
     ensures { IfOk result (λ text. string_bytes text ≡ ratio_text n) }
 {
@@ -46,7 +42,6 @@ fn ratio(alloc: Global, n: u64) -> Result<String, AllocError>
     format!(in alloc; "{whole}.{first}{second}{third}{fourth}")
 }
 
-/// Adds the misses in a cache of this many places.
 fn add_size(
     alloc: Global,
     report: &mut Vec<u8>,
@@ -64,7 +59,6 @@ fn add_size(
     report.extend_from_slice(text.as_bytes())
 }
 
-/// Adds a bar of the chart.
 fn add_bar(
     alloc: Global,
     report: &mut Vec<u8>,
@@ -87,7 +81,6 @@ fn add_bar(
     Ok(())
 }
 
-/// Adds the lines of the sizes.
 fn add_sizes(
     alloc: Global,
     report: &mut Vec<u8>,
@@ -103,7 +96,6 @@ fn add_sizes(
     Ok(())
 }
 
-/// Adds the chart: a bar for each power of two, up to the first that is at least the number of keys.
 fn add_chart(alloc: Global, report: &mut Vec<u8>, curve: &Curve) -> Result<(), AllocError>
     ensures { OnOk result ((trace : List (List ℕ)) → IsOf trace curve.now →
         report.new.items ≡ report.old.items ++ bars_text trace 64 0) }
@@ -118,7 +110,6 @@ fn add_chart(alloc: Global, report: &mut Vec<u8>, curve: &Curve) -> Result<(), A
     Ok(())
 }
 
-/// Returns the report.
 pub fn report_of(
     alloc: Global,
     curve: &Curve,

@@ -5,7 +5,6 @@ ghost use Rattle.lru_trace.specs.Sizes.{with_digit, sizes_from};
 
 use std::alloc::{AllocError, Global};
 
-/// Returns the number with one digit more, if the byte is a digit and the number is below 2 ^ 64.
 fn with_digit(number: usize, byte: u8) -> Option<usize>
     ensures { result ≡ with_digit number byte }
 {
@@ -16,7 +15,6 @@ fn with_digit(number: usize, byte: u8) -> Option<usize>
     number.checked_mul(10)?.checked_add(digit)
 }
 
-/// Returns the sizes that the line names: whole numbers in decimal digits, with a space between each two.
 pub fn sizes_of(alloc: Global, line: &[u8]) -> Result<Option<Vec<usize>>, AllocError>
     ensures { IfOk result (λ sizes. option_map (λ v. v.items) sizes ≡ sizes_from [] None line.now) }
 {

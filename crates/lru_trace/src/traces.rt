@@ -12,7 +12,6 @@ use crate::sizes::sizes_of;
 use std::alloc::Global;
 use std::io::{BufRead, Write};
 
-/// A trace that was read.
 #[derive(Drop)]
 struct Lines {
     sizes: Vec<usize>,
@@ -20,7 +19,6 @@ struct Lines {
     malformed: u64,
 }
 
-/// Reads the sizes and the keys. Returns `None` if the first line names no sizes; no other line is read then.
 fn read_trace<R: BufRead, P: Write>(
     alloc: Global,
     reader: &mut R,
@@ -57,15 +55,15 @@ fn read_trace<R: BufRead, P: Write>(
 /// that were read: `docs/TRACE.md` shows it.
 ///
 /// The first line names sizes, and each other line is a key that is referenced: text of 1 to 64 bytes. Other lines are
-/// counted as malformed. The number of lines is written to `progress` after each million.
+/// counted as malformed.
 ///
 /// Cost: `O(log n)` expected for each line and n keys. The memory is in proportion to the number of keys and the
 /// longest line.
 ///
 /// # Errors
 ///
-/// `Read` or `Memory`: a read failed, or there was no memory; nothing was written. `Write`: a write or the flush failed;
-/// a beginning of the report was written.
+/// `Read` or `Memory`: a read failed, or there was no memory; nothing was written. `Write`: a write or the flush
+/// failed; a beginning of the report was written.
 pub fn trace<R: BufRead, W: Write, P: Write>(
     alloc: Global,
     reader: &mut R,

@@ -27,7 +27,6 @@ impl Model for Tree {
 }
 
 impl Tree {
-    /// Makes 2 ^ `levels` slots, none of which is marked.
     pub fn new(alloc: Global, levels: u32) -> Result<Self, AllocError>
         requires { levels < 60 }
         ensures { IfOk result (λ tree. tree ≡ replicate (2 ^ levels) 0) }
@@ -41,14 +40,12 @@ impl Tree {
         })
     }
 
-    /// Returns how many slots there are.
     pub fn len(&self) -> usize
         ensures { result ≡ length self.now }
     {
         self.slots
     }
 
-    /// Marks a slot that is not marked.
     pub fn mark(&mut self, slot: usize)
         requires within { slot < length self.old }
         requires free { get_or self.old slot 0 ≡ 0 }
@@ -63,7 +60,6 @@ impl Tree {
         }
     }
 
-    /// Takes the mark off a marked slot.
     pub fn unmark(&mut self, slot: usize)
         requires within { slot < length self.old }
         requires marked { get_or self.old slot 0 ≡ 1 }
@@ -78,7 +74,6 @@ impl Tree {
         }
     }
 
-    /// Returns how many slots behind this one are marked.
     pub fn marks_behind(&self, slot: usize) -> usize
         requires { slot < length self.now }
         ensures { result ≡ sum (drop (slot + 1) self.now) }

@@ -1,8 +1,10 @@
-//! Tests of `lru_trace`: a curve, the report, and memory. `lru_replay_tests` compares curves with maps.
+//! Tests of `lru_trace`: a curve, the report, and memory.
 #![tactic(auto)]
 
 #[cfg(test)]
 mod curves;
+#[cfg(test)]
+mod examples;
 #[cfg(test)]
 mod lines;
 #[cfg(test)]

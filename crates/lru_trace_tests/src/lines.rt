@@ -5,7 +5,6 @@ use std::io::{self, ErrorKind, Write};
 use std::test::Fail;
 use test_helpers::check;
 
-/// Keeps what is written, and fails at the flush if `fails`.
 #[derive(Drop)]
 struct Output {
     bytes: Vec<u8>,
@@ -25,7 +24,6 @@ impl Write for Output {
     }
 }
 
-/// Traces the lines, and returns how that ended, and the report.
 fn traced(alloc: Global, mut lines: &[u8], fails: bool) -> (Result<TraceEnd, TraceError>, Vec<u8>) {
     let bytes = Vec::new(alloc);
     let mut output = Output { bytes, fails };

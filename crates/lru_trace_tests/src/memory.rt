@@ -1,10 +1,9 @@
-//! Curves of many keys, and the memory that references give back. No clause says that memory is found or given back.
+//! Curves of many keys, and the memory that references give back.
 use lru_trace::{Curve, Progress, TraceError, status, trace};
 use std::alloc::Global;
 use std::test::Fail;
 use test_helpers::{Hog, check};
 
-/// References a number.
 fn refer(alloc: Global, curve: &mut Curve, number: u64) -> Result<(), TraceError> {
     if curve.references() < 1_000_000 {
         curve.refer(format!(in alloc; "{number}")?.as_str())?;

@@ -69,7 +69,6 @@ impl<K, V, N: LinkType> Model for LinkedTable<K, V, N> {
 impl<K, V, N: LinkType> LinkedTable<K, V, N> {
     ghost use Rattle.ordered_table.specs.PairLends.{lends_linked_pair};
 
-    // Makes a table of no buckets, which takes no memory.
     pub(crate) fn new(alloc: Global) -> Self
         ensures slots { result.slots ≡ [] }
         ensures order { result.order ≡ [] }
@@ -86,14 +85,12 @@ impl<K, V, N: LinkType> LinkedTable<K, V, N> {
         }
     }
 
-    // Returns the bytes of an entry: of a pair, and of two links.
     pub(crate) const fn entry_bytes() -> usize
         ensures { result ≡ entry_size K.row V.row N.row }
     {
         Table::<Entry<K, V, N>>::entry_bytes()
     }
 
-    // Returns the number of pairs.
     #[inline]
     pub(crate) fn len(&self) -> usize
         ensures len { result ≡ length self.now.order }
@@ -102,7 +99,6 @@ impl<K, V, N: LinkType> LinkedTable<K, V, N> {
         self.chain.table.len()
     }
 
-    // Returns the number of buckets.
     #[inline]
     pub(crate) fn buckets(&self) -> usize
         ensures buckets { result ≡ length self.now.slots }
@@ -112,7 +108,6 @@ impl<K, V, N: LinkType> LinkedTable<K, V, N> {
         self.chain.table.buckets()
     }
 
-    // Returns how many empty buckets may still be filled.
     #[inline]
     pub(crate) fn room(&self) -> usize
         ensures room { result ≡ room (marks_of self.now.slots) }
@@ -121,7 +116,6 @@ impl<K, V, N: LinkType> LinkedTable<K, V, N> {
         self.chain.table.room()
     }
 
-    // Returns how many pairs were put into the table. A pair that moves is not counted again.
     #[inline]
     pub(crate) fn placed(&self) -> u64
         ensures placed { result ≡ self.now.insertions.placed }
@@ -129,7 +123,6 @@ impl<K, V, N: LinkType> LinkedTable<K, V, N> {
         self.chain.table.placed()
     }
 
-    // Returns the pair in a full bucket.
     #[inline]
     pub(crate) fn pair(&self, b: usize) -> &Pair<K, V>
         requires { IsFull self.now.slots b }
@@ -138,7 +131,6 @@ impl<K, V, N: LinkType> LinkedTable<K, V, N> {
         &self.chain.table.get(b).pair
     }
 
-    // Returns the bucket of the newest pair of a table that is not empty.
     #[inline]
     pub(crate) fn newest(&self) -> usize
         requires { 0 < length self.now.order }
@@ -147,7 +139,6 @@ impl<K, V, N: LinkType> LinkedTable<K, V, N> {
         self.chain.newest.into_usize()
     }
 
-    // Returns the bucket of the oldest pair of a table that is not empty.
     #[inline]
     pub(crate) fn oldest(&self) -> usize
         requires { 0 < length self.now.order }
@@ -156,8 +147,6 @@ impl<K, V, N: LinkType> LinkedTable<K, V, N> {
         self.chain.oldest.into_usize()
     }
 
-    // Returns the bucket after a full one in the order, towards the oldest. For the last bucket of the order, the
-    // number says nothing.
     #[inline]
     pub(crate) fn older_unless_last(&self, b: usize) -> usize
         requires { IsFull self.now.slots b }
@@ -166,8 +155,6 @@ impl<K, V, N: LinkType> LinkedTable<K, V, N> {
         self.chain.table.get(b).older.into_usize()
     }
 
-    // Returns the bucket before a full one in the order, towards the newest. For the first bucket of the order, the
-    // number says nothing.
     #[inline]
     pub(crate) fn newer_unless_first(&self, b: usize) -> usize
         requires { IsFull self.now.slots b }
@@ -176,7 +163,6 @@ impl<K, V, N: LinkType> LinkedTable<K, V, N> {
         self.chain.table.get(b).newer.into_usize()
     }
 
-    // Lends the pair in a full bucket for writing. The keys fit the table if the written key has the same hash.
     #[inline]
     pub(crate) fn pair_mut(&mut self, b: usize) -> &mut Pair<K, V>
         requires { IsFull self.old.slots b }
@@ -191,11 +177,6 @@ impl<K, V, N: LinkType> LinkedTable<K, V, N> {
         &mut self.chain.table.get_mut(b).pair
     }
 
-    // Returns the bucket of the first pair that `f` accepts, of those with the tag of the hash, its top 7 bits.
-    //
-    // `f` is called with each pair at most once, and no more after it accepted one.
-    //
-    // Cost: `O(1)` expected.
     #[inline]
     pub(crate) fn find_by<F: FnMut(&K, &V) -> bool>(&self, hash: u64, mut f: F) -> Option<usize>
         requires { F.IsAlwaysCallable f }
@@ -212,9 +193,6 @@ impl<K, V, N: LinkType> LinkedTable<K, V, N> {
         )
     }
 
-    // Makes the pair in a full bucket the newest.
-    //
-    // Cost: `O(1)`.
     #[inline]
     pub(crate) fn promote(&mut self, b: usize)
         requires { IsFull self.old.slots b }
@@ -231,9 +209,6 @@ impl<K, V, N: LinkType> LinkedTable<K, V, N> {
         self.chain.link_newest(b);
     }
 
-    // Makes the pair in a full bucket the oldest.
-    //
-    // Cost: `O(1)`.
     pub(crate) fn demote(&mut self, b: usize)
         requires { IsFull self.old.slots b }
         ensures slots { self.new.slots ≡ self.old.slots }
@@ -249,9 +224,6 @@ impl<K, V, N: LinkType> LinkedTable<K, V, N> {
         self.chain.link_oldest(b);
     }
 
-    // Takes the pair out of a full bucket. If that is known to be the oldest (`last`), its older link is not read.
-    //
-    // Cost: `O(1)`.
     #[inline(always)]
     pub(crate) fn take(&mut self, b: usize, last: bool) -> (K, V)
         requires full { IsFull self.old.slots b }
@@ -272,9 +244,6 @@ impl<K, V, N: LinkType> LinkedTable<K, V, N> {
 }
 
 impl<K: Drop, V: Drop, N: LinkType> LinkedTable<K, V, N> {
-    // Drops all pairs. The buckets stay, and are empty.
-    //
-    // Cost: `O(buckets)`.
     pub(crate) fn clear(&mut self)
         ensures slots { self.new.slots ≡ replicate (length self.old.slots) empty }
         ensures order { self.new.order ≡ [] }
@@ -289,9 +258,6 @@ impl<K: Drop, V: Drop, N: LinkType> LinkedTable<K, V, N> {
 }
 
 impl<K: Eq + Hash, V, N: LinkType> LinkedTable<K, V, N> {
-    // Returns the bucket of the key that `key` names, which has this hash.
-    //
-    // Cost: `O(1)` expected.
     #[inline]
     pub(crate) fn find<Q: LookupKey<K>>(&self, hash: u64, key: &Q) -> Option<usize>
         ensures found { IfSome result (λ b. (pair : K × V) × (entry_at self.now.slots b ≡ Some pair)

@@ -34,6 +34,7 @@ pub struct Pair<K, V> {
 /// computes the hashes; the keys fit the table (`KeysFit`) as long as equal keys get the same hash.
 ///
 /// ```
+/// let hasher = RandomState::default();
 /// let mut table: OrderedTable<u64, u64, u32> = OrderedTable::new(alloc);
 /// table.move_to(4, &hasher)?;
 /// for key in [1u64, 2, 3] {

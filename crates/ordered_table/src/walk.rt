@@ -1,4 +1,3 @@
-//! Walking the pairs of a table in their order.
 ghost use Rattle.std.specs.Prelude.{◌≡◌, ◌<◌, ◌^◌, length, Some, IfSome, ⊤};
 ghost use Rattle.std.specs.Iterator.{at_most, UpTo};
 ghost use Rattle.std.specs.Iterator.SizeHint.{IsWithinCount};
@@ -16,11 +15,9 @@ pub(crate) mod keys;
 
 /// An iterator over the pairs of a table or a map, newest first, from both ends.
 ///
-/// It depends on the limiter of a map only by the type of its links.
-///
 /// ```
-/// let mut walk = table.iter();
-/// assert!(rt; walk.next_back() == Some((&2, &20)) && walk.len() == 2);
+/// let mut walk = map.iter();
+/// assert!(rt; walk.next_back() == Some((&1, &10)) && walk.len() == 2);
 /// ```
 #[derive(Drop)]
 pub struct Walk<'a, K, V, N: LinkType> {
@@ -62,7 +59,6 @@ impl<'a, K, V, N: LinkType> Iterator for Walk<'a, K, V, N> {
         Some((&pair.key, &pair.value))
     }
 
-    /// Returns exactly how many entries are left, as `len` does.
     fn size_hint(&self) -> (usize, Option<usize>)
         ensures lower { IsWithinCount result.0 (at_most (length self.now)) }
         ensures upper { IfSome result.1 (UpTo (at_most (length self.now))) }
@@ -96,7 +92,6 @@ impl<'a, K, V, N: LinkType> ExactSizeIterator for Walk<'a, K, V, N> {
 
 impl<'a, K, V, N: LinkType> FusedIterator for Walk<'a, K, V, N> {}
 
-/// The clone returns the entries that are left of the walk. Cost: `O(1)`, and no memory.
 impl<'a, K, V, N: LinkType> Clone for Walk<'a, K, V, N> {
     ghost is_clone = { λ s r. r ≡ s };
 
@@ -126,7 +121,7 @@ impl<'a, K: fmt::Debug, V: fmt::Debug, N: LinkType> fmt::Debug for Walk<'a, K, V
 }
 
 impl<K, V, N: LinkType> OrderedTable<K, V, N> {
-    /// Returns an iterator over the pairs, newest first. The order stays.
+    /// Returns an iterator over the pairs, newest first.
     ///
     /// Cost: `O(1)`, and so is each step of the walk from either end.
     pub fn iter(&self) -> Walk<'_, K, V, N>

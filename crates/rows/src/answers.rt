@@ -4,7 +4,6 @@ use lru_replay::Answer;
 use lru_replay::lines::output::write_answer;
 use std::alloc::{AllocError, Global};
 
-/// Adds the text of each answer, with a line feed after it.
 pub fn write_answers(
     alloc: Global,
     out: &mut Text,

@@ -1,11 +1,10 @@
-//! Calls on a map, as lines spell them.
 use crate::limiters::{Numbered, number_of};
 use lru_replay::Call;
 use lru_replay::lines::words;
 use std::alloc::Global;
 
 /// The calls that the lines spell, as lines of the program if they are such lines. A line that spells no call asks for
-/// the figures, which is not what its row expects. Out of memory, a call is missing.
+/// the figures, which is not what its row expects.
 pub fn calls_of<L: Numbered + Drop>(alloc: Global, lines: &str) -> Vec<Call<u64, u64, L>> {
     let mut calls = Vec::new(alloc);
     for line in lines.lines() {
@@ -14,12 +13,10 @@ pub fn calls_of<L: Numbered + Drop>(alloc: Global, lines: &str) -> Vec<Call<u64,
     calls
 }
 
-/// The number that a text spells.
 fn number(text: &str) -> u64 {
     text.parse().unwrap_or(u64::MAX)
 }
 
-/// The call that the line spells.
 fn call_of<L: Numbered>(line: &str) -> Call<u64, u64, L> {
     match words::call_of(line.as_bytes()) {
         Some(call) => call,
@@ -27,7 +24,6 @@ fn call_of<L: Numbered>(line: &str) -> Call<u64, u64, L> {
     }
 }
 
-/// The call that the line spells, if it is no line of the program.
 fn other_call<L: Numbered>(line: &str) -> Call<u64, u64, L> {
     let (word, rest) = line.split_once(' ').unwrap_or((line, ""));
     match (word, rest.split_once(' ')) {
@@ -40,7 +36,6 @@ fn other_call<L: Numbered>(line: &str) -> Call<u64, u64, L> {
     }
 }
 
-/// The call that a word and two numbers spell.
 fn call_of_pair<L>(word: &str, first: u64, second: u64) -> Call<u64, u64, L> {
     match word {
         "get-or-insert" => Call::GetOrInsert(first, second),

@@ -3,13 +3,10 @@ ghost use Rattle.std.specs.Prelude.{◌≡◌, ◌+◌, ◌*◌, ◌%◌, ◌^�
 
 use std::hash::{BuildHasher, Hasher};
 
-/// Hashes to a polynomial of the bytes that were written: by the factor 0 to the last byte, so that keys below 2^56
-/// hash to 0, and by the factor 1 to their sum.
+/// Hashes to a polynomial of the bytes in a factor: with the factor 0 the last byte, with 1 the sum of the bytes.
 #[derive(Clone, Copy)]
 pub struct Polynomial {
-    /// By what the hash is multiplied at each byte.
     pub factor: u64,
-    /// The hash.
     pub hash: u64,
 }
 

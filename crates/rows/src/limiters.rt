@@ -5,7 +5,6 @@ use test_helpers::{Alternating, Blanking, LinkedBy};
 
 /// A limiter that a number makes, which `number_of` finds in its words.
 pub trait Numbered: Sized {
-    /// The limiter of the number.
     fn of(number: u64) -> Self;
 }
 

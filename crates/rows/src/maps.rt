@@ -12,7 +12,6 @@ use std::alloc::Global;
 use std::fmt::Debug;
 use test_helpers::{Alternating, Blanking, LinkedBy};
 
-/// The calls of a row, and what its first line says of the map.
 #[derive(Clone, Copy)]
 struct Calls<'a> {
     alloc: Global,
@@ -22,7 +21,6 @@ struct Calls<'a> {
     shows_limiter: bool,
 }
 
-/// Returns the answers to the calls of a row, whose first line names the map.
 pub fn answers_of(alloc: Global, input: &str) -> Text {
     let mut out = Text::new(alloc);
     let (first, lines) = input.split_once('\n').unwrap_or((input, ""));
@@ -45,7 +43,6 @@ pub fn answers_of(alloc: Global, input: &str) -> Text {
     out
 }
 
-/// Adds the answers to the calls on an empty map under the limiter that the words name.
 fn write_under(out: &mut Text, words: &str, calls: Calls) {
     let (kind, _) = words.split_once(' ').unwrap_or((words, ""));
     match kind {
@@ -63,7 +60,6 @@ fn write_under(out: &mut Text, words: &str, calls: Calls) {
     }
 }
 
-/// Adds the answers to the calls on an empty map under a limiter of this type.
 fn write_on<L: Insertion<u64, u64, u64> + Numbered + Debug + Drop>(out: &mut Text, calls: Calls) {
     let mut map = LruMap::with_hasher(calls.alloc, L::of(calls.number), calls.hasher, 16);
     let answers = run_calls(calls.alloc, &mut map, calls_of(calls.alloc, calls.lines));
@@ -73,7 +69,6 @@ fn write_on<L: Insertion<u64, u64, u64> + Numbered + Debug + Drop>(out: &mut Tex
     }
 }
 
-/// Adds the answers to the calls on an empty map under a limit by cost, whose sum no call may change.
 fn write_summing(out: &mut Text, calls: Calls) {
     let limiter = ByCost::new(calls.number);
     let mut map = LruMap::with_hasher(calls.alloc, limiter, calls.hasher, 16);

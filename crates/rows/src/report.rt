@@ -1,7 +1,6 @@
 //! What is printed of a row that does not hold.
 use std::io;
 
-/// Prints the first answer that is not the expected one, and returns whether there is none.
 pub fn agrees(rt: &HostRuntime, name: &str, got: &[u8], expected: &[u8]) -> io::Result<bool> {
     if got == expected {
         return Ok(true);
@@ -16,7 +15,6 @@ pub fn agrees(rt: &HostRuntime, name: &str, got: &[u8], expected: &[u8]) -> io::
     Ok(false)
 }
 
-/// The number of lines at the front that are the same.
 fn same_lines(one: &[u8], other: &[u8]) -> usize {
     let mut lines = 0usize;
     for (a, b) in one.iter().zip(other) {
@@ -28,7 +26,6 @@ fn same_lines(one: &[u8], other: &[u8]) -> usize {
     lines
 }
 
-/// The line of this number, counted from 0, if it is there and all is a text.
 fn line_at(text: &[u8], number: usize) -> &str {
     let text = str::from_utf8(text).unwrap_or("bytes that are no text");
     text.lines().nth(number).unwrap_or("")

@@ -1,8 +1,6 @@
-//! The texts of what calls return.
 use crate::text::Text;
 use lru_model::{MoveReport, ReserveError, Updated};
 
-/// Adds what an update did.
 pub(crate) fn write_updated(out: &mut Text, updated: Updated<u64>) {
     match updated {
         Updated::Replaced(value) => out.figure("replaced ", value),
@@ -11,7 +9,6 @@ pub(crate) fn write_updated(out: &mut Text, updated: Updated<u64>) {
     }
 }
 
-/// Adds what a reservation did.
 pub(crate) fn write_reserved(out: &mut Text, reserved: Result<(), ReserveError>) {
     out.word(match reserved {
         Ok(()) => "ok",
@@ -21,7 +18,6 @@ pub(crate) fn write_reserved(out: &mut Text, reserved: Result<(), ReserveError>)
     });
 }
 
-/// Adds the length, the capacity and the bytes of a map, and what its table moved.
 pub(crate) fn write_figures(out: &mut Text, [len, capacity, memory]: [u64; 3], report: MoveReport) {
     out.figure("len ", len);
     out.figure(" capacity ", capacity);

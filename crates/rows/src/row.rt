@@ -3,23 +3,17 @@ use crate::escapes::unescape;
 use std::alloc::Global;
 use std::fmt::Write;
 
-/// An input, and the answers and the exit status that it must give. Out of memory, bytes are missing, and the row
-/// fails.
+/// An input, and the answers and the exit status that it must give.
 #[derive(Drop)]
 pub struct Row<'a> {
-    /// What the row shows.
     pub name: &'a str,
-    /// The lines that go in.
     pub input: Vec<u8>,
-    /// The answer lines that must come out.
     pub text: Vec<u8>,
-    /// The exit status.
     pub status: u8,
     alloc: Global,
 }
 
 impl<'a> Row<'a> {
-    /// An empty row of this name.
     fn new(alloc: Global, name: &'a str) -> Row<'a> {
         Row {
             name,
@@ -30,7 +24,7 @@ impl<'a> Row<'a> {
         }
     }
 
-    /// The row of these lines. A malformed one expects a text that no row has.
+    /// A malformed one expects a text that no row has.
     pub fn of(alloc: Global, lines: &'a str) -> Row<'a> {
         let mut row = Row::new(alloc, "");
         let mut is_good = true;
@@ -62,7 +56,6 @@ impl<'a> Row<'a> {
         }
     }
 
-    /// Adds the line once for each number from the first to the last, up or down, with the number in place of `#`.
     fn add_each(&mut self, rest: &str) -> bool {
         let (first, rest) = rest.split_once(' ').unwrap_or(("", ""));
         let (last, line) = rest.split_once(' ').unwrap_or(("", ""));
@@ -81,7 +74,6 @@ impl<'a> Row<'a> {
         is_good
     }
 
-    /// Adds the line with the number in place of each `#`.
     fn add_numbered(&mut self, line: &str, number: u64) -> bool {
         let mut digits = String::new(self.alloc);
         let _ = write!(digits, "{number}");
@@ -91,7 +83,6 @@ impl<'a> Row<'a> {
         }
     }
 
-    /// Adds an input line and, after ` -> `, its answer.
     fn add_line(&mut self, line: &str) -> bool {
         let Some((input, answer)) = line.split_once("-> ") else {
             return self.add_input(line);
@@ -102,7 +93,6 @@ impl<'a> Row<'a> {
         is_good
     }
 
-    /// Adds an input line. With `\c` at its end it has no line feed.
     fn add_input(&mut self, line: &str) -> bool {
         if let Some(line) = line.strip_suffix("\\c") {
             return unescape(&mut self.input, line);

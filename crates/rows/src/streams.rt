@@ -13,7 +13,6 @@ pub struct Slow<'a> {
 }
 
 impl<'a> Slow<'a> {
-    /// A reader of these bytes that never fails.
     pub fn new(bytes: &'a [u8], most: usize) -> Slow<'a> {
         Slow {
             bytes,
@@ -24,7 +23,6 @@ impl<'a> Slow<'a> {
         }
     }
 
-    /// The same reader, which fails at a read.
     pub fn failing(self, fails_at: usize, kind: ErrorKind) -> Slow<'a> {
         Slow {
             fails_at,
@@ -52,9 +50,7 @@ impl<'a> Read for Slow<'a> {
 /// How a write fails.
 #[derive(Clone, Copy)]
 pub enum Failure {
-    /// With an error of this kind.
     Error(ErrorKind),
-    /// It takes no bytes.
     NoBytes,
 }
 
@@ -62,11 +58,8 @@ pub enum Failure {
 /// 0, and counts its flushes.
 #[derive(Drop)]
 pub struct Narrow {
-    /// What was written.
     bytes: Vec<u8>,
-    /// How often it was flushed.
     flushes: usize,
-    /// How each flush fails.
     pub flush_fails: Option<ErrorKind>,
     most: usize,
     writes: usize,
@@ -76,7 +69,6 @@ pub struct Narrow {
 }
 
 impl Narrow {
-    /// A writer that never fails.
     pub fn new(alloc: Global, most: usize) -> Narrow {
         Narrow {
             bytes: Vec::new(alloc),
@@ -90,12 +82,10 @@ impl Narrow {
         }
     }
 
-    /// Whether this was written, and it was flushed this often.
     pub fn has(&self, text: &[u8], flushes: usize) -> bool {
         self.bytes.as_slice() == text && self.flushes == flushes
     }
 
-    /// The same writer, which fails `times` times, from a write on.
     pub fn failing(self, fails_at: usize, times: usize, failure: Failure) -> Narrow {
         Narrow {
             fails_at,
@@ -130,7 +120,6 @@ impl Write for Narrow {
     }
 }
 
-/// The error of the read or write with this number. One that was interrupted is tried again instead.
 pub fn error_at(at: usize) -> ErrorKind {
     match at % 3 {
         0 => ErrorKind::BrokenPipe,
@@ -153,7 +142,6 @@ pub fn front_lines(text: &[u8], lines: usize) -> &[u8] {
     text
 }
 
-/// The number of line feeds.
 pub fn count_lines(text: &[u8]) -> usize {
     let mut lines = 0usize;
     for byte in text {

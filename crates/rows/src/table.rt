@@ -5,16 +5,11 @@ use lru_model::ReserveError;
 /// The most buckets that links of 32 bits reach.
 const MOST_BUCKETS: u64 = 1 << 31;
 
-/// The number of buckets, and what was counted.
 #[derive(Clone, Copy, Default)]
 pub(crate) struct Table {
-    /// The buckets.
     pub(crate) buckets: u64,
-    /// The entries that inserts moved.
     pub(crate) moved: u64,
-    /// The entries that inserts placed.
     pub(crate) placed: u64,
-    /// The entries that shrinks moved.
     pub(crate) shrunk: u64,
 }
 
@@ -30,7 +25,6 @@ fn buckets_for(pairs: u64) -> u64 {
     }
 }
 
-/// The bytes of a table: the entries, rounded up to a multiple of 16, a control byte for each bucket, and 16 more.
 fn bytes(buckets: u64, entry_bytes: u64) -> u64 {
     if buckets == 0 {
         return 0;
@@ -43,7 +37,6 @@ fn bytes(buckets: u64, entry_bytes: u64) -> u64 {
 }
 
 impl Table {
-    /// The pairs that the table takes.
     pub(crate) fn capacity(&self) -> u64 {
         match self.buckets {
             0 => 0,
@@ -52,12 +45,10 @@ impl Table {
         }
     }
 
-    /// The bytes of the table.
     pub(crate) fn bytes(&self, entry_bytes: u64) -> u64 {
         bytes(self.buckets, entry_bytes)
     }
 
-    /// Moves this many pairs into a table that takes one more, and returns whether that is within the most bytes.
     pub(crate) fn grow(&mut self, len: u64, most: u64, entry_bytes: u64) -> bool {
         let buckets = buckets_for(len.saturating_add(1));
         if bytes(buckets, entry_bytes) > most {
@@ -68,7 +59,6 @@ impl Table {
         true
     }
 
-    /// Makes room for this many pairs, within the most bytes.
     pub(crate) fn reserve(
         &mut self,
         pairs: u64,
@@ -89,7 +79,6 @@ impl Table {
         Ok(())
     }
 
-    /// Moves this many pairs into as few buckets as hold them.
     pub(crate) fn shrink(&mut self, len: u64) {
         let buckets = buckets_for(len);
         if buckets < self.buckets {

@@ -1,4 +1,3 @@
-//! Rows of random calls, with the answers of a plain list of pairs.
 use crate::plain::{Limit, Plain};
 use crate::results::{write_figures, write_reserved, write_updated};
 use crate::text::Text;
@@ -6,32 +5,24 @@ use lru_model::MoveReport;
 use std::alloc::Global;
 use test_helpers::Random;
 
-/// A hash whose top 7 bits are those of no key.
 const OTHER_TAG: u64 = 1 << 57;
 
-/// How random calls are chosen.
 #[derive(Clone, Copy)]
 pub struct Bounds {
-    /// What limits the list.
     pub limit: Limit,
-    /// Keys are below this.
     pub keys: u64,
-    /// Values are below this.
     pub values: u64,
 }
 
 /// Random calls, and the answers that a plain list gives.
 #[derive(Drop)]
 pub struct Trial {
-    /// The lines of the calls.
     pub input: Text,
-    /// The answers.
     pub text: Text,
     plain: Plain,
     random: Random,
 }
 
-/// The hash of a key that a row names `sum`: the sum of its bytes.
 fn sum_of_bytes(key: u64) -> u64 {
     let mut sum = 0u64;
     for byte in key.to_le_bytes() {
@@ -41,7 +32,6 @@ fn sum_of_bytes(key: u64) -> u64 {
 }
 
 impl Trial {
-    /// Random calls on the map or under the limit that the first line names.
     pub fn new(alloc: Global, first: &str, bounds: Bounds, calls: u64) -> Trial {
         let mut trial = Trial {
             input: Text::new(alloc),
@@ -58,25 +48,21 @@ impl Trial {
         trial
     }
 
-    /// Adds the line of a call of one word.
     fn word(&mut self, word: &str) {
         self.input.word(word);
         self.input.word("\n");
     }
 
-    /// Adds the line of a call of one number.
     fn one(&mut self, word: &str, number: u64) {
         self.input.figure(word, number);
         self.input.word("\n");
     }
 
-    /// Adds the line of a call of two numbers.
     fn two(&mut self, word: &str, first: u64, second: u64) {
         self.input.figure(word, first);
         self.one(" ", second);
     }
 
-    /// Adds a random call. Half of all calls insert, and few take all pairs out, so that the map is mostly full.
     fn add(&mut self, bounds: Bounds, is_map: bool) {
         let (key, value) = (
             self.random.below(bounds.keys),
@@ -104,7 +90,6 @@ impl Trial {
         }
     }
 
-    /// Adds a drain. The line of the program takes no pairs from the oldest end.
     fn add_drain(&mut self, front: u64, back: u64, is_map: bool) {
         if is_map {
             self.two("drain ", front, back);
@@ -115,7 +100,6 @@ impl Trial {
         self.text.pairs(self.plain.left.as_slice());
     }
 
-    /// Adds a call on the list as a whole, or on an end of it.
     fn add_of_list(&mut self, number: u64) {
         match self.random.below(444) {
             ..=1 => {
@@ -145,7 +129,6 @@ impl Trial {
         }
     }
 
-    /// Adds the figures, if the list determines them, or the pairs.
     fn add_list_or_stats(&mut self) {
         let Limit::Memory(_, entry_bytes) = self.plain.limit else {
             self.word("list");
@@ -165,7 +148,6 @@ impl Trial {
         write_figures(&mut self.text, figures, report);
     }
 
-    /// Adds a call on a key that inserts nothing.
     fn add_of_key(&mut self, key: u64, value: u64) {
         match self.random.below(26) {
             ..=12 => {
@@ -192,7 +174,6 @@ impl Trial {
         }
     }
 
-    /// Adds a removal of a key, which returns its pair or its value.
     fn add_removal(&mut self, of_pair: bool, key: u64) {
         self.one(if of_pair { "remove-entry " } else { "remove " }, key);
         let value = self.plain.value(key);
@@ -204,7 +185,6 @@ impl Trial {
         }
     }
 
-    /// Adds a call that has no line in the program.
     fn add_other(&mut self, key: u64, value: u64) {
         match self.random.below(9) {
             0 => {
@@ -231,7 +211,6 @@ impl Trial {
         }
     }
 
-    /// Adds a search by the hash of a key, or by another hash.
     fn add_by_hash(&mut self, kind: u64, key: u64) {
         let hash = sum_of_bytes(key);
         match kind {
@@ -254,7 +233,6 @@ impl Trial {
         }
     }
 
-    /// Adds a write. A limit by cost refuses one that changes the sum.
     fn add_write(&mut self, key: u64, value: u64) {
         self.two("write ", key, value);
         match (self.plain.limit, self.plain.value(key)) {

@@ -3,12 +3,10 @@
 //!
 //! [`LruMap`] is the map, [`ByLength`] and its like are limiters. `docs/LIMITERS.md` shows how to write a limiter and a
 //! look-up key, `docs/CALLING.md` how to prove code that calls the map, and `docs/DIFFERENCES.md` lists what differs
-//! from the Rust crate. The theorems on all calls are the contracts of the functions of
-//! [`laws`], from `lru_model`.
+//! from the Rust crate. The theorems on all calls are the contracts of the functions of [`laws`].
 #![tactic(auto)]
 
-// Marks code that is never reached, as the macro of this name in `group_table` does. `unreachable!()` compiles to a
-// test and a trap. This compiles to nothing: it matches on what would be read from an array without elements.
+// Marks code that is never reached, as the macro of this name in `group_table` does.
 macro_rules! nowhere {
     () => {{
         let none: [Option<()>; 0] = [];

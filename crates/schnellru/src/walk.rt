@@ -15,10 +15,11 @@ pub(crate) mod into_iter;
 pub(crate) mod iter_mut;
 mod positions;
 
-/// The iterator over a map under this limiter. A function over the iterators of all limiters takes a `Walk`.
+/// The iterator over a map under this limiter.
 ///
 /// ```
 /// let mut walk = map.iter();
+/// assert!(rt; walk.next_back() == Some((&1, &10)) && walk.len() == 2);
 /// ```
 ///
 /// After schnellru's `Iter`.
@@ -28,9 +29,11 @@ impl<K: Eq + Hash, V, L: Limiter<K, V>, S: KeyHasher<K>> LruMap<K, V, L, S> {
     /// Returns an iterator over the entries, newest first. The order stays.
     ///
     /// ```
+    /// let mut total = 0u64;
     /// for (key, value) in map.iter() {
     ///     total = total.wrapping_add(key.wrapping_mul(*value));
     /// }
+    /// assert_eq!(rt; total, 140);
     /// ```
     ///
     /// Cost: `O(1)`, and so is each step of the walk from either end.
@@ -54,7 +57,7 @@ impl<K: Eq + Hash, V, L: Limiter<K, V>, S: KeyHasher<K>> LruMap<K, V, L, S> {
     ///
     /// Cost: `O(1)`, and so is each step of the walk from either end.
     ///
-    /// After std's `HashMap::keys`; schnellru has no such call.
+    /// After std's `HashMap::keys`.
     pub fn keys(&self) -> Keys<'_, K, V, L::LinkType>
         ensures rest { result ≡ keys_of self.now.pairs }
         ensures runs { ShowsInOrder (deref {X = K}) }
@@ -70,7 +73,7 @@ impl<K: Eq + Hash, V, L: Limiter<K, V>, S: KeyHasher<K>> LruMap<K, V, L, S> {
     ///
     /// Cost: `O(1)`, and so is each step of the walk from either end.
     ///
-    /// After std's `HashMap::values`; schnellru has no such call.
+    /// After std's `HashMap::values`.
     pub fn values(&self) -> Values<'_, K, V, L::LinkType>
         ensures rest { result ≡ values_of self.now.pairs }
         ensures runs { ShowsInOrder (deref {X = V}) }
@@ -86,7 +89,7 @@ impl<K: Eq + Hash, V, L: Limiter<K, V>, S: KeyHasher<K>> LruMap<K, V, L, S> {
     ///
     /// Cost: `O(index)`, and `O(1)` if there is no such entry.
     ///
-    /// After `get_index` of the crate `indexmap`; schnellru has no such call.
+    /// After `get_index` of the crate `indexmap`.
     pub fn get_index(&self, index: usize) -> Option<(&K, &V)>
         ensures { option_map deref_pair result ≡ slice_get self.now.pairs index }
     {
@@ -102,7 +105,7 @@ impl<K: Eq + Hash, V, L: Limiter<K, V>, S: KeyHasher<K>> LruMap<K, V, L, S> {
     ///
     /// Cost: `O(1)` expected to find the key, and `O(index)` to count the entries that are newer.
     ///
-    /// After `get_index_of` of the crate `indexmap`; schnellru has no such call.
+    /// After `get_index_of` of the crate `indexmap`.
     pub fn get_index_of<Q: LookupKey<K>>(&self, key: &Q) -> Option<usize>
         ensures { result ≡ position (λ pair. Q.names key.now pair.0) self.now.pairs }
     {

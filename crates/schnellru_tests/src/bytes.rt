@@ -1,4 +1,4 @@
-//! A cache of texts that takes at most 200 MiB, with its table and all that the texts own: a line of code and a theorem.
+//! A cache of texts of at most 200 MiB: a line of code and a theorem.
 ghost use Rattle.std.specs.Prelude.{◌≡◌, ◌*◌, ◌^◌, IfOk, string_capacity};
 ghost use Rattle.lru_limits.specs.Bytes.{both_own, block_bytes};
 ghost use Rattle.lru_model.specs.Bytes.{KeepsBytes, TakesAtMost};
@@ -18,8 +18,8 @@ fn cache_of_texts(alloc: Global) -> LruMap<String, String, ByBytes>
     LruMap::with_limiter(alloc, ByBytes::new(200 << 20))
 }
 
-/// Puts a text into the cache, updates another one, removes a third, and shrinks the table. Whatever the calls return, the
-/// cache takes at most its limit.
+/// Puts a text into the cache, updates another one, removes a third, and shrinks the table. Whatever the calls return,
+/// the cache takes at most its limit.
 fn change(
     map: &mut LruMap<String, String, ByBytes>,
     key: String,
@@ -36,7 +36,6 @@ fn change(
         (λ v. block_bytes (string_capacity v))) map.old.limiter.limit map.new }
 {
     laws::calls_keep_the_bytes::<String, String, RandomState>();
-    // Nothing at run time: it shows the proof that the table is sound.
     let _len = map.len();
     let kept = map.insert(key, text);
     map.update(other, new);

@@ -38,7 +38,7 @@ fn put(map: &mut LruMap<u64, u64>, key: u64, value: u64) -> Result<bool, AllocEr
     Ok(kept)
 }
 
-/// The same for any types, under a limiter that stores each value as it comes.
+/// For any types, under a limiter that stores each value as it comes.
 fn put_any<K: Eq + Hash + Drop, V: Drop, L: Insertion<K, V, K>>(
     map: &mut LruMap<K, V, L>,
     key: K,
@@ -50,7 +50,6 @@ fn put_any<K: Eq + Hash + Drop, V: Drop, L: Insertion<K, V, K>>(
     map.insert(key, value)
 }
 
-/// Makes the entry of a key the newest, and returns whether the key is there.
 fn touch(map: &mut LruMap<u64, u64>, key: u64) -> bool
     ensures there { result ≡ is_some (lookup (nat_eq key) map.old.pairs) }
     ensures newest { map.new ≡ promoted (nat_eq key) map.old }
@@ -92,8 +91,7 @@ fn memo<F: Fn(u64) -> u64>(
     Ok(value)
 }
 
-/// Returns the text of a key, from the map if the key is there, and else from the closure. Of the entries of other keys
-/// the newest are left, in their order.
+/// Returns the text of a key, from the map if the key is there, and else from the closure.
 fn fetch<F: Fn(&String) -> String>(
     map: &mut LruMap<String, String>,
     key: String,
@@ -147,7 +145,7 @@ fn put_within(map: &mut LruMap<String, u64>, key: String, value: u64) -> Result<
     map.insert(key, value)
 }
 
-/// The same under two limits, by length and by the bytes of the table.
+/// Under two limits, by length and by the bytes of the table.
 fn put_within_both(
     map: &mut LruMap<String, u64, Both<ByLength, ByMemoryUsage>>,
     key: String,
@@ -201,7 +199,6 @@ fn put_two(
     laws::runs_keep_maps::<String, u64, String, ByLength, RandomState>();
     laws::each_insert_of_a_run_evicts_the_oldest::<String, u64, String, ByLength, RandomState>();
     laws::runs_pay_for_moves::<String, u64, String, ByLength, RandomState>();
-    // Nothing at run time: it shows the proof that the table is sound.
     let _len = map.len();
     map.insert(first, value)?;
     map.pop_newest();
@@ -215,7 +212,6 @@ fn put_tightly(map: &mut LruMap<String, u64>, key: String, value: u64) -> Result
         full_capacity (buckets map.new) < 4 * (length map.old.pairs + 1) }
 {
     laws::inserts_grow_little::<String, u64, String, ByLength, RandomState>();
-    // Nothing at run time: it shows the proof that the table is sound.
     let _len = map.len();
     map.insert(key, value)
 }
@@ -274,12 +270,10 @@ fn put_into_deleted(
     map.insert(key, value)
 }
 
-/// Removes a key, which is not there then.
 fn forget(map: &mut LruMap<String, u64>, key: &str) -> Option<u64>
     ensures { lookup_entry (names_text key.now) map.new.pairs ≡ None }
 {
     laws::removed_keys_are_absent::<String, u64, &str, ByLength, RandomState>();
-    // Nothing at run time: it shows the proof that no two keys are equal.
     let _len = map.len();
     map.remove(&key)
 }
@@ -313,14 +307,12 @@ fn resize(map: &mut LruMap<String, u64>, n: usize) -> bool
     }
 }
 
-/// Returns the greatest usage within the bytes that the table uses, which is that number of bytes.
 fn usage_again(map: &LruMap<String, u64>, entry_bytes: usize) -> usize
     requires links { map.now.max ≡ max_of_32_bits }
     requires entry { map.now.entry_bytes ≡ entry_bytes }
     ensures { usage map.now.entry_bytes (buckets map.now) ≡ Some result }
 {
     laws::usages_are_their_budgets::<String, u64, ByLength, RandomState>();
-    // Nothing at run time: it shows the proof that the table is sound.
     let _len = map.len();
     let bytes = map.memory_usage();
     LruMap::<String, u64>::memory_usage_for_memory_budget(bytes, entry_bytes)
@@ -345,7 +337,6 @@ fn put_and_show<F: FnMut(u64, u64)>(
 
 /// Evicts what is over the limit, and returns how many entries these were.
 fn trim_and_count(map: &mut LruMap<u64, u64>) -> usize {
-    // Nothing at run time: it shows the proof that the count has room for all entries.
     let _len = map.len();
     let mut count = 0usize;
     map.trim_with(&mut |_, _| count += 1);
@@ -368,7 +359,6 @@ fn put_and_keep_all(
     Ok(())
 }
 
-/// Returns a map that keeps to its maximum length.
 fn map_of_length(alloc: Global, most: u32) -> LruMap<u64, u64>
     requires { most ≤ 939524096 }
     ensures { KeepsToLength result }
@@ -377,7 +367,7 @@ fn map_of_length(alloc: Global, most: u32) -> LruMap<u64, u64>
     LruMap::new(alloc, ByLength::new(most), [1, 2, 3, 4], 24)
 }
 
-/// Inserts a pair into such a map. The map then has the newest pairs, up to its maximum length.
+/// The map then has the newest pairs, up to its maximum length.
 fn put_newest(map: &mut LruMap<u64, u64>, key: u64, value: u64) -> Result<bool, AllocError>
     requires { KeepsToLength map.old }
     ensures newest { OnOk result

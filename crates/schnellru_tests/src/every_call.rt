@@ -1,7 +1,5 @@
-//! Every public call that may change a map is a step, or steps one after another, for any types: so what the laws say of
-//! steps and of runs holds of each. A function here makes some of the calls, and ensures that they are a run.
-//!
-//! The forms with a callback have the same clause `step` as those without, and `try_insert` says itself that it is a run.
+//! Every public call that may change a map is a step, or steps one after another, for any types: so what the laws say
+//! of steps and of runs holds of each.
 ghost use Rattle.lru_model.specs.Runs.{Step, AnyStep, Run, RunWithoutInsert};
 
 use schnellru::{Insertion, KeyHasher, Limiter, LookupKey, LruMap};
@@ -53,7 +51,6 @@ fn write<K: Eq + Hash, V: Drop, Q: LookupKey<K>, L: Limiter<K, V>, S: KeyHasher<
 )
     ensures { RunWithoutInsert L.rules S.hash_of map.new map.old }
 {
-    // Nothing at run time: it shows the proof that the table is sound.
     let _len = map.len();
     if let Some(place) = map.get(key) {
         *place = value;
@@ -98,7 +95,6 @@ fn write_newest<K: Eq + Hash, V: Drop, L: Limiter<K, V>, S: KeyHasher<K>>(
 )
     ensures { RunWithoutInsert L.rules S.hash_of map.new map.old }
 {
-    // Nothing at run time: it shows the proof that no two keys are equal.
     let _len = map.len();
     if let Some(place) = map.newest_mut() {
         *place = value;

@@ -26,7 +26,6 @@ const REPLACE: u64 = 6;
 
 const CLEARED: u64 = 0;
 
-/// Notes a call after those before it.
 fn note(trace: &Cell<u64>, call: u64) {
     trace.set(trace.get().wrapping_mul(10).wrapping_add(call));
 }
@@ -123,9 +122,8 @@ impl Insertion<u64, u64, u64> for Noting<'_> {
     } };
 }
 
-/// Inserts a pair into a map of the numbers from `first` to `last`, each with ten times the number, under limits that are
-/// then set, while only this number of requests for memory is met. Returns whether the calls are those of `expected`, or
-/// memory has no end.
+/// Inserts a pair into a map of the numbers from `first` to `last`, under limits that are then set, while only this
+/// number of requests for memory is met. Returns whether the calls are those of `expected`, or memory has no end.
 fn is_traced(
     alloc: Global,
     [first, last, most, bytes, blocks, key, value, expected]: [u64; 8],
@@ -169,7 +167,6 @@ fn each_pair_is_passed_on_before_the_next_callback(rt: HostRuntime) {
     }
 }
 
-/// Makes calls on a map of three pairs, and at last on an empty one.
 fn call(map: &mut LruMap<u64, u64, Noting>) {
     let _ = map.insert(2, 20);
     map.update(2, 21);
@@ -180,8 +177,6 @@ fn call(map: &mut LruMap<u64, u64, Noting>) {
     map.trim();
 }
 
-/// An insert of a new key queries the limiter once after it stored the pair, and once before if there are pairs. An
-/// insert of a key that is there queries once, and so does an update, and a trim if there are pairs.
 #[test]
 fn the_limiter_is_asked_once(rt: HostRuntime) {
     let trace = Cell::new(0u64);
@@ -191,8 +186,6 @@ fn the_limiter_is_asked_once(rt: HostRuntime) {
     check!(rt; trace.get() == 4_514_114_116_161_210);
 }
 
-/// Inserts three entries of 48 bytes, which are inserted in line, into a map of at most two. Returns the calls of the
-/// limiter, and how many hashers were built.
 fn large_inserts(alloc: Global) -> (u64, u64) {
     let trace = Cell::new(0u64);
     let limiter = Storing(Noting::new(2, 1000, &trace));

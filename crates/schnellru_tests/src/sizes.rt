@@ -1,12 +1,10 @@
-//! Keys and values of 4 KiB, and maps of many pairs. The contracts hold for every type and size. These tests show that
-//! no call fails above some size.
+//! Keys and values of 4 KiB, and maps of many pairs. These tests show that no call fails above some size.
 use schnellru::{LruMap, UnlimitedCompact};
 use test_helpers::{all, check};
 use test_maps::{insert_all, map_of, remove_all, reserve, shrink};
 
 type Page = [u8; 4096];
 
-/// A page with this number in each byte.
 fn page(n: u8) -> Page {
     [n; 4096]
 }
@@ -27,9 +25,6 @@ fn keys_and_values_of_4_kib(rt: HostRuntime) {
 /// The number of pairs that fill a table of 2^20 buckets.
 const MANY: u64 = 917_504;
 
-/// Fills a table, replaces half of its pairs by twice as many, copies the table, shrinks it, reserves space and drains
-/// it. Returns whether each call succeeds and the capacity after it, the length of the copy, and how many pairs the
-/// drain passes are right.
 fn are_sized(map: &mut LruMap<u64, u64, UnlimitedCompact>) -> bool {
     let held = all!(
         insert_all(map, 1..=MANY).is_ok(),

@@ -7,7 +7,6 @@ use test_maps::{insert_all, is_pair, map_of};
 
 type Map = LruMap<u64, u64, ByCost>;
 
-/// Forgets walks, one of them after a write to the oldest value.
 fn forget_walks(map: &mut Map) {
     let mut walk = map.iter_mut();
     if walk.len() > 0 {

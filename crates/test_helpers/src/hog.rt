@@ -12,13 +12,11 @@ const STEP: usize = 8;
 
 const MOST: usize = 1 << 17;
 
-/// Blocks that are only held, and some spare ones, which are given back one at a time.
 pub struct Hog {
     held: Vec<Vec<u8>>,
     spare: Vec<Vec<u8>>,
 }
 
-// Not derived, because each crate that drops one would then prove the drop of each field again.
 impl Drop for Hog {
     fn drop(self) {
         let Hog { held, spare } = self;
@@ -36,7 +34,6 @@ fn smaller(size: usize) -> usize {
 }
 
 impl Hog {
-    /// Takes a block for each request that is to be met later, in their order, and then all memory that is left.
     pub fn new(alloc: Global, requests: &[usize]) -> Result<Hog, AllocError> {
         let mut spare = Vec::with_capacity(alloc, requests.len())?;
         for size in requests.iter().rev() {
@@ -66,7 +63,6 @@ impl Hog {
         Ok(hog)
     }
 
-    /// Gives the next spare block back, so that one more request is met.
     pub fn release(&mut self) {
         drop(self.spare.pop());
     }

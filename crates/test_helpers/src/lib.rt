@@ -20,8 +20,7 @@ pub use insert_key::{Counting, InsertKey};
 pub use limiters::{Alternating, Blanking, LinkedBy};
 pub use random::Random;
 
-/// Ends a test if the condition is false. The output names only the line, so the prover takes a third of the time of an
-/// `assert!`, and a seventh of the time of an `assert_eq!`.
+/// Ends a test if the condition is false.
 #[macro_export]
 macro_rules! check {
     ($rt:expr; $holds:expr) => {
@@ -31,9 +30,7 @@ macro_rules! check {
     };
 }
 
-/// Whether all conditions hold. It stands for an assertion of each condition, if a test checks its result. Each
-/// condition is evaluated, whatever the others are: the proof of a test takes the longer the more branches the test
-/// has.
+/// Whether all conditions hold.
 #[macro_export]
 macro_rules! all {
     ($($holds:expr),+) => {

@@ -6,12 +6,10 @@ ghost use Rattle.std.specs.Prelude.{◌<◌};
 pub struct Random(u64);
 
 impl Random {
-    /// A generator with this seed.
     pub fn new(seed: u64) -> Random {
         Random(seed)
     }
 
-    /// The next number.
     pub fn next(&mut self) -> u64 {
         self.0 = self
             .0
@@ -20,7 +18,6 @@ impl Random {
         self.0 ^ (self.0 >> 32)
     }
 
-    /// A number below `n`, or 0 if `n` is 0.
     pub fn below(&mut self, n: u64) -> u64
         ensures { 0 < n → result < n }
     {

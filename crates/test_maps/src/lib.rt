@@ -1,7 +1,6 @@
 //! Maps that tests share, and what a test looks at in them.
 //!
-//! - [`map_of`], [`insert`], [`insert_all`], [`remove_all`], [`reserve`], [`shrink`]: a map of numbers. They
-//!   have no contracts, so a test that calls them is proved faster than one that calls the map.
+//! - [`map_of`], [`insert`], [`insert_all`], [`remove_all`], [`reserve`], [`shrink`]: a map of numbers.
 //! - [`fill`], [`is_pair`], [`is_value`]: the map of the examples of the docs, and forms of their assertions that are
 //!   proved faster.
 #![tactic(auto)]

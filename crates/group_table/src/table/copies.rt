@@ -54,8 +54,6 @@ impl<T: Drop> Table<T> {
     }
 }
 
-// Writes what the closure returns for each entry, in the place of the entry. The control bytes say which places hold
-// one.
 fn copy_entries<T: Drop, F: Fn(&T) -> Result<T, AllocError>>(
     control: &Control,
     entries: &Entries<T>,

@@ -11,7 +11,7 @@ use crate::cells::bytes_of;
 use crate::control::DELETED;
 
 impl<T> Table<T> {
-    /// Returns the number of buckets: none, or a power of two from 4 on. They are numbered from 0 on.
+    /// Returns the number of buckets: none, or a power of two from 4 on.
     #[inline]
     pub fn buckets(&self) -> usize
         ensures value { result ≡ length self.now.slots }
@@ -20,9 +20,10 @@ impl<T> Table<T> {
         self.control.buckets()
     }
 
-    /// Returns whether a table with buckets has a bucket of this number. It costs one comparison.
+    /// Returns whether a table with buckets has a bucket of this number.
     ///
     /// ```
+    /// let table: Table<u64> = Table::with_buckets(alloc, 8)?;
     /// assert!(rt; table.has_bucket(7) && !table.has_bucket(8));
     /// ```
     #[inline]
@@ -67,7 +68,9 @@ impl<T> Table<T> {
     /// reaches `u64::MAX` stays there.
     ///
     /// ```
-    /// assert_eq!(rt; (table.placed(), table.placings()), (2, 2));
+    /// let mut table = Table::with_buckets(alloc, 8)?;
+    /// let _ = table.try_place(7, "a");
+    /// assert_eq!(rt; (table.placed(), table.placings()), (1, 1));
     /// ```
     #[inline]
     pub fn placed(&self) -> u64

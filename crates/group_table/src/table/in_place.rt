@@ -1,4 +1,3 @@
-//! Rehashing the entries of a table in place.
 ghost use Rattle.std.specs.Prelude.{◌≡◌, ℕ, ◌+◌, ◌-◌, ◌^◌, ◌<◌, ◌≤◌, length, replicate, count_by, is_some};
 ghost use Rattle.std.specs.Prelude.{slice_index_or};
 ghost use Rattle.group_table.specs.Sizes.{IsPowerFromFour, full_capacity};

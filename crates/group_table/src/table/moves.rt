@@ -1,4 +1,3 @@
-//! Moving entries into a fresh table, one after another.
 ghost use Rattle.std.specs.Prelude.{◌≡◌, ℕ, ◌<◌, ◌≤◌, length, replicate, count_by, is_some, slice_index_or};
 ghost use Rattle.std.specs.Prelude.{None};
 ghost use Rattle.group_table.specs.Sizes.{full_capacity};
@@ -33,7 +32,7 @@ impl<T> Table<T> {
 }
 
 // Moves entries, in rising order of their old buckets, into an empty table, and writes where each is now. The old
-// control bytes say which places hold one; afterwards none does. (Without `T: Drop` no entry can be dropped or lost.)
+// control bytes say which places hold one; afterwards none does.
 pub(crate) fn move_entries<T, N: LinkType, H: Fn(&T) -> u64>(
     control: &Control,
     old: &mut Entries<T>,

@@ -1,6 +1,5 @@
-//! The calls of `Table` that move every entry.
-//!
-//! They do not require `T: Drop`, so a body that forgets an entry or a table does not compile.
+//! The calls of `Table` that move every entry. They do not require `T: Drop`, so a body that forgets an entry or a
+//! table does not compile.
 ghost use Rattle.std.specs.Prelude.{◌≡◌, ℕ, ◌+◌, ◌^◌, ◌<◌, ◌≤◌, [], length, count_by, IfOk, OnErr, OnOk, IsOk};
 ghost use Rattle.group_table.specs.Sizes.{IsBucketCount, full_capacity};
 ghost use Rattle.group_table.specs.Bucket.{marks_of, entry_at, entry_count, is_deleted, room};

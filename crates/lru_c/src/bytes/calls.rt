@@ -1,4 +1,3 @@
-//! The calls on a map of byte strings that copy bytes in or out.
 ghost use Rattle.std.specs.Prelude.{◌≡◌, ◌&&◌, length, Some, IfSome, option_map, nat_le, true, false};
 ghost use Rattle.std.specs.Map.Iter.{deref_pair};
 ghost use Rattle.lru_model.specs.Calls.{promoted};
@@ -64,7 +63,6 @@ fn get_ready_for(map: &mut BytesMap, key: &[u8]) -> bool
     map.try_reserve(1).is_ok()
 }
 
-// Copies the bytes to the front of the buffer, if they fit.
 #[inline]
 fn pour(bytes: &[u8], buffer: &mut [u8])
     ensures { buffer.new ≡ poured bytes.now buffer.old }
@@ -74,7 +72,6 @@ fn pour(bytes: &[u8], buffer: &mut [u8])
     }
 }
 
-// Copies a value to the front of the buffer, if it fits, and returns its length.
 fn read(value: &Vec<u8>, buffer: &mut [u8]) -> Value
     ensures { Reads (Some value.now) result buffer.old buffer.new }
 {
@@ -107,7 +104,7 @@ pub fn peek(map: &BytesMap, key: &[u8], buffer: &mut [u8]) -> Value
     }
 }
 
-/// Removes the oldest entry and copies it to the front of the buffers, if it fits. Returns its lengths.
+/// Removes the oldest entry and copies it to the front of the buffers, if it fits.
 pub fn pop_oldest(map: &mut BytesMap, key: &mut [u8], value: &mut [u8]) -> Popped
     ensures { Pops map.old result key.old key.new value.old value.new map.new }
 {
@@ -129,7 +126,6 @@ pub fn pop_oldest(map: &mut BytesMap, key: &mut [u8], value: &mut [u8]) -> Poppe
     }
 }
 
-/// Copies an entry to the front of the buffers, if both parts fit. Returns its lengths.
 pub fn show(pair: Option<(&Vec<u8>, &Vec<u8>)>, key: &mut [u8], value: &mut [u8]) -> Popped
     ensures { Shows (option_map deref_pair pair.entry) result key.old key.new value.old value.new }
 {
@@ -159,7 +155,6 @@ pub fn copied(alloc: Global, map: &BytesMap) -> Option<Box<BytesMap>>
     }
 }
 
-// Returns whether a key and a value of these lengths fit into buffers of these sizes.
 #[inline]
 fn both_fit(key: usize, value: usize, key_size: usize, value_size: usize) -> bool
     ensures { result ≡ (nat_le key key_size && nat_le value value_size) }
@@ -167,7 +162,6 @@ fn both_fit(key: usize, value: usize, key_size: usize, value_size: usize) -> boo
     key <= key_size && value <= value_size
 }
 
-// Returns the lengths of the key and the value of the oldest entry.
 fn oldest_lengths(map: &BytesMap) -> Option<(usize, usize)>
     ensures { result ≡ option_map (λ pair. (length pair.0.items, length pair.1.items)) (last map.now.pairs) }
 {

@@ -98,7 +98,7 @@ pub extern "C" fn lru_bytes_get(
     }
 }
 
-/// Copies the value of a key into the buffer, if it fits. Returns the length. The map stays as it is.
+/// Copies the value of a key into the buffer, if it fits. Returns the length.
 #[unsafe(no_mangle)]
 pub extern "C" fn lru_bytes_peek(
     alloc: Global,
@@ -153,8 +153,8 @@ pub extern "C" fn lru_bytes_remove(alloc: Global, lru: &mut LruBytes, key: &[u8]
     }
 }
 
-/// Copies the key and the value of the oldest entry into the buffers, and removes the entry, if both fit. Returns their
-/// lengths. If one does not fit, nothing changes.
+/// Copies the key and the value of the oldest entry into the buffers, and removes the entry, if both fit. If one does
+/// not fit, nothing changes.
 #[unsafe(no_mangle)]
 pub extern "C" fn lru_bytes_pop_oldest(
     alloc: Global,
@@ -175,8 +175,7 @@ pub extern "C" fn lru_bytes_pop_oldest(
     }
 }
 
-/// Copies the key and the value of the oldest entry into the buffers, if both fit. Returns their lengths. The map stays
-/// as it is.
+/// Copies the key and the value of the oldest entry into the buffers, if both fit. Returns their lengths.
 #[unsafe(no_mangle)]
 pub extern "C" fn lru_bytes_peek_oldest(
     alloc: Global,
@@ -198,7 +197,7 @@ pub extern "C" fn lru_bytes_peek_oldest(
     }
 }
 
-/// The same for the entry at this index in the order of use, counted from 0, the newest.
+/// Copies the entry at this index in the order of use, counted from 0, the newest.
 #[unsafe(no_mangle)]
 pub extern "C" fn lru_bytes_peek_at(
     alloc: Global,

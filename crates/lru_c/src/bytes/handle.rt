@@ -29,21 +29,18 @@ impl Model for LruBytes {
 }
 
 impl LruBytes {
-    // Returns a handle without a map.
     fn vacant() -> LruBytes
         ensures { result.map ≡ None }
     {
         LruBytes { start: null_mut() }
     }
 
-    // Forgets a handle without a map.
     fn forget(self)
         requires { self.map ≡ None }
     {
         let LruBytes { start: _ } = self;
     }
 
-    // Returns a handle of the map.
     fn from_raw(map: RawBox<BytesMap, Global>) -> LruBytes
         ensures { result.map ≡ Some map.value }
     {
@@ -53,7 +50,6 @@ impl LruBytes {
         }
     }
 
-    // Returns the map of the handle.
     fn into_raw(self) -> Option<RawBox<BytesMap, Global>>
         ensures { option_map (λ map. map.value) result ≡ self.map }
     {
@@ -68,7 +64,6 @@ impl LruBytes {
         }
     }
 
-    /// Takes the map out of the handle.
     #[inline]
     pub fn take(&mut self, alloc: Global) -> Option<Box<BytesMap>>
         ensures map { option_map (λ map. map.value) result ≡ self.old.map }
@@ -80,7 +75,6 @@ impl LruBytes {
         }
     }
 
-    /// Puts a map into a handle that has none.
     #[inline]
     pub fn put(&mut self, map: Box<BytesMap>)
         requires { self.old.map ≡ None }

@@ -6,7 +6,6 @@ use crate::file_device::FileError;
 use lru_limits::RandomState;
 use std::hash::{BuildHasher, Hasher};
 
-// Writes a number into the last 8 bytes.
 fn put_at_end(block: &mut [u8], number: u64)
     requires { 8 ≤ length block.old }
     ensures { block.new ≡ with_tail block.old number }
@@ -15,7 +14,6 @@ fn put_at_end(block: &mut [u8], number: u64)
     block[at..].copy_from_slice(&number.to_le_bytes());
 }
 
-// Returns the hash of bytes, by the hasher with the default seeds.
 fn hash_of(bytes: &[u8]) -> u64
     ensures { result ≡ hash_of_bytes bytes.now }
 {
@@ -24,7 +22,6 @@ fn hash_of(bytes: &[u8]) -> u64
     hasher.finish()
 }
 
-// Returns the block with its checksum.
 pub(super) fn with_checksum<const N: usize>(block: &[u8; N], n: u64) -> [u8; N]
     requires { 8 ≤ N }
     ensures { result ≡ checked_block n block.now }
@@ -36,7 +33,6 @@ pub(super) fn with_checksum<const N: usize>(block: &[u8; N], n: u64) -> [u8; N]
     copy
 }
 
-// Passes a block on if it has its checksum.
 pub(super) fn checked<const N: usize>(
     read: Result<[u8; N], FileError>,
     n: u64,

@@ -1,4 +1,3 @@
-//! Files whose bytes can be made durable.
 use std::fs::File;
 use std::io;
 use std::io::Cursor;

@@ -19,11 +19,10 @@ use std::io::{Read, Seek, Write};
 /// not proved. The seeds are known, so whoever writes the file can make a block with its checksum. Of blocks with their
 /// checksums the same is said as of a [`FileDevice`], under the same premise.
 ///
-/// A file that this device reads has to be written by it. Write each block once to make one.
-///
 /// [`FileDevice`]: crate::FileDevice
 ///
 /// ```
+/// let file = Cursor::new([0u8; 48]);
 /// let mut hashed: HashedFileDevice<_, 16> = HashedFileDevice::new(file, 3);
 /// assert_eq!(rt; hashed.write(1, b"uno.....checksum"), Ok(()));
 /// assert!(rt; hashed.read(1)?.starts_with(b"uno....."));

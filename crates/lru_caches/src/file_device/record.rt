@@ -17,7 +17,6 @@ impl Model for Record {
 }
 
 impl Record {
-    // Makes an empty record.
     pub(super) fn new() -> Record
         ensures { result.events ≡ [] }
     {
@@ -26,7 +25,6 @@ impl Record {
         }
     }
 
-    // Notes a call: the kind of its event, the number of its block, and the bytes.
     pub(super) fn note(&mut self, _numbers: &[u64], _bytes: &[u8])
         ensures { self.new.events ≡ event_of _numbers.now _bytes.now ∷ self.old.events }
     {}

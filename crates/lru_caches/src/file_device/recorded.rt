@@ -1,4 +1,3 @@
-//! A file whose calls are recorded.
 ghost use Rattle.std.specs.Prelude.{◌≡◌, ◌≤◌, [], ◌∷◌, is_ok, if◌then◌else◌, MatchResult, IfOk};
 ghost use Rattle.lru_caches.specs.Checksums.{with_checksum};
 ghost use Rattle.lru_caches.specs.Files.{was_read, unread, written, unwritten, synced, unsynced};
@@ -9,7 +8,6 @@ use crate::file_device::durable::Durable;
 use crate::file_device::record::Record;
 use std::io::{self, Read, Seek, SeekFrom, Write};
 
-// The kinds of events.
 const UNREAD: u64 = 0;
 
 const READ: u64 = 1;
@@ -22,7 +20,6 @@ const UNSYNCED: u64 = 4;
 
 const SYNCED: u64 = 5;
 
-/// A file with the record of its calls. Each function makes the calls of one event and records the event.
 #[derive(Drop)]
 pub struct RecordedFile<F> {
     pub(super) file: F,
@@ -46,7 +43,6 @@ impl<F> RecordedFile<F> {
 }
 
 impl<F: Read + Write + Seek> RecordedFile<F> {
-    // Reads the block of this number.
     pub(super) fn read_block<const N: usize>(&mut self, n: u64) -> Result<[u8; N], FileError>
         ensures { MatchResult result
             (λ block. self.new.log.events ≡ was_read n block ∷ self.old.log.events)
@@ -56,7 +52,6 @@ impl<F: Read + Write + Seek> RecordedFile<F> {
         self.note_read(n, read)
     }
 
-    // Reads the block of this number, and fails if it does not have its checksum.
     pub(super) fn read_checked<const N: usize>(&mut self, n: u64) -> Result<[u8; N], FileError>
         requires { 8 ≤ N }
         ensures noted { MatchResult result
@@ -68,7 +63,6 @@ impl<F: Read + Write + Seek> RecordedFile<F> {
         self.note_read(n, read)
     }
 
-    // Records the result of a read.
     fn note_read<const N: usize>(
         &mut self,
         n: u64,
@@ -86,7 +80,6 @@ impl<F: Read + Write + Seek> RecordedFile<F> {
         read
     }
 
-    // Writes the block of this number.
     pub(super) fn write_block<const N: usize>(
         &mut self,
         n: u64,
@@ -109,7 +102,6 @@ impl<F: Read + Write + Seek> RecordedFile<F> {
 }
 
 impl<F: Write + Durable> RecordedFile<F> {
-    // Flushes the writer and makes what was written durable.
     pub(super) fn sync(&mut self) -> Result<(), FileError>
         ensures { self.new.log.events ≡ (if is_ok result then synced else unsynced) ∷ self.old.log.events }
     {
@@ -126,7 +118,6 @@ impl<F: Write + Durable> RecordedFile<F> {
     }
 }
 
-// Moves to the block of this number.
 fn seek_to<F: Seek>(file: &mut F, n: u64, size: usize) -> io::Result<()> {
     match n.checked_mul(size as u64) {
         Some(at) => {
@@ -137,7 +128,6 @@ fn seek_to<F: Seek>(file: &mut F, n: u64, size: usize) -> io::Result<()> {
     }
 }
 
-// Reads the block of this number.
 fn read_at<F: Read + Seek, const N: usize>(file: &mut F, n: u64) -> Result<[u8; N], FileError> {
     let mut block = [0u8; N];
     match seek_to(file, n, N) {

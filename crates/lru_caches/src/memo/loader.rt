@@ -13,8 +13,7 @@ use std::marker::Model;
 /// A memo of a function that may fail, such as a read of a file. It stores the newest values that were loaded, up to a
 /// limit, and no failure.
 ///
-/// It is proved that each value is right, and that a failure stores nothing. That a value is remembered, and the limit
-/// kept, is only tested.
+/// It is proved that each value is right, and that a failure stores nothing.
 ///
 /// The function may borrow what it reads by `&`.
 ///
@@ -127,7 +126,7 @@ impl<
     ///
     /// # Errors
     ///
-    /// The function failed, with this error. The stored values stay. There is no error if a value is stored.
+    /// The function failed, with this error. The stored values stay.
     pub fn load(&mut self, key: K) -> Result<V, E>
         requires callable { F.IsAlwaysCallable self.old.function }
         requires known { AreAnswers K.eq (loads (F.post self.old.function)) self.old.known }
@@ -170,7 +169,6 @@ impl<
     }
 }
 
-// Returns the stored value of a key, or else stores what the function returns.
 fn loaded<
     K: Copy + Eq + Hash,
     V: Copy,

@@ -1,4 +1,3 @@
-//! Equal ordered maps, and how one is shown.
 use crate::ordered_map::OrderedMap;
 use schnellru::KeyHasher;
 use std::fmt;
@@ -10,7 +9,7 @@ use std::hash::Hash;
 /// assert!(rt; map == map && map != OrderedMap::new(alloc));
 /// ```
 ///
-/// Cost: `O(1)` if the lengths differ, else `O(n)` for n entries.
+/// `O(1)` if the lengths differ, else `O(n)` for n entries.
 ///
 /// After std's `Vec`; indexmap's maps are equal in any order.
 impl<K: Eq + Hash, V: PartialEq, S: KeyHasher<K>> PartialEq for OrderedMap<K, V, S> {

@@ -1,4 +1,3 @@
-//! The stored key of an entry, moves to the end of the order, and the memory of an ordered map.
 ghost use Rattle.std.specs.Prelude.{◌≡◌, is_some, option_map};
 ghost use Rattle.std.specs.Map.{lookup};
 ghost use Rattle.std.specs.Map.Iter.{deref_pair};
@@ -46,7 +45,7 @@ impl<K: Eq + Hash, V, S: KeyHasher<K>> OrderedMap<K, V, S> {
         self.map.promote(key)
     }
 
-    /// Reserves memory for n more entries. The entries stay; no clause says that the memory is there.
+    /// Reserves memory for n more entries.
     ///
     /// ```
     /// assert_eq!(rt; map.try_reserve(100), Ok(()));
@@ -56,7 +55,7 @@ impl<K: Eq + Hash, V, S: KeyHasher<K>> OrderedMap<K, V, S> {
     ///
     /// # Errors
     ///
-    /// As schnellru's `LruMap::try_reserve`. The entries stay then, too.
+    /// As schnellru's `LruMap::try_reserve`.
     ///
     /// After indexmap's `IndexMap::try_reserve`.
     pub fn try_reserve(&mut self, n: usize) -> Result<(), ReserveError>
@@ -65,8 +64,7 @@ impl<K: Eq + Hash, V, S: KeyHasher<K>> OrderedMap<K, V, S> {
         self.map.try_reserve(n)
     }
 
-    /// Shrinks the table to as few buckets as hold the entries, and returns whether it had more. The entries stay; no
-    /// clause speaks of the table.
+    /// Shrinks the table to as few buckets as hold the entries, and returns whether it had more.
     ///
     /// ```
     /// assert_eq!(rt; map.try_reserve(100), Ok(()));

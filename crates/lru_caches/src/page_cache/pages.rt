@@ -10,7 +10,6 @@ use crate::device::BlockDevice;
 use crate::page_cache::PageError;
 use schnellru::{KeyHasher, LruMap, UnlimitedCompact};
 
-// A cached block. It is dirty if no flush has written it.
 #[derive(Clone, Copy)]
 pub(super) struct Page<B> {
     pub(super) block: B,
@@ -19,7 +18,6 @@ pub(super) struct Page<B> {
 
 pub(super) type Pages<B, S> = LruMap<u64, Page<B>, UnlimitedCompact, S>;
 
-// Returns whether a call on page n can begin, and if not, why.
 pub(super) fn admit<B: Copy, D: BlockDevice<B>>(
     device: &D,
     n: u64,
@@ -40,7 +38,6 @@ pub(super) fn admit<B: Copy, D: BlockDevice<B>>(
     Ok(())
 }
 
-// Reads a block of the device.
 fn read_block<B: Copy, D: BlockDevice<B>>(device: &mut D, n: u64) -> Result<B, PageError<D::Error>>
     requires usable { IsTrue (D.is_usable device.old) }
     requires there { IsTrue (D.has device.old n) }
@@ -54,7 +51,6 @@ fn read_block<B: Copy, D: BlockDevice<B>>(device: &mut D, n: u64) -> Result<B, P
     device.read(n).map_err(PageError::Device)
 }
 
-// Reads a block of the device, and makes its page, which is not cached, the newest.
 pub(super) fn load<B: Copy, D: BlockDevice<B>, S: KeyHasher<u64>>(
     map: &mut Pages<B, S>,
     device: &mut D,
@@ -90,7 +86,6 @@ pub(super) fn load<B: Copy, D: BlockDevice<B>, S: KeyHasher<u64>>(
     Ok(block)
 }
 
-// Returns the block of a cached page, and makes the page the newest.
 pub(super) fn cached_block<B: Copy, S: KeyHasher<u64>>(map: &mut Pages<B, S>, n: u64) -> Option<B>
     ensures block { result ≡ option_map (λ page. page.block) (lookup (nat_eq n) map.old.pairs) }
     ensures same { (m : ℕ) → lookup (nat_eq m) map.new.pairs ≡ lookup (nat_eq m) map.old.pairs }
@@ -106,7 +101,6 @@ pub(super) fn cached_block<B: Copy, S: KeyHasher<u64>>(map: &mut Pages<B, S>, n:
     }
 }
 
-// Replaces a cached page, makes it the newest, and returns whether it is there.
 pub(super) fn overwrite<B: Copy, S: KeyHasher<u64>>(
     map: &mut Pages<B, S>,
     n: u64,
@@ -128,7 +122,6 @@ pub(super) fn overwrite<B: Copy, S: KeyHasher<u64>>(
     }
 }
 
-// Makes a page that is not cached the newest, after room is made for it.
 pub(super) fn store<B: Copy, D: BlockDevice<B>, S: KeyHasher<u64>>(
     map: &mut Pages<B, S>,
     device: &mut D,
@@ -161,7 +154,6 @@ pub(super) fn store<B: Copy, D: BlockDevice<B>, S: KeyHasher<u64>>(
     add_page(map, n, page)
 }
 
-// Removes the oldest page if the cache is full, after it is written back. If that fails, no page is removed.
 fn make_room<B: Copy, D: BlockDevice<B>, S: KeyHasher<u64>>(
     map: &mut Pages<B, S>,
     device: &mut D,
@@ -191,7 +183,6 @@ fn make_room<B: Copy, D: BlockDevice<B>, S: KeyHasher<u64>>(
     Ok(())
 }
 
-// Removes the oldest page, after it is written back. If that fails, no page is removed.
 fn evict_oldest<B: Copy, D: BlockDevice<B>, S: KeyHasher<u64>>(
     map: &mut Pages<B, S>,
     device: &mut D,
@@ -211,7 +202,6 @@ fn evict_oldest<B: Copy, D: BlockDevice<B>, S: KeyHasher<u64>>(
     ensures left { OnOk result (length map.new.pairs ≡ length map.old.pairs - 1) }
     ensures newest { OnOk result (map.new.pairs ≡ take (length map.old.pairs - 1) map.old.pairs) }
 {
-    // Nothing at run time: it shows the proof that no two pages have one number.
     let _ = map.len();
     let Some((n, page)) = map.peek_oldest() else {
         return Ok(());
@@ -221,7 +211,6 @@ fn evict_oldest<B: Copy, D: BlockDevice<B>, S: KeyHasher<u64>>(
     Ok(())
 }
 
-// Writes a page to the device, if it is dirty.
 fn write_back<B: Copy, D: BlockDevice<B>>(
     device: &mut D,
     n: u64,
@@ -244,7 +233,6 @@ fn write_back<B: Copy, D: BlockDevice<B>>(
     device.write(n, &page.block).map_err(PageError::Device)
 }
 
-// Writes each dirty page to the device, and syncs it.
 pub(super) fn write_all_back<B: Copy, D: BlockDevice<B>, S: KeyHasher<u64>>(
     map: &Pages<B, S>,
     device: &mut D,
@@ -270,7 +258,6 @@ pub(super) fn write_all_back<B: Copy, D: BlockDevice<B>, S: KeyHasher<u64>>(
     device.sync().map_err(PageError::Device)
 }
 
-// Writes each dirty page to the device.
 fn write_each_back<B: Copy, D: BlockDevice<B>, S: KeyHasher<u64>>(
     map: &Pages<B, S>,
     device: &mut D,
@@ -294,14 +281,12 @@ fn write_each_back<B: Copy, D: BlockDevice<B>, S: KeyHasher<u64>>(
     Ok(())
 }
 
-// Makes each page clean.
 pub(super) fn make_clean<B: Copy, S: KeyHasher<u64>>(map: &mut Pages<B, S>)
     ensures { map.new.pairs ≡ cleaned map.old.pairs }
 {
     map.for_each_mut(|_, page| page.is_dirty = false);
 }
 
-// Adds a page, if there is memory for it.
 fn add_page<B: Copy, E, S: KeyHasher<u64>>(
     map: &mut Pages<B, S>,
     n: u64,

@@ -8,17 +8,12 @@ use std::alloc::Global;
 use std::cell::Cell;
 use test_helpers::{Hog, Random};
 
-/// How many calls are compared.
 pub const CALLS: u64 = 100_000;
 
-/// How many results the memos and the loaders remember.
 const LENGTHS: [u32; 10] = [0, 1, 2, 3, 5, 8, 19, 60, 99, 100];
 
-/// The last key whose result can be loaded.
 const KEYS: u64 = 150;
 
-// Moves a key to the front of the places that are used, and returns whether it was there. Unused places have a key that
-// no call has.
 fn use_key(keys: &mut [u64; 100], length: u32, key: u64) -> bool {
     let mut carried = key;
     for place in keys.iter_mut().take(length as usize) {
@@ -32,8 +27,6 @@ fn use_key(keys: &mut [u64; 100], length: u32, key: u64) -> bool {
     false
 }
 
-// Asks the memo and the loader for random keys, and the loader also for keys whose results it cannot load. Returns how
-// often the number of calls is right: one for the failure, and one more for each result that is not stored.
 fn count<F: Fn(u64) -> u64, G: Fn(u64) -> Result<u64, u64>>(
     mut memo: Memo<u64, u64, F, ByLength>,
     mut loader: Loader<u64, u64, G, ByLength>,
@@ -59,8 +52,6 @@ fn count<F: Fn(u64) -> u64, G: Fn(u64) -> Result<u64, u64>>(
     count
 }
 
-/// Returns how many random calls agree. Before these, each memo and loader is asked for a key that no other call has,
-/// without memory, and stores nothing. If memory has no end, they may store the result.
 pub fn calls_that_agree(alloc: Global) -> u64 {
     let mut sum = 0u64;
     for length in LENGTHS {

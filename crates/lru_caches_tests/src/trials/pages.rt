@@ -5,10 +5,8 @@ use std::alloc::Global;
 use std::cell::Cell;
 use test_helpers::Random;
 
-/// The number of calls of a list.
 const LENGTH: usize = 100;
 
-/// The caches have fewer pages than this.
 const CAPACITIES: usize = 6;
 
 /// A list needs fewer calls of the disk than this.
@@ -17,7 +15,6 @@ const MOST: u64 = 80;
 /// How many calls of the disk the lists need together, from another program.
 pub const NEEDED: u64 = 310;
 
-/// A number of calls that is left of a disk that works. No test makes this number of calls.
 const WORKS: u64 = 1 << 60;
 
 type Cache<'a> = PageCache<u64, Disk<'a>>;
@@ -28,8 +25,6 @@ fn has_failed(cache: &Cache) -> bool {
     cache.device().calls_left.get() > WORKS
 }
 
-// Makes a random call on both: a read, also of a block that the disk lacks, a write, or a flush. Returns whether they
-// agree: the call fails exactly if the disk fails or lacks the block, and changes no block then.
 fn agree(cache: &mut Cache, model: &mut Blocks, random: &mut Random) -> bool {
     let (kind, n) = (random.below(8), random.below(5));
     if kind < 3 {
@@ -54,7 +49,6 @@ fn agree(cache: &mut Cache, model: &mut Blocks, random: &mut Random) -> bool {
     is_flushed != has_failed(cache) && (!is_flushed || cache.device().blocks == *model)
 }
 
-// Whether a cache whose disk works shows these blocks.
 fn shows(cache: &mut Cache, model: &Blocks) -> bool {
     let mut right = true;
     for n in 0..4usize {
@@ -63,9 +57,8 @@ fn shows(cache: &mut Cache, model: &Blocks) -> bool {
     right
 }
 
-// Makes a list of calls on a cache whose disk fails after k calls. If it stays broken, it also fails at all calls that
-// follow, and else after k more. A sync that fails ends the list. Returns whether the disk failed, and whether no result
-// is wrong, and after a close that returned `Ok` a crash loses no write.
+// A sync that fails ends the list. Returns whether the disk failed, and whether no result is wrong, and after a close
+// that returned `Ok` a crash loses no write.
 fn run(alloc: Global, capacity: usize, k: u64, stays_broken: bool) -> (bool, bool) {
     let (calls_left, mut model) = (Cell::new(k), [10, 11, 12, 13]);
     let dropped = [k % 2 == 0, k % 3 == 0, k % 5 == 0, true];

@@ -1,4 +1,3 @@
-//! A recursive function that keeps its answers in a memo table.
 ghost use Rattle.std.specs.Prelude.{◌≡◌};
 ghost use Rattle.lru_caches_tests.specs.Fibonacci.{fibonacci_number};
 
@@ -6,7 +5,6 @@ use lru_caches::{MemoTable, Question};
 use schnellru::ByLength;
 use std::alloc::Global;
 
-/// Which is the Fibonacci number of an index?
 #[derive(Drop)]
 struct FibonacciNumbers;
 
@@ -14,7 +12,6 @@ impl Question<u64, u64> for FibonacciNumbers {
     ghost answers = { λ n value. value ≡ fibonacci_number n };
 }
 
-/// The Fibonacci number of an index, modulo 2^64. Its recursion would take about 1.6^n steps without the table.
 fn fibonacci(table: &mut MemoTable<u64, u64, FibonacciNumbers, ByLength>, n: u64) -> u64
     ensures { result ≡ fibonacci_number n }
 {

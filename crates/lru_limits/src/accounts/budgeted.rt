@@ -6,10 +6,9 @@ use crate::accounts::Summing;
 use std::hash::Hash;
 
 /// A limiter with a running total that keeps within a budget: a map is over the limit if and only if the total is above
-/// the budget. No callback changes the budget.
+/// the budget.
 ///
-/// Code that is generic over it makes a limiter from a budget, and sets another budget later. `ByCost` and `ByWeight`
-/// are such limiters.
+/// `ByCost` and `ByWeight` are such limiters.
 ///
 /// ```
 /// let mut limiter = <ByCost as Budgeted<u64, u64>>::with_budget(3);
@@ -17,23 +16,18 @@ use std::hash::Hash;
 /// assert_eq!(rt; Budgeted::<u64, u64>::budget(&limiter), 5);
 /// ```
 pub trait Budgeted<K: Eq + Hash, V>: Summing<K, V, K> {
-    /// Returns the budget.
     ghost budget_of: { Self → ℕ };
 
-    /// Returns whether the entry of a new key is accepted.
     ghost accepts_new: { Self → K → V → Bool };
 
-    /// Returns the limiter that is made with a budget.
     ghost made: { ℕ → Self };
 
-    /// Returns the limiter with another budget.
     ghost rebudgeted: { ℕ → Self → Self };
 
-    /// Makes a limiter with a budget. Its running total is 0.
+    /// Makes a limiter with a budget, and a running total of 0.
     fn with_budget(budget: u64) -> Self
         ensures { result ≡ made budget };
 
-    /// Returns the budget.
     fn budget(&self) -> u64
         ensures { result ≡ budget_of self.now };
 
@@ -41,7 +35,6 @@ pub trait Budgeted<K: Eq + Hash, V>: Summing<K, V, K> {
     fn set_budget(&mut self, budget: u64)
         ensures { self.new ≡ rebudgeted budget self.old };
 
-    /// Returns whether the limiter accepts the entry of a new key, as `on_insert` would.
     fn has_room_for(&self, key: &K, value: &V) -> bool
         ensures { result ≡ accepts_new self.now key.now value.now };
 

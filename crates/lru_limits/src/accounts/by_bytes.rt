@@ -1,4 +1,4 @@
-//! The limiter by the bytes of the table and of what the entries own, together.
+//! The limiter by the bytes of the table and of what the entries own.
 ghost use Rattle.std.specs.Prelude.{◌≡◌, ◌+◌, Some, None, if◌then◌else◌};
 ghost use Rattle.lru_limits.specs.Admissions.{offers_of-terms, offers_of-lawful};
 ghost use Rattle.lru_limits.specs.Budget.{can_add};
@@ -123,7 +123,7 @@ impl ByBytes {
         self.owned
     }
 
-    /// Returns the bytes of the greatest table that the map may have: the one that the limiter permitted last.
+    /// Returns the bytes of the table that the limiter permitted last.
     ///
     /// ```
     /// assert_eq!(rt; limiter.table(), 152);
@@ -134,7 +134,6 @@ impl ByBytes {
         self.table
     }
 
-    // Returns the bytes that entries may own beside the table.
     #[inline]
     const fn left(&self) -> u64
         ensures { result ≡ left_for_entries self.now }
@@ -143,7 +142,6 @@ impl ByBytes {
     }
 }
 
-// Returns the bytes that an entry owns.
 #[inline]
 fn bytes_of_pair<K: OwnedBytes, V: OwnedBytes>(key: &K, value: &V) -> u64
     ensures { result ≡ both_own K.owned V.owned key.now value.now }

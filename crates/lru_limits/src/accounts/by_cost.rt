@@ -42,7 +42,7 @@ impl Model for ByCost {
 }
 
 impl ByCost {
-    /// Makes a limiter with this limit. Its sum is 0 so far.
+    /// Makes a limiter with this limit.
     ///
     /// ```
     /// let mut limiter = ByCost::new(3);

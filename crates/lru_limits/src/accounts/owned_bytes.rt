@@ -26,7 +26,6 @@ pub trait OwnedBytes {
         ensures { result ≡ owned self.now };
 }
 
-// Returns what a block of `bytes` bytes takes from the allocator.
 #[inline]
 fn block_bytes(bytes: u64) -> u64
     ensures { result ≡ block_bytes bytes }
@@ -38,7 +37,6 @@ fn block_bytes(bytes: u64) -> u64
     }
 }
 
-// Returns how many bytes a value takes where it is stored.
 #[inline]
 fn bytes_of<T>() -> usize
     ensures { result ≡ capped (type_size T.row) }
@@ -137,7 +135,6 @@ impl OwnedBytes for char {
     }
 }
 
-/// A text owns its block, however much of it is in use.
 impl OwnedBytes for String {
     ghost owned = { λ text. block_bytes (string_capacity text) };
 
@@ -147,7 +144,6 @@ impl OwnedBytes for String {
     }
 }
 
-/// A vector owns its block, however much of it is in use, and what its items own.
 impl<T: OwnedBytes> OwnedBytes for Vec<T> {
     ghost owned = { λ v. in_word
         (block_bytes (in_word (vec_capacity v * capped (type_size T.row))) + sum_by T.owned v.items) };
@@ -161,7 +157,6 @@ impl<T: OwnedBytes> OwnedBytes for Vec<T> {
     }
 }
 
-/// A box owns its block, and what its value owns.
 impl<T: OwnedBytes> OwnedBytes for Box<T> {
     ghost owned = { λ b. in_word (block_bytes (capped (type_size T.row)) + T.owned b.value) };
 
@@ -172,7 +167,6 @@ impl<T: OwnedBytes> OwnedBytes for Box<T> {
     }
 }
 
-/// A pair owns what its two values own.
 impl<A: OwnedBytes, B: OwnedBytes> OwnedBytes for (A, B) {
     ghost owned = { λ p. in_word (A.owned p.0 + B.owned p.1) };
 
@@ -182,7 +176,6 @@ impl<A: OwnedBytes, B: OwnedBytes> OwnedBytes for (A, B) {
     }
 }
 
-/// An option owns what its value owns.
 impl<T: OwnedBytes> OwnedBytes for Option<T> {
     ghost owned = { λ o. unwrap_or (option_map T.owned o) 0 };
 

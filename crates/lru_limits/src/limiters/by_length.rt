@@ -54,6 +54,7 @@ impl ByLength {
     /// Returns the limit.
     ///
     /// ```
+    /// let limiter = ByLength::new(3);
     /// assert_eq!(rt; limiter.max_length(), 3);
     /// ```
     pub const fn max_length(&self) -> u32
@@ -63,7 +64,6 @@ impl ByLength {
     }
 }
 
-/// As `ByLength::new`.
 impl From<u32> for ByLength {
     ghost from_gives = { λ n limiter. limiter ≡ n };
 

@@ -62,7 +62,6 @@ impl ByMemoryUsage {
     }
 }
 
-/// As `ByMemoryUsage::new`.
 impl From<usize> for ByMemoryUsage {
     ghost from_gives = { λ n limiter. limiter ≡ n };
 

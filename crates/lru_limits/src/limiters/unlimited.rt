@@ -9,7 +9,7 @@ use crate::limiter::{Insertion, Limiter};
 use std::alloc::{AllocError, Global};
 use std::hash::Hash;
 
-/// Limits nothing: a map under it is an ordered hash map. Only memory bounds the number of its entries.
+/// Limits nothing: a map under it is an ordered hash map.
 ///
 /// ```
 /// assert!(rt; !Limiter::<u64, u64>::is_over_the_limit(&Unlimited, usize::MAX));

@@ -21,6 +21,7 @@ use std::hash::Hash;
 /// to read a run.
 ///
 /// ```
+/// let mut map: LruMap<u64, u64> = LruMap::new(alloc, ByLength::new(3), [1, 2, 3, 4], 16);
 /// let calls = vec![in alloc; Call::Insert(1, 10), Call::Get(1), Call::Peek(2)]?;
 /// let answers = run_calls(alloc, &mut map, calls)?;
 /// let gives = answers.get(1) == Some(&Answer::Value(Some(10)));
@@ -69,7 +70,6 @@ where
     ensures map { IsMap K.eq map.new }
 {
     let answer = answer_to(alloc, map, call);
-    // Nothing at run time: it shows the proof that what holds of every map holds.
     let _len = map.len();
     answer
 }

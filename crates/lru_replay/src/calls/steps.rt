@@ -92,7 +92,6 @@ pub fn get_by_hash<K: Eq + Hash, V: Copy, L: Limiter<K, V>, S: KeyHasher<K>>(
     ensures found { FindsByHash K.eq (S.hash_of map.old.hasher) hash key.now map.old.pairs result }
     ensures promoted { map.new ≡ (if is_some result then promoted (K.eq key.now) map.old else map.old) }
 {
-    // Nothing at run time: it shows the proof that no two keys are equal.
     let _len = map.len();
     match map.get_by_hash(hash, |other, _| key == other) {
         Some(value) => Some(*value),
@@ -108,7 +107,6 @@ pub fn peek_by_hash<K: Eq + Hash, V: Copy, L: Limiter<K, V>, S: KeyHasher<K>>(
 ) -> Option<V>
     ensures { FindsByHash K.eq (S.hash_of map.now.hasher) hash key.now map.now.pairs result }
 {
-    // Nothing at run time: it shows the proof that no two keys are equal.
     let _len = map.len();
     match map.peek_by_hash(hash, |other, _| key == other) {
         Some(value) => Some(*value),

@@ -19,6 +19,7 @@ use std::hash::Hash;
 /// `CostDiffers`, and change nothing. So a total that is the sum of the costs is their sum after every call.
 ///
 /// ```
+/// let mut costs: LruMap<u64, u64, ByCost> = LruMap::new(alloc, ByCost::new(10), [1, 2, 3, 4], 16);
 /// let calls = vec![in alloc; Call::Insert(1, 2), Call::Write(1, 3), Call::Peek(1)]?;
 /// let answers = run_summing(alloc, &mut costs, calls)?;
 /// let refuses = answers.get(1) == Some(&Answer::CostDiffers);
@@ -92,7 +93,6 @@ where
     ensures yes { result ≡ true → KeepsCost K.eq L.cost_of L.account (contents map.now) call.now }
     ensures no { result ≡ false → KeepsCost K.eq L.cost_of L.account (contents map.now) call.now → ⊥ }
 {
-    // Nothing at run time: it shows the proof that what holds of every map holds.
     let _len = map.len();
     match call {
         Call::Write(key, value) => match map.peek_key_value(key) {

@@ -23,6 +23,7 @@ pub enum ReplayEnd {
 /// let (read, write) = (ReplayError::Read, ReplayError::Write);
 /// let text = format!(in alloc; "{read}, {write}")?;
 /// assert_eq!(rt; text.as_str(), "read failed, write failed");
+/// assert_eq!(rt; (read as u8, write as u8), (1, 2));
 /// ```
 #[derive(Clone, Copy, Debug, PartialEq, Eq, Error)]
 pub enum ReplayError {

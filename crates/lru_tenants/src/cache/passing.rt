@@ -24,9 +24,9 @@ impl<
     L: Budgeted<K, V> + Drop,
     S: KeyHasher<K> + Copy,
 > TenantCache<N, K, V, L, S> {
-    /// The same as `put`, and passes to the callback the entries that are evicted, oldest first, the entry that is
-    /// removed because its new value is rejected, and the new entry if it could not be stored. A value that is
-    /// replaced is not passed on, nor is the entry of a new key that the limiter rejects.
+    /// As `put`, and passes to the callback the entries that are evicted, oldest first, the entry that is removed
+    /// because its new value is rejected, and the new entry if it could not be stored. A value that is replaced is not
+    /// passed on, nor is the entry of a new key that the limiter rejects.
     ///
     /// ```
     /// let mut left = 0u64;
@@ -37,8 +37,6 @@ impl<
     /// Cost: as `put`, with one call of the callback for each entry that it gets.
     ///
     /// # Errors
-    ///
-    /// As `put`.
     pub fn put_with<F: FnMut(K, V)>(
         &mut self,
         name: &N,
@@ -61,8 +59,8 @@ impl<
         put_answer(insert(own, key, value, sink))
     }
 
-    /// The same as `put_with`, and returns the value that the tenant does not keep, as `LruMap::insert_full` does, but
-    /// also the rejected value of a new key.
+    /// As `put_with`, and returns the value that the tenant does not keep, as `LruMap::insert_full` does, but also the
+    /// rejected value of a new key.
     ///
     /// - The key was not there, and the limiter rejects its entry: `kept` is false, and `unkept` is the new value. The
     ///   tenant stays as it is, the callback gets nothing, and the key is dropped.
@@ -80,8 +78,7 @@ impl<
     /// assert_eq!(rt; (rejected.kept, rejected.unkept), (false, Some(9)));
     /// ```
     ///
-    /// Cost: as `put_with`. If the key is there and the limiter would reject its entry as a new one, the key is looked
-    /// up twice.
+    /// Cost: as `put_with`.
     ///
     /// # Errors
     ///
@@ -114,7 +111,7 @@ impl<
         put_answer(insert_full(own, key, value, sink))
     }
 
-    /// The same as `set_budget`, and passes each evicted entry to the callback, oldest first.
+    /// As `set_budget`, and passes each evicted entry to the callback, oldest first.
     ///
     /// ```
     /// let mut evicted = 0u64;
@@ -125,8 +122,6 @@ impl<
     /// Cost: as `set_budget`, with one call of the callback for each evicted entry.
     ///
     /// # Errors
-    ///
-    /// As `set_budget`.
     pub fn set_budget_with<F: FnMut(K, V)>(
         &mut self,
         name: &N,
@@ -146,7 +141,6 @@ impl<
         ensures callable { F.IsAlwaysCallable sink.new }
         ensures tenants { AreTenants K.eq L.cost_of L.account L.budget_of self.new }
     {
-        // Fewer than 2^63 budgets of a u64 add up to less than 2^127.
         let _len = self.tenants.len();
         let Some(own) = self.tenants.get_mut(name) else {
             return Err(TenantError::NotOpen);
@@ -160,7 +154,7 @@ impl<
         Ok(())
     }
 
-    /// The same as `close`, and passes each entry to the callback, oldest first.
+    /// As `close`, and passes each entry to the callback, oldest first.
     ///
     /// ```
     /// let mut last = 0u64;
@@ -194,7 +188,6 @@ impl<
     }
 }
 
-// What a put returns if the insert into the map of its tenant returns this.
 fn put_answer<R>(inserted: Result<R, AllocError>) -> Result<R, TenantError>
     ensures { result ≡ put_answer inserted }
 {

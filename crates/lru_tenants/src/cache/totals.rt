@@ -19,8 +19,6 @@ impl<N: Eq + Hash, K: Eq + Hash, V, L: Budgeted<K, V>, S: KeyHasher<K> + Copy> T
 > {
     /// Sets what the budgets of all tenants add up to at most, or that nothing limits their sum.
     ///
-    /// `open` and `set_budget` return `OverTotal` if the sum would be above the limit. A cache begins without a limit.
-    ///
     /// ```
     /// assert_eq!(rt; cache.set_total_limit(Some(5)), Ok(()));
     /// assert_eq!(rt; cache.open(2, 3), Err(TenantError::OverTotal));
@@ -30,7 +28,7 @@ impl<N: Eq + Hash, K: Eq + Hash, V, L: Budgeted<K, V>, S: KeyHasher<K> + Copy> T
     ///
     /// # Errors
     ///
-    /// `OverTotal`: the sum is above the limit. Nothing has changed, so the old limit stays.
+    /// `OverTotal`: the sum is above the limit.
     pub fn set_total_limit(&mut self, limit: Option<u64>) -> Result<(), TenantError>
         ensures over { is_above limit (budgets L.budget_of self.old) ≡ true →
             (result ≡ Err OverTotal) × (self.new ≡ self.old) }
@@ -72,8 +70,7 @@ impl<N: Eq + Hash, K: Eq + Hash, V, L: Budgeted<K, V>, S: KeyHasher<K> + Copy> T
         self.budgets
     }
 
-    /// Returns the sum of the costs of the entries of all tenants. It is at most the sum of their budgets, and so at
-    /// most the total limit, if there is one.
+    /// Returns the sum of the costs of the entries of all tenants.
     ///
     /// ```
     /// assert_eq!(rt; (cache.total_cost(), cache.total_budget()), (2, 3));
@@ -93,7 +90,6 @@ impl<N: Eq + Hash, K: Eq + Hash, V, L: Budgeted<K, V>, S: KeyHasher<K> + Copy> T
     }
 }
 
-// Whether a sum is above the limit, if there is one.
 pub(super) fn is_above(limit: Option<u64>, sum: u128) -> bool
     ensures { result ≡ is_above limit sum }
 {

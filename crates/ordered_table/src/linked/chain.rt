@@ -21,7 +21,7 @@ pub(crate) struct Chain<K, V, N> {
 }
 
 impl<K, V, N: LinkType> Chain<K, V, N> {
-    // Takes a bucket out of the chain. Its entry stays in the table, with its own links unchanged.
+    // Takes a bucket out of the chain.
     #[inline]
     pub(crate) fn unlink(&mut self, b: usize)
         requires { InChain N.number N.link N.MAX self.old b }
@@ -35,8 +35,8 @@ impl<K, V, N: LinkType> Chain<K, V, N> {
         self.close_gap(newer, older, false);
     }
 
-    // Links the neighbours of a bucket with these links to each other. Its entry may be gone from the table already. If
-    // the bucket is known to be the oldest (`last`), its older link is not read.
+    // Its entry may be gone from the table already. If the bucket is known to be the oldest (`last`), its older link is
+    // not read.
     #[inline]
     pub(crate) fn close_gap(&mut self, newer: N, older: N, last: bool)
         requires gap { (order : List ℕ) × (b : ℕ) × HasGap N.number N.link N.MAX self.old order b newer older }
@@ -55,8 +55,7 @@ impl<K, V, N: LinkType> Chain<K, V, N> {
         }
     }
 
-    // Returns whether a link leads to a bucket. It compares the link with the number of buckets, and not with `MAX`:
-    // that takes one instruction less.
+    // It compares the link with the number of buckets, and not with `MAX`: that takes one instruction less.
     #[inline]
     pub(crate) fn leads(&self, link: N) -> bool
         requires some { 0 < length self.now.table.slots }
@@ -67,7 +66,6 @@ impl<K, V, N: LinkType> Chain<K, V, N> {
         self.table.has_bucket(link.into_usize())
     }
 
-    // Puts a bucket that is in no chain in front of this chain, which is not empty.
     #[inline]
     pub(crate) fn link_newest(&mut self, b: usize)
         requires full { IsFull self.old.table.slots b }
@@ -85,7 +83,6 @@ impl<K, V, N: LinkType> Chain<K, V, N> {
         self.newest = link;
     }
 
-    // Puts a bucket that is in no chain at the end of this chain, which is not empty.
     pub(crate) fn link_oldest(&mut self, b: usize)
         requires full { IsFull self.old.table.slots b }
         requires some { self.old.oldest ≢ N.MAX }
@@ -121,7 +118,6 @@ impl<K, V, N: LinkType> Chain<K, V, N> {
         self.newest = link;
     }
 
-    // Sets the newer link of the entry at a link, or the oldest end, if the link is `MAX`.
     #[inline]
     fn set_newer(&mut self, at: N, to: N)
         requires some { 0 < length self.old.table.slots }
@@ -139,7 +135,6 @@ impl<K, V, N: LinkType> Chain<K, V, N> {
         }
     }
 
-    // Sets the older link of the entry at a link, or the newest end, if the link is `MAX`.
     #[inline]
     fn set_older(&mut self, at: N, to: N)
         requires some { 0 < length self.old.table.slots }
@@ -179,7 +174,6 @@ impl<K, V, N: LinkType> Chain<K, V, N> {
     }
 }
 
-// Writes the newer link of the entry at a link that leads to a full bucket.
 #[inline]
 fn write_newer<K, V, N: LinkType>(table: &mut Table<Entry<K, V, N>>, at: N, to: N)
     requires { IsFull table.old.slots (N.number at) }
@@ -189,7 +183,6 @@ fn write_newer<K, V, N: LinkType>(table: &mut Table<Entry<K, V, N>>, at: N, to: 
     table.get_mut(at.into_usize()).newer = to;
 }
 
-// Writes the older link of the entry at a link that leads to a full bucket.
 #[inline]
 fn write_older<K, V, N: LinkType>(table: &mut Table<Entry<K, V, N>>, at: N, to: N)
     requires { IsFull table.old.slots (N.number at) }
@@ -199,7 +192,6 @@ fn write_older<K, V, N: LinkType>(table: &mut Table<Entry<K, V, N>>, at: N, to: 
     table.get_mut(at.into_usize()).older = to;
 }
 
-// Sets both links of the entry in a full bucket.
 #[inline]
 fn set_links<K, V, N: LinkType>(table: &mut Table<Entry<K, V, N>>, b: usize, newer: N, older: N)
     requires { IsFull table.old.slots b }
@@ -211,7 +203,6 @@ fn set_links<K, V, N: LinkType>(table: &mut Table<Entry<K, V, N>>, b: usize, new
     entry.older = older;
 }
 
-// Rewrites the links of an entry to where its neighbours have moved.
 #[inline]
 fn move_links<K, V, N: LinkType>(table: &mut Table<Entry<K, V, N>>, b: usize, links: &[N])
     requires full { IsFull table.old.slots b }
@@ -226,7 +217,6 @@ fn move_links<K, V, N: LinkType>(table: &mut Table<Entry<K, V, N>>, b: usize, li
     entry.older = moved_link(links, entry.older);
 }
 
-// Returns the link to where the bucket of a link has moved.
 #[inline]
 fn moved_link<N: LinkType>(links: &[N], link: N) -> N
     requires place { HasPlace N.number N.MAX links.now link }
@@ -240,7 +230,6 @@ fn moved_link<N: LinkType>(links: &[N], link: N) -> N
     }
 }
 
-// Returns whether a link is `MAX`, which leads to no bucket.
 #[inline]
 fn is_max<N: LinkType>(link: N) -> bool
     ensures { MatchBool result (link ≡ N.MAX) (link ≢ N.MAX) }

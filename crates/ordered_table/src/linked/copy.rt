@@ -13,8 +13,6 @@ use group_table::LinkType;
 use std::alloc::AllocError;
 
 impl<K: Drop, V: Drop, N: LinkType> LinkedTable<K, V, N> {
-    // Clones the pairs, into buckets of the same numbers and in the same order. The links are copied with the entries.
-    //
     // Cost: `O(buckets)`, and a clone of each key and value.
     //
     // # Errors

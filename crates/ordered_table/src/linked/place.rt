@@ -1,4 +1,3 @@
-//! Putting a pair into a `LinkedTable`, as the newest.
 ghost use Rattle.std.specs.Prelude.{◌≡◌, ℕ, ◌<◌, OnOk, OnErr, IfErr};
 ghost use Rattle.group_table.specs.Bucket.{marks_of, room};
 ghost use Rattle.group_table.specs.Change.{HasNoPlace};
@@ -9,9 +8,6 @@ use crate::ordered::Pair;
 use group_table::LinkType;
 
 impl<K, V, N: LinkType> LinkedTable<K, V, N> {
-    // Puts a pair whose key has this hash into the first free bucket of a table with growth left, as the newest.
-    //
-    // Cost: `O(1)` expected.
     #[inline(always)]
     pub(crate) fn place(&mut self, hash: u64, pair: (K, V))
         requires { 0 < room (marks_of self.old.slots) }
@@ -25,11 +21,9 @@ impl<K, V, N: LinkType> LinkedTable<K, V, N> {
         self.chain.link_placed(b, first);
     }
 
-    // The same for any table.
+    // For any table.
     //
     // # Errors
-    //
-    // No bucket may take the pair, which is returned. Nothing has changed then.
     pub(crate) fn try_place(&mut self, hash: u64, pair: (K, V)) -> Result<(), (K, V)>
         ensures placed { OnOk result ((b : ℕ) × Lands self.old self.new hash pair b) }
         ensures fits { OnOk result ((hash_of : K → ℕ) → KeysFit hash_of self.old.slots → hash_of pair.0 ≡ hash
@@ -50,7 +44,6 @@ impl<K, V, N: LinkType> LinkedTable<K, V, N> {
     }
 }
 
-// The entry of a pair that is newer than `first`, which has been the newest.
 #[inline]
 fn newest_entry<K, V, N: LinkType>(pair: (K, V), first: N) -> Entry<K, V, N>
     ensures pair { (result.pair.key, result.pair.value) ≡ pair }

@@ -1,5 +1,4 @@
-//! The calls that change the order of an `OrderedTable`, or its buckets. Each first lets the links show the last
-//! promotion.
+//! The calls that change the order of an `OrderedTable`, or its buckets.
 ghost use Rattle.std.specs.Prelude.{◌≡◌, ℕ, ◌+◌, ◌^◌, ◌<◌, ◌≤◌, [], ◌∷◌, ◌++◌, length, Some, replicate};
 ghost use Rattle.std.specs.Prelude.{IfOk, IfErr, OnOk, OnErr, IsOk};
 ghost use Rattle.std.specs.List.{AllZip};
@@ -33,7 +32,7 @@ impl<K, V, N: LinkType> OrderedTable<K, V, N> {
         self.linked.place(hash, pair);
     }
 
-    /// The same for any table.
+    /// As `place`, for any table.
     ///
     /// # Errors
     ///
@@ -76,7 +75,7 @@ impl<K, V, N: LinkType> OrderedTable<K, V, N> {
 
     /// Makes the pair in a full bucket the oldest.
     ///
-    /// Cost: `O(1)`.
+    /// `O(1)`.
     pub fn demote(&mut self, b: usize)
         requires { IsFull self.old.slots b }
         ensures slots { self.new.slots ≡ self.old.slots }
@@ -88,9 +87,7 @@ impl<K, V, N: LinkType> OrderedTable<K, V, N> {
         self.linked.demote(b);
     }
 
-    /// Takes the pair out of a full bucket.
-    ///
-    /// Cost: `O(1)`.
+    /// Cost:
     #[inline(always)]
     pub fn take(&mut self, b: usize) -> (K, V)
         requires { IsFull self.old.slots b }
@@ -102,9 +99,9 @@ impl<K, V, N: LinkType> OrderedTable<K, V, N> {
         self.linked.take(b, false)
     }
 
-    /// Takes the oldest pair out of a table that is not empty. Its older link is not read.
+    /// Its older link is not read.
     ///
-    /// Cost: `O(1)`.
+    /// `O(1)`.
     #[inline(always)]
     pub fn take_oldest(&mut self) -> (K, V)
         requires { 0 < length self.old.order }
@@ -119,9 +116,9 @@ impl<K, V, N: LinkType> OrderedTable<K, V, N> {
 }
 
 impl<K: Drop, V: Drop, N: LinkType> OrderedTable<K, V, N> {
-    /// Drops all pairs. The buckets stay, and are empty.
+    /// The buckets stay, and are empty.
     ///
-    /// Cost: `O(buckets)`.
+    /// Cost:
     pub fn clear(&mut self)
         ensures slots { self.new.slots ≡ replicate (length self.old.slots) empty }
         ensures order { self.new.order ≡ [] }
@@ -166,7 +163,7 @@ impl<K: Eq + Hash, V, N: LinkType> OrderedTable<K, V, N> {
 }
 
 impl<K: Drop, V: Drop, N: LinkType> OrderedTable<K, V, N> {
-    /// Clones the pairs, into buckets of the same numbers and in the same order. The links are copied with the entries.
+    /// Clones the pairs, into buckets of the same numbers and in the same order.
     ///
     /// Cost: `O(buckets)`, and a clone of each key and value.
     ///

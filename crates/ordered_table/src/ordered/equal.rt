@@ -1,4 +1,3 @@
-//! Equal tables: the same pairs in the same order.
 ghost use Rattle.ordered_table.specs.OrderedTable.{pairs_of};
 
 use crate::ordered::OrderedTable;

@@ -1,4 +1,3 @@
-//! The buckets by their index in the order.
 ghost use Rattle.std.specs.Prelude.{◌≡◌, ◌<◌, slice_get, Some, IfSome};
 ghost use Rattle.group_table.specs.Bucket.{IsFull};
 
@@ -30,7 +29,6 @@ impl<K, V, N: LinkType> OrderedTable<K, V, N> {
         requires { IsFull self.now.slots b }
         ensures index { slice_get self.now.order result ≡ Some b }
     {
-        // Nothing at run time: it shows the proof that an index fits.
         let _ = self.len();
         let first = self.newest();
         let mut at = b;

@@ -1,5 +1,4 @@
-//! The order of a table in which the bucket `promoted`, if there is one, is the newest. Its links may still show it
-//! elsewhere.
+//! Its links may still show it elsewhere.
 ghost use Rattle.std.specs.Prelude.{◌≡◌, ◌<◌, ℕ, length, Some, None, IfSome};
 ghost use Rattle.group_table.specs.Bucket.{IsFull};
 ghost use Rattle.lru_model.specs.Lists.{first as first_bucket, last as last_bucket};
@@ -8,7 +7,6 @@ ghost use Rattle.ordered_table.specs.OrderedTable.{IsLinked, in_front, bucket_af
 use crate::linked::LinkedTable;
 use group_table::LinkType;
 
-// Returns the bucket of the newest pair of a table that is not empty.
 #[inline]
 pub(crate) fn newest<K, V, N: LinkType>(
     table: &LinkedTable<K, V, N>,
@@ -23,7 +21,6 @@ pub(crate) fn newest<K, V, N: LinkType>(
     }
 }
 
-// Returns the bucket of the oldest pair of a table that is not empty.
 #[inline]
 pub(crate) fn oldest<K, V, N: LinkType>(
     table: &LinkedTable<K, V, N>,
@@ -48,8 +45,6 @@ pub(crate) fn oldest<K, V, N: LinkType>(
     }
 }
 
-// Returns the bucket after a full one in the order, towards the oldest. For the last bucket of the order, the number
-// says nothing.
 #[inline]
 pub(crate) fn older_unless_last<K, V, N: LinkType>(
     table: &LinkedTable<K, V, N>,
@@ -78,8 +73,6 @@ pub(crate) fn older_unless_last<K, V, N: LinkType>(
     }
 }
 
-// Returns the bucket before a full one in the order, towards the newest. For the first bucket of the order, the number
-// says nothing.
 #[inline]
 pub(crate) fn newer_unless_first<K, V, N: LinkType>(
     table: &LinkedTable<K, V, N>,
@@ -108,7 +101,7 @@ pub(crate) fn newer_unless_first<K, V, N: LinkType>(
     }
 }
 
-// Makes the promoted bucket, if there is one, the newest by the links, too. Afterwards no promotion waits.
+// Makes the promoted bucket, if there is one, the newest by the links, too.
 #[inline(always)]
 pub(crate) fn settle<K, V, N: LinkType>(
     table: &mut LinkedTable<K, V, N>,

@@ -1,4 +1,3 @@
-//! Walking the keys or the values of a table in their order.
 ghost use Rattle.std.specs.Prelude.{◌≡◌, length, Some, IfSome, ⊤};
 ghost use Rattle.std.specs.Iterator.{at_most, UpTo};
 ghost use Rattle.std.specs.Iterator.SizeHint.{IsWithinCount};
@@ -121,7 +120,6 @@ impl<'a, K, V, N: LinkType> Iterator for Values<'a, K, V, N> {
         }
     }
 
-    /// Returns exactly how many values are left, as `len` does.
     fn size_hint(&self) -> (usize, Option<usize>)
         ensures lower { IsWithinCount result.0 (at_most (length self.now)) }
         ensures upper { IfSome result.1 (UpTo (at_most (length self.now))) }
@@ -150,7 +148,6 @@ impl<'a, K, V, N: LinkType> ExactSizeIterator for Values<'a, K, V, N> {
 
 impl<'a, K, V, N: LinkType> FusedIterator for Values<'a, K, V, N> {}
 
-/// The clone returns the values that are left. Cost: `O(1)`, and no memory.
 impl<'a, K, V, N: LinkType> Clone for Values<'a, K, V, N> {
     ghost is_clone = { λ s r. r ≡ s };
 

@@ -49,6 +49,7 @@ impl<K: Eq + Hash, V, L: Limiter<K, V>, S: KeyHasher<K>> LruMap<K, V, L, S> {
     /// it.
     ///
     /// ```
+    /// let hash = RandomState::default().hash_one(&1u64);
     /// assert_eq!(rt; map.peek_by_hash(hash, |_, value| *value == 10).copied(), Some(10));
     /// ```
     ///
@@ -71,6 +72,7 @@ impl<K: Eq + Hash, V, L: Limiter<K, V>, S: KeyHasher<K>> LruMap<K, V, L, S> {
     /// what is written. `is_eq` is called as `get_by_hash` calls it.
     ///
     /// ```
+    /// let hash = RandomState::default().hash_one(&1u64);
     /// if let Some(value) = map.peek_by_hash_mut(hash, |key, _| *key == 1) {
     ///     *value = 100;
     /// }
@@ -99,7 +101,6 @@ impl<K: Eq + Hash, V, L: Limiter<K, V>, S: KeyHasher<K>> LruMap<K, V, L, S> {
         Some(self.value_in_mut(b))
     }
 
-    // Returns the bucket of the entry that `is_eq` accepts, if there is one.
     #[inline]
     fn find_by<F: FnMut(&K, &V) -> bool>(&self, hash: u64, is_eq: F) -> Option<usize>
         requires callable { F.IsAlwaysCallable is_eq }

@@ -13,8 +13,7 @@ use std::hash::Hash;
 ///
 /// Cost: `O(1)` if the lengths differ, else `O(n)` for n entries.
 ///
-/// After `LinkedHashMap` of the crate `hashlink`; schnellru has no such impl. A `get` changes the order of use, so it
-/// may make equal maps unequal.
+/// After `LinkedHashMap` of the crate `hashlink`. A `get` changes the order of use, so it may make equal maps unequal.
 impl<K: Eq + Hash, V: PartialEq, L: Limiter<K, V>, S: KeyHasher<K>> PartialEq
     for LruMap<K, V, L, S> {
     ghost use Rattle.std.specs.Prelude.{◌&&◌};

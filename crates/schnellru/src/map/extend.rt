@@ -24,7 +24,7 @@ impl<K: Eq + Hash + Drop, V: Drop, L: Insertion<K, V, K>, S: KeyHasher<K>> LruMa
     /// The insert of an entry ran out of memory. Those before it were inserted, and the others were not. The iterator
     /// has yielded that entry; whether it yielded more, no contract says.
     ///
-    /// After std's `Extend::extend`; schnellru has no such call.
+    /// After std's `Extend::extend`.
     pub fn try_extend<T: IntoIterator<Item = (K, V)>>(
         &mut self,
         entries: T,
@@ -43,7 +43,6 @@ impl<K: Eq + Hash + Drop, V: Drop, L: Insertion<K, V, K>, S: KeyHasher<K>> LruMa
         for (key, value) in entries {
             self.insert(key, value)?;
         }
-        // Nothing at run time: it opens the map, whose invariant is the clause `map`.
         let _ = &self.entries;
         Ok(())
     }

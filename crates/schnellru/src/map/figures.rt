@@ -47,8 +47,7 @@ impl<K: Eq + Hash, V, L: Limiter<K, V>, S: KeyHasher<K>> LruMap<K, V, L, S> {
 
     /// Returns how many entries the table holds for sure without growing: its entries and its growth left.
     ///
-    /// It does not depend on the limiter. It may fall when an entry is removed from a table of more than 16 buckets.
-    /// Cost: `O(1)`.
+    /// It may fall when an entry is removed from a table of more than 16 buckets. Cost: `O(1)`.
     ///
     /// ```
     /// let mut map: LruMap<u64, u64, UnlimitedCompact> = LruMap::default(alloc);
@@ -108,7 +107,7 @@ impl<K: Eq + Hash, V, L: Limiter<K, V>, S: KeyHasher<K>> LruMap<K, V, L, S> {
     /// Returns the limiter. Cost: `O(1)`.
     ///
     /// ```
-    /// let old = map.set_limiter(ByLength::new(1));
+    /// map.set_limiter(ByLength::new(1));
     /// assert_eq!(rt; map.limiter().max_length(), 1);
     /// ```
     ///
@@ -124,9 +123,10 @@ impl<K: Eq + Hash, V, L: Limiter<K, V>, S: KeyHasher<K>> LruMap<K, V, L, S> {
     /// ```
     /// let hash = map.hasher().hash_named(&5);
     /// let inserted = map.insert_hashed(hash, 5, 50, &mut |_, _| {})?;
+    /// assert!(rt; inserted.kept);
     /// ```
     ///
-    /// After std's `HashMap::hasher`; schnellru has no such call.
+    /// After std's `HashMap::hasher`.
     pub fn hasher(&self) -> &S
         ensures { result.now ≡ self.now.hasher }
     {
@@ -160,7 +160,6 @@ impl<K: Eq + Hash, V, L: Limiter<K, V>, S: KeyHasher<K>> LruMap<K, V, L, S> {
 }
 
 impl<K: Eq + Hash, V, L: Limiter<K, V>, S: KeyHasher<K>> LruMap<K, V, L, S> {
-    // Returns the number of buckets, all of which links reach.
     #[inline]
     pub(super) fn bucket_count(&self) -> usize
         ensures count { result ≡ buckets self.now }
@@ -171,7 +170,6 @@ impl<K: Eq + Hash, V, L: Limiter<K, V>, S: KeyHasher<K>> LruMap<K, V, L, S> {
         self.entries.buckets()
     }
 
-    // Returns how many entries the table takes before it is rehashed or grows.
     #[inline]
     pub(super) fn growth_left(&self) -> usize
         ensures room { result ≡ room self.now }
@@ -180,7 +178,6 @@ impl<K: Eq + Hash, V, L: Limiter<K, V>, S: KeyHasher<K>> LruMap<K, V, L, S> {
         self.entries.room()
     }
 
-    // Returns whether the limiter is over its limit.
     #[inline]
     pub(super) fn is_over_the_limit(&self) -> bool
         ensures { result ≡ L.rules.is_over_the_limit self.now.limiter (length self.now.pairs) }

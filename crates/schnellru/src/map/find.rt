@@ -15,8 +15,6 @@ use std::hash::Hash;
 impl<K: Eq + Hash, V, L: Limiter<K, V>, S: KeyHasher<K>> LruMap<K, V, L, S> {
     ghost use Rattle.schnellru.specs.Lending.Values.{lends_value_in};
 
-    // Returns the bucket of the pair of a key, if the key is there. `inline(always)`: in a program with many look-ups
-    // the compiler would not inline it.
     #[inline(always)]
     pub(crate) fn find<Q: LookupKey<K>>(&self, key: &Q) -> Option<usize>
         ensures found { IfSome result (λ b. place_in (Q.names key.now) self.now ≡ Some b) }
@@ -27,7 +25,6 @@ impl<K: Eq + Hash, V, L: Limiter<K, V>, S: KeyHasher<K>> LruMap<K, V, L, S> {
         self.find_hashed(self.hasher.hash_named(key), key)
     }
 
-    // The same with the hash of the key.
     #[inline]
     pub(super) fn find_hashed<Q: LookupKey<K>>(&self, hash: u64, key: &Q) -> Option<usize>
         requires hash { (k : K) → IsTrue (Q.names key.now k) → hash ≡ S.hash_of self.now.hasher k }
@@ -38,7 +35,6 @@ impl<K: Eq + Hash, V, L: Limiter<K, V>, S: KeyHasher<K>> LruMap<K, V, L, S> {
         self.entries.find(hash, key)
     }
 
-    // Returns the pair in a bucket.
     #[inline]
     pub(super) fn pair_in(&self, b: usize) -> &Pair<K, V>
         requires { Contains self.now.table.places b }
@@ -49,7 +45,6 @@ impl<K: Eq + Hash, V, L: Limiter<K, V>, S: KeyHasher<K>> LruMap<K, V, L, S> {
         self.entries.pair(b)
     }
 
-    // Lends the value in a bucket for writing.
     #[inline]
     pub(super) fn value_in_mut(&mut self, b: usize) -> &mut V
         requires { Contains self.old.table.places b }
@@ -64,7 +59,6 @@ impl<K: Eq + Hash, V, L: Limiter<K, V>, S: KeyHasher<K>> LruMap<K, V, L, S> {
         &mut self.entries.pair_mut(b).value
     }
 
-    // Makes the pair in a bucket the newest.
     #[inline]
     pub(super) fn promote_at(&mut self, b: usize)
         requires { Contains self.old.table.places b }
@@ -76,7 +70,6 @@ impl<K: Eq + Hash, V, L: Limiter<K, V>, S: KeyHasher<K>> LruMap<K, V, L, S> {
         self.entries.promote(b);
     }
 
-    // Makes the pair in a bucket the oldest.
     #[inline]
     pub(super) fn demote_at(&mut self, b: usize)
         requires { Contains self.old.table.places b }
@@ -87,7 +80,6 @@ impl<K: Eq + Hash, V, L: Limiter<K, V>, S: KeyHasher<K>> LruMap<K, V, L, S> {
         self.entries.demote(b);
     }
 
-    // Takes out the pair in a bucket, and notifies the limiter. Returns what the limiter leaves of the pair.
     #[inline]
     pub(super) fn take_at(&mut self, b: usize) -> (K, V)
         requires { Contains self.old.table.places b }

@@ -14,15 +14,14 @@ use lru_model::GetOrInsertError;
 use std::alloc::AllocError;
 use std::hash::Hash;
 
-// Why no value is lent: the key is not there, or something failed.
 #[derive(Drop)]
 pub(crate) enum NotLent<E> {
     NotKept,
     Failed(E),
 }
 
-// `kept_or_error` and `kept_or` do the same for two types of error. They are two functions because their callers are
-// proved by hand: a call whose type argument is `AllocError`, and no type parameter, would need a longer proof.
+// They are two functions because their callers are proved by hand: a call whose type argument is `AllocError`, and no
+// type parameter, would need a longer proof.
 fn kept_or_error<V, E>(
     lent: Result<&mut V, NotLent<GetOrInsertError<E>>>,
 ) -> Result<Option<&mut V>, GetOrInsertError<E>>
@@ -49,10 +48,9 @@ impl<K: Eq + Hash + Drop, V: Drop, L: Limiter<K, V>, S: KeyHasher<K>> LruMap<K, 
     ghost use Rattle.schnellru.specs.Lending.Made.{lends_or, lends_made};
 
     /// Makes the entry of a key the newest. If the key is not there, inserts it with the value that the closure
-    /// returns. Returns whether the key is in the map then.
+    /// returns, as `insert` does. Returns whether the key is in the map then.
     ///
-    /// The key is looked up once. If it is there, the closure is not called and the limiter is not notified. Otherwise
-    /// the entry is inserted as `insert` inserts it. Then `newest_mut` lends the value.
+    /// Then `newest_mut` lends the value.
     ///
     /// ```
     /// if map.ensure_newest(1, || 0)? {
@@ -67,8 +65,6 @@ impl<K: Eq + Hash + Drop, V: Drop, L: Limiter<K, V>, S: KeyHasher<K>> LruMap<K, 
     /// # Errors
     ///
     /// Fails as `insert` does, after the closure was called.
-    ///
-    /// schnellru has no such call.
     pub fn ensure_newest<I: LookupKey<K> + Drop, F: FnOnce() -> V>(
         &mut self,
         key: I,
@@ -83,7 +79,6 @@ impl<K: Eq + Hash + Drop, V: Drop, L: Limiter<K, V>, S: KeyHasher<K>> LruMap<K, 
             (IsOutOfMemoryFor L.rules L.offers I.names S.hash_of (F.post make) key self.old self.new) }
         ensures map { IsMap K.eq self.new }
     {
-        // Nothing at run time: it opens the map, whose invariant is the clause `map`.
         let _ = &self.entries;
         let answer = self.make_newest(key, make);
         let _ = &self.entries;
@@ -118,7 +113,6 @@ impl<K: Eq + Hash + Drop, V: Drop, L: Limiter<K, V>, S: KeyHasher<K>> LruMap<K, 
             L.LinkType.LinkType S.KeyHasher S.Hasher.Hasher self.entry
             (λ answer map. (answer ≡ kept) × (map ≡ self.old)) result) }
     {
-        // Nothing at run time: it opens the map, whose invariant the clause speaks of.
         let _ = &self.entries;
         match kept {
             Ok(true) => Ok(self.newest_value_mut()),
@@ -127,7 +121,6 @@ impl<K: Eq + Hash + Drop, V: Drop, L: Limiter<K, V>, S: KeyHasher<K>> LruMap<K, 
         }
     }
 
-    // What `get_or_insert` lends, in a form whose contract reaches a caller's proof.
     pub(crate) fn lend_or_insert<I: LookupKey<K> + Drop, F: FnOnce() -> V>(
         &mut self,
         key: I,
@@ -147,9 +140,9 @@ impl<K: Eq + Hash + Drop, V: Drop, L: Limiter<K, V>, S: KeyHasher<K>> LruMap<K, 
     /// Lends the value of a key for writing. If the key is not there, inserts it with the value that the closure
     /// returns.
     ///
-    /// If the key is there, the closure is not called, its entry becomes the newest, and the limiter is not notified.
-    /// `None` says that the new entry is not in the map, as `false` says it of `insert`. The prover carries no contract
-    /// on this type of result into a caller's proof; write `ensure_newest` and `newest_mut` there.
+    /// If the key is there, the closure is not called, and its entry becomes the newest. `None` says that the new entry
+    /// is not in the map, as `false` says it of `insert`. The prover carries no contract on this type of result into a
+    /// caller's proof; write `ensure_newest` and `newest_mut` there.
     ///
     /// ```
     /// assert_eq!(rt; map.get_or_insert(1, || 10)?.copied(), Some(10));
@@ -179,8 +172,7 @@ impl<K: Eq + Hash + Drop, V: Drop, L: Limiter<K, V>, S: KeyHasher<K>> LruMap<K, 
         kept_or(lent)
     }
 
-    /// The same as `ensure_newest` with a closure that may fail. If it fails, nothing has changed. Cost: as
-    /// `ensure_newest`.
+    /// As `ensure_newest`, with a closure that may fail. If it fails, nothing has changed. Cost: as `ensure_newest`.
     ///
     /// ```
     /// assert!(rt; map.ensure_newest_fallible(4, || Err(7u8)).is_err());
@@ -191,10 +183,8 @@ impl<K: Eq + Hash + Drop, V: Drop, L: Limiter<K, V>, S: KeyHasher<K>> LruMap<K, 
     ///
     /// # Errors
     ///
-    /// `Caller` contains the error of the closure; nothing has changed then. `Memory`: the closure was called, and the
-    /// insert failed as `insert` does. The oldest entries may have been evicted.
-    ///
-    /// schnellru has no such call.
+    /// `Caller` contains the error of the closure. `Memory`: the closure was called, and the insert failed as `insert`
+    /// does. The oldest entries may have been evicted.
     pub fn ensure_newest_fallible<I: LookupKey<K> + Drop, E, F: FnOnce() -> Result<V, E>>(
         &mut self,
         key: I,
@@ -211,7 +201,6 @@ impl<K: Eq + Hash + Drop, V: Drop, L: Limiter<K, V>, S: KeyHasher<K>> LruMap<K, 
             self.new }
         ensures map { IsMap K.eq self.new }
     {
-        // Nothing at run time: it opens the map, whose invariant is the clause `map`.
         let _ = &self.entries;
         let answer = self.make_newest_if_made(key, make);
         let _ = &self.entries;
@@ -247,7 +236,6 @@ impl<K: Eq + Hash + Drop, V: Drop, L: Limiter<K, V>, S: KeyHasher<K>> LruMap<K, 
         }
     }
 
-    // What `get_or_insert_fallible` lends, in a form whose contract reaches a caller's proof.
     pub(crate) fn lend_or_insert_fallible<I: LookupKey<K> + Drop, E, F: FnOnce() -> Result<V, E>>(
         &mut self,
         key: I,
@@ -264,8 +252,7 @@ impl<K: Eq + Hash + Drop, V: Drop, L: Limiter<K, V>, S: KeyHasher<K>> LruMap<K, 
         self.lend_if_kept(kept)
     }
 
-    /// The same as `get_or_insert` with a closure that may fail. If it fails, nothing has changed. Cost: as
-    /// `get_or_insert`.
+    /// As `get_or_insert`, with a closure that may fail. If it fails, nothing has changed. Cost: as `get_or_insert`.
     ///
     /// ```
     /// assert!(rt; map.get_or_insert_fallible(5, || Err(7u8)).is_err());
@@ -275,8 +262,8 @@ impl<K: Eq + Hash + Drop, V: Drop, L: Limiter<K, V>, S: KeyHasher<K>> LruMap<K, 
     ///
     /// # Errors
     ///
-    /// `Caller` contains the error of the closure; nothing has changed then. `Memory`: the closure was called, and the
-    /// insert failed as `insert` does. The oldest entries may have been evicted.
+    /// `Caller` contains the error of the closure. `Memory`: the closure was called, and the insert failed as `insert`
+    /// does. The oldest entries may have been evicted.
     ///
     /// After schnellru's `LruMap::get_or_insert_fallible`.
     pub fn get_or_insert_fallible<I: LookupKey<K> + Drop, E, F: FnOnce() -> Result<V, E>>(

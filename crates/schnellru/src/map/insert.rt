@@ -18,9 +18,9 @@ use std::hash::Hash;
 impl<K: Eq + Hash + Drop, V: Drop, L: Limiter<K, V>, S: KeyHasher<K>> LruMap<K, V, L, S> {
     /// Inserts a key with a value, as the newest entry. Returns whether the key is in the map then.
     ///
-    /// If the key is there, the stored key stays, and the limiter decides whether the new value replaces the old one;
-    /// if it rejects the value, the entry is removed and the result is false. A new key goes to the limiter, which
-    /// returns the entry to store, or none. If one more entry would be over the limit, the oldest is evicted first.
+    /// If the key is there, the stored key stays; if the limiter rejects the new value, the entry is removed and the
+    /// result is false. A new key goes to the limiter, which returns the entry to store, or none. If one more entry
+    /// would be over the limit, the oldest is evicted first.
     ///
     /// If no bucket takes the entry then, a table with fewer than half of the entries that it may hold is rehashed, and
     /// any other grows. If there is no larger table, or the limiter refuses it, the oldest entries are evicted until a
@@ -39,13 +39,12 @@ impl<K: Eq + Hash + Drop, V: Drop, L: Limiter<K, V>, S: KeyHasher<K>> LruMap<K, 
     ///
     /// # Errors
     ///
-    /// An `Err` says that the map ran out of memory for a new key, which is not there then. There are two causes.
-    /// Either `on_insert` ran out of memory; then nothing has changed. Or the table had no growth left, and the
-    /// allocation for a rehash or a larger table failed. Then the entries that are left are the newest of the old ones:
-    /// some of the oldest may have been evicted to make room. The limiter was notified of each, and of the new entry.
+    /// An `Err` says that the map ran out of memory for a new key, which is not there then. Either `on_insert` ran out
+    /// of memory; then nothing has changed. Or the table had no growth left, and the allocation for a rehash or a
+    /// larger table failed. Then the entries that are left are the newest of the old ones: some of the oldest may have
+    /// been evicted to make room. The limiter was notified of each, and of the new entry.
     ///
-    /// While there is growth left, only `on_insert` takes memory. Running out of memory evicts nothing by itself: the
-    /// same entries would have been evicted had the insert succeeded.
+    /// While there is growth left, only `on_insert` takes memory.
     ///
     /// After schnellru's `LruMap::insert`.
     #[inline(always)]
@@ -66,9 +65,9 @@ impl<K: Eq + Hash + Drop, V: Drop, L: Limiter<K, V>, S: KeyHasher<K>> LruMap<K, 
 }
 
 impl<K: Eq + Hash, V: Drop, L: Limiter<K, V>, S: KeyHasher<K>> LruMap<K, V, L, S> {
-    /// The same as `insert`, and passes to the callback the entries that the map loses, with what `on_removed` wrote to
-    /// them: the evicted entries, oldest first, the entry that is removed because its new value is rejected, and an
-    /// entry that `on_insert` returned but the map could not store.
+    /// As `insert`, and passes to the callback the entries that the map loses, with what `on_removed` wrote to them:
+    /// the evicted entries, oldest first, the entry that is removed because its new value is rejected, and an entry
+    /// that `on_insert` returned but the map could not store.
     ///
     /// Each is passed on once, even if the result is an `Err`, and before the limiter is called again, which is only
     /// tested. A replaced value is not passed on, but dropped before anything is evicted. A new entry that `on_insert`
@@ -85,8 +84,6 @@ impl<K: Eq + Hash, V: Drop, L: Limiter<K, V>, S: KeyHasher<K>> LruMap<K, V, L, S
     /// # Errors
     ///
     /// Fails as `insert` does. The new entry was passed to the callback then, unless `on_insert` ran out of memory.
-    ///
-    /// schnellru has no such call.
     #[inline(always)]
     pub fn insert_with<I: LookupKey<K>, F: FnMut(K, V)>(
         &mut self,
@@ -110,15 +107,14 @@ impl<K: Eq + Hash, V: Drop, L: Limiter<K, V>, S: KeyHasher<K>> LruMap<K, V, L, S
         ensures map { IsMap K.eq self.new }
     {
         let hash = self.hasher.hash_named(&key);
-        // Nothing at run time: it opens the map, whose invariant the clauses need.
         let _ = &self.entries;
         let kept = self.insert_or_drop(hash, key, value, sink);
         let _ = &self.entries;
         kept
     }
 
-    // Inserts a key that has this hash. The value that the map does not keep is dropped before anything is evicted, so
-    // that a limiter which is notified of it by `Drop` no longer counts it.
+    // The value that the map does not keep is dropped before anything is evicted, so that a limiter which is notified
+    // of it by `Drop` no longer counts it.
     #[inline(always)]
     fn insert_or_drop<I: LookupKey<K>, F: FnMut(K, V)>(
         &mut self,
@@ -151,8 +147,8 @@ impl<K: Eq + Hash, V: Drop, L: Limiter<K, V>, S: KeyHasher<K>> LruMap<K, V, L, S
 }
 
 impl<K: Eq + Hash, V, L: Limiter<K, V>, S: KeyHasher<K>> LruMap<K, V, L, S> {
-    /// The same as `insert_with`, and returns the value that the map does not keep, if the key is there: the old one,
-    /// or the new one if the limiter rejects it, with what `on_replace` wrote to it.
+    /// As `insert_with`, and returns the value that the map does not keep, if the key is there: the old one, or the new
+    /// one if the limiter rejects it, with what `on_replace` wrote to it.
     ///
     /// The map drops nothing: an entry that is evicted, removed or not stored is passed to the callback, and a value
     /// that is replaced or rejected is returned. The limiter drops the offered key if the key is there, and the key and
@@ -169,7 +165,7 @@ impl<K: Eq + Hash, V, L: Limiter<K, V>, S: KeyHasher<K>> LruMap<K, V, L, S> {
     ///
     /// Fails as `insert_with` does.
     ///
-    /// After `insert_full` of the crate `indexmap`; schnellru has no such call.
+    /// After `insert_full` of the crate `indexmap`.
     #[inline(always)]
     pub fn insert_full<I: LookupKey<K>, F: FnMut(K, V)>(
         &mut self,
@@ -198,14 +194,15 @@ impl<K: Eq + Hash, V, L: Limiter<K, V>, S: KeyHasher<K>> LruMap<K, V, L, S> {
         self.insert_hashed(hash, key, value, sink)
     }
 
-    /// The same as `insert_full` for a key whose hash is known.
+    /// As `insert_full`, for a key whose hash is known.
     ///
     /// The hash must be the key's by the map's hasher, as `map.hasher().hash_named(&key)` returns it. The prover checks
-    /// that, so no caller can insert a key under another hash.
+    /// that.
     ///
     /// ```
     /// let hash = map.hasher().hash_named(&5);
     /// let inserted = map.insert_hashed(hash, 5, 50, &mut |_, _| {})?;
+    /// assert!(rt; inserted.kept);
     /// ```
     ///
     /// Cost: as `insert_full`, without hashing.
@@ -214,7 +211,7 @@ impl<K: Eq + Hash, V, L: Limiter<K, V>, S: KeyHasher<K>> LruMap<K, V, L, S> {
     ///
     /// Fails as `insert_full` does.
     ///
-    /// After `RawEntryMut::insert_hashed_nocheck` of the crate `hashlink`; schnellru has no such call.
+    /// After `RawEntryMut::insert_hashed_nocheck` of the crate `hashlink`.
     #[inline(always)]
     pub fn insert_hashed<I: LookupKey<K>, F: FnMut(K, V)>(
         &mut self,
@@ -241,14 +238,13 @@ impl<K: Eq + Hash, V, L: Limiter<K, V>, S: KeyHasher<K>> LruMap<K, V, L, S> {
         ensures keeps { OnErr result (IsFront self.new.pairs self.old.pairs) }
         ensures map { IsMap K.eq self.new }
     {
-        // Nothing at run time: it opens the map, whose invariant the clauses need.
         let _ = &self.entries;
         let inserted = self.insert_or_replace(hash, key, value, sink);
         let _ = &self.entries;
         inserted
     }
 
-    // Inserts a key that has this hash. The value that the map does not keep is returned.
+    // The value that the map does not keep is returned.
     #[inline(always)]
     fn insert_or_replace<I: LookupKey<K>, F: FnMut(K, V)>(
         &mut self,

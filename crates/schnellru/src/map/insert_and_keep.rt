@@ -29,8 +29,6 @@ impl<K: Eq + Hash + Drop, V: Drop, L: Limiter<K, V>, S: KeyHasher<K>> LruMap<K, 
     ///
     /// Out of memory for the returned entries: nothing has changed, and the key and the value are dropped. An insert
     /// that runs out of memory itself returns its error as the first of the two results.
-    ///
-    /// schnellru has no such call.
     pub fn insert_and_keep<I: LookupKey<K> + Drop>(
         &mut self,
         key: I,
@@ -49,7 +47,6 @@ impl<K: Eq + Hash + Drop, V: Drop, L: Limiter<K, V>, S: KeyHasher<K>> LruMap<K, 
         ensures unchanged { OnErr result (self.new ≡ self.old) }
         ensures map { IsMap K.eq self.new }
     {
-        // Nothing at run time: it shows the proof that there is memory for all that the callback gets.
         inserts_pass_few::<K, V, I, L, S>();
         let mut left = Vec::with_capacity(self.alloc, self.len() + 1)?;
         let done = self.insert_with(key, value, &mut |key, value| keep(&mut left, (key, value)));
@@ -57,7 +54,6 @@ impl<K: Eq + Hash + Drop, V: Drop, L: Limiter<K, V>, S: KeyHasher<K>> LruMap<K, 
     }
 }
 
-// Adds the pair. A vector without space would drop it, but `insert_and_keep` takes enough.
 fn keep<K: Drop, V: Drop>(pairs: &mut Vec<(K, V)>, pair: (K, V))
     ensures items { vec_len pairs.old < vec_capacity pairs.old → pairs.new.items ≡ pairs.old.items ++ pair ∷ [] }
     ensures len { vec_len pairs.old < vec_capacity pairs.old → vec_len pairs.new ≡ vec_len pairs.old + 1 }

@@ -14,11 +14,10 @@ use std::hash::Hash;
 impl<K: Eq + Hash, V, L: Limiter<K, V>, S: KeyHasher<K>> LruMap<K, V, L, S> {
     ghost use Rattle.schnellru.specs.Lending.Values.{lends_value, lends_newest, lends_newest_value, ends_as};
 
-    /// Lends the value of a key for writing, and makes its entry the newest. The limiter is not notified of what is
-    /// written.
+    /// Lends the value of a key for writing, and makes its entry the newest. `None` says that the key is not there. The
+    /// limiter is not notified of what is written.
     ///
-    /// `None` says that the key is not there, and nothing has changed. `String` keys are looked up by a `&str`, as
-    /// `map.get(&"a")`; `docs/LIMITERS.md` shows look-up keys of your own.
+    /// `String` keys are looked up by a `&str`, as `map.get(&"a")`; `docs/LIMITERS.md` shows look-up keys of your own.
     ///
     /// ```
     /// if let Some(value) = map.get(&1) {
@@ -39,7 +38,6 @@ impl<K: Eq + Hash, V, L: Limiter<K, V>, S: KeyHasher<K>> LruMap<K, V, L, S> {
         ensures map { (new : State K V L S) → Get (Q.names key.now) self.old (option_copied_mut result) new
             → IsMap K.eq new }
     {
-        // `inline(always)`: with the search inside, the compiler would no longer inline this function.
         let b = self.find(key)?;
         self.promote_at(b);
         Some(self.value_in_mut(b))
@@ -47,8 +45,7 @@ impl<K: Eq + Hash, V, L: Limiter<K, V>, S: KeyHasher<K>> LruMap<K, V, L, S> {
 
     /// Returns the entry of a key, and makes it the newest.
     ///
-    /// The returned key is the stored one, which may differ from the equal one that is looked up. `None` says that the
-    /// key is not there, and nothing has changed.
+    /// The returned key is the stored one, which may differ from the equal one that is looked up.
     ///
     /// ```
     /// assert!(rt; map.get_key_value(&1) == Some((&1, &10)));
@@ -57,7 +54,7 @@ impl<K: Eq + Hash, V, L: Limiter<K, V>, S: KeyHasher<K>> LruMap<K, V, L, S> {
     ///
     /// Cost: `O(1)` expected.
     ///
-    /// After `get_key_value` of the crate `lru`; schnellru has no such call.
+    /// After `get_key_value` of the crate `lru`.
     #[inline]
     pub fn get_key_value<Q: LookupKey<K>>(&mut self, key: &Q) -> Option<(&K, &V)>
         ensures* leaves { sem 𝓛 (ends_as K.row V.row L.row S.row L.LinkType.row S.Hasher.row K.Hash L.Limiter
@@ -71,7 +68,7 @@ impl<K: Eq + Hash, V, L: Limiter<K, V>, S: KeyHasher<K>> LruMap<K, V, L, S> {
         Some((&pair.key, &pair.value))
     }
 
-    /// Makes the entry of a key the newest, and returns whether the key is there. If it is not, nothing has changed.
+    /// Makes the entry of a key the newest, and returns whether the key is there.
     ///
     /// ```
     /// assert!(rt; map.promote(&1) && !map.promote(&9));
@@ -80,7 +77,7 @@ impl<K: Eq + Hash, V, L: Limiter<K, V>, S: KeyHasher<K>> LruMap<K, V, L, S> {
     ///
     /// Cost: `O(1)` expected.
     ///
-    /// After `promote` of the crate `lru`; schnellru has no such call.
+    /// After `promote` of the crate `lru`.
     #[inline]
     pub fn promote<Q: LookupKey<K>>(&mut self, key: &Q) -> bool
         ensures there { result ≡ is_some (lookup (Q.names key.now) self.old.pairs) }
@@ -96,7 +93,7 @@ impl<K: Eq + Hash, V, L: Limiter<K, V>, S: KeyHasher<K>> LruMap<K, V, L, S> {
         }
     }
 
-    /// Makes the entry of a key the oldest, and returns whether the key is there. If it is not, nothing has changed.
+    /// Makes the entry of a key the oldest, and returns whether the key is there.
     ///
     /// The oldest entry is the next one to be evicted.
     ///
@@ -107,7 +104,7 @@ impl<K: Eq + Hash, V, L: Limiter<K, V>, S: KeyHasher<K>> LruMap<K, V, L, S> {
     ///
     /// Cost: `O(1)` expected.
     ///
-    /// After `demote` of the crate `lru`; schnellru has no such call.
+    /// After `demote` of the crate `lru`.
     pub fn demote<Q: LookupKey<K>>(&mut self, key: &Q) -> bool
         ensures there { result ≡ is_some (lookup (Q.names key.now) self.old.pairs) }
         ensures demoted { self.new ≡ demoted (Q.names key.now) self.old }
@@ -140,14 +137,12 @@ impl<K: Eq + Hash, V, L: Limiter<K, V>, S: KeyHasher<K>> LruMap<K, V, L, S> {
         ensures map { (last : V) → IsMap K.eq (record self.old { pairs = set_newest self.old.pairs last }) }
     {
         if self.is_empty() {
-            // Nothing at run time: it opens the map, whose invariant the clause `map` needs.
             let _ = &self.entries;
             return None;
         }
         Some(self.newest_value_mut())
     }
 
-    // The same for a map with pairs.
     #[inline]
     pub(crate) fn newest_value_mut(&mut self) -> &mut V
         requires { 0 < length self.old.pairs }
@@ -169,7 +164,7 @@ impl<K: Eq + Hash, V, L: Limiter<K, V>, S: KeyHasher<K>> LruMap<K, V, L, S> {
     ///
     /// Cost: `O(1)` expected.
     ///
-    /// After `contains` of the crate `lru`; schnellru has no such call.
+    /// After `contains` of the crate `lru`.
     #[inline]
     pub fn contains<Q: LookupKey<K>>(&self, key: &Q) -> bool
         ensures { result ≡ is_some (lookup (Q.names key.now) self.now.pairs) }
@@ -179,7 +174,7 @@ impl<K: Eq + Hash, V, L: Limiter<K, V>, S: KeyHasher<K>> LruMap<K, V, L, S> {
 
     /// Returns the value of a key. The order stays.
     ///
-    /// `String` keys are looked up by a `&str`, as `map.peek(&"a")`. Cost: `O(1)` expected.
+    /// Cost: `O(1)` expected.
     ///
     /// ```
     /// assert_eq!(rt; map.peek(&1), Some(&10));
@@ -196,15 +191,13 @@ impl<K: Eq + Hash, V, L: Limiter<K, V>, S: KeyHasher<K>> LruMap<K, V, L, S> {
 
     /// Returns the entry of a key. The order stays.
     ///
-    /// The returned key is the stored one, which may differ from the equal one that is looked up.
-    ///
     /// ```
     /// assert!(rt; map.peek_key_value(&1) == Some((&1, &10)));
     /// ```
     ///
     /// Cost: `O(1)` expected.
     ///
-    /// After std's `HashMap::get_key_value`; schnellru has no such call.
+    /// After std's `HashMap::get_key_value`.
     #[inline]
     pub fn peek_key_value<Q: LookupKey<K>>(&self, key: &Q) -> Option<(&K, &V)>
         ensures { option_map deref_pair result ≡ lookup_entry (Q.names key.now) self.now.pairs }

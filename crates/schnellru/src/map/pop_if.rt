@@ -23,7 +23,7 @@ impl<K: Eq + Hash, V, L: Limiter<K, V>, S: KeyHasher<K>> LruMap<K, V, L, S> {
     ///
     /// Cost: `O(1)`, and one call of the closure.
     ///
-    /// After std's `Vec::pop_if`; schnellru has no such call.
+    /// After std's `Vec::pop_if`.
     pub fn pop_oldest_if<F: FnOnce(&K, &V) -> bool>(&mut self, accepts: F) -> Option<(K, V)>
         requires callable { (key : Bor K) (value : Bor V) → last self.old.pairs ≡ Some (key.now, value.now)
             → F.pre accepts key value }
@@ -31,7 +31,6 @@ impl<K: Eq + Hash, V, L: Limiter<K, V>, S: KeyHasher<K>> LruMap<K, V, L, S> {
         ensures freed { IfSome result (λ _. Frees (last self.old.table.places) self.old.table self.new.table) }
         ensures map { IsMap K.eq self.new }
     {
-        // Nothing at run time: it opens the map, whose invariant is the clause `map`.
         let _ = &self.entries;
         let (key, value) = self.peek_oldest()?;
         if !accepts(key, value) {
@@ -54,8 +53,6 @@ impl<K: Eq + Hash, V, L: Limiter<K, V>, S: KeyHasher<K>> LruMap<K, V, L, S> {
     /// # Errors
     ///
     /// Returns the error of the closure. Then nothing has changed.
-    ///
-    /// schnellru has no such call.
     pub fn try_pop_oldest<E, F: FnOnce(&K, &V) -> Result<(), E>>(
         &mut self,
         release: F,
@@ -67,7 +64,6 @@ impl<K: Eq + Hash, V, L: Limiter<K, V>, S: KeyHasher<K>> LruMap<K, V, L, S> {
             Frees (last self.old.table.places) self.old.table self.new.table)) }
         ensures map { IsMap K.eq self.new }
     {
-        // Nothing at run time: it opens the map, whose invariant is the clause `map`.
         let _ = &self.entries;
         match self.peek_oldest() {
             None => Ok(None),

@@ -33,7 +33,6 @@ impl<K: Eq + Hash, V, L: Limiter<K, V>, S: KeyHasher<K>> LruMap<K, V, L, S> {
         ensures map { IsMap K.eq self.new }
     {
         if self.is_empty() {
-            // Nothing at run time: it opens the map, whose invariant is the clause `map`.
             let _ = &self.entries;
             return None;
         }
@@ -71,7 +70,7 @@ impl<K: Eq + Hash, V, L: Limiter<K, V>, S: KeyHasher<K>> LruMap<K, V, L, S> {
     ///
     /// Cost: `O(1)` expected.
     ///
-    /// After std's `HashMap::remove_entry`; schnellru has no such call.
+    /// After std's `HashMap::remove_entry`.
     #[inline]
     pub fn remove_entry<Q: LookupKey<K>>(&mut self, key: &Q) -> Option<(K, V)>
         ensures step { RemoveEntry L.rules (Q.names key.now) self.old result self.new }
@@ -129,7 +128,6 @@ impl<K: Eq + Hash + Drop, V: Drop, L: Limiter<K, V>, S: KeyHasher<K>> LruMap<K, 
 }
 
 impl<K: Eq + Hash, V, L: Limiter<K, V>, S: KeyHasher<K>> LruMap<K, V, L, S> {
-    // Takes out the oldest pair, as the limiter leaves it.
     #[inline(always)]
     pub(super) fn take_oldest(&mut self) -> (K, V)
         requires { 0 < length self.old.pairs }
@@ -140,7 +138,6 @@ impl<K: Eq + Hash, V, L: Limiter<K, V>, S: KeyHasher<K>> LruMap<K, V, L, S> {
         take_out_oldest(&mut self.entries, &mut self.limiter)
     }
 
-    // Evicts the oldest pair, if the limiter would be over its limit with one more.
     #[inline]
     pub(super) fn make_room<F: FnMut(K, V)>(&mut self, sink: &mut F)
         requires callable { (pair : K × V) × MayTakeEach L.rules F.FnMut (pair ∷ self.old.pairs) sink.old }
@@ -155,7 +152,7 @@ impl<K: Eq + Hash, V, L: Limiter<K, V>, S: KeyHasher<K>> LruMap<K, V, L, S> {
         }
     }
 
-    // Evicts the oldest pairs of a map with pairs while the limiter is over its limit. Returns whether some are left.
+    // Evicts the oldest pairs of a map with pairs while the limiter is over its limit.
     #[inline]
     pub(super) fn evict_over_limit<F: FnMut(K, V)>(&mut self, sink: &mut F) -> bool
         requires some { 0 < length self.old.pairs }
@@ -171,7 +168,7 @@ impl<K: Eq + Hash, V, L: Limiter<K, V>, S: KeyHasher<K>> LruMap<K, V, L, S> {
         }
     }
 
-    // The same if the limiter is over its limit. Out of line, so that an insert's code does not contain the evictions.
+    // Out of line, so that an insert's code does not contain the evictions.
     #[inline(never)]
     fn evict_while_over<F: FnMut(K, V)>(&mut self, sink: &mut F) -> bool
         requires some { 0 < length self.old.pairs }
@@ -194,7 +191,6 @@ impl<K: Eq + Hash, V, L: Limiter<K, V>, S: KeyHasher<K>> LruMap<K, V, L, S> {
     }
 }
 
-// Takes the pair out of a full bucket, and notifies the limiter.
 #[inline]
 pub(super) fn take_out<K: Eq + Hash, V, L: Limiter<K, V>>(
     entries: &mut OrderedTable<K, V, L::LinkType>,
@@ -209,7 +205,6 @@ pub(super) fn take_out<K: Eq + Hash, V, L: Limiter<K, V>>(
     notify(limiter, entries.take(b))
 }
 
-// Takes out the oldest pair of a table that is not empty, and notifies the limiter.
 #[inline(always)]
 fn take_out_oldest<K: Eq + Hash, V, L: Limiter<K, V>>(
     entries: &mut OrderedTable<K, V, L::LinkType>,
@@ -224,8 +219,6 @@ fn take_out_oldest<K: Eq + Hash, V, L: Limiter<K, V>>(
     notify(limiter, entries.take_oldest())
 }
 
-// Notifies the limiter of a pair that was evicted, removed or not stored, and returns the pair as the limiter leaves
-// it.
 #[inline]
 pub(super) fn notify<K, V, L: Limiter<K, V>>(limiter: &mut L, pair: (K, V)) -> (K, V)
     ensures limiter { limiter.new ≡ notified_of L.rules (Some pair) limiter.old }

@@ -11,20 +11,19 @@ impl<K: Eq + Hash, V, L: Limiter<K, V>, S: KeyHasher<K>> LruMap<K, V, L, S> {
     /// rehashed. A count that reaches `u64::MAX` stays there.
     ///
     /// `moved` is at most twice `placed`, plus `shrunk`. So in a map that was never shrunk an insert moves at most two
-    /// entries on average. Entries that `try_reserve` and `try_insert` move are not counted. Cost: `O(1)`.
+    /// entries on average. Cost: `O(1)`.
     ///
     /// ```
-    /// assert_eq!(rt; map.move_report(), MoveReport { moved: 0, placed: 3, shrunk: 0 });
+    /// let mut map: LruMap<u64, u64> = LruMap::with_limiter(alloc, ByLength::new(3));
+    /// assert!(rt; map.insert(1, 10)?);
+    /// assert_eq!(rt; map.move_report(), MoveReport { moved: 0, placed: 1, shrunk: 0 });
     /// ```
-    ///
-    /// schnellru has no such call.
     pub fn move_report(&self) -> MoveReport
         ensures moved { result.moved ≡ self.now.counts.moved }
         ensures placed { result.placed ≡ self.now.counts.placed }
         ensures shrunk { result.shrunk ≡ self.now.counts.shrunk }
         ensures paid { result.moved ≤ 2 * result.placed + result.shrunk }
     {
-        // Nothing at run time: it opens the map, whose invariant says that moves are paid for.
         let _ = &self.entries;
         MoveReport {
             moved: self.moved,

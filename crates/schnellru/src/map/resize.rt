@@ -1,4 +1,4 @@
-//! Moving all pairs: into which table a map grows, and the move.
+//! Moving all pairs.
 ghost use Rattle.std.specs.Prelude.{◌≡◌, ℕ, ◌+◌, ◌-◌, ◌*◌, ◌/◌, ◌^◌, ◌<◌, ◌≤◌, [], length, Some, IfSome, OnOk, OnErr};
 ghost use Rattle.std.specs.Prelude.{IsOk};
 ghost use Rattle.group_table.specs.Sizes.{IsPowerFromFour, full_capacity};
@@ -15,9 +15,6 @@ use std::alloc::AllocError;
 use std::hash::Hash;
 
 impl<K: Eq + Hash, V, L: Limiter<K, V>, S: KeyHasher<K>> LruMap<K, V, L, S> {
-    // Returns the buckets and the bytes of the table into which this one grows for `more` pairs, if there is one.
-    // Together with `more` the pairs must be more than half of what this table may hold. Without it they are at most
-    // half of what the new table may hold.
     pub(super) fn next_table(&self, more: usize) -> Option<(usize, usize)>
         requires number { length self.now.pairs + more < 2 ^ 64 }
         requires half { full_capacity (buckets self.now) / 2 < length self.now.pairs + more }
@@ -32,8 +29,7 @@ impl<K: Eq + Hash, V, L: Limiter<K, V>, S: KeyHasher<K>> LruMap<K, V, L, S> {
         larger_table(max, self.entry_bytes, self.bucket_count(), pairs)
     }
 
-    // Moves all pairs into a table of `count` buckets, which is at most half full then. The moves are not counted here.
-    // If the number of buckets stays and there are no pairs, this needs no memory.
+    // Moves all pairs into a table of `count` buckets, which is at most half full then.
     pub(super) fn move_to(&mut self, count: usize) -> Result<(), AllocError>
         requires count { IsPowerFromFour count }
         requires reached { count < L.LinkType.number L.LinkType.MAX }
@@ -48,7 +44,6 @@ impl<K: Eq + Hash, V, L: Limiter<K, V>, S: KeyHasher<K>> LruMap<K, V, L, S> {
         Ok(())
     }
 
-    // Counts all pairs as moved.
     pub(super) fn count_moves(&mut self)
         requires paid { IsAhead (length self.old.pairs + potential self.old) self.old.counts }
         ensures { self.new ≡ record self.old {

@@ -26,7 +26,7 @@ impl<K: Eq + Hash + Drop, V: Drop, L: Limiter<K, V>, S: KeyHasher<K>> LruMap<K, 
     /// Cost: `O(n)` for n entries. Links are written only next to an entry that is removed, or to show the last
     /// promotion.
     ///
-    /// After std's `HashMap::retain`, whose closure may write the value; schnellru has no such call.
+    /// After std's `HashMap::retain`, whose closure may write the value.
     pub fn retain<F: FnMut(&K, &V) -> bool>(&mut self, keep: F)
         requires callable { F.IsAlwaysCallable keep }
         ensures step { Retains F.FnMut L.rules keep self.old self.new }
@@ -36,9 +36,8 @@ impl<K: Eq + Hash + Drop, V: Drop, L: Limiter<K, V>, S: KeyHasher<K>> LruMap<K, 
     }
 }
 
-// Nothing here requires `K: Drop` or `V: Drop`, so a body that forgets a pair does not compile.
 impl<K: Eq + Hash, V, L: Limiter<K, V>, S: KeyHasher<K>> LruMap<K, V, L, S> {
-    /// The same as `retain`, and passes each removed entry to the callback, oldest first, as the limiter leaves it.
+    /// As `retain`, and passes each removed entry to the callback, oldest first, as the limiter leaves it.
     ///
     /// ```
     /// let mut removed = 0u64;
@@ -47,8 +46,6 @@ impl<K: Eq + Hash, V, L: Limiter<K, V>, S: KeyHasher<K>> LruMap<K, V, L, S> {
     /// ```
     ///
     /// Cost: as `retain`, with one call of the callback for each removed entry.
-    ///
-    /// schnellru has no such call.
     pub fn retain_with<F: FnMut(&K, &V) -> bool, G: FnMut(K, V)>(
         &mut self,
         mut keep: F,
@@ -72,11 +69,9 @@ impl<K: Eq + Hash, V, L: Limiter<K, V>, S: KeyHasher<K>> LruMap<K, V, L, S> {
                 sink(key, value);
             }
         }
-        // Nothing at run time: it opens the map, whose invariant is the clause `map`.
         let _ = &self.entries;
     }
 
-    // Returns what the closure returns for the pair in bucket `b`, which is at position `at` counted from the newest.
     #[inline]
     fn passes<F: FnMut(&K, &V) -> bool>(&self, at: usize, b: usize, keep: &mut F) -> bool
         requires at { slice_get self.now.table.places at ≡ Some b }
@@ -89,8 +84,6 @@ impl<K: Eq + Hash, V, L: Limiter<K, V>, S: KeyHasher<K>> LruMap<K, V, L, S> {
         keep(&pair.key, &pair.value)
     }
 
-    // Takes out the pair in bucket `b`, which is at position `at` counted from the newest, and notifies the limiter.
-    // Returns what the limiter leaves of the pair. The positions of newer pairs stay.
     #[inline]
     fn take_from(&mut self, at: usize, b: usize) -> (K, V)
         requires { slice_get self.old.table.places at ≡ Some b }

@@ -1,5 +1,4 @@
 //! Storing a new pair: in a free bucket, or after the table was rehashed, has grown, or the oldest pairs were evicted.
-//! Nothing here requires `K: Drop` or `V: Drop`, so a body that forgets a pair does not compile.
 ghost use Rattle.std.specs.Prelude.{◌≡◌, ℕ, ◌+◌, ◌-◌, ◌*◌, ◌/◌, ◌<◌, ◌≤◌, [], ◌∷◌, length, true, None, Some, List};
 ghost use Rattle.std.specs.Prelude.{Ok, OnOk, OnErr, IfErr, IsOk};
 ghost use Rattle.group_table.specs.Sizes.{IsPowerFromFour, full_capacity};
@@ -20,7 +19,6 @@ use std::alloc::AllocError;
 use std::hash::Hash;
 
 impl<K: Eq + Hash, V, L: Limiter<K, V>, S: KeyHasher<K>> LruMap<K, V, L, S> {
-    // Stores a pair whose key is new and has this hash in a table with growth left, as the newest.
     #[inline(always)]
     pub(super) fn store_in_room(&mut self, hash: u64, pair: (K, V))
         requires hash { hash ≡ S.hash_of self.old.hasher pair.0 }
@@ -35,7 +33,6 @@ impl<K: Eq + Hash, V, L: Limiter<K, V>, S: KeyHasher<K>> LruMap<K, V, L, S> {
         self.entries.place(hash, pair);
     }
 
-    // Stores the pair in the first free bucket, if the table may fill that one. Otherwise returns it.
     pub(super) fn store_in_bucket(&mut self, hash: u64, pair: (K, V)) -> Result<(), (K, V)>
         requires hash { hash ≡ S.hash_of self.old.hasher pair.0 }
         requires absent { lookup_entry (K.eq pair.0) self.old.pairs ≡ None }
@@ -50,7 +47,7 @@ impl<K: Eq + Hash, V, L: Limiter<K, V>, S: KeyHasher<K>> LruMap<K, V, L, S> {
         Ok(())
     }
 
-    // Stores a pair that no bucket takes, after a change of the table. Returns whether the pair is stored.
+    // Returns whether the pair is stored.
     pub(super) fn store_without_bucket<F: FnMut(K, V)>(
         &mut self,
         hash: u64,
@@ -73,7 +70,6 @@ impl<K: Eq + Hash, V, L: Limiter<K, V>, S: KeyHasher<K>> LruMap<K, V, L, S> {
         }
     }
 
-    // Stores the pair in a larger table, if there is one and the limiter grants it.
     fn store_after_growth<F: FnMut(K, V)>(
         &mut self,
         hash: u64,
@@ -100,7 +96,7 @@ impl<K: Eq + Hash, V, L: Limiter<K, V>, S: KeyHasher<K>> LruMap<K, V, L, S> {
         }
     }
 
-    // Stores the pair after the oldest were evicted. If there are none, the pair is not stored.
+    // Stores the pair after the oldest were evicted.
     fn store_without_growth<F: FnMut(K, V)>(
         &mut self,
         hash: u64,
@@ -122,7 +118,6 @@ impl<K: Eq + Hash, V, L: Limiter<K, V>, S: KeyHasher<K>> LruMap<K, V, L, S> {
         self.store_after_eviction(hash, pair, sink)
     }
 
-    // Stores the pair after the oldest pairs were evicted, at least one.
     fn store_after_eviction<F: FnMut(K, V)>(
         &mut self,
         hash: u64,
@@ -153,8 +148,6 @@ impl<K: Eq + Hash, V, L: Limiter<K, V>, S: KeyHasher<K>> LruMap<K, V, L, S> {
         }
     }
 
-    // Moves all pairs to a table of `count` buckets, counts the moves, and stores the pair there. If the number of
-    // buckets stays and there are no pairs, this needs no memory.
     #[cold]
     fn store_after_move<F: FnMut(K, V)>(
         &mut self,
@@ -189,7 +182,6 @@ impl<K: Eq + Hash, V, L: Limiter<K, V>, S: KeyHasher<K>> LruMap<K, V, L, S> {
         }
     }
 
-    // Notifies the limiter of a pair that was not stored, and passes what it left of the pair to the callback.
     fn pass_unstored<F: FnMut(K, V)>(&mut self, pair: (K, V), sink: &mut F)
         requires callable { (others : List (K × V)) × MayTakeEach L.rules F.FnMut (pair ∷ others) sink.old }
         ensures passed { Passes F.FnMut sink.old sink.new (λ before after. noted after self.new ≡ unstored

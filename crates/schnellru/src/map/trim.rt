@@ -24,7 +24,7 @@ impl<K: Eq + Hash + Drop, V: Drop, L: Limiter<K, V>, S: KeyHasher<K>> LruMap<K, 
     ///
     /// Cost: `O(1)` for each entry that is evicted.
     ///
-    /// After Guava's `Cache::cleanUp`; schnellru has no such call.
+    /// After Guava's `Cache::cleanUp`.
     pub fn trim(&mut self)
         ensures step { Trims L.rules self.old self.new }
         ensures within { IsWithin L.rules (contents self.new) }
@@ -45,7 +45,7 @@ impl<K: Eq + Hash + Drop, V: Drop, L: Limiter<K, V>, S: KeyHasher<K>> LruMap<K, 
     ///
     /// Cost: `O(1)` for each entry that is evicted.
     ///
-    /// After `resize` of the crate `lru`; schnellru has no such call.
+    /// After `resize` of the crate `lru`.
     pub fn set_limiter(&mut self, limiter: L) -> L
         ensures limiter { result ≡ self.old.limiter }
         ensures step { Trims L.rules (record self.old { limiter = limiter }) self.new }
@@ -56,9 +56,8 @@ impl<K: Eq + Hash + Drop, V: Drop, L: Limiter<K, V>, S: KeyHasher<K>> LruMap<K, 
     }
 }
 
-// Nothing here requires `K: Drop` or `V: Drop`, so a body that forgets a pair does not compile.
 impl<K: Eq + Hash, V, L: Limiter<K, V>, S: KeyHasher<K>> LruMap<K, V, L, S> {
-    /// The same as `trim`, and passes each evicted entry to the callback, oldest first, as the limiter leaves it.
+    /// As `trim`, and passes each evicted entry to the callback, oldest first, as the limiter leaves it.
     ///
     /// ```
     /// let mut evicted = 0u64;
@@ -68,8 +67,6 @@ impl<K: Eq + Hash, V, L: Limiter<K, V>, S: KeyHasher<K>> LruMap<K, V, L, S> {
     /// ```
     ///
     /// Cost: as `trim`, with one call of the callback for each evicted entry.
-    ///
-    /// schnellru has no such call.
     pub fn trim_with<F: FnMut(K, V)>(&mut self, sink: &mut F)
         requires callable { MayTakeEach L.rules F.FnMut self.old.pairs sink.old }
         ensures step { Trims L.rules self.old self.new }
@@ -82,12 +79,10 @@ impl<K: Eq + Hash, V, L: Limiter<K, V>, S: KeyHasher<K>> LruMap<K, V, L, S> {
         if !self.is_empty() {
             self.evict_over_limit(sink);
         }
-        // Nothing at run time: it opens the map, whose invariant is the clause `map`.
         let _ = &self.entries;
     }
 
-    /// The same as `set_limiter`, and passes each evicted entry to the callback, oldest first, as the new limiter
-    /// leaves it.
+    /// As `set_limiter`, and passes each evicted entry to the callback, oldest first, as the new limiter leaves it.
     ///
     /// ```
     /// let mut evicted = 0u64;
@@ -96,8 +91,6 @@ impl<K: Eq + Hash, V, L: Limiter<K, V>, S: KeyHasher<K>> LruMap<K, V, L, S> {
     /// ```
     ///
     /// Cost: as `set_limiter`, with one call of the callback for each evicted entry.
-    ///
-    /// schnellru has no such call.
     pub fn set_limiter_with<F: FnMut(K, V)>(&mut self, limiter: L, sink: &mut F) -> L
         requires callable { MayTakeEach L.rules F.FnMut self.old.pairs sink.old }
         ensures limiter { result ≡ self.old.limiter }

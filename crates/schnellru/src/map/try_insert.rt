@@ -13,7 +13,7 @@ use std::hash::Hash;
 
 impl<K: Eq + Hash + Drop, V: Drop, L: Admission<K, V> + Copy, S: KeyHasher<K>> LruMap<K, V, L, S> {
     /// Inserts a new key with its value, as the newest entry, if nothing has to be evicted for it. Otherwise returns
-    /// both. Then no entry is evicted, moves in the order of use, or changes its value.
+    /// both.
     ///
     /// While no growth is left it fills no deleted bucket, but reserves. So if the limiter refuses a larger table, it
     /// may return an entry that `insert` would store without an eviction.
@@ -41,7 +41,7 @@ impl<K: Eq + Hash + Drop, V: Drop, L: Admission<K, V> + Copy, S: KeyHasher<K>> L
     /// If there was growth left, nothing has changed. If there was none, the table may have more buckets, and the
     /// limiter keeps what it noted when it was queried for them.
     ///
-    /// After std's `HashMap::try_insert`; schnellru has no such call.
+    /// After std's `HashMap::try_insert`.
     pub fn try_insert(&mut self, key: K, value: V) -> Result<(), (K, V)>
         ensures step { TryInsert L.terms L.rules key value self.old L.offers K.eq S.hash_of result self.new }
         ensures calls { Run (Step L.rules L.offers K.eq S.hash_of) self.new self.old }
@@ -54,12 +54,10 @@ impl<K: Eq + Hash + Drop, V: Drop, L: Admission<K, V> + Copy, S: KeyHasher<K>> L
     {
         let hash = self.hasher.hash_named(&key);
         let inserted = self.try_insert_hashed(hash, key, value);
-        // Nothing at run time: it opens the map, whose invariant the clauses need.
         let _ = &self.entries;
         inserted
     }
 
-    // The same for a key that has this hash.
     fn try_insert_hashed(&mut self, hash: u64, key: K, value: V) -> Result<(), (K, V)>
         requires hash { (k : K) → IsTrue (K.eq key k) → hash ≡ S.hash_of self.old.hasher k }
         ensures { TryInsert L.terms L.rules key value self.old L.offers K.eq S.hash_of result self.new }
@@ -70,7 +68,6 @@ impl<K: Eq + Hash + Drop, V: Drop, L: Admission<K, V> + Copy, S: KeyHasher<K>> L
         }
     }
 
-    // The same for a key that is not there.
     fn try_insert_new(&mut self, hash: u64, key: K, value: V) -> Result<(), (K, V)>
         requires hash { (k : K) → IsTrue (K.eq key k) → hash ≡ S.hash_of self.old.hasher k }
         requires absent { lookup_entry (K.eq key) self.old.pairs ≡ None }
@@ -86,8 +83,7 @@ impl<K: Eq + Hash + Drop, V: Drop, L: Admission<K, V> + Copy, S: KeyHasher<K>> L
         Ok(())
     }
 
-    // Makes sure that there is growth left for one entry more. Returns whether there is, and the limiter can store the
-    // entry then.
+    // Returns whether there is, and the limiter can store the entry then.
     fn get_ready_for(&mut self, key: &K, value: &V) -> bool
         requires storable { can_store L.terms L.rules key.now value.now (contents self.old) ≡ true }
         ensures ready { IsTrue result → IsReady L.rules self.old self.new }
@@ -104,7 +100,6 @@ impl<K: Eq + Hash + Drop, V: Drop, L: Admission<K, V> + Copy, S: KeyHasher<K>> L
         }
     }
 
-    // Returns whether the limiter accepts the entry of a new key, and is not over its limit with it.
     fn can_store(&self, key: &K, value: &V) -> bool
         ensures storable { result ≡ can_store L.terms L.rules key.now value.now (contents self.now) }
         ensures map { IsMap K.eq self.now }
@@ -118,7 +113,6 @@ impl<K: Eq + Hash + Drop, V: Drop, L: Admission<K, V> + Copy, S: KeyHasher<K>> L
         !limiter.is_over_the_limit(length + 1)
     }
 
-    // Inserts a key that is new and has this hash, if there is growth left and the limiter can store the entry.
     fn add(&mut self, hash: u64, key: K, value: V)
         requires hash { (k : K) → IsTrue (K.eq key k) → hash ≡ S.hash_of self.old.hasher k }
         requires absent { lookup_entry (K.eq key) self.old.pairs ≡ None }
@@ -126,7 +120,6 @@ impl<K: Eq + Hash + Drop, V: Drop, L: Admission<K, V> + Copy, S: KeyHasher<K>> L
         requires storable { can_store L.terms L.rules key value (contents self.old) ≡ true }
         ensures { Insert L.rules L.offers K.eq S.hash_of key value self.old (Ok true) self.new }
     {
-        // The result is `Ok(true)`: there is growth left, and the limiter accepts the entry and needs no memory for it.
         let _ = self.insert_new(hash, key, value, &mut discard);
     }
 }

@@ -26,7 +26,7 @@ impl<K: Eq + Hash + Drop, V: Drop, L: Limiter<K, V>, S: KeyHasher<K>> LruMap<K, 
     ///
     /// Cost: `O(1)` expected, and `O(1)` for each entry that is evicted.
     ///
-    /// After `LinkedHashMap::replace` of the crate `hashlink`; schnellru has no such call.
+    /// After `LinkedHashMap::replace` of the crate `hashlink`.
     pub fn update<I: LookupKey<K> + Drop>(&mut self, key: I, value: V) -> Updated<V>
     where
         L: Insertion<K, V, I>,
@@ -37,10 +37,9 @@ impl<K: Eq + Hash + Drop, V: Drop, L: Limiter<K, V>, S: KeyHasher<K>> LruMap<K, 
     }
 }
 
-// Nothing here requires `K: Drop` or `V: Drop`, so a body that forgets a pair does not compile.
 impl<K: Eq + Hash, V, L: Limiter<K, V>, S: KeyHasher<K>> LruMap<K, V, L, S> {
-    /// The same as `update`, and passes each entry that is evicted or removed to the callback, as the limiter leaves
-    /// it: the evicted entries, oldest first, or the entry whose new value is rejected.
+    /// As `update`, and passes each entry that is evicted or removed to the callback, as the limiter leaves it: the
+    /// evicted entries, oldest first, or the entry whose new value is rejected.
     ///
     /// ```
     /// let mut left = None;
@@ -49,8 +48,6 @@ impl<K: Eq + Hash, V, L: Limiter<K, V>, S: KeyHasher<K>> LruMap<K, V, L, S> {
     /// ```
     ///
     /// Cost: as `update`, with one call of the callback for each entry that it gets.
-    ///
-    /// schnellru has no such call.
     pub fn update_with<I: LookupKey<K> + Drop, F: FnMut(K, V)>(
         &mut self,
         key: I,
@@ -67,12 +64,10 @@ impl<K: Eq + Hash, V, L: Limiter<K, V>, S: KeyHasher<K>> LruMap<K, V, L, S> {
         ensures map { IsMap K.eq self.new }
     {
         let updated = self.update_entry(key, value, sink);
-        // Nothing at run time: it opens the map, whose invariant is the clause `map`.
         let _ = &self.entries;
         updated
     }
 
-    // The body of `update_with`. Its contract speaks of the map with the list of what the callback got.
     fn update_entry<I: LookupKey<K> + Drop, F: FnMut(K, V)>(
         &mut self,
         key: I,

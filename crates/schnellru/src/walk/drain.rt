@@ -12,10 +12,10 @@ use std::iter::FusedIterator;
 /// An iterator that takes the entries out of a map, from both ends. Dropping it clears the map; forgetting it leaves
 /// the other entries in the map.
 ///
-/// It takes an entry as `pop_newest` or `pop_oldest` does: the limiter is notified, and the entry is returned as the
-/// limiter leaves it. The limiter is notified of the clear itself, not of each entry that it drops.
+/// The limiter is notified of the clear itself, not of each entry that it drops.
 ///
 /// ```
+/// let mut sum = 0u64;
 /// for (key, value) in map.drain() {
 ///     sum = sum.wrapping_add(key.wrapping_mul(value));
 /// }
@@ -54,7 +54,6 @@ impl<'a, K: Eq + Hash + Drop, V: Drop, L: Limiter<K, V>, S: KeyHasher<K>> Iterat
         self.map.pop_newest()
     }
 
-    /// Returns exactly how many entries are left, as `len` does.
     fn size_hint(&self) -> (usize, Option<usize>)
         ensures lower { IsWithinCount result.0 (drain_left self.now) }
         ensures upper { IfSome result.1 (UpTo (drain_left self.now)) }
@@ -91,6 +90,7 @@ impl<K: Eq + Hash, V, L: Limiter<K, V>, S: KeyHasher<K>> LruMap<K, V, L, S> {
     /// Takes out the entries, newest first. When the iterator is dropped, the map is cleared.
     ///
     /// ```
+    /// let mut sum = 0u64;
     /// for (key, value) in map.drain() {
     ///     sum = sum.wrapping_add(key.wrapping_mul(value));
     /// }

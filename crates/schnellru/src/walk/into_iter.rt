@@ -12,8 +12,7 @@ use std::marker::Model;
 
 /// An iterator that owns a map and takes the entries out of it from both ends: `next` takes the newest.
 ///
-/// It takes an entry as `pop_newest` or `pop_oldest` does: the limiter is notified, and the entry is returned as the
-/// limiter leaves it. Dropping the iterator drops the other entries, of which the limiter is not notified.
+/// Dropping the iterator drops the other entries, of which the limiter is not notified.
 ///
 /// ```
 /// assert_eq!(rt; map.into_iter().next_back(), Some((1, 10)));
@@ -43,7 +42,6 @@ impl<K: Eq + Hash + Drop, V: Drop, L: Limiter<K, V> + Drop, S: KeyHasher<K> + Dr
         self.map.pop_newest()
     }
 
-    /// Returns exactly how many entries are left, as `len` does.
     fn size_hint(&self) -> (usize, Option<usize>)
         ensures lower { IsWithinCount result.0 (at_most (length self.now.pairs)) }
         ensures upper { IfSome result.1 (UpTo (at_most (length self.now.pairs))) }

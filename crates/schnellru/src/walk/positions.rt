@@ -1,4 +1,3 @@
-//! The bucket of each pair by its position, counted from the newest, which iterators need.
 ghost use Rattle.std.specs.Prelude.{◌≡◌, ◌+◌, length, slice_get, Some};
 ghost use Rattle.std.specs.Borrow.{sem};
 ghost use Rattle.std.specs.Map.Iter.{deref_pair_mut};
@@ -11,7 +10,6 @@ use std::hash::Hash;
 impl<K: Eq + Hash, V, L: Limiter<K, V>, S: KeyHasher<K>> LruMap<K, V, L, S> {
     ghost use Rattle.schnellru.specs.Lending.Values.{lends_value_at};
 
-    // The buckets of the newest and of the oldest pair.
     #[inline]
     pub(crate) fn ends(&self) -> (Option<usize>, Option<usize>)
         ensures newest { result.0 ≡ slice_get self.now.table.places 0 }
@@ -24,7 +22,6 @@ impl<K: Eq + Hash, V, L: Limiter<K, V>, S: KeyHasher<K>> LruMap<K, V, L, S> {
         (Some(self.entries.newest()), Some(self.entries.oldest()))
     }
 
-    // The bucket after bucket `b`, which is at position `at`, towards the oldest.
     #[inline]
     pub(crate) fn older(&self, at: usize, b: usize) -> Option<usize>
         requires { slice_get self.now.table.places at ≡ Some b }
@@ -37,7 +34,6 @@ impl<K: Eq + Hash, V, L: Limiter<K, V>, S: KeyHasher<K>> LruMap<K, V, L, S> {
         }
     }
 
-    // The bucket before bucket `b`, which is at position `at`, towards the newest.
     #[inline]
     pub(crate) fn newer(&self, at: usize, b: usize) -> Option<usize>
         requires { slice_get self.now.table.places at ≡ Some b }
@@ -50,7 +46,6 @@ impl<K: Eq + Hash, V, L: Limiter<K, V>, S: KeyHasher<K>> LruMap<K, V, L, S> {
         }
     }
 
-    // Lends the pair in bucket `b`, which is at position `at` counted from the newest, its value for writing.
     #[inline]
     pub(crate) fn pair_at_mut(&mut self, at: usize, b: usize) -> (&K, &mut V)
         requires { slice_get self.old.table.places at ≡ Some b }

@@ -1,4 +1,4 @@
-//! Copies: whole, and refused. No clause says how often something is copied, or what a refused copy drops.
+//! Copies: whole, and refused.
 ghost use Rattle.std.specs.Prelude.{◌≡◌};
 ghost use Rattle.lru_limits.specs.Limiters.{no_rules};
 
@@ -50,8 +50,7 @@ fn is_cloned_once(map: &Map, lives: &Lives, allowed: u64) -> bool {
     (is_made == (allowed >= 16)) & (left == allowed.saturating_sub(16)) & lives.are(8)
 }
 
-/// A clear is reported after the pairs were dropped. The limiter, which is counted as a key, and the hasher are dropped
-/// with the walk that takes the map apart.
+/// A clear is reported after the pairs were dropped.
 #[test]
 fn each_key_and_value_is_cloned_once(rt: HostRuntime) {
     let lives = Lives::new();

@@ -1,11 +1,9 @@
-//! Each key and each value is dropped once: none twice, and none is forgotten. No clause says when a value is dropped.
-//! The limiters of the crate are tried one by one in `lru_limits_tests`.
+//! Each key and each value is dropped once: none twice, and none is forgotten.
 use super::live::{Limit, Live, Lives, Map, fill_with, map_of_lives};
 use schnellru::{Both, GetOrInsertError, KeyHasher};
 use std::alloc::Global;
 use test_helpers::{Hog, Random, check};
 
-/// A random value. The greatest one and any other that is not 0 have no sum of 64 bits.
 fn random_value<'a>(random: &mut Random, lives: &'a Lives) -> Live<'a> {
     match random.below(12) {
         11 => lives.value(u64::MAX),
@@ -13,7 +11,6 @@ fn random_value<'a>(random: &mut Random, lives: &'a Lives) -> Live<'a> {
     }
 }
 
-/// Inserts what a closure makes, and returns whether there was memory.
 fn insert_made<'a>(map: &mut Map<'a>, key: Live<'a>, value: Live<'a>, lends: bool) -> bool {
     let make = move || value;
     if lends {
@@ -23,7 +20,6 @@ fn insert_made<'a>(map: &mut Map<'a>, key: Live<'a>, value: Live<'a>, lends: boo
     }
 }
 
-/// Inserts what a closure makes, unless it drops the value and fails, and returns whether there was memory.
 fn insert_if_made<'a>(
     map: &mut Map<'a>,
     key: Live<'a>,
@@ -39,8 +35,6 @@ fn insert_if_made<'a>(
     error != Some(GetOrInsertError::Memory)
 }
 
-/// Makes a random call that inserts, and returns whether there was memory. Each closure owns its value, also if it is
-/// not called, or fails.
 fn random_insert<'a>(map: &mut Map<'a>, random: &mut Random, lives: &'a Lives) -> bool {
     let (key, value) = (lives.key(random.below(40)), random_value(random, lives));
     let mut sink = |key: Live, value: Live| drop((key, value));
@@ -61,7 +55,6 @@ fn random_insert<'a>(map: &mut Map<'a>, random: &mut Random, lives: &'a Lives) -
     }
 }
 
-/// Makes another random call, and drops what it returns.
 fn random_call<'a>(map: &mut Map<'a>, random: &mut Random, lives: &'a Lives) {
     let number = random.below(40);
     match random.below(40) {
@@ -86,8 +79,6 @@ fn random_call<'a>(map: &mut Map<'a>, random: &mut Random, lives: &'a Lives) {
     }
 }
 
-/// Makes random calls on a map of this many pairs. Returns whether after each the keys and values that live are those
-/// of the map, and none after its drop.
 fn balances<'a>(mut map: Map<'a>, lives: &'a Lives, pairs: u64) -> bool {
     let mut random = Random::new(pairs.wrapping_add(1));
     let mut right = fill_with(&mut map, lives, pairs);
@@ -142,7 +133,6 @@ fn is_refused<'a>(alloc: Global, map: &mut Map<'a>, lives: &'a Lives) -> bool {
     }
 }
 
-/// The limiter of the map, with another limit of the sum.
 fn with_most(map: &Map, most: u64) -> Limit {
     Both(map.limiter().0.with_limit(most), map.limiter().1)
 }
@@ -212,7 +202,6 @@ fn a_replaced_value_is_dropped_first(rt: HostRuntime) {
     check!(rt; is_filled & (most == 3) & lives.are(2));
 }
 
-/// Makes a call with a closure that owns a value, and compares a value that it gets with this value.
 fn ask<'a>(map: &mut Map<'a>, call: u64, hash: u64, value: Live<'a>) {
     if call == 0 {
         drop(map.try_pop_oldest(move |_, other| if *other == value { Ok(()) } else { Err(0u8) }));

@@ -22,7 +22,6 @@ impl Lives {
         }
     }
 
-    /// Whether `n` keys and `n` values live.
     pub fn are(&self, n: u64) -> bool {
         (self.keys.get() == n) & (self.values.get() == n)
     }
@@ -80,18 +79,15 @@ impl Clone for Live<'_> {
     }
 }
 
-/// Limits the sum of the values, and the bytes of the table.
 pub type Limit = Both<ByCost, ByMemoryUsage>;
 
 pub type Map<'a> = LruMap<Live<'a>, Live<'a>, Limit>;
 
-/// A map whose values together are at most `most`, and whose table has at most `bytes` bytes.
 pub fn map_of_lives<'a>(alloc: Global, most: u64, bytes: usize) -> Map<'a> {
     let limit = Both(ByCost::new(most), ByMemoryUsage::new(bytes));
     LruMap::new(alloc, limit, [1, 2, 3, 4], 16)
 }
 
-/// Inserts the numbers below `n`, each with the value 1, and returns whether there was memory.
 pub fn fill_with<'a>(map: &mut Map<'a>, lives: &'a Lives, n: u64) -> bool {
     let mut is_filled = true;
     for number in 0..n {

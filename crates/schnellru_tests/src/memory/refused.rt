@@ -1,5 +1,4 @@
-//! Calls whose requests for memory are refused in turn, until one is met. No clause says that memory is there, or how
-//! much a call takes. What a refused call leaves is a clause; these tests show that it succeeds with memory.
+//! Calls whose requests for memory are refused in turn, until one is met.
 use schnellru::{ByMemoryUsage, LruMap};
 use std::alloc::Global;
 use std::hash::BuildHasher;
@@ -23,7 +22,6 @@ const RESERVE: u64 = 7;
 
 const SHRINK_TO_FIT: u64 = 8;
 
-/// Makes the call of this number, with a key or with how many pairs it reserves space for, and returns whether it fails.
 fn is_refused<S: BuildHasher>(
     map: &mut LruMap<u64, u64, ByMemoryUsage, S>,
     call: u64,
@@ -44,8 +42,7 @@ fn is_refused<S: BuildHasher>(
     }
 }
 
-/// Makes the call while each request in turn is refused, and then once with memory. Returns whether each request is
-/// refused once and the call then succeeds, or memory has no end.
+/// Makes the call while each request in turn is refused, and then once with memory.
 fn ends_as_expected(
     alloc: Global,
     map: &mut LruMap<u64, u64, ByMemoryUsage, LastByte>,
@@ -65,8 +62,6 @@ fn ends_as_expected(
     }
 }
 
-/// Makes the call on a map whose table has at most `most` bytes, after the pairs 1 to `len` were inserted, and those from
-/// `removed` on were removed.
 fn is_met(
     alloc: Global,
     call: u64,
@@ -107,9 +102,7 @@ fn inserts_of_many_pairs(rt: HostRuntime) {
     }
 }
 
-/// Copies a map of three texts, and inserts a text into it, while each request in turn is refused, and then with memory.
-/// Returns whether each request is refused once and the call then succeeds. The limiter makes each key in fresh memory,
-/// again after each refused growth.
+/// The limiter makes each key in fresh memory, again after each refused growth.
 fn texts_are_refused(alloc: Global, map: &mut LruMap<String, u32, Counting>) -> Option<bool> {
     let mut right = true;
     // Entries, control bytes, and a byte for each text.

@@ -50,13 +50,11 @@ unsafe impl<T, A: Allocator + Send> Send for Deed<T, A> {}
 // SAFETY: it has no method that takes a `&`.
 unsafe impl<T, A: Allocator> Sync for Deed<T, A> {}
 
-// How many bytes a place has.
 #[inline]
 pub(crate) const fn bytes_of<T>() -> usize {
     size_of::<T>()
 }
 
-// Returns whether a block may have `count` places.
 #[inline]
 pub(crate) fn fits_in_block<T>(count: usize) -> bool {
     match count.checked_mul(bytes_of::<T>()) {
@@ -65,7 +63,6 @@ pub(crate) fn fits_in_block<T>(count: usize) -> bool {
     }
 }
 
-// Takes a block of `count` places, none of which holds an entry.
 pub(crate) fn allocate<T, A: Allocator>(
     alloc: &A,
     count: usize,
@@ -79,7 +76,6 @@ pub(crate) fn allocate<T, A: Allocator>(
     }
 }
 
-// Gives a block back. No place holds an entry.
 pub(crate) fn deallocate<T, A: Allocator>(alloc: &A, block: Block<T>, count: usize, cells: Cells<T>, deed: Deed<T, A>) {
     let Cells { mark: _ } = cells;
     let Deed { mark: _ } = deed;
@@ -90,28 +86,24 @@ pub(crate) fn deallocate<T, A: Allocator>(alloc: &A, block: Block<T>, count: usi
 }
 
 impl<T> Cells<T> {
-    // Puts an entry into a place that holds none.
     #[inline]
     pub(crate) fn write(&mut self, block: Block<T>, b: usize, entry: T) {
         // SAFETY: the block has place b, which holds no entry, and `self` owns it.
         unsafe { block.start.add(b).write(entry) }
     }
 
-    // Takes the entry out of a place.
     #[inline]
     pub(crate) fn read(&mut self, block: Block<T>, b: usize) -> T {
         // SAFETY: place b holds an entry, and `self` no longer counts it as there.
         unsafe { block.start.add(b).read() }
     }
 
-    // Returns the entry in a place.
     #[inline]
     pub(crate) fn get(&self, block: Block<T>, b: usize) -> &T {
         // SAFETY: place b holds an entry, which `self` lends as long as it is lent.
         unsafe { &*block.start.add(b) }
     }
 
-    // Lends the entry in a place for writing.
     #[inline]
     pub(crate) fn get_mut(&mut self, block: Block<T>, b: usize) -> &mut T {
         // SAFETY: place b holds an entry, which `self` lends to nobody else meanwhile.

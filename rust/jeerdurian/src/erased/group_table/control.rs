@@ -8,13 +8,11 @@ use crate::rattle_std::prelude::*;
 use crate::erased::group_table::group::Group;
 use crate::rattle_std::alloc::{AllocError, Global};
 
-// The control byte of an empty bucket.
 pub(crate) const EMPTY: u8 = 0xff;
 
-// The control byte of a deleted bucket.
 pub(crate) const DELETED: u8 = 0x80;
 
-// The control bytes of a table. Their number stays.
+// The control bytes of a table.
 
 pub(crate) struct Control {
     bytes: Vec<u8>,
@@ -23,24 +21,20 @@ pub(crate) struct Control {
 }
 
 impl Control {
-    // The control bytes of no buckets, which take no memory.
     pub(crate) const fn new(alloc: Global) -> Control {
         Control { bytes: Vec::new(alloc), last: 0 }
     }
 
-    // The control bytes of `buckets` empty buckets.
     pub(crate) fn with_buckets(alloc: Global, buckets: usize) -> Result<Control, AllocError> {
         let bytes = vec![in alloc; EMPTY; buckets + 16]?;
         Ok(Control { bytes, last: buckets - 1 })
     }
 
-    // Copies the bytes.
     pub(crate) fn copied(&self, alloc: Global) -> Result<Control, AllocError> {
         let bytes = Vec::from_slice(alloc, self.bytes.as_slice())?;
         Ok(Control { bytes, last: self.last })
     }
 
-    // Returns whether there are no buckets.
     #[inline]
     pub(crate) fn is_empty(&self) -> bool {
         self.last == 0
@@ -54,19 +48,16 @@ impl Control {
         hash as usize & self.last == 0 && self.bytes.len() + self.last == 0
     }
 
-    // Returns the number of buckets.
     #[inline]
     pub(crate) fn buckets(&self) -> usize {
         if self.is_empty() { 0 } else { self.last + 1 }
     }
 
-    // Returns whether there is a bucket of this number.
     #[inline]
     pub(crate) fn has_bucket(&self, b: usize) -> bool {
         b <= self.last
     }
 
-    // Returns the bucket at a position on the circle.
     #[inline]
     pub(crate) fn wrap(&self, place: usize) -> usize {
         wrap(place, self.last)
@@ -78,25 +69,21 @@ impl Control {
         sixteen_before(b, self.last)
     }
 
-    // Returns the control byte of a bucket.
     #[inline]
     pub(crate) fn byte(&self, b: usize) -> u8 {
         (*at!(self.bytes, b))
     }
 
-    // Returns the sixteen control bytes from a bucket on.
     #[inline]
     pub(crate) fn group(&self, start: usize) -> Group {
         Group::load(self.bytes.as_slice(), start)
     }
 
-    // Writes the control byte of a bucket, and its repetition.
     #[inline]
     pub(crate) fn set(&mut self, b: usize, byte: u8) {
         set_both(self.bytes.as_mut_slice(), self.last, b, byte);
     }
 
-    // Makes every bucket empty.
     pub(crate) fn clear(&mut self) {
         self.bytes.fill(EMPTY);
     }
@@ -122,7 +109,6 @@ pub(crate) fn room_taken(byte: u8) -> usize {
     byte as usize & 1
 }
 
-// Writes the byte of a bucket, and its repetition, among all bytes.
 #[inline]
 fn set_both(bytes: &mut [u8], last: usize, b: usize, byte: u8) {
     (*at_mut!(bytes, b)) = byte;
@@ -131,13 +117,11 @@ fn set_both(bytes: &mut [u8], last: usize, b: usize, byte: u8) {
     (*at_mut!(bytes, sixteen_before(b, last) + 16)) = byte;
 }
 
-// Returns the bucket at a position on a circle whose last bucket has this number.
 #[inline]
 fn wrap(place: usize, last: usize) -> usize {
     place & last
 }
 
-// Returns the bucket sixteen positions before a bucket on such a circle.
 #[inline]
 fn sixteen_before(b: usize, last: usize) -> usize {
     wrap(b.wrapping_sub(16), last)

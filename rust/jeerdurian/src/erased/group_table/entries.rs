@@ -14,22 +14,19 @@ struct Row<T> {
     deed: Deed<T, Global>,
 }
 
-// The places. Without places there is no block. Only the control bytes know the number of places.
+// Without places there is no block. Only the control bytes know the number of places.
 //
-// A place has no tag: the control byte of a bucket says whether it holds an entry. So a caller of `free` must show that
-// no place holds one.
+// So a caller of `free` must show that no place holds one.
 pub(crate) struct Entries<T> {
     row: Option<Row<T>>,
     alloc: Global,
 }
 
 impl<T> Entries<T> {
-    // No places, which take no memory.
     pub(crate) const fn new(alloc: Global) -> Entries<T> {
         Entries { row: None, alloc }
     }
 
-    // Takes `count` places without entries, in one request.
     pub(crate) fn with_places(alloc: Global, count: usize) -> Result<Entries<T>, AllocError> {
         if !fits_in_block::<T>(count) {
             return Err(AllocError);
@@ -38,12 +35,10 @@ impl<T> Entries<T> {
         Ok(Entries { row: Some(Row { block, cells, deed }), alloc })
     }
 
-    // Returns the allocator of the places.
     pub(crate) fn allocator(&self) -> Global {
         self.alloc
     }
 
-    // Returns the entry in a place.
     #[inline]
     pub(crate) fn get(&self, b: usize) -> &T {
         match &self.row {
@@ -52,7 +47,6 @@ impl<T> Entries<T> {
         }
     }
 
-    // The same for writing.
     #[inline]
     pub(crate) fn get_mut(&mut self, b: usize) -> &mut T {
         match &mut self.row {
@@ -64,7 +58,6 @@ impl<T> Entries<T> {
         }
     }
 
-    // Puts an entry into a place that holds none.
     #[inline]
     pub(crate) fn write(&mut self, b: usize, entry: T) {
         match &mut self.row {
@@ -73,7 +66,6 @@ impl<T> Entries<T> {
         }
     }
 
-    // Takes the entry out of a place.
     #[inline]
     pub(crate) fn read(&mut self, b: usize) -> T {
         match &mut self.row {
@@ -82,7 +74,6 @@ impl<T> Entries<T> {
         }
     }
 
-    // Gives the memory of `count` places back. None of them holds an entry.
     pub(crate) fn free(self, count: usize) {
         let Entries { row, alloc } = self;
         match row {

@@ -9,7 +9,6 @@ use crate::erased::group_table::entries::Entries;
 use crate::erased::group_table::link::LinkType;
 use crate::rattle_std::alloc::{AllocError, Global};
 
-// Returns `count` links, each to no bucket.
 pub(crate) fn no_links<N: LinkType>(alloc: Global, count: usize) -> Result<Vec<N>, AllocError> {
     let mut links = Vec::with_capacity(alloc, count)?;
     for _ in 0..count {
@@ -27,21 +26,19 @@ pub(crate) fn drop_first<T>(control: &Control, entries: &mut Entries<T>, count: 
     }
 }
 
-// Drops all `len` entries.
 pub(crate) fn drop_entries<T>(control: &Control, entries: &mut Entries<T>, len: usize) {
     if len > 0 {
         drop_first(control, entries, control.buckets());
     }
 }
 
-// Writes the tag and the entry of a free bucket.
 #[inline]
 pub(crate) fn fill_bucket<T>(control: &mut Control, entries: &mut Entries<T>, b: usize, tag: u8, entry: T) {
     control.set(b, tag);
     entries.write(b, entry);
 }
 
-// Writes the tag and the entry of a bucket. Returns the entry that was there, if the control byte says that one was.
+// Writes the tag and the entry of a bucket.
 #[inline]
 pub(crate) fn put<T>(
     control: &mut Control,
@@ -62,7 +59,6 @@ pub(crate) fn put<T>(
     }
 }
 
-// Takes the entry out of a full bucket, and writes its byte.
 #[inline]
 pub(crate) fn empty_bucket<T>(control: &mut Control, entries: &mut Entries<T>, b: usize, byte: u8) -> T {
     control.set(b, byte);

@@ -11,14 +11,11 @@ use crate::erased::group_table::group::{lowest_lane, without_lowest};
 // group from the last bucket on, it would have to wait for the step before.
 
 pub(crate) struct FullBuckets {
-    // The bucket of lane 0.
     start: usize,
-    // The full lanes that are still to come.
     lanes: u16,
 }
 
 impl FullBuckets {
-    // Begins a walk over all full buckets.
     pub(crate) fn of(control: &Control) -> FullBuckets {
         FullBuckets { start: 0, lanes: control.group(0).match_full() }
     }

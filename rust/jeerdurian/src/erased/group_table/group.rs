@@ -9,8 +9,7 @@ use crate::rattle_std::simd::prelude::*;
 
 /// Returns the lanes that hold the tag, of the control bytes of sixteen neighbouring buckets.
 ///
-/// Bit i of the result is set if and only if byte i is the tag. The bytes are compared at once. `docs/TABLE.md` shows a
-/// table of masks.
+/// Bit i of the result is set if and only if byte i is the tag. `docs/TABLE.md` shows a table of masks.
 ///
 /// ```text
 /// let bytes: [u8; 16] = [0, 255, 128, 5, 255, 255, 255, 255, 255, 255, 255, 255, 255, 255, 255, 255];
@@ -23,7 +22,7 @@ pub fn match_tag(bytes: &[u8; 16], tag: u8) -> u16 {
 
 /// Returns the lanes of empty buckets, whose byte is 255.
 ///
-/// Bit i of the result is set if and only if bucket i is empty. The bytes are compared at once.
+/// Bit i of the result is set if and only if bucket i is empty.
 ///
 /// ```text
 /// let bytes: [u8; 16] = [0, 255, 128, 5, 255, 255, 255, 255, 255, 255, 255, 255, 255, 255, 255, 255];
@@ -36,7 +35,7 @@ pub fn match_empty(bytes: &[u8; 16]) -> u16 {
 
 /// Returns the lanes of free buckets, whose byte has the top bit set: 255 if empty, 128 if deleted.
 ///
-/// Bit i of the result is set if and only if bucket i is free. The bytes are compared at once.
+/// Bit i of the result is set if and only if bucket i is free.
 ///
 /// ```text
 /// let bytes: [u8; 16] = [0, 255, 128, 5, 255, 255, 255, 255, 255, 255, 255, 255, 255, 255, 255, 255];
@@ -54,44 +53,37 @@ pub(crate) struct Group {
 }
 
 impl Group {
-    // Reads the sixteen bytes from a position on.
     #[inline]
     pub(crate) fn load(bytes: &[u8], at: usize) -> Group {
         Group { lanes: u8x16::from_slice(&(*at!(bytes, at..))).to_array() }
     }
 
-    // Returns the lanes that hold the tag.
     #[inline]
     pub(crate) fn match_tag(&self, tag: u8) -> u16 {
         match_tag(&self.lanes, tag)
     }
 
-    // Returns the lanes of empty buckets.
     #[inline]
     pub(crate) fn match_empty(&self) -> u16 {
         match_empty(&self.lanes)
     }
 
-    // Returns the lanes of empty and deleted buckets.
     #[inline]
     pub(crate) fn match_free(&self) -> u16 {
         match_free(&self.lanes)
     }
 
-    // Returns the lanes of full buckets.
     #[inline]
     pub(crate) fn match_full(&self) -> u16 {
         u8x16::from_array(self.lanes).simd_lt(u8x16::splat(DELETED)).to_bitmask() as u16
     }
 }
 
-// Returns the lowest lane of a mask that is not empty.
 #[inline]
 pub(crate) fn lowest_lane(mask: u16) -> usize {
     mask.trailing_zeros() as usize
 }
 
-// Returns the mask without its lowest lane.
 #[inline]
 pub(crate) fn without_lowest(mask: u16) -> u16 {
     mask & (mask - 1)

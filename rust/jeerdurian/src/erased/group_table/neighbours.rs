@@ -1,5 +1,5 @@
 // Erased from crates/group_table/src/neighbours.rt: do not edit.
-//! Whether the 16 neighbouring buckets around a bucket contain an empty one, by two groups of control bytes.
+//! Whether the 16 neighbouring buckets around a bucket contain an empty one.
 
 #[allow(unused_imports)]
 use crate::rattle_std::prelude::*;
@@ -7,19 +7,17 @@ use crate::rattle_std::prelude::*;
 use crate::erased::group_table::control::Control;
 use crate::erased::group_table::group::lanes_below;
 
-// Returns the empty lanes of the group that ends directly before this bucket.
 #[inline]
 fn empty_before(control: &Control, b: usize) -> u16 {
     control.group(control.sixteen_before(b)).match_empty()
 }
 
-// Returns the empty lanes of the group that begins at this bucket.
 #[inline]
 fn empty_from(control: &Control, b: usize) -> u16 {
     control.group(b).match_empty()
 }
 
-// Returns all ones if the first number is less than the second, and 0 otherwise: the sign of their difference.
+// Returns all ones if the first number is less than the second, and 0 otherwise.
 #[inline]
 fn ones_if_less(low: u32, high: u16) -> usize {
     let difference = low as i64 - high as i64;

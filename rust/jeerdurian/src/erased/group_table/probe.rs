@@ -8,8 +8,7 @@ use crate::erased::group_table::control::{Control, DELETED, tag_of};
 use crate::erased::group_table::entries::Entries;
 use crate::erased::group_table::group::{lowest_lane, without_lowest};
 
-// The groups of a search. `start` is the first bucket of the present group, and the next group begins `stride` buckets
-// later: 16 for each group so far, the present one included.
+// `start` is the first bucket of the present group, and the next group begins `stride` buckets later.
 
 pub(crate) struct Probe {
     start: usize,
@@ -17,13 +16,11 @@ pub(crate) struct Probe {
 }
 
 impl Probe {
-    // The groups of a search for the hash, from its first one on.
     #[inline]
     fn of(control: &Control, hash: u64) -> Probe {
         Probe { start: control.wrap(hash as usize), stride: 16 }
     }
 
-    // Goes past a group: the next one begins 16, 32, 48, .. buckets later.
     #[inline]
     fn go_on(&mut self, control: &Control) {
         self.start = control.wrap(self.start + self.stride);
@@ -38,7 +35,6 @@ enum Searched {
     GoesOn,
 }
 
-// Calls `f` with the entries with the tag in the group that begins here, until it accepts one.
 #[inline(always)]
 fn search_group<T, F: FnMut(&T) -> bool>(
     control: &Control,
@@ -59,7 +55,6 @@ fn search_group<T, F: FnMut(&T) -> bool>(
     if group.match_empty() != 0 { Searched::Ended } else { Searched::GoesOn }
 }
 
-// Calls `f` with the entries with the tag of the hash, group by group, until it accepts one.
 #[inline]
 pub(crate) fn find_bucket<T, F: FnMut(&T) -> bool>(
     control: &Control,
@@ -85,7 +80,6 @@ pub(crate) fn find_bucket<T, F: FnMut(&T) -> bool>(
     }
 }
 
-// Returns the first bucket of the group that begins here that is empty or deleted.
 #[inline]
 fn free_in_group(control: &Control, start: usize) -> Option<usize> {
     let mask = control.group(start).match_free();
@@ -100,7 +94,6 @@ fn free_in_group(control: &Control, start: usize) -> Option<usize> {
     Some(lowest_lane(control.group(0).match_free()))
 }
 
-// Returns the first bucket in the order of a search for the hash that is empty or deleted.
 #[inline(always)]
 pub(crate) fn first_free(control: &Control, hash: u64) -> usize {
     // The first group is not part of the loop: it nearly always has a free bucket, and then needs no stride.

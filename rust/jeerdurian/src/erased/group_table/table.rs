@@ -1,5 +1,5 @@
 // Erased from crates/group_table/src/table.rt: do not edit.
-//! `Table`. A contract sees a table as its `slots`, one for each bucket, and the numbers of its `insertions`.
+//! A contract sees a table as its `slots`, one for each bucket, and the numbers of its `insertions`.
 
 #[allow(unused_imports)]
 use crate::rattle_std::prelude::*;
@@ -90,7 +90,7 @@ impl<T> Table<T> {
         find_bucket(&self.control, &self.entries, hash, f)
     }
 
-    /// Returns the entry in a full bucket. It reads nothing of the table but the address of its entries.
+    /// Returns the entry in a full bucket.
     #[inline]
     pub fn get(&self, b: usize) -> &T {
         full!(self.control.byte(b));
@@ -143,7 +143,7 @@ impl<T> Table<T> {
         b
     }
 
-    /// The same for each table: without growth left, only a deleted bucket may take the entry.
+    /// As `place`, for each table: without growth left, only a deleted bucket may take the entry.
     ///
     /// # Errors
     ///
@@ -163,7 +163,6 @@ impl<T> Table<T> {
         Ok(b)
     }
 
-    // Puts an entry with this hash into the first free bucket, which takes this much of the growth left.
     #[inline(always)]
     fn fill_free(&mut self, b: usize, spent: usize, hash: u64, entry: T) {
         // `len` rises before the bucket is written, and `placed` after it: then each takes one instruction.
@@ -174,19 +173,16 @@ impl<T> Table<T> {
         self.placed += 1;
     }
 
-    // Makes every bucket of a table without entries empty.
     fn empty_buckets(&mut self) {
         self.control.clear();
         self.room = full_capacity(self.control.buckets());
     }
 
-    // Gives the memory of a table without entries back.
     fn free_unused(self) {
         let (control, unused) = self.into_parts();
         unused.free(control.buckets());
     }
 
-    // Returns the control bytes and the entries.
     fn into_parts(self) -> (Control, Entries<T>) {
         let whole = ::core::mem::ManuallyDrop::new(self);
         // SAFETY: each field is read once, and the whole is not dropped.

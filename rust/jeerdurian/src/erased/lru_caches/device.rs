@@ -11,9 +11,8 @@ use crate::rattle_std::prelude::*;
 /// only its own block, also if it fails or the machine stops in the middle of it. After a `sync` that failed, no clause
 /// says what the blocks are, and no call may be made.
 ///
-/// An impl defines the ghost members, and the prover checks that its code does what they say. For most devices
-/// contracts see of a block the block itself, by `ghost seen = { λ block. block };`. They do not tell blocks apart that
-/// `seen` does not.
+/// For most devices contracts see of a block the block itself, by `ghost seen = { λ block. block };`. They do not tell
+/// blocks apart that `seen` does not.
 ///
 /// ```text
 /// let calls_left = Cell::new(2);           // the third call fails

@@ -37,18 +37,19 @@ impl ::core::fmt::Display for FileError {
     }
 }
 
-/// A device of the blocks of a file, of `N` bytes each. It keeps nothing in memory but the file and a count.
+/// A device of the blocks of a file, of `N` bytes each.
 ///
 /// Nothing is proved of the bytes that an operating system returns or keeps. So contracts see the record of the calls
 /// on the file and of their results, which no memory holds. What a block is, and what a crash may leave, is read off
 /// this record (`specs/Files`). That a read returns what was written there last has the premise `IsHonest`: the file
-/// answered as the record says. A file that changes by itself, or that others write, is not honest.
+/// answered as the record says.
 ///
 /// [`HashedFileDevice`] also finds torn and foreign blocks.
 ///
 /// [`HashedFileDevice`]: crate::HashedFileDevice
 ///
 /// ```text
+/// let file = Cursor::new(*b"zeroone.two.");
 /// let mut device: FileDevice<_, 4> = FileDevice::new(file, 3);
 /// assert_eq!(rt; device.write(1, b"uno."), Ok(()));
 /// assert_eq!(rt; device.read(1), Ok(*b"uno."));

@@ -14,8 +14,7 @@ pub(crate) mod table;
 /// A function with its newest results, up to a limit, so that it is not called again at the same key.
 ///
 /// It is proved that each result is right, and that a call is a step of a map: the stored answer becomes the newest, or
-/// the result is inserted (`step` of `answer`). So all laws of the map hold of it: `ByLength::new(n)` keeps the newest n
-/// answers, while memory lasts.
+/// the result is inserted (`step` of `answer`).
 ///
 /// ```text
 /// let mut squares = Memo::new(alloc, ByLength::new(9), |n: u64| n.wrapping_mul(n));
@@ -115,7 +114,6 @@ impl<K: Copy + Eq + Hash, V, F: Fn(K) -> V, L: Insertion<K, V, K>, S: KeyHasher<
     }
 }
 
-// Returns the stored answer at a key, or else stores what the function returns.
 fn remembered<K: Copy + Eq + Hash, V: Copy, F: Fn(K) -> V, L: Insertion<K, V, K>, S: KeyHasher<K>>(
     map: &mut LruMap<K, V, L, S>,
     function: &F,
@@ -130,7 +128,6 @@ fn remembered<K: Copy + Eq + Hash, V: Copy, F: Fn(K) -> V, L: Insertion<K, V, K>
     value
 }
 
-// Lends the stored answer at a key to the closure, or else what the function returns, which is stored.
 fn read_remembered<
     K: Copy + Eq + Hash,
     V,

@@ -39,8 +39,7 @@ pub struct OrderedMap<K, V, S = RandomState> {
 impl<K: Eq + Hash, V> OrderedMap<K, V, RandomState> {
     /// Makes an empty map with the default hasher.
     ///
-    /// The seeds of that hasher are 1, 2, 3 and 4, so everyone knows its hashes. If strangers choose the keys, call
-    /// `with_hasher` with seeds that nobody can guess. Cost: `O(1)`, and no memory.
+    /// Everyone knows its seeds: if strangers choose the keys, call `with_hasher`. Cost: `O(1)`, and no memory.
     ///
     /// ```text
     /// let mut map: OrderedMap<u64, u64> = OrderedMap::new(alloc);
@@ -66,7 +65,7 @@ impl<K: Eq + Hash, V, S: KeyHasher<K>> OrderedMap<K, V, S> {
         OrderedMap { map: LruMap::with_limiter_and_hasher(alloc, Unlimited, hasher) }
     }
 
-    /// Returns the number of entries. No two keys are equal. Cost: `O(1)`.
+    /// Returns the number of entries. Cost: `O(1)`.
     ///
     /// ```text
     /// assert_eq!(rt; map.len(), 2);
@@ -275,7 +274,6 @@ impl<K: Eq + Hash, V, S: KeyHasher<K>> OrderedMap<K, V, S> {
     /// After indexmap's `IndexMap::insert`.
     pub fn insert(&mut self, key: K, value: V) -> Result<Option<V>, AllocError> {
         distinct(&self.map);
-        // One search for a new key.
         let Err((key, value)) = self.map.try_insert(key, value) else {
             return Ok(None);
         };
@@ -314,7 +312,6 @@ impl<K: Eq + Hash, V, S: KeyHasher<K>> OrderedMap<K, V, S> {
     }
 }
 
-// Nothing at run time: it shows a proof that no two keys are equal.
 #[inline]
 fn distinct<K: Eq + Hash, V, S: KeyHasher<K>>(map: &LruMap<K, V, Unlimited, S>) {
     let _ = map.len();

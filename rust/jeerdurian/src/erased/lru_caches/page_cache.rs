@@ -56,10 +56,9 @@ where
 /// then, and goes to the device when it is evicted or flushed. So the cache shows a block at each number, which is the
 /// cached page, or else the block of the device.
 ///
-/// A call that fails shows the same blocks as before, as long as no `sync` has failed. After a `flush` that returned
-/// `Ok`, a crash leaves each block as it was shown at that flush or was written later; `docs/CACHES.md` says what this
-/// supposes of a disk. After a `sync` that failed, each call but `discard`, and reads of cached pages, returns
-/// `Broken`.
+/// After a `flush` that returned `Ok`, a crash leaves each block as it was shown at that flush or was written later;
+/// `docs/CACHES.md` says what this supposes of a disk. After a `sync` that failed, each call but `discard`, and reads
+/// of cached pages, returns `Broken`.
 ///
 /// Code that drops or forgets a cache does not compile, because its dirty pages would be lost. Call `close` or
 /// `discard`.
@@ -101,6 +100,7 @@ impl<B: Copy, D: BlockDevice<B>, S: KeyHasher<u64>> PageCache<B, D, S> {
     /// ```text
     /// let seeded = RandomState::with_seeds([5, 6, 7, 8]);
     /// let mut cache = PageCache::with_hasher(alloc, disk, 2, seeded);
+    /// cache.discard();
     /// ```
     pub fn with_hasher(alloc: Global, device: D, capacity: usize, hasher: S) -> Self {
         PageCache {
@@ -128,6 +128,7 @@ impl<B: Copy, D: BlockDevice<B>, S: KeyHasher<u64>> PageCache<B, D, S> {
     /// ```text
     /// let mut cache = PageCache::new(alloc, disk, 2);
     /// assert!(rt; cache.is_empty());
+    /// cache.discard();
     /// ```
     pub fn is_empty(&self) -> bool {
         self.map.is_empty()
@@ -157,8 +158,8 @@ impl<B: Copy, D: BlockDevice<B>, S: KeyHasher<u64>> PageCache<B, D, S> {
 
     /// Returns a block, and makes its page the newest.
     ///
-    /// A cached page is returned without the device. Otherwise the block is read from the device and cached. If the
-    /// cache is full, the oldest page is evicted for it, after that page was written to the device if it is dirty.
+    /// If the cache is full, the oldest page is evicted for it, after that page was written to the device if it is
+    /// dirty.
     ///
     /// ```text
     /// assert_eq!(rt; (cache.read(1), cache.len()), (Ok(20), 1));
@@ -231,6 +232,7 @@ impl<B: Copy, D: BlockDevice<B>, S: KeyHasher<u64>> PageCache<B, D, S> {
     ///     Ok(disk) => PageCache::new(alloc, disk, 2),
     ///     Err(Unclosed { cache, error: _ }) => cache,
     /// };
+    /// cache.discard();
     /// ```
     ///
     /// Cost: as `flush`.
@@ -266,8 +268,6 @@ where {
 /// Err(Unclosed { cache, error: _ }) => cache,
 /// ```
 pub struct Unclosed<B: Copy, D: BlockDevice<B>, S = RandomState> {
-    /// The cache as the flush left it, with the same pages.
     pub cache: PageCache<B, D, S>,
-    /// Why the flush failed.
     pub error: PageError<D::Error>,
 }

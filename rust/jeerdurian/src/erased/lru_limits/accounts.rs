@@ -22,8 +22,8 @@ pub use owned_bytes::OwnedBytes;
 /// A value with a cost. An unsigned number of up to 64 bits costs itself, a text its bytes, and a vector the number of
 /// its items.
 ///
-/// The cost of a value is read again when its entry is evicted or removed, or the value is replaced. So if the cost
-/// changes in the map, the running total is no longer the sum of the costs.
+/// The cost is read again when the entry is evicted or removed, or the value is replaced. So if the cost changes in the
+/// map, the running total is no longer the sum of the costs.
 ///
 /// ```text
 /// struct Page {
@@ -37,9 +37,10 @@ pub use owned_bytes::OwnedBytes;
 ///         self.bytes
 ///     }
 /// }
+///
+/// assert_eq!(rt; Page { bytes: 4096 }.cost(), 4096);
 /// ```
 pub trait Costed {
-    /// Returns the cost of the value.
     fn cost(&self) -> u64;
 }
 
@@ -78,7 +79,6 @@ impl Costed for usize {
     }
 }
 
-/// A text costs its bytes.
 impl Costed for String {
     #[inline]
     fn cost(&self) -> u64 {
@@ -99,20 +99,18 @@ impl<T> Costed for Vec<T> {
 ///
 /// The total is the sum over the entries of the map after each call, unless somebody writes to the values or to the
 /// limiter through a reference: each callback changes the total as the laws say. The two laws that subtract a cost hold
-/// only if the total is at least that cost. `docs/LIMITERS.md` explains an impl.
+/// only if the total is at least that cost.
 ///
 /// ```text
-/// assert_eq!(rt; Summing::<u64, u64, u64>::account(&limiter), 2);
+/// let limiter = ByCost::new(3);
+/// assert_eq!(rt; Summing::<u64, u64, u64>::account(&limiter), 0);
 /// ```
 pub trait Summing<K: Eq + Hash, V, I: LookupKey<K>>: Insertion<K, V, I> {
-    /// Returns the cost of an entry.
     fn cost_of(key: &K, value: &V) -> u64;
 
-    /// Returns the running total.
     fn account(&self) -> u64;
 }
 
-// Returns the sum with this cost added, if the cost alone is within the limit and the sum fits.
 #[inline]
 fn sum_with(limit: u64, sum: u64, cost: u64) -> Option<u64> {
     if cost <= limit { sum.checked_add(cost) } else { None }

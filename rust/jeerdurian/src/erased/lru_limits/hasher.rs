@@ -18,9 +18,8 @@ const REST_FACTOR: u64 = 0xa54f_f53a_5f1d_36f1;
 
 /// Builds hashers with four seeds. A contract sees it as the hasher before the first write.
 ///
-/// Hashers of equal seeds give equal hashes after equal writes. So `state.hash_one(&key)` is the hash of the key in a
-/// map with an equal state, and of every value that names the key. The default seeds are 1, 2, 3, 4: nothing is random
-/// here, and nothing is claimed against chosen keys.
+/// So `state.hash_one(&key)` is the hash of the key in a map with an equal state, and of every value that names the
+/// key. The default seeds are 1, 2, 3, 4: nothing is random here, and nothing is claimed against chosen keys.
 ///
 /// ```text
 /// let state = RandomState::with_seeds([5, 6, 7, 8]);
@@ -48,7 +47,6 @@ impl RandomState {
     }
 }
 
-/// The state with the seeds 1, 2, 3, 4.
 impl Default for RandomState {
     fn default() -> RandomState {
         RandomState::with_seeds([1, 2, 3, 4])
@@ -107,11 +105,9 @@ fn short_number(bytes: &[u8]) -> u64 {
             (*at!(bytes, len - 2)),
             (*at!(bytes, len - 1)),
         ]);
-        // Of the last four bytes those that are not among the first four.
         let above = last as u64 >> (8 * (8 - len));
         first as u64 + (above << 32)
     } else {
-        // One, two or three bytes are the first, the middle and the last one: some of these are the same.
         let middle = ((*at!(bytes, len / 2)) as u64) << (8 * (len / 2));
         let last = ((*at!(bytes, len - 1)) as u64) << (8 * (len - 1));
         bytes[0] as u64 | (middle | last)
@@ -119,7 +115,6 @@ fn short_number(bytes: &[u8]) -> u64 {
 }
 
 impl DefaultHasher {
-    // Joins eight bytes to the state.
     #[inline]
     fn join_word(&mut self, word: u64) {
         self.state = folded(self.state ^ word, self.word_key);

@@ -9,10 +9,9 @@ use crate::rattle_std::hash::{BuildHasher, Hash};
 /// A value that names at most one key, up to equality, and hashes as that key does.
 ///
 /// It is implemented for every key itself, and for `&str` if the keys are `String`s: `"a".is_key(&key)` returns whether
-/// the key is the text `a`, so a look-up makes no `String`. An impl of your own says by `names` which key it names,
-/// computes that test in `is_key`, and proves two laws: it names one key up to equality, and it writes to a hasher what
-/// that key writes. A derived `Hash` of a struct with one field writes what the field writes. `docs/LIMITERS.md` shows
-/// two such types.
+/// the key is the text `a`. An impl of your own says by `names` which key it names, computes that test in `is_key`, and
+/// proves two laws: it names one key up to equality, and it writes to a hasher what that key writes. A derived `Hash`
+/// of a struct with one field writes what the field writes.
 ///
 /// ```text
 /// let key = String::from_str(rt.alloc(), "a")?;
@@ -24,7 +23,6 @@ pub trait LookupKey<K: Eq + Hash>: Hash {
     fn is_key(&self, key: &K) -> bool;
 }
 
-/// A key names the keys that are equal to it.
 impl<K: Eq + Hash> LookupKey<K> for K {
     #[inline]
     fn is_key(&self, key: &K) -> bool {
@@ -32,7 +30,6 @@ impl<K: Eq + Hash> LookupKey<K> for K {
     }
 }
 
-/// A text names the `String` of its bytes.
 impl LookupKey<String> for &str {
     #[inline]
     fn is_key(&self, key: &String) -> bool {
@@ -46,11 +43,9 @@ impl LookupKey<String> for &str {
 /// assert_eq!(rt; KeyHasher::<String>::hash_named(&state, &"a"), state.hash_one(&key));
 /// ```
 pub trait KeyHasher<K: Eq + Hash>: BuildHasher {
-    /// Returns the hash of the key that the value names.
     fn hash_named<Q: LookupKey<K>>(&self, key: &Q) -> u64;
 }
 
-/// Hashes with the hasher that is built.
 impl<K: Eq + Hash, S: BuildHasher> KeyHasher<K> for S {
     #[inline]
     fn hash_named<Q: LookupKey<K>>(&self, key: &Q) -> u64 {

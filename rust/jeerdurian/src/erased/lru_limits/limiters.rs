@@ -1,6 +1,5 @@
 // Erased from crates/lru_limits/src/limiters.rt: do not edit.
-//! The limiters by the number of entries, by the size of the table, and without a limit, which look at no key or value;
-//! two limiters for one map; and an adapter for limiters of your own that store each entry as it comes.
+//! The limiters that look at no key or value, two limiters for one map, and an adapter for limiters of your own.
 
 #[allow(unused_imports)]
 use crate::rattle_std::prelude::*;
@@ -25,6 +24,6 @@ pub use unlimited_compact::UnlimitedCompact;
 
 /// A map has links of 32 bits under `ByLength`, `ByMemoryUsage`, `ByBytes` and `UnlimitedCompact`, and of 64 bits under
 /// `Unlimited`, `ByCost` and `ByWeight`. Under `Storing` it has the links of the limiter inside, and under `Both` the
-/// links of the first limiter. The function does nothing: its contract is the law, which leaves out `ByBytes`,
-/// `ByWeight` and `Both`.
+/// links of the first limiter. The links of a map under the limiters of this crate, without `ByBytes`, `ByWeight` and
+/// `Both`.
 pub fn limiters_fix_their_links<K, V, C: Costed, L: Limiter<K, V>>() {}

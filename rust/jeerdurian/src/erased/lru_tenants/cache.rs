@@ -1,5 +1,5 @@
 // Erased from crates/lru_tenants/src/cache.rt: do not edit.
-//! `TenantCache`. A contract sees a cache as its open tenants, each with its map.
+//! `TenantCache`.
 
 #[allow(unused_imports)]
 use crate::rattle_std::prelude::*;
@@ -39,7 +39,6 @@ pub struct TenantCache<N: Eq + Hash, K: Eq + Hash, V, L: Budgeted<K, V> = ByCost
     tenants: HashMap<N, LruMap<K, V, L, S>, S, Global>,
     hasher: S,
     entry_bytes: usize,
-    // The sum of the budgets of all tenants, and what it is at most.
     budgets: u128,
     total_limit: Option<u64>,
     alloc: Global,
@@ -48,9 +47,7 @@ pub struct TenantCache<N: Eq + Hash, K: Eq + Hash, V, L: Budgeted<K, V> = ByCost
 impl<N: Eq + Hash, K: Eq + Hash, V: Costed> TenantCache<N, K, V> {
     /// Makes a cache without tenants and without a total limit, whose entries cost what their values cost.
     ///
-    /// The hashers of names and of all maps have these seeds, and each map counts `entry_bytes` bytes an entry, as
-    /// `LruMap::new` does. If strangers choose names or keys, take seeds that nobody can guess. Cost: `O(1)`, and no
-    /// memory.
+    /// If strangers choose names or keys, take seeds that nobody can guess. Cost: `O(1)`, and no memory.
     ///
     /// ```text
     /// let mut cache: TenantCache<u64, u64, u64> = TenantCache::new(alloc, [1, 2, 3, 4], 32);
@@ -65,8 +62,8 @@ impl<N: Eq + Hash, K: Eq + Hash, V, L: Budgeted<K, V>, S: KeyHasher<K> + Copy> T
     /// Makes a cache without tenants and without a total limit, under any limiter with a budget, with this hasher of
     /// names and keys.
     ///
-    /// If strangers choose names or keys, take std's `RandomState::new(&rt)?`, whose hashes nobody can guess. Each map
-    /// counts `entry_bytes` bytes an entry, as `LruMap::with_hasher` does. Cost: `O(1)`, and no memory.
+    /// If strangers choose names or keys, take std's `RandomState::new(&rt)?`, whose hashes nobody can guess. Cost:
+    /// `O(1)`, and no memory.
     ///
     /// ```text
     /// let mut weighed: TenantCache<u64, u64, u64, ByWeight<16>, _> =
@@ -120,13 +117,12 @@ impl<N: Eq + Hash, K: Eq + Hash, V, L: Budgeted<K, V>, S: KeyHasher<K> + Copy> T
     ///
     /// # Errors
     ///
-    /// `AlreadyOpen`; `OverTotal`: the sum of all budgets would be above the total limit; or `Memory`: out of
-    /// memory for one tenant more. An error changes nothing.
+    /// `AlreadyOpen`; `OverTotal`: the sum of all budgets would be above the total limit; or `Memory`: out of memory
+    /// for one tenant more.
     pub fn open(&mut self, name: N, budget: u64) -> Result<(), TenantError> {
         if self.tenants.contains_key(&name) {
             return Err(TenantError::AlreadyOpen);
         }
-        // Fewer than 2^63 budgets of a u64 add up to less than 2^127.
         let _len = self.tenants.len();
         let sum = self.budgets + budget as u128;
         if is_above(self.total_limit, sum) {
@@ -142,7 +138,6 @@ impl<N: Eq + Hash, K: Eq + Hash, V, L: Budgeted<K, V>, S: KeyHasher<K> + Copy> T
         }
     }
 
-    // The map with which a tenant opens.
     fn fresh(&self, budget: u64) -> LruMap<K, V, L, S> {
         laws::runs_begin_with_maps::<K, V, L, S>();
         let limiter = L::with_budget(budget);
@@ -152,9 +147,8 @@ impl<N: Eq + Hash, K: Eq + Hash, V, L: Budgeted<K, V>, S: KeyHasher<K> + Copy> T
     /// Inserts a key with a value, as the newest entry of the tenant. Returns whether the key is there then.
     ///
     /// It is an `insert` into the map of the tenant. `ByCost` and `ByWeight` reject an entry that alone costs more than
-    /// the budget, or that would take the tenant's total past `u64::MAX`. Otherwise the tenant's oldest entries are
-    /// evicted until the total is within the budget. If the key is there and the new value is rejected, its entry is
-    /// removed.
+    /// the budget, or that would take the tenant's total past `u64::MAX`; if the key is there, its entry is removed
+    /// then. Otherwise the tenant's oldest entries are evicted until the total is within the budget.
     ///
     /// ```text
     /// assert_eq!(rt; cache.put(&1, 8, 1), Ok(true));
@@ -171,7 +165,7 @@ impl<N: Eq + Hash, K: Eq + Hash, V, L: Budgeted<K, V>, S: KeyHasher<K> + Copy> T
         self.put_with(name, key, value, &mut |_, _| {})
     }
 
-    /// Removes a key of a tenant. Returns its value. The tenant's other entries keep their order.
+    /// Removes a key of a tenant. Returns its value.
     ///
     /// ```text
     /// assert_eq!(rt; (cache.remove(&1, &7), cache.remove(&1, &7)), (Ok(Some(2)), Ok(None)));

@@ -1,11 +1,7 @@
 // Erased from crates/lru_tenants/src/error.rt: do not edit.
-//! Why a call on a tenant failed.
-
 #[allow(unused_imports)]
 use crate::rattle_std::prelude::*;
 
-/// Why a call on a tenant failed.
-///
 /// ```text
 /// assert_eq!(rt; cache.open(1, 5), Err(TenantError::AlreadyOpen));
 /// ```

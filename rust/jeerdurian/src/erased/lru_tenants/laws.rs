@@ -11,7 +11,7 @@ use crate::rattle_std::hash::Hash;
 
 /// In any list of calls of any kind, for names, keys and values of any types, each call finds of its tenant what the
 /// last call of that tenant left, whatever calls of others come between (`own`). If each call names another tenant, a
-/// tenant's map stays as it is (`others`). `run_tenants` is one instance.
+/// tenant's map stays as it is (`others`).
 ///
 /// The premise: each call leaves every tenant but the one that it names, as each clause with `On` says.
 ///
@@ -29,7 +29,6 @@ pub fn each_tenant_has_its_own_run<N: Eq + Hash, K: Eq + Hash, V, L: Budgeted<K,
 pub fn costs_are_within_the_total_limit<N: Eq + Hash, K: Eq + Hash, V, L: Budgeted<K, V>, S: KeyHasher<K> + Copy>(
     cache: &TenantCache<N, K, V, L, S>,
 ) {
-    // Nothing at run time: it shows the proof what holds of the tenants.
     let _len = cache.len();
     let _sum = cache.total_budget();
 }

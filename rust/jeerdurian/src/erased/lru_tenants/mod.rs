@@ -2,8 +2,7 @@
 //! A cache for many tenants: each has a map of its own, limited by a budget of its own.
 //!
 //! [`TenantCache`] is the cache, and [`run_tenants`] carries out a list of calls on it. `docs/TENANTS.md` shows how to
-//! use it, and what is proved of it: a tenant's calls return what a map returns that nobody else uses, or that there
-//! was no memory, or that the budgets are over the total limit.
+//! use it, and what is proved of it.
 
 #[allow(unused_imports)]
 use crate::rattle_std::prelude::*;

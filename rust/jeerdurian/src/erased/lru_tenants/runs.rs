@@ -30,14 +30,13 @@ use crate::rattle_std::hash::Hash;
 ///
 /// # Errors
 ///
-/// `Err` says that there was no memory for the answers. No call was made then.
+/// `Err` says that there was no memory for the answers.
 pub fn run_tenants<N: Copy + Eq + Hash, K: Copy + Eq + Hash, V: Copy, L: Budgeted<K, V>, S: KeyHasher<K> + Copy>(
     alloc: Global,
     cache: &mut TenantCache<N, K, V, L, S>,
     calls: Vec<TenantCall<N, K, V>>,
 ) -> Result<Vec<TenantAnswer<V>>, AllocError> {
     each_tenant_has_its_own_run::<N, K, V, L, S>();
-    // Nothing at run time: it shows the proof what holds of the tenants.
     let _len = cache.len();
     let mut answers = Vec::with_capacity(alloc, calls.len())?;
     for call in calls {
@@ -47,18 +46,15 @@ pub fn run_tenants<N: Copy + Eq + Hash, K: Copy + Eq + Hash, V: Copy, L: Budgete
     Ok(answers)
 }
 
-/// Carries out a call.
 fn make_tenant_call<N: Copy + Eq + Hash, K: Copy + Eq + Hash, V: Copy, L: Budgeted<K, V>, S: KeyHasher<K> + Copy>(
     cache: &mut TenantCache<N, K, V, L, S>,
     call: TenantCall<N, K, V>,
 ) -> TenantAnswer<V> {
     let answer = answer_to(cache, call);
-    // Nothing at run time: it shows the proof what holds of the tenants.
     let _len = cache.len();
     answer
 }
 
-/// Returns the answer to a call.
 fn answer_to<N: Copy + Eq + Hash, K: Copy + Eq + Hash, V: Copy, L: Budgeted<K, V>, S: KeyHasher<K> + Copy>(
     cache: &mut TenantCache<N, K, V, L, S>,
     call: TenantCall<N, K, V>,
@@ -72,7 +68,6 @@ fn answer_to<N: Copy + Eq + Hash, K: Copy + Eq + Hash, V: Copy, L: Budgeted<K, V
     }
 }
 
-/// Returns a tenant's value of a key, and makes its entry the newest.
 fn get<N: Eq + Hash, K: Eq + Hash, V: Copy, L: Budgeted<K, V>, S: KeyHasher<K> + Copy>(
     cache: &mut TenantCache<N, K, V, L, S>,
     name: &N,

@@ -1,6 +1,5 @@
 // Erased from crates/lru_tenants/src/tenant.rt: do not edit.
-//! What calls do to the map of a tenant. Each keeps what holds of it: the running total is the sum of the costs, and
-//! within the budget.
+//! What calls do to the map of a tenant. Each keeps the running total the sum of the costs, and within the budget.
 
 #[allow(unused_imports)]
 use crate::rattle_std::prelude::*;
@@ -9,9 +8,6 @@ use crate::erased::lru_limits::Budgeted;
 use crate::erased::schnellru::{Inserted, KeyHasher, LookupKey, LruMap, laws};
 use crate::rattle_std::alloc::AllocError;
 use crate::rattle_std::hash::Hash;
-
-// An insert into the map of a tenant, whose budget stays. The callback gets the entries that are evicted or removed,
-// and the new one if it could not be stored.
 
 pub(crate) fn insert<K: Eq + Hash, V, L: Budgeted<K, V>, S: KeyHasher<K>, F: FnMut(K, V)>(
     map: &mut LruMap<K, V, L, S>,
@@ -23,8 +19,6 @@ pub(crate) fn insert<K: Eq + Hash, V, L: Budgeted<K, V>, S: KeyHasher<K>, F: FnM
     laws::calls_keep_the_budget::<K, V, L, S>();
     map.insert_with(key, value, sink)
 }
-
-// An insert that returns the value that the map does not keep, a rejected one too.
 
 pub(crate) fn insert_full<K: Eq + Hash, V, L: Budgeted<K, V>, S: KeyHasher<K>, F: FnMut(K, V)>(
     map: &mut LruMap<K, V, L, S>,
@@ -40,12 +34,10 @@ pub(crate) fn insert_full<K: Eq + Hash, V, L: Budgeted<K, V>, S: KeyHasher<K>, F
     map.insert_full(key, value, sink)
 }
 
-// Whether the limiter rejects an entry of a new key. The key is looked up only if it does.
 fn rejects<K: Eq + Hash, V, L: Budgeted<K, V>, S: KeyHasher<K>>(map: &LruMap<K, V, L, S>, key: &K, value: &V) -> bool {
     !map.limiter().has_room_for(key, value) && !map.contains(key)
 }
 
-// A get that inserts the key if it is not there.
 pub(crate) fn get_or_insert<K: Eq + Hash, V, L: Budgeted<K, V>, S: KeyHasher<K>, F: FnOnce() -> V>(
     map: &mut LruMap<K, V, L, S>,
     key: K,
@@ -56,7 +48,6 @@ pub(crate) fn get_or_insert<K: Eq + Hash, V, L: Budgeted<K, V>, S: KeyHasher<K>,
     map.ensure_newest(key, make)
 }
 
-// The value of the newest pair.
 pub(crate) fn newest<K: Eq + Hash, V, L: Budgeted<K, V>, S: KeyHasher<K>>(map: &LruMap<K, V, L, S>) -> Option<&V> {
     match map.peek_newest() {
         Some((_, value)) => Some(value),
@@ -64,7 +55,6 @@ pub(crate) fn newest<K: Eq + Hash, V, L: Budgeted<K, V>, S: KeyHasher<K>>(map: &
     }
 }
 
-// A removal of a key.
 pub(crate) fn remove<K: Eq + Hash, V, L: Budgeted<K, V>, S: KeyHasher<K>, Q: LookupKey<K>>(
     map: &mut LruMap<K, V, L, S>,
     key: &Q,
@@ -73,21 +63,16 @@ pub(crate) fn remove<K: Eq + Hash, V, L: Budgeted<K, V>, S: KeyHasher<K>, Q: Loo
     laws::calls_keep_sums::<K, V, K, L, S>();
     laws::calls_keep_the_budget::<K, V, L, S>();
     let value = map.remove(key);
-    // Nothing at run time: it shows the proof what holds of the map.
     let _len = map.len();
     value
 }
 
-// A clear.
 pub(crate) fn clear<K: Eq + Hash, V, L: Budgeted<K, V>, S: KeyHasher<K>>(map: &mut LruMap<K, V, L, S>) {
     laws::calls_keep_sums::<K, V, K, L, S>();
     laws::calls_keep_the_budget::<K, V, L, S>();
     map.clear();
-    // Nothing at run time: it shows the proof what holds of the map.
     let _len = map.len();
 }
-
-// Sets the budget. Passes the entries that are evicted for it to the callback.
 
 pub(crate) fn set_budget<K: Eq + Hash, V, L: Budgeted<K, V>, S: KeyHasher<K>, F: FnMut(K, V)>(
     map: &mut LruMap<K, V, L, S>,
@@ -100,7 +85,6 @@ pub(crate) fn set_budget<K: Eq + Hash, V, L: Budgeted<K, V>, S: KeyHasher<K>, F:
     map.trim_with(sink);
 }
 
-// Removes all pairs, oldest first, and passes each to the callback. Returns how many these were.
 pub(crate) fn empty<K: Eq + Hash, V, L: Budgeted<K, V>, S: KeyHasher<K>, F: FnMut(K, V)>(
     map: &mut LruMap<K, V, L, S>,
     sink: &mut F,

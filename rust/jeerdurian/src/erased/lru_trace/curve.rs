@@ -16,18 +16,17 @@ use crate::rattle_std::collections::HashMap;
 /// ```text
 /// let mut curve = Curve::new(alloc)?;
 /// for key in ["a", "b", "a", "c", "a"] {
-///     curve.refer(key)?;
+///     if curve.references() < u64::MAX {
+///         curve.refer(key)?;
+///     }
 /// }
 /// assert_eq!(rt; (curve.misses(0), curve.misses(1), curve.misses(2)), (5, 5, 3));
 /// ```
 
 pub struct Curve {
-    /// The number of each key.
     numbers: HashMap<String, usize>,
     distances: Distances,
-    /// How many references had each reuse distance.
     counts: Vec<u64>,
-    /// How many references were the first to their key.
     firsts: usize,
     references: u64,
     alloc: Global,
@@ -46,7 +45,6 @@ impl Curve {
         })
     }
 
-    /// Returns the number of a key, which is added if it is not there.
     fn number_of(&mut self, key: &str) -> Result<usize, AllocError> {
         if let Some(number) = self.numbers.get(key) {
             return Ok(*number);
@@ -59,7 +57,6 @@ impl Curve {
         Ok(number)
     }
 
-    /// Makes a count for one reuse distance more, unless there is one to spare.
     fn make_count(&mut self) -> Result<(), AllocError> {
         if self.counts.len() == self.firsts {
             self.counts.push(0)?;
@@ -67,7 +64,6 @@ impl Curve {
         Ok(())
     }
 
-    /// Counts a reference to the key of this number.
     fn count(&mut self, key: &str, number: usize) -> Result<(), AllocError> {
         match self.distances.refer(number)? {
             Some(distance) => (*at_mut!(self.counts, distance)) += 1,
@@ -90,12 +86,10 @@ impl Curve {
         self.count(key, number)
     }
 
-    /// Returns how many references there were.
     pub fn references(&self) -> u64 {
         self.references
     }
 
-    /// Returns how many keys were referenced.
     pub fn keys(&self) -> usize {
         self.firsts
     }

@@ -25,21 +25,17 @@ const MOST_LEVELS: u32 = 59;
 pub struct Distances {
     /// The key of each slot, unless the slot is free.
     log: Vec<Option<usize>>,
-    /// The slot of each key, if it was referenced.
     slots: Vec<Option<usize>>,
-    /// The slots that contain keys are marked.
     marks: Tree,
     levels: u32,
     alloc: Global,
 }
 
 impl Distances {
-    /// Makes an empty trace, without keys.
     pub fn new(alloc: Global) -> Result<Self, AllocError> {
         Distances::with_levels(alloc, 0, FIRST_LEVELS)
     }
 
-    /// Makes an empty trace of this many keys, with a log of 2 ^ `levels` slots.
     fn with_levels(alloc: Global, keys: usize, levels: u32) -> Result<Self, AllocError> {
         let marks = Tree::new(alloc, levels)?;
         let log = Vec::with_capacity(alloc, marks.len())?;
@@ -47,14 +43,12 @@ impl Distances {
         Ok(Distances { log, slots, marks, levels, alloc })
     }
 
-    /// Adds a key that was not referenced, and returns its number.
     pub fn add_key(&mut self) -> Result<usize, AllocError> {
         let key = self.slots.len();
         self.slots.push(None)?;
         Ok(key)
     }
 
-    /// Takes a key out, and returns how many keys were referenced after it, if it was referenced.
     fn take_out(&mut self, key: usize) -> Option<usize> {
         let Some(slot) = (*at!(self.slots, key)) else {
             return None;
@@ -66,7 +60,6 @@ impl Distances {
         Some(behind)
     }
 
-    /// Puts a key in front that is not there.
     fn append(&mut self, key: usize) {
         let slot = self.log.len();
         self.log.push_reserved(Some(key));
@@ -74,10 +67,8 @@ impl Distances {
         self.marks.mark(slot);
     }
 
-    /// Moves the keys of a full log together.
     fn make_room(&mut self) -> Result<(), AllocError> {
         let mut levels = self.levels;
-        // All marks, but perhaps not the mark of slot 0.
         if self.marks.len() / 2 <= self.marks.marks_behind(0) {
             levels += 1;
         }

@@ -13,18 +13,13 @@ use crate::rattle_std::io::{BufRead, ErrorKind, Write};
 /// The most bytes of a key.
 const LONGEST_KEY: usize = 64;
 
-/// How a line ended.
 #[derive(Clone, Copy)]
 pub enum Ending {
-    /// By its line feed.
     Feed,
-    /// By the end of the input, after at least one byte.
     InputEnd,
-    /// There was no line: nothing was left of the input.
     Nothing,
 }
 
-/// Takes the line feed off the end, if there is one.
 fn take_feed(line: &mut Vec<u8>) -> Ending {
     let len = line.len();
     if len == 0 {
@@ -37,7 +32,6 @@ fn take_feed(line: &mut Vec<u8>) -> Ending {
     Ending::Feed
 }
 
-/// Reads the next line in place of what `line` held, without its line feed.
 pub fn read_line<R: BufRead>(reader: &mut R, line: &mut Vec<u8>) -> Result<Ending, TraceError> {
     line.clear();
     match reader.read_until(b'\n', line) {
@@ -68,8 +62,7 @@ fn refer_line(curve: &mut Curve, line: &[u8]) -> Result<bool, AllocError> {
 }
 
 /// References the key of each line that is left, and returns how many lines spell no key. A key is text of 1 to 64
-/// bytes. `line` is a buffer, whose bytes are not used. The number of lines is written to `progress` after each
-/// million.
+/// bytes. The number of lines is written to `progress` after each million.
 ///
 /// # Errors
 ///

@@ -1,24 +1,17 @@
 // Erased from crates/lru_trace/src/outcome.rt: do not edit.
-//! How a trace ends, and the exit status of each end.
-
 #[allow(unused_imports)]
 use crate::rattle_std::prelude::*;
 
 use crate::rattle_std::alloc::AllocError;
 
-/// How a trace ends if no read and no write fails.
 #[derive(Clone, Copy, Debug, PartialEq, Eq)]
 pub enum TraceEnd {
-    /// All lines were read, and the report was written.
     Done,
-    /// The first line names no sizes, or there is no line.
     NoSizes,
 }
 
-/// What cuts a trace off.
 #[derive(Clone, Copy, Debug, PartialEq, Eq)]
 pub enum TraceError {
-    /// A read failed.
     Read = 1,
     /// A write or the flush failed.
     Write = 2,

@@ -1,12 +1,10 @@
 // Erased from crates/lru_trace/src/output.rt: do not edit.
-//! Writes that say how much was written.
-
 #[allow(unused_imports)]
 use crate::rattle_std::prelude::*;
 
 use crate::rattle_std::io::{ErrorKind, Write};
 
-/// Writes all the bytes, and returns whether no write failed. An interrupted write is repeated.
+/// An interrupted write is repeated.
 pub fn write_bytes<W: Write>(writer: &mut W, bytes: &[u8]) -> bool {
     let mut rest = bytes;
     for _ in 0..u64::MAX {

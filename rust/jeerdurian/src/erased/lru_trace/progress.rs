@@ -6,10 +6,7 @@ use crate::rattle_std::prelude::*;
 use crate::rattle_std::alloc::Global;
 use crate::rattle_std::io::Write;
 
-/// After each of how many lines progress is written.
 const STEP: u64 = 1_000_000;
-
-/// Where progress is written, if anywhere.
 
 pub struct Progress<P> {
     alloc: Global,
@@ -22,8 +19,7 @@ impl<P: Write> Progress<P> {
         Progress { alloc, writer }
     }
 
-    /// Writes how many lines were read, after each million. A write that fails, or memory that runs out, changes
-    /// nothing else.
+    /// A write that fails, or memory that runs out, changes nothing else.
     pub fn note(&mut self, lines: u64) {
         if lines == 0 || lines % STEP != 0 {
             return;

@@ -7,10 +7,8 @@ use crate::rattle_std::prelude::*;
 use crate::erased::lru_trace::curve::Curve;
 use crate::rattle_std::alloc::{AllocError, Global};
 
-/// The width of the longest bar.
 const WIDTH: u64 = 50;
 
-/// Returns the part that misses, in units of 1 / `scale`, rounded down.
 fn part(misses: u64, references: u64, scale: u64) -> u64 {
     if references == 0 {
         return 0;
@@ -19,7 +17,6 @@ fn part(misses: u64, references: u64, scale: u64) -> u64 {
     whole as u64
 }
 
-/// Adds copies of a byte to the report.
 fn add_copies(report: &mut Vec<u8>, byte: u8, copies: u64) -> Result<(), AllocError> {
     for _ in 0..copies {
         report.push(byte)?;
@@ -27,13 +24,11 @@ fn add_copies(report: &mut Vec<u8>, byte: u8, copies: u64) -> Result<(), AllocEr
     Ok(())
 }
 
-/// Returns a number of ten-thousandths as a number with a point.
 fn ratio(alloc: Global, n: u64) -> Result<String, AllocError> {
     let (whole, first, second, third, fourth) = (n / 10_000, n / 1000 % 10, n / 100 % 10, n / 10 % 10, n % 10);
     format!(in alloc; "{whole}.{first}{second}{third}{fourth}")
 }
 
-/// Adds the misses in a cache of this many places.
 fn add_size(alloc: Global, report: &mut Vec<u8>, curve: &Curve, places: usize) -> Result<(), AllocError> {
     let references = curve.references();
     let misses = curve.misses(places);
@@ -43,7 +38,6 @@ fn add_size(alloc: Global, report: &mut Vec<u8>, curve: &Curve, places: usize) -
     report.extend_from_slice(text.as_bytes())
 }
 
-/// Adds a bar of the chart.
 fn add_bar(alloc: Global, report: &mut Vec<u8>, curve: &Curve, places: usize) -> Result<(), AllocError> {
     let number = format!(in alloc; "{places}")?;
     add_copies(report, b' ', 12_usize.saturating_sub(number.len()) as u64)?;
@@ -54,7 +48,6 @@ fn add_bar(alloc: Global, report: &mut Vec<u8>, curve: &Curve, places: usize) ->
     Ok(())
 }
 
-/// Adds the lines of the sizes.
 fn add_sizes(alloc: Global, report: &mut Vec<u8>, curve: &Curve, sizes: &[usize]) -> Result<(), AllocError> {
     for places in sizes {
         add_size(alloc, report, curve, *places)?;
@@ -62,7 +55,6 @@ fn add_sizes(alloc: Global, report: &mut Vec<u8>, curve: &Curve, sizes: &[usize]
     Ok(())
 }
 
-/// Adds the chart: a bar for each power of two, up to the first that is at least the number of keys.
 fn add_chart(alloc: Global, report: &mut Vec<u8>, curve: &Curve) -> Result<(), AllocError> {
     for level in 0..usize::BITS {
         let places = 1_usize << level;
@@ -74,7 +66,6 @@ fn add_chart(alloc: Global, report: &mut Vec<u8>, curve: &Curve) -> Result<(), A
     Ok(())
 }
 
-/// Returns the report.
 pub fn report_of(alloc: Global, curve: &Curve, malformed: u64, sizes: &[usize]) -> Result<Vec<u8>, AllocError> {
     let (references, keys) = (curve.references(), curve.keys());
     let head = format!(in alloc; "references {references} keys {keys} malformed {malformed}\n")?;

@@ -6,7 +6,6 @@ use crate::rattle_std::prelude::*;
 
 use crate::rattle_std::alloc::{AllocError, Global};
 
-/// Returns the number with one digit more, if the byte is a digit and the number is below 2 ^ 64.
 fn with_digit(number: usize, byte: u8) -> Option<usize> {
     if byte < b'0' || b'9' < byte {
         return None;
@@ -15,7 +14,6 @@ fn with_digit(number: usize, byte: u8) -> Option<usize> {
     number.checked_mul(10)?.checked_add(digit)
 }
 
-/// Returns the sizes that the line names: whole numbers in decimal digits, with a space between each two.
 pub fn sizes_of(alloc: Global, line: &[u8]) -> Result<Option<Vec<usize>>, AllocError> {
     let mut sizes = Vec::new(alloc);
     let mut begun = None;

@@ -18,19 +18,16 @@ pub struct Tree {
 }
 
 impl Tree {
-    /// Makes 2 ^ `levels` slots, none of which is marked.
     pub fn new(alloc: Global, levels: u32) -> Result<Self, AllocError> {
         let slots = 1_usize << levels;
         let nodes = vec![in alloc; 0; 2 * slots]?;
         Ok(Tree { nodes, slots, levels })
     }
 
-    /// Returns how many slots there are.
     pub fn len(&self) -> usize {
         self.slots
     }
 
-    /// Marks a slot that is not marked.
     pub fn mark(&mut self, slot: usize) {
         let leaf = self.slots + slot;
         (*at_mut!(self.nodes, leaf)) = 1;
@@ -41,7 +38,6 @@ impl Tree {
         }
     }
 
-    /// Takes the mark off a marked slot.
     pub fn unmark(&mut self, slot: usize) {
         let leaf = self.slots + slot;
         (*at_mut!(self.nodes, leaf)) = 0;
@@ -52,7 +48,6 @@ impl Tree {
         }
     }
 
-    /// Returns how many slots behind this one are marked.
     pub fn marks_behind(&self, slot: usize) -> usize {
         let mut node = self.slots + slot;
         let mut marks = 0;

@@ -32,91 +32,69 @@ pub(crate) struct LinkedTable<K, V, N: LinkType> {
 }
 
 impl<K, V, N: LinkType> LinkedTable<K, V, N> {
-    // Makes a table of no buckets, which takes no memory.
     pub(crate) const fn new(alloc: Global) -> Self {
         LinkedTable { chain: Chain { table: Table::new(alloc), newest: N::MAX, oldest: N::MAX } }
     }
 
-    // Returns the bytes of an entry: of a pair, and of two links.
     pub(crate) const fn entry_bytes() -> usize {
         Table::<Entry<K, V, N>>::entry_bytes()
     }
 
-    // Returns the number of pairs.
     #[inline]
     pub(crate) fn len(&self) -> usize {
         self.chain.table.len()
     }
 
-    // Returns the number of buckets.
     #[inline]
     pub(crate) fn buckets(&self) -> usize {
         self.chain.table.buckets()
     }
 
-    // Returns how many empty buckets may still be filled.
     #[inline]
     pub(crate) fn room(&self) -> usize {
         self.chain.table.room()
     }
 
-    // Returns how many pairs were put into the table. A pair that moves is not counted again.
     #[inline]
     pub(crate) fn placed(&self) -> u64 {
         self.chain.table.placed()
     }
 
-    // Returns the pair in a full bucket.
     #[inline]
     pub(crate) fn pair(&self, b: usize) -> &Pair<K, V> {
         &self.chain.table.get(b).pair
     }
 
-    // Returns the bucket of the newest pair of a table that is not empty.
     #[inline]
     pub(crate) fn newest(&self) -> usize {
         self.chain.newest.into_usize()
     }
 
-    // Returns the bucket of the oldest pair of a table that is not empty.
     #[inline]
     pub(crate) fn oldest(&self) -> usize {
         self.chain.oldest.into_usize()
     }
 
-    // Returns the bucket after a full one in the order, towards the oldest. For the last bucket of the order, the
-    // number says nothing.
     #[inline]
     pub(crate) fn older_unless_last(&self, b: usize) -> usize {
         self.chain.table.get(b).older.into_usize()
     }
 
-    // Returns the bucket before a full one in the order, towards the newest. For the first bucket of the order, the
-    // number says nothing.
     #[inline]
     pub(crate) fn newer_unless_first(&self, b: usize) -> usize {
         self.chain.table.get(b).newer.into_usize()
     }
 
-    // Lends the pair in a full bucket for writing. The keys fit the table if the written key has the same hash.
     #[inline]
     pub(crate) fn pair_mut(&mut self, b: usize) -> &mut Pair<K, V> {
         &mut self.chain.table.get_mut(b).pair
     }
 
-    // Returns the bucket of the first pair that `f` accepts, of those with the tag of the hash, its top 7 bits.
-    //
-    // `f` is called with each pair at most once, and no more after it accepted one.
-    //
-    // Cost: `O(1)` expected.
     #[inline]
     pub(crate) fn find_by<F: FnMut(&K, &V) -> bool>(&self, hash: u64, mut f: F) -> Option<usize> {
         self.chain.table.find(hash, move |entry: &Entry<K, V, N>| -> bool { f(&entry.pair.key, &entry.pair.value) })
     }
 
-    // Makes the pair in a full bucket the newest.
-    //
-    // Cost: `O(1)`.
     #[inline]
     pub(crate) fn promote(&mut self, b: usize) {
         let newer = self.chain.table.get(b).newer;
@@ -127,9 +105,6 @@ impl<K, V, N: LinkType> LinkedTable<K, V, N> {
         self.chain.link_newest(b);
     }
 
-    // Makes the pair in a full bucket the oldest.
-    //
-    // Cost: `O(1)`.
     pub(crate) fn demote(&mut self, b: usize) {
         let older = self.chain.table.get(b).older;
         if !self.chain.leads(older) {
@@ -139,9 +114,6 @@ impl<K, V, N: LinkType> LinkedTable<K, V, N> {
         self.chain.link_oldest(b);
     }
 
-    // Takes the pair out of a full bucket. If that is known to be the oldest (`last`), its older link is not read.
-    //
-    // Cost: `O(1)`.
     #[inline(always)]
     pub(crate) fn take(&mut self, b: usize, last: bool) -> (K, V) {
         let Entry { newer, older, pair } = self.chain.table.take(b);
@@ -151,9 +123,6 @@ impl<K, V, N: LinkType> LinkedTable<K, V, N> {
 }
 
 impl<K, V, N: LinkType> LinkedTable<K, V, N> {
-    // Drops all pairs. The buckets stay, and are empty.
-    //
-    // Cost: `O(buckets)`.
     pub(crate) fn clear(&mut self) {
         self.chain.table.clear();
         self.chain.newest = N::MAX;
@@ -162,9 +131,6 @@ impl<K, V, N: LinkType> LinkedTable<K, V, N> {
 }
 
 impl<K: Eq + Hash, V, N: LinkType> LinkedTable<K, V, N> {
-    // Returns the bucket of the key that `key` names, which has this hash.
-    //
-    // Cost: `O(1)` expected.
     #[inline]
     pub(crate) fn find<Q: LookupKey<K>>(&self, hash: u64, key: &Q) -> Option<usize> {
         self.chain.table.find(hash, |entry| key.is_key(&entry.pair.key))

@@ -1,6 +1,4 @@
 // Erased from crates/ordered_table/src/walk.rt: do not edit.
-//! Walking the pairs of a table in their order.
-
 #[allow(unused_imports)]
 use crate::rattle_std::prelude::*;
 
@@ -14,11 +12,9 @@ pub(crate) mod keys;
 
 /// An iterator over the pairs of a table or a map, newest first, from both ends.
 ///
-/// It depends on the limiter of a map only by the type of its links.
-///
 /// ```text
-/// let mut walk = table.iter();
-/// assert!(rt; walk.next_back() == Some((&2, &20)) && walk.len() == 2);
+/// let mut walk = map.iter();
+/// assert!(rt; walk.next_back() == Some((&1, &10)) && walk.len() == 2);
 /// ```
 
 pub struct Walk<'a, K, V, N: LinkType> {
@@ -45,7 +41,6 @@ impl<'a, K, V, N: LinkType> Iterator for Walk<'a, K, V, N> {
         Some((&pair.key, &pair.value))
     }
 
-    /// Returns exactly how many entries are left, as `len` does.
     fn size_hint(&self) -> (usize, Option<usize>) {
         (self.left, Some(self.left))
     }
@@ -73,7 +68,6 @@ impl<'a, K, V, N: LinkType> ExactSizeIterator for Walk<'a, K, V, N> {
 
 impl<'a, K, V, N: LinkType> FusedIterator for Walk<'a, K, V, N> {}
 
-/// The clone returns the entries that are left of the walk. Cost: `O(1)`, and no memory.
 impl<'a, K, V, N: LinkType> Clone for Walk<'a, K, V, N> {
     fn clone(&self) -> Self {
         let made = || -> Result<Walk<'a, K, V, N>, AllocError> {
@@ -92,7 +86,7 @@ impl<'a, K: fmt::Debug, V: fmt::Debug, N: LinkType> fmt::Debug for Walk<'a, K, V
 }
 
 impl<K, V, N: LinkType> OrderedTable<K, V, N> {
-    /// Returns an iterator over the pairs, newest first. The order stays.
+    /// Returns an iterator over the pairs, newest first.
     ///
     /// Cost: `O(1)`, and so is each step of the walk from either end.
     pub fn iter(&self) -> Walk<'_, K, V, N> {

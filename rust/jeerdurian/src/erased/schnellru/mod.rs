@@ -4,8 +4,7 @@
 //!
 //! [`LruMap`] is the map, [`ByLength`] and its like are limiters. `docs/LIMITERS.md` shows how to write a limiter and a
 //! look-up key, `docs/CALLING.md` how to prove code that calls the map, and `docs/DIFFERENCES.md` lists what differs
-//! from the Rust crate. The theorems on all calls are the contracts of the functions of
-//! [`laws`], from `lru_model`.
+//! from the Rust crate. The theorems on all calls are the contracts of the functions of [`laws`].
 
 #[allow(unused_imports)]
 use crate::rattle_std::prelude::*;

@@ -15,10 +15,11 @@ pub(crate) mod into_iter;
 pub(crate) mod iter_mut;
 mod positions;
 
-/// The iterator over a map under this limiter. A function over the iterators of all limiters takes a `Walk`.
+/// The iterator over a map under this limiter.
 ///
 /// ```text
 /// let mut walk = map.iter();
+/// assert!(rt; walk.next_back() == Some((&1, &10)) && walk.len() == 2);
 /// ```
 ///
 /// After schnellru's `Iter`.
@@ -28,9 +29,11 @@ impl<K: Eq + Hash, V, L: Limiter<K, V>, S: KeyHasher<K>> LruMap<K, V, L, S> {
     /// Returns an iterator over the entries, newest first. The order stays.
     ///
     /// ```text
+    /// let mut total = 0u64;
     /// for (key, value) in map.iter() {
     ///     total = total.wrapping_add(key.wrapping_mul(*value));
     /// }
+    /// assert_eq!(rt; total, 140);
     /// ```
     ///
     /// Cost: `O(1)`, and so is each step of the walk from either end.
@@ -48,7 +51,7 @@ impl<K: Eq + Hash, V, L: Limiter<K, V>, S: KeyHasher<K>> LruMap<K, V, L, S> {
     ///
     /// Cost: `O(1)`, and so is each step of the walk from either end.
     ///
-    /// After std's `HashMap::keys`; schnellru has no such call.
+    /// After std's `HashMap::keys`.
     pub fn keys(&self) -> Keys<'_, K, V, L::LinkType> {
         self.entries.keys()
     }
@@ -61,7 +64,7 @@ impl<K: Eq + Hash, V, L: Limiter<K, V>, S: KeyHasher<K>> LruMap<K, V, L, S> {
     ///
     /// Cost: `O(1)`, and so is each step of the walk from either end.
     ///
-    /// After std's `HashMap::values`; schnellru has no such call.
+    /// After std's `HashMap::values`.
     pub fn values(&self) -> Values<'_, K, V, L::LinkType> {
         self.entries.values()
     }
@@ -74,7 +77,7 @@ impl<K: Eq + Hash, V, L: Limiter<K, V>, S: KeyHasher<K>> LruMap<K, V, L, S> {
     ///
     /// Cost: `O(index)`, and `O(1)` if there is no such entry.
     ///
-    /// After `get_index` of the crate `indexmap`; schnellru has no such call.
+    /// After `get_index` of the crate `indexmap`.
     pub fn get_index(&self, index: usize) -> Option<(&K, &V)> {
         let pair = self.entries.pair(self.entries.at_index(index)?);
         Some((&pair.key, &pair.value))
@@ -88,7 +91,7 @@ impl<K: Eq + Hash, V, L: Limiter<K, V>, S: KeyHasher<K>> LruMap<K, V, L, S> {
     ///
     /// Cost: `O(1)` expected to find the key, and `O(index)` to count the entries that are newer.
     ///
-    /// After `get_index_of` of the crate `indexmap`; schnellru has no such call.
+    /// After `get_index_of` of the crate `indexmap`.
     pub fn get_index_of<Q: LookupKey<K>>(&self, key: &Q) -> Option<usize> {
         let b = self.find(key)?;
         Some(self.entries.index_of(b))

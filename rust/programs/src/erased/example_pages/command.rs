@@ -1,16 +1,11 @@
 // Erased from crates/example_pages/src/command.rt: do not edit.
-//! What a line asks for.
-
 #[allow(unused_imports)]
 use crate::rattle_std::prelude::*;
 
-/// The number of blocks of the file.
 pub const BLOCKS: u64 = 8;
 
-/// A block of the file.
 pub type Block = [u8; 16];
 
-/// What a line asks for.
 #[derive(Clone, Copy)]
 pub enum Command<'a> {
     Read(u64),
@@ -34,7 +29,6 @@ pub fn command_of(line: &str) -> Option<Command<'_>> {
     }
 }
 
-/// The block of a text: its first 16 bytes, with spaces behind them if it is shorter.
 pub fn block_of(text: &str) -> Block {
     let mut block = [b' '; 16];
     for (place, byte) in block.iter_mut().zip(text.bytes()) {

@@ -5,8 +5,6 @@ use crate::rattle_std::prelude::*;
 
 use crate::erased::lru_caches::BlockDevice;
 
-/// A device, and how many writes it was asked for.
-
 pub struct Counted<D> {
     device: D,
     writes: u64,

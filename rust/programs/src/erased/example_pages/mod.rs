@@ -17,10 +17,8 @@ use command::BLOCKS;
 use counted::Counted;
 use session::Session;
 
-/// The file.
 const FILE: &str = "blocks";
 
-/// How many pages are cached.
 const CAPACITY: usize = 3;
 
 /// Opens the file for reading and writing. It is copied first, because the given one may be read-only.
@@ -33,7 +31,6 @@ fn open(rt: &HostRuntime) -> io::Result<File> {
     options.open(rt, FILE)
 }
 
-/// Answers each line.
 fn answer_lines(rt: &HostRuntime, session: &mut Session) -> io::Result<()> {
     for line in rt.lines(rt.alloc()) {
         session.answer(rt, line?.as_str())?;
@@ -41,7 +38,6 @@ fn answer_lines(rt: &HostRuntime, session: &mut Session) -> io::Result<()> {
     Ok(())
 }
 
-/// Prints the blocks of the file, one a line.
 fn print_file(rt: &HostRuntime) -> io::Result<()> {
     let bytes = fs::read(rt, FILE)?;
     for block in bytes.chunks(16) {

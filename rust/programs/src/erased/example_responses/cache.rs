@@ -36,7 +36,6 @@ pub struct Counts {
 
 type Responses = TenantCache<String, String, Response, ByWeight<OVERHEAD>>;
 
-/// Returns the response of a host for a path, if there is one that is fresh. A stale one is removed.
 fn fresh_response(
     entries: &mut Responses,
     host: &String,
@@ -49,21 +48,17 @@ fn fresh_response(
     if now < response.expires {
         return Ok(Some(response));
     }
-    // Nothing at run time: it shows the proof that no path is there twice.
     let _len = entries.len();
     entries.remove(host, &path)?;
     Ok(None)
 }
 
-/// Copies a text.
 fn owned(alloc: Global, text: &str) -> Result<String, TenantError> {
     match String::from_str(alloc, text) {
         Ok(text) => Ok(text),
         Err(_) => Err(TenantError::Memory),
     }
 }
-
-/// A cache of responses: a tenant for each host, and its counts.
 
 pub struct ResponseCache {
     alloc: Global,
@@ -80,12 +75,10 @@ impl ResponseCache {
         }
     }
 
-    /// Returns the counts of each host, by its name.
     pub fn counts(&self) -> &BTreeMap<String, Counts> {
         &self.counts
     }
 
-    /// Adds to the counts of a host.
     fn count(&mut self, host: &String, hits: u64, misses: u64, evictions: u64) {
         if let Some(counts) = self.counts.get_mut(host) {
             counts.hits = counts.hits.saturating_add(hits);
@@ -94,7 +87,6 @@ impl ResponseCache {
         }
     }
 
-    /// Opens a host that is not open.
     fn open(&mut self, name: String, budget: u64) -> Result<(), TenantError> {
         let counted = owned(self.alloc, name.as_str())?;
         self.entries.open(name, budget)?;
@@ -103,7 +95,7 @@ impl ResponseCache {
         Ok(())
     }
 
-    /// Sets the budget of a host, and opens it first if it is not open. Returns how many entries were evicted.
+    /// Returns how many entries were evicted.
     pub fn set_host(&mut self, host: &str, budget: u64) -> Result<(&'static str, u64), TenantError> {
         let name = owned(self.alloc, host)?;
         let (before, _) = self.size(&name);
@@ -129,7 +121,6 @@ impl ResponseCache {
         Ok((if stored? { "stored" } else { "rejected" }, evicted))
     }
 
-    /// Returns the response of a host for a path, if there is one that is fresh, and counts the look-up.
     pub fn look_up(&mut self, host: &str, path: &str, now: u64) -> Result<Option<Response>, TenantError> {
         let name = owned(self.alloc, host)?;
         let found = fresh_response(&mut self.entries, &name, path, now)?;
@@ -138,13 +129,12 @@ impl ResponseCache {
         Ok(found)
     }
 
-    /// Removes the response of a host for a path. Returns whether there was one.
+    /// Removes the response of a host for a path.
     pub fn purge(&mut self, host: &str, path: &str) -> Result<bool, TenantError> {
         let name = owned(self.alloc, host)?;
         Ok(self.entries.remove(&name, &path)?.is_some())
     }
 
-    /// Returns how many entries a host has, and what they cost together.
     pub fn size(&self, host: &String) -> (usize, u64) {
         match (self.entries.entries(host), self.entries.cost(host)) {
             (Ok(entries), Ok(cost)) => (entries, cost),

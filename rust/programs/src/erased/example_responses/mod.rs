@@ -13,7 +13,6 @@ use crate::rattle_std::io;
 use cache::ResponseCache;
 use line::Line;
 
-/// Why a call failed.
 fn text_of(error: TenantError) -> &'static str {
     match error {
         TenantError::NotOpen => "no host",
@@ -23,7 +22,6 @@ fn text_of(error: TenantError) -> &'static str {
     }
 }
 
-/// Prints what a call did, and how many entries were evicted.
 fn say_evicted(rt: &HostRuntime, done: Result<(&str, u64), TenantError>) -> io::Result<()> {
     match done {
         Ok((what, evicted)) => println!(rt; "{what}, {evicted} evicted"),
@@ -31,7 +29,6 @@ fn say_evicted(rt: &HostRuntime, done: Result<(&str, u64), TenantError>) -> io::
     }
 }
 
-/// Prints the counts of each host.
 fn stats(rt: &HostRuntime, cache: &ResponseCache) -> io::Result<()> {
     for (name, counts) in cache.counts() {
         let (entries, cost) = cache.size(name);
@@ -43,7 +40,6 @@ fn stats(rt: &HostRuntime, cache: &ResponseCache) -> io::Result<()> {
     Ok(())
 }
 
-/// Does what a line asks for at this time, and prints the answer.
 fn answer(rt: &HostRuntime, cache: &mut ResponseCache, now: &mut u64, line: Option<Line>) -> io::Result<()> {
     let text = match line {
         Some(Line::Now(time)) => {

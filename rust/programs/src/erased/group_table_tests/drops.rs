@@ -11,7 +11,6 @@ use crate::rattle_std::cell::Cell;
 use crate::rattle_std::rc::Rc;
 use crate::rattle_std::test::Fail;
 
-// A table of 16 buckets with 14 entries. The count of their value is one more than the entries that live.
 fn sharing(alloc: Global, shared: &Rc<u64>) -> Result<Table<Rc<u64>>, AllocError> {
     let mut table = table_of(alloc, 16)?;
     for hash in 0..14u64 {
@@ -20,8 +19,7 @@ fn sharing(alloc: Global, shared: &Rc<u64>) -> Result<Table<Rc<u64>>, AllocError
     Ok(table)
 }
 
-// A copy calls its closure once for each entry. If the closure fails, those that were made are dropped. A clear drops
-// what it removes.
+// A copy calls its closure once for each entry. A clear drops what it removes.
 #[test]
 fn entries_are_dropped() {
     let run = |rt: HostRuntime| -> Result<(), Fail> {

@@ -1,6 +1,5 @@
 // Erased from crates/group_table_tests/src/memory.rt: do not edit.
-//! Memory that tables give back, which no clause says. All other memory is taken, so calls that lose a block run out of
-//! memory before long.
+//! Memory that tables give back, which no clause says.
 #[allow(unused_imports)]
 use crate::rattle_std::prelude::*;
 
@@ -9,14 +8,11 @@ use crate::programs::test_helpers::{Hog, check};
 use crate::rattle_std::alloc::{AllocError, Global};
 use crate::rattle_std::test::Fail;
 
-// The only memory that is left. A cycle of calls that loses 16 bytes uses it up within the cycles.
+// A cycle of calls that loses 16 bytes uses it up within the cycles.
 const SPARE: usize = 1 << 16;
 
 const CYCLES: u32 = 5000;
 
-// Copies a full table of 8 buckets, also with the copy of its last entry refused, moves it up, within its buckets and
-// down, and gives its buckets back when it is cleared. Another table is dropped with its entries. Returns whether the
-// copies were made and refused.
 fn cycle(alloc: Global) -> Result<bool, AllocError> {
     let mut table = table_of(alloc, 8)?;
     fill(&mut table, 1, 0);

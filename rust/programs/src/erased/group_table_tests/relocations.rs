@@ -10,8 +10,7 @@ use crate::rattle_std::alloc::{AllocError, Global};
 use crate::rattle_std::cell::Cell;
 use crate::rattle_std::test::Fail;
 
-// Moves all entries into `buckets` buckets. Whether the keys are where the rules have them, and the hash of each entry
-// was asked for once.
+// Whether the keys are where the rules have them, and the hash of each entry was asked for once.
 fn moves(alloc: Global, table: &mut Table<u64>, buckets: usize, factor: u64) -> Result<bool, AllocError> {
     let expected = keys_after(alloc, &keys_of(alloc, table)?, buckets, factor)?;
     let asked = Cell::new(0usize);
@@ -21,8 +20,6 @@ fn moves(alloc: Global, table: &mut Table<u64>, buckets: usize, factor: u64) -> 
 
 const SIZES: [usize; 11] = [4, 8, 16, 32, 64, 128, 256, 512, 1024, 2048, 4096];
 
-// Moves the entries of a table into each size and back, and rehashes each size. The table is filled before each move,
-// and then every third bucket is taken. Whether all moves follow the rules.
 fn moves_up_and_down(alloc: Global, table: &mut Table<u64>, factor: u64) -> Result<bool, AllocError> {
     let mut next = 0;
     for buckets in SIZES.iter().chain(SIZES.iter().rev()) {
@@ -50,7 +47,6 @@ fn up_and_down() {
     run(HostRuntime).passes();
 }
 
-// Rehashes, copies and relocates a table of 2^20 buckets. Whether the moves follow the rules.
 fn moves_many(alloc: Global, table: &mut Table<u64>) -> Result<bool, AllocError> {
     let next = fill(table, SCATTERED, 0);
     thin(table, 3, 0);
@@ -73,7 +69,6 @@ fn many_buckets() {
     run(HostRuntime).passes();
 }
 
-// Tries a move, with one more request met each time, until it succeeds. Returns how often it was refused.
 fn refusals(alloc: Global, table: &mut Table<u64>, buckets: usize, requests: &[usize]) -> Result<usize, AllocError> {
     let mut refused = 0usize;
     let mut hog = Hog::new(alloc, requests)?;
@@ -84,7 +79,6 @@ fn refusals(alloc: Global, table: &mut Table<u64>, buckets: usize, requests: &[u
         refused = refused.wrapping_add(1);
         hog.release();
     }
-    // If memory has no end, nothing is refused.
     Ok(if hog.took_all() { refused } else { requests.len() })
 }
 

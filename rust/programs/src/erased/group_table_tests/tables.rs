@@ -8,7 +8,6 @@ use crate::rattle_std::alloc::{AllocError, Global};
 use crate::rattle_std::cell::Cell;
 use crate::rattle_std::mem;
 
-// More buckets than a test uses.
 const MOST: usize = 1 << 21;
 
 /// A factor for scattered hashes. The hashes of factor 0 are all equal, and those of factor 1 count up.
@@ -18,7 +17,6 @@ pub(super) fn hash_of(factor: u64, key: u64) -> u64 {
     key.wrapping_mul(factor).wrapping_add(0x1234_5678_9abc_def0)
 }
 
-/// Returns an empty table of 0 buckets, or of a power of two from 4 on.
 pub(super) fn table_of<T>(alloc: Global, buckets: usize) -> Result<Table<T>, AllocError> {
     match buckets_for_capacity(full_capacity(buckets), MOST) {
         Some(count) => Table::with_buckets(alloc, count),
@@ -26,7 +24,6 @@ pub(super) fn table_of<T>(alloc: Global, buckets: usize) -> Result<Table<T>, All
     }
 }
 
-/// Inserts the keys from `next` on until the table rejects one, which it returns.
 pub(super) fn fill(table: &mut Table<u64>, factor: u64, next: u64) -> u64 {
     for key in next..u64::MAX {
         if table.try_place(hash_of(factor, key), key).is_err() {
@@ -36,7 +33,6 @@ pub(super) fn fill(table: &mut Table<u64>, factor: u64, next: u64) -> u64 {
     u64::MAX
 }
 
-/// Takes the entry of each bucket whose number is a multiple of `step`, until `left` entries are left.
 pub(super) fn thin(table: &mut Table<u64>, step: usize, left: usize) {
     for b in 0..table.buckets() {
         if b % step.max(1) == 0 && table.len() > left && table.is_full(b) {
@@ -45,8 +41,6 @@ pub(super) fn thin(table: &mut Table<u64>, step: usize, left: usize) {
     }
 }
 
-/// Moves all entries into `buckets` buckets, or rehashes the table if it has as many. Counts the hashes that are asked
-/// for.
 pub(super) fn moved(
     table: &mut Table<u64>,
     buckets: usize,
@@ -67,13 +61,11 @@ pub(super) fn moved(
     Err(AllocError)
 }
 
-/// Moves all entries as `moved` does.
 pub(super) fn move_once(table: &mut Table<u64>, buckets: usize) -> Result<(), AllocError> {
     drop(moved(table, buckets, 1, &Cell::new(0))?);
     Ok(())
 }
 
-/// Returns whether the table is copied, if the copy of this key is refused.
 pub(super) fn is_copied(table: &Table<u64>, refused: u64) -> bool {
     let copy = table.clone_with(|key| if *key == refused { Err(AllocError) } else { Ok(*key) });
     copy.is_ok()
@@ -88,7 +80,6 @@ pub(super) fn keys_of(alloc: Global, table: &Table<u64>) -> Result<Vec<Option<u6
     Ok(keys)
 }
 
-/// Returns the first free bucket in the order of a search for this hash.
 pub(super) fn first_free(keys: &[Option<u64>], hash: u64) -> Option<usize> {
     let mask = keys.len().wrapping_sub(1);
     let mut start = hash as usize;
@@ -104,7 +95,6 @@ pub(super) fn first_free(keys: &[Option<u64>], hash: u64) -> Option<usize> {
     None
 }
 
-/// Writes the key of a bucket, and returns the key before.
 pub(super) fn exchange(keys: &mut [Option<u64>], b: usize, key: Option<u64>) -> Option<u64> {
     match keys.get_mut(b) {
         Some(place) => mem::replace(place, key),
@@ -112,8 +102,6 @@ pub(super) fn exchange(keys: &mut [Option<u64>], b: usize, key: Option<u64>) -> 
     }
 }
 
-/// Returns the keys after a relocation into `buckets` buckets, or after a rehash if there are as many now.
-///
 /// The old buckets are gone through in their order, and each key goes into the first free bucket. In a rehash a key
 /// stays if its search reads its bucket among the first 16, and a bucket whose key waits counts as free: that key comes
 /// next.

@@ -26,7 +26,7 @@ pub fn write_durably<D: BlockDevice<u64>>(
     cache.flush()
 }
 
-/// Writes a value under a key that is there, and returns whether it is. The order stays.
+/// Writes a value under a key that is there, and returns whether it is.
 pub fn overwrite(map: &mut OrderedMap<u64, u64>, key: u64, value: u64) -> bool {
     match map.get_mut(&key) {
         Some(place) => {

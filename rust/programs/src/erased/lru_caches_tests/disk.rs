@@ -7,7 +7,6 @@ use crate::rattle_std::prelude::*;
 use crate::erased::lru_caches::BlockDevice;
 use crate::rattle_std::cell::Cell;
 
-/// The disk failed.
 #[derive(Clone, Copy, Debug, PartialEq)]
 pub struct DiskError;
 
@@ -29,12 +28,11 @@ pub struct Disk<'a> {
 }
 
 impl<'a> Disk<'a> {
-    /// Makes a disk of these blocks.
     pub fn new(blocks: [u64; 4], dropped: [bool; 4], calls_left: &'a Cell<u64>) -> Self {
         Disk { blocks, synced: blocks, dropped, calls_left, faults: 0, is_usable: true }
     }
 
-    // Counts a call, and returns whether the disk works. After the call that fails, nearly 2^64 calls are left.
+    // Counts a call, and returns whether the disk works.
     fn works(&mut self) -> bool {
         let left = self.calls_left.get();
         self.calls_left.set(left.wrapping_sub(1));
@@ -44,7 +42,6 @@ impl<'a> Disk<'a> {
         left > 0
     }
 
-    // Drops some of what is in the volatile cache, and writes the rest.
     fn lose(&mut self) {
         for n in 0..4usize {
             if (*at!(self.dropped, n)) {
@@ -54,7 +51,6 @@ impl<'a> Disk<'a> {
         self.synced = self.blocks;
     }
 
-    /// Crashes, and starts again.
     pub fn crash(&mut self) {
         self.lose();
         self.is_usable = true;

@@ -5,6 +5,8 @@
 use crate::rattle_std::prelude::*;
 
 #[cfg(test)]
+mod beginnings;
+#[cfg(test)]
 mod callers;
 #[cfg(test)]
 mod devices;

@@ -6,8 +6,6 @@ use crate::rattle_std::prelude::*;
 
 use crate::erased::lru_limits::OwnedBytes;
 
-/// A body with its name.
-
 pub struct Body {
     pub name: String,
     pub bytes: Vec<u8>,

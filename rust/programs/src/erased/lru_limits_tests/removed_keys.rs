@@ -1,5 +1,5 @@
 // Erased from crates/lru_limits_tests/src/removed_keys.rt: do not edit.
-//! A limiter that contains a vector, which clauses see as a list. `docs/LIMITERS.md` explains limiters.
+//! A limiter that contains a vector, which clauses see as a list.
 
 #[allow(unused_imports)]
 use crate::rattle_std::prelude::*;
@@ -8,8 +8,6 @@ use crate::erased::lru_limits::Limiter;
 use crate::rattle_std::alloc::{AllocError, Global};
 
 const MOST: usize = 3;
-
-// Keeps the keys of the first three pairs that are removed. A clause sees it as these keys.
 
 struct RemovedKeys {
     keys: Vec<u64>,
@@ -30,7 +28,6 @@ impl<V> Limiter<u64, V> for RemovedKeys {
 
     fn on_removed(&mut self, key: &mut u64, _value: &mut V) {
         if self.keys.len() < MOST {
-            // The vector has the capacity for it, so the push cannot fail.
             let has_room = self.keys.push(*key).is_ok();
             prove!(has_room);
         }

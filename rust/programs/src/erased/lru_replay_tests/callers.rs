@@ -19,7 +19,6 @@ fn put_both(
     laws::lists_keep_the_length::<u64, u64, RandomState>();
     laws::lists_evict_the_oldest::<u64, u64, ByLength, RandomState>();
     laws::lists_pay_for_moves::<u64, u64, ByLength, RandomState>();
-    // Nothing at run time: it shows the proof that the table is sound.
     let _len = map.len();
     let calls = vec![in alloc;
         Call::Insert(first.0, first.1),

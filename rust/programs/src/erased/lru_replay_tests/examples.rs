@@ -1,15 +1,15 @@
 // Erased from crates/lru_replay_tests/src/examples.rt: do not edit.
-//! The examples of the documents of `lru_replay`, and the texts and numbers of its errors.
+//! Written by `docs/examples.py` from the examples in the doc comments. Do not change it by hand.
 #[allow(unused_imports)]
 use crate::rattle_std::prelude::*;
 
 use crate::erased::schnellru::{ByCost, ByLength, LruMap};
 use crate::programs::lru_replay::{Answer, Call, ReplayEnd, ReplayError, replay, run_calls, run_summing, status};
-use crate::programs::test_helpers::check;
+use crate::programs::test_helpers::{all, check};
 use crate::rattle_std::test::Fail;
 
 #[test]
-fn of_lists_of_calls() {
+fn of_calls_runs() {
     let run = |rt: HostRuntime| -> Result<(), Fail> {
         let alloc = rt.alloc();
         let mut map: LruMap<u64, u64> = LruMap::new(alloc, ByLength::new(3), [1, 2, 3, 4], 16);
@@ -23,7 +23,7 @@ fn of_lists_of_calls() {
 }
 
 #[test]
-fn of_summing_lists() {
+fn of_calls_summing() {
     let run = |rt: HostRuntime| -> Result<(), Fail> {
         let alloc = rt.alloc();
         let mut costs: LruMap<u64, u64, ByCost> = LruMap::new(alloc, ByCost::new(10), [1, 2, 3, 4], 16);
@@ -37,26 +37,30 @@ fn of_summing_lists() {
 }
 
 #[test]
-fn of_errors() {
+fn of_lines_outcome() {
     let run = |rt: HostRuntime| -> Result<(), Fail> {
+        let alloc = rt.alloc();
+        let held = status(&Ok(ReplayEnd::NoLimiter)) == 1;
         let (read, write) = (ReplayError::Read, ReplayError::Write);
-        let text = format!(in rt.alloc(); "{read}, {write}")?;
-        check!(rt; text.as_str() == "read failed, write failed");
-        check!(rt; status(&Ok(ReplayEnd::NoLimiter)) == 1);
-        check!(rt; (read as u8, write as u8) == (1, 2));
+        let text = format!(in alloc; "{read}, {write}")?;
+        let held = held & all!(text.as_str() == "read failed, write failed", (read as u8, write as u8) == (1, 2));
+        check!(rt; held);
         Ok(())
     };
     run(HostRuntime).passes();
 }
 
 #[test]
-fn of_a_replay() {
-    let run = |rt: HostRuntime| -> Result<(), Fail> {
+fn of_lines_replays() {
+    let run = |rt: HostRuntime| -> () {
+        let alloc = rt.alloc();
         let mut reader = b"length 1\ninsert 1 10\n".as_slice();
-        let mut writer = Vec::new(rt.alloc());
-        check!(rt; replay(rt.alloc(), &mut reader, &mut writer) == Ok(ReplayEnd::Done));
-        check!(rt; writer.as_slice() == b"true\n".as_slice());
-        Ok(())
+        let mut writer = Vec::new(alloc);
+        let held = all!(
+            replay(alloc, &mut reader, &mut writer) == Ok(ReplayEnd::Done),
+            writer.as_slice() == b"true\n".as_slice()
+        );
+        check!(rt; held);
     };
     run(HostRuntime).passes();
 }

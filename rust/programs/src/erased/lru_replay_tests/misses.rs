@@ -11,14 +11,12 @@ use crate::programs::test_helpers::{Random, check};
 use crate::rattle_std::alloc::{AllocError, Global};
 use crate::rattle_std::test::Fail;
 
-/// Counts the misses of a trace in a new map with this maximum length.
 fn misses_on_map(alloc: Global, texts: &[String], length: u32) -> Result<u64, AllocError> {
     laws::maps_keep_to_their_length::<String, u64, RandomState>();
     let mut map: LruMap<String, u64> = LruMap::new(alloc, ByLength::new(length), [1, 2, 3, 4], 40);
     read_through(&mut map, texts, &|_| 0)
 }
 
-/// Makes a reference to a text, for the map and for the curve. Out of memory, one of them lacks it.
 fn refer(alloc: Global, texts: &mut Vec<String>, curve: &mut Curve, key: u64) {
     if curve.references() == u64::MAX {
         return;
@@ -29,7 +27,6 @@ fn refer(alloc: Global, texts: &mut Vec<String>, curve: &mut Curve, key: u64) {
     }
 }
 
-/// Whether a map of this length, up to 999, misses as often as the curve says.
 fn agrees(alloc: Global, curve: &Curve, texts: &[String], length: u32) -> bool {
     length <= 999 && misses_on_map(alloc, texts, length) == Ok(curve.misses(length as usize))
 }

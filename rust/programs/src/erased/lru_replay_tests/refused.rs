@@ -11,10 +11,8 @@ use crate::rattle_std::alloc::{AllocError, Global};
 use crate::rattle_std::mem::size_of;
 use crate::rattle_std::test::Fail;
 
-/// The bytes of the answers to three calls.
 const ANSWERS: usize = 3 * size_of::<Answer<u64, u64>>();
 
-/// The bytes of a list of eight pairs.
 const LIST: usize = 128;
 
 /// Whether the calls were made, the pair was inserted, and the pairs were listed, and then drained.
@@ -43,7 +41,6 @@ fn expected(met: usize) -> Facts {
     }
 }
 
-/// Takes all memory but that of the first requests.
 fn hog_that_meets(alloc: Global, requests: &[usize], met: usize) -> Result<Hog, AllocError> {
     let mut hog = Hog::new(alloc, requests)?;
     for _ in 0..met {
@@ -53,8 +50,7 @@ fn hog_that_meets(alloc: Global, requests: &[usize], met: usize) -> Result<Hog, 
 }
 
 /// Makes three calls on a map of seven pairs, of which the first requests for memory are met: an insert for which a
-/// table of 8 buckets grows, a list, and a drain. Returns whether the answers are as expected. The links have 8 bytes,
-/// so an entry has 32.
+/// table of 8 buckets grows, a list, and a drain.
 fn is_as_expected(alloc: Global, met: usize, sums: bool) -> Result<bool, AllocError> {
     let mut map = map_of(alloc, ByCost::new(1000));
     insert_all(&mut map, 1..=7)?;
@@ -79,7 +75,6 @@ fn lists_of_calls() {
     run(HostRuntime).passes();
 }
 
-/// Replays the lines, of which the first requests for memory are met. Returns whether all is done, with this text.
 fn writes(alloc: Global, input: &[u8], requests: &[usize], met: usize, text: &[u8]) -> Result<bool, AllocError> {
     let mut reader = input;
     let mut writer: Vec<u8> = Vec::with_capacity(alloc, 1000)?;
@@ -99,7 +94,7 @@ const ANSWERS_TO_PUTS: &[u8] = b"true\ntrue\n2:20 1:10\n";
 /// The requests of a table of 4 buckets, and of one of 8.
 const TABLES: [usize; 5] = [96, 20, 192, 24, 16];
 
-/// A line that runs out of memory says so. What was not inserted is not in the list.
+/// A line that runs out of memory says so.
 fn text_of(met: usize) -> &'static [u8] {
     match met {
         0..=1 => {
@@ -113,7 +108,7 @@ fn text_of(met: usize) -> &'static [u8] {
 }
 
 /// A `put` allocates memory for the pairs that leave before it inserts: for one pair here, and then for a table of 4
-/// buckets. The memory for one pair serves the second line too, until two are needed.
+/// buckets.
 fn text_of_puts(met: usize) -> &'static [u8] {
     match met {
         0 => b"no memory\nno memory\n-\n",

@@ -11,7 +11,6 @@ use crate::rattle_std::mem::size_of;
 use crate::rattle_std::rc::Rc;
 use crate::rattle_std::test::Fail;
 
-// A cache of these tenants from 1 on. Out of memory, it has fewer.
 fn cache_of(alloc: Global, tenants: u64) -> TenantCache<u64, u64, u64> {
     let mut cache = TenantCache::new(alloc, [1, 2, 3, 4], 16);
     for name in 1..=tenants {
@@ -20,8 +19,6 @@ fn cache_of(alloc: Global, tenants: u64) -> TenantCache<u64, u64, u64> {
     cache
 }
 
-// Opens one more tenant while no request is met, then while one is, and so on, until it succeeds. Returns how often the
-// call was refused, or 8 if a refused call fails also when there is memory again.
 fn refusals(alloc: Global, tenants: u64) -> usize {
     for requests in 0..8usize {
         let mut cache = cache_of(alloc, tenants);
@@ -29,7 +26,6 @@ fn refusals(alloc: Global, tenants: u64) -> usize {
             return 8;
         };
         let first = cache.open(1000, 5);
-        // If memory has no end, nothing is refused.
         let refused = if hog.took_all() { requests } else { 1 };
         drop(hog);
         if first.is_ok() {
@@ -56,8 +52,6 @@ fn each_request_is_refused() {
     run(HostRuntime).passes();
 }
 
-// Carries out a hundred lists of one call. Returns how many found memory for their answers, or 0 if a list found none
-// for its calls.
 fn lists_made(alloc: Global, cache: &mut TenantCache<u64, u64, u64>) -> u32 {
     let mut made = 0u32;
     for _ in 0..100u32 {
@@ -100,7 +94,6 @@ impl Costed for Share {
 
 type Shares = TenantCache<u64, Rc<u64>, Share>;
 
-// Puts a pair that holds the key twice, by one of three calls.
 fn put(cache: &mut Shares, key: &Rc<u64>, how: u64) {
     let (Ok(owned), Ok(value)) = (Rc::try_clone(key), Rc::try_clone(key)) else {
         return;
@@ -119,8 +112,6 @@ fn put(cache: &mut Shares, key: &Rc<u64>, how: u64) {
     }
 }
 
-// Opens a tenant, gives it a pair for each of three keys, of which two stay and then one, and closes it in one of two
-// ways. Returns whether one pair was left.
 fn opens_and_closes(cache: &mut Shares, keys: &[Rc<u64>], passes: bool) -> bool {
     let _ = cache.open(2, 2);
     for key in keys {
@@ -159,7 +150,6 @@ fn a_closed_tenant_gives_its_memory_back() {
 
 type Named = TenantCache<Rc<u64>, u64, u64>;
 
-// Opens a tenant under a clone of a name. Returns how often the name is held then.
 fn open(cache: &mut Named, name: &Rc<u64>) -> usize {
     if let Ok(owned) = Rc::try_clone(name) {
         let _ = cache.open(owned, 2);
@@ -167,7 +157,7 @@ fn open(cache: &mut Named, name: &Rc<u64>) -> usize {
     Rc::strong_count(name)
 }
 
-// A name that is not stored, one of a tenant that is closed, and one of a tenant that is open when the cache ends.
+// A name that is not stored, one of a closed tenant, and one of a tenant that is open when the cache ends.
 #[test]
 fn names_are_dropped() {
     let run = |rt: HostRuntime| -> Result<(), Fail> {

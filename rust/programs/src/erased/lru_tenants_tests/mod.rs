@@ -11,4 +11,6 @@ mod examples;
 #[cfg(test)]
 mod memory;
 #[cfg(test)]
+mod numbers;
+#[cfg(test)]
 mod trials;

@@ -9,8 +9,6 @@ use crate::rattle_std::alloc::Global;
 use crate::rattle_std::io::{self, ErrorKind, Write};
 use crate::rattle_std::test::Fail;
 
-/// Keeps what is written, and fails at the flush if `fails`.
-
 struct Output {
     bytes: Vec<u8>,
     fails: bool,
@@ -29,7 +27,6 @@ impl Write for Output {
     }
 }
 
-/// Traces the lines, and returns how that ended, and the report.
 fn traced(alloc: Global, mut lines: &[u8], fails: bool) -> (Result<TraceEnd, TraceError>, Vec<u8>) {
     let bytes = Vec::new(alloc);
     let mut output = Output { bytes, fails };

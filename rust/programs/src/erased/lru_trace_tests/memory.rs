@@ -1,5 +1,5 @@
 // Erased from crates/lru_trace_tests/src/memory.rt: do not edit.
-//! Curves of many keys, and the memory that references give back. No clause says that memory is found or given back.
+//! Curves of many keys, and the memory that references give back.
 #[allow(unused_imports)]
 use crate::rattle_std::prelude::*;
 
@@ -8,7 +8,6 @@ use crate::programs::test_helpers::{Hog, check};
 use crate::rattle_std::alloc::Global;
 use crate::rattle_std::test::Fail;
 
-/// References a number.
 fn refer(alloc: Global, curve: &mut Curve, number: u64) -> Result<(), TraceError> {
     if curve.references() < 1_000_000 {
         curve.refer(format!(in alloc; "{number}")?.as_str())?;

@@ -1,11 +1,13 @@
 // Erased from crates/lru_trace_tests/src/lib.rt: do not edit.
-//! Tests of `lru_trace`: a curve, the report, and memory. `lru_replay_tests` compares curves with maps.
+//! Tests of `lru_trace`: a curve, the report, and memory.
 
 #[allow(unused_imports)]
 use crate::rattle_std::prelude::*;
 
 #[cfg(test)]
 mod curves;
+#[cfg(test)]
+mod examples;
 #[cfg(test)]
 mod lines;
 #[cfg(test)]

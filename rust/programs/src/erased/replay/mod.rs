@@ -9,13 +9,10 @@ use crate::rattle_std::env;
 use crate::rattle_std::io::{self, BufReader, BufWriter};
 use crate::rattle_std::process::ExitCode;
 
-/// The exit status if there is no memory for a buffer, so that nothing was read.
 const NO_BUFFER: u8 = 3;
 
-/// The exit status after an argument that the program does not know. Nothing was read.
 const UNKNOWN: u8 = 4;
 
-/// What `replay --help` prints.
 const HELP: &str = "\
 replay < LINES
     Makes calls on one LRU map, and writes an answer line for each. Keys and values are numbers.
@@ -55,7 +52,6 @@ pub(crate) fn main(rt: HostRuntime) -> ExitCode {
     ExitCode::from(status(&end))
 }
 
-/// Answers an argument: prints the help, or says that the argument is unknown.
 fn answer(rt: &HostRuntime, argument: &str) -> ExitCode {
     if argument == "--help" {
         let _ = print!(rt; "{HELP}");

@@ -1,12 +1,11 @@
 // Erased from crates/rows/src/escapes.rt: do not edit.
 //! Escapes, by which a row spells bytes that a line of a text file cannot hold.
 //!
-//! Each function returns `false` if the text is malformed. Out of memory, bytes are missing.
+//! Each function returns `false` if the text is malformed.
 
 #[allow(unused_imports)]
 use crate::rattle_std::prelude::*;
 
-/// Adds the bytes that the text spells.
 pub(crate) fn unescape(out: &mut Vec<u8>, text: &str) -> bool {
     let mut pieces = text.split('\\');
     add(out, pieces.next().unwrap_or(""));
@@ -17,12 +16,10 @@ pub(crate) fn unescape(out: &mut Vec<u8>, text: &str) -> bool {
     is_good
 }
 
-/// Adds the bytes of a text.
 fn add(out: &mut Vec<u8>, text: &str) {
     let _ = out.extend_from_slice(text.as_bytes());
 }
 
-/// Adds the bytes of what stands after a backslash.
 fn add_escape(out: &mut Vec<u8>, piece: &str) -> bool {
     let (first, rest) = piece.split_at_checked(1).unwrap_or(("", ""));
     let (byte, rest) = match first {
@@ -44,7 +41,6 @@ fn add_escape(out: &mut Vec<u8>, piece: &str) -> bool {
     true
 }
 
-/// Adds a text n times, for `n TEXT}`, and what follows it.
 fn add_repeated(out: &mut Vec<u8>, text: &str) -> bool {
     let (repeat, rest) = text.split_once('}').unwrap_or(("", ""));
     let (times, text) = repeat.split_once(' ').unwrap_or(("", ""));

@@ -9,7 +9,6 @@ use crate::rattle_std::marker::PhantomData;
 
 /// A limiter that a number makes, which `number_of` finds in its words.
 pub trait Numbered: Sized {
-    /// The limiter of the number.
     fn of(number: u64) -> Self;
 }
 

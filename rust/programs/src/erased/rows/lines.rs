@@ -12,10 +12,8 @@ use crate::rattle_std::io::{BufReader, ErrorKind};
 /// The longest input whose reads and writes fail in turn.
 const LONGEST_CUT: usize = 2000;
 
-/// How a replay ends.
 type End = Result<ReplayEnd, ReplayError>;
 
-/// Returns the answers to the lines.
 pub fn answers_of(alloc: Global, input: &[u8]) -> Vec<u8> {
     let mut reader = input;
     let mut text = Vec::new(alloc);
@@ -23,12 +21,10 @@ pub fn answers_of(alloc: Global, input: &[u8]) -> Vec<u8> {
     text
 }
 
-/// Replays the lines of a slice.
 fn replay_all(alloc: Global, reader: &mut &[u8], writer: &mut Narrow) -> End {
     replay(alloc, reader, writer)
 }
 
-/// Replays the lines of a reader. Returns none if there is no memory for its buffer.
 fn replay_slowly(alloc: Global, slow: Slow, writer: &mut Narrow) -> Option<End> {
     match BufReader::new(alloc, slow) {
         Ok(mut reader) => Some(replay(alloc, &mut reader, writer)),
@@ -58,8 +54,7 @@ pub fn first_fault(alloc: Global, row: &Row) -> Option<(&'static str, usize)> {
     None
 }
 
-/// Whether the replay ends with the status and the text of the row, however the input is cut, and flushes once. One
-/// read is interrupted, and a thousand writes are, one after another.
+/// Whether the replay ends with the status and the text of the row, however the input is cut, and flushes once.
 fn in_pieces(alloc: Global, row: &Row) -> bool {
     let slow = Slow::new(row.input.as_slice(), 1).failing(3, ErrorKind::Interrupted);
     let interrupted = Failure::Error(ErrorKind::Interrupted);
@@ -79,8 +74,7 @@ fn with_failing_flush(alloc: Global, row: &Row, at: usize) -> bool {
     end == Err(ReplayError::Write) && writer.has(row.text.as_slice(), 1)
 }
 
-/// Whether the lines that were read whole are answered, if a read of single bytes fails. If the first of them names no
-/// limiter, no later read is made.
+/// If the first of them names no limiter, no later read is made.
 fn with_failing_read(alloc: Global, row: &Row, at: usize) -> bool {
     let input = row.input.as_slice();
     let slow = Slow::new(input, 1).failing(at, error_at(at));
@@ -95,8 +89,7 @@ fn with_failing_read(alloc: Global, row: &Row, at: usize) -> bool {
 }
 
 /// Whether the front of the text is written, no line is read after the one that is answered, and nothing is flushed, if
-/// a write fails, of a writer that takes single bytes. One write in four takes no bytes, and the others fail with an
-/// error.
+/// a write fails, of a writer that takes single bytes.
 fn with_failing_write(alloc: Global, row: &Row, at: usize) -> bool {
     let failure = if at % 4 == 0 { Failure::NoBytes } else { Failure::Error(error_at(at)) };
     let mut reader = row.input.as_slice();

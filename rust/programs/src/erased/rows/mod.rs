@@ -57,7 +57,6 @@ const BOUNDS: [Bounds; 4] = [
     Bounds { limit: Limit::Unlimited, keys: 4000, values: 1000 },
 ];
 
-/// The answers to a row, whose first line may name a map.
 fn answers_of(alloc: Global, input: &[u8]) -> Vec<u8> {
     if input.starts_with(b"map ") {
         maps::answers_of(alloc, str::from_utf8(input).unwrap_or("")).into_vec()
@@ -66,7 +65,6 @@ fn answers_of(alloc: Global, input: &[u8]) -> Vec<u8> {
     }
 }
 
-/// Checks the row, prints the first difference, and returns whether there is none.
 fn holds(rt: &HostRuntime, row: &Row) -> io::Result<bool> {
     let text = answers_of(rt.alloc(), row.input.as_slice());
     if !agrees(rt, row.name, text.as_slice(), row.text.as_slice())? {
@@ -82,14 +80,12 @@ fn holds(rt: &HostRuntime, row: &Row) -> io::Result<bool> {
     Ok(false)
 }
 
-/// Checks the rows of a file, and returns how many hold and how many fail. A blank line ends a row.
 fn check_file(rt: &HostRuntime, file: &str) -> io::Result<(u64, u64)> {
     let text = fs::read_to_string(rt, file)?;
     let (mut hold, mut fail) = (0u64, 0u64);
     for lines in text.split("\n\n") {
         let row = Row::of(rt.alloc(), lines);
         if row.name.is_empty() && row.text.is_empty() {
-            // Comments alone.
         } else if holds(rt, &row)? {
             hold = hold.saturating_add(1);
         } else {
@@ -99,7 +95,6 @@ fn check_file(rt: &HostRuntime, file: &str) -> io::Result<(u64, u64)> {
     Ok((hold, fail))
 }
 
-/// Checks a row of random calls, whose answers a plain list gives.
 fn try_calls(rt: &HostRuntime, first: &str, bounds: Bounds) -> io::Result<bool> {
     let trial = Trial::new(rt.alloc(), first, bounds, CALLS);
     let answers = answers_of(rt.alloc(), trial.input.as_str().as_bytes());

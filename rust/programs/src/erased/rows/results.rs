@@ -1,12 +1,10 @@
 // Erased from crates/rows/src/results.rt: do not edit.
-//! The texts of what calls return.
 #[allow(unused_imports)]
 use crate::rattle_std::prelude::*;
 
 use crate::erased::lru_model::{MoveReport, ReserveError, Updated};
 use crate::programs::rows::text::Text;
 
-/// Adds what an update did.
 pub(crate) fn write_updated(out: &mut Text, updated: Updated<u64>) {
     match updated {
         Updated::Replaced(value) => out.figure("replaced ", value),
@@ -15,7 +13,6 @@ pub(crate) fn write_updated(out: &mut Text, updated: Updated<u64>) {
     }
 }
 
-/// Adds what a reservation did.
 pub(crate) fn write_reserved(out: &mut Text, reserved: Result<(), ReserveError>) {
     out.word(match reserved {
         Ok(()) => "ok",
@@ -25,7 +22,6 @@ pub(crate) fn write_reserved(out: &mut Text, reserved: Result<(), ReserveError>)
     });
 }
 
-/// Adds the length, the capacity and the bytes of a map, and what its table moved.
 pub(crate) fn write_figures(out: &mut Text, [len, capacity, memory]: [u64; 3], report: MoveReport) {
     out.figure("len ", len);
     out.figure(" capacity ", capacity);

@@ -1,5 +1,5 @@
 // Erased from crates/schnellru_tests/src/bytes.rt: do not edit.
-//! A cache of texts that takes at most 200 MiB, with its table and all that the texts own: a line of code and a theorem.
+//! A cache of texts of at most 200 MiB: a line of code and a theorem.
 
 #[allow(unused_imports)]
 use crate::rattle_std::prelude::*;
@@ -14,8 +14,8 @@ fn cache_of_texts(alloc: Global) -> LruMap<String, String, ByBytes> {
     LruMap::with_limiter(alloc, ByBytes::new(200 << 20))
 }
 
-/// Puts a text into the cache, updates another one, removes a third, and shrinks the table. Whatever the calls return, the
-/// cache takes at most its limit.
+/// Puts a text into the cache, updates another one, removes a third, and shrinks the table. Whatever the calls return,
+/// the cache takes at most its limit.
 fn change(
     map: &mut LruMap<String, String, ByBytes>,
     key: String,
@@ -25,7 +25,6 @@ fn change(
     old: &str,
 ) -> Result<bool, AllocError> {
     laws::calls_keep_the_bytes::<String, String, RandomState>();
-    // Nothing at run time: it shows the proof that the table is sound.
     let _len = map.len();
     let kept = map.insert(key, text);
     map.update(other, new);

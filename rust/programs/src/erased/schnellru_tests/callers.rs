@@ -21,7 +21,7 @@ fn put(map: &mut LruMap<u64, u64>, key: u64, value: u64) -> Result<bool, AllocEr
     Ok(kept)
 }
 
-/// The same for any types, under a limiter that stores each value as it comes.
+/// For any types, under a limiter that stores each value as it comes.
 fn put_any<K: Eq + Hash, V, L: Insertion<K, V, K>>(
     map: &mut LruMap<K, V, L>,
     key: K,
@@ -30,7 +30,6 @@ fn put_any<K: Eq + Hash, V, L: Insertion<K, V, K>>(
     map.insert(key, value)
 }
 
-/// Makes the entry of a key the newest, and returns whether the key is there.
 fn touch(map: &mut LruMap<u64, u64>, key: u64) -> bool {
     map.promote(&key)
 }
@@ -58,8 +57,7 @@ fn memo<F: Fn(u64) -> u64>(map: &mut LruMap<u64, u64>, answers: F, key: u64) -> 
     Ok(value)
 }
 
-/// Returns the text of a key, from the map if the key is there, and else from the closure. Of the entries of other keys
-/// the newest are left, in their order.
+/// Returns the text of a key, from the map if the key is there, and else from the closure.
 fn fetch<F: Fn(&String) -> String>(
     map: &mut LruMap<String, String>,
     key: String,
@@ -103,7 +101,7 @@ fn put_within(map: &mut LruMap<String, u64>, key: String, value: u64) -> Result<
     map.insert(key, value)
 }
 
-/// The same under two limits, by length and by the bytes of the table.
+/// Under two limits, by length and by the bytes of the table.
 fn put_within_both(
     map: &mut LruMap<String, u64, Both<ByLength, ByMemoryUsage>>,
     key: String,
@@ -134,7 +132,6 @@ fn put_two(map: &mut LruMap<String, u64>, first: String, second: String, value: 
     laws::runs_keep_maps::<String, u64, String, ByLength, RandomState>();
     laws::each_insert_of_a_run_evicts_the_oldest::<String, u64, String, ByLength, RandomState>();
     laws::runs_pay_for_moves::<String, u64, String, ByLength, RandomState>();
-    // Nothing at run time: it shows the proof that the table is sound.
     let _len = map.len();
     map.insert(first, value)?;
     map.pop_newest();
@@ -145,7 +142,6 @@ fn put_two(map: &mut LruMap<String, u64>, first: String, second: String, value: 
 /// Puts a pair into a map. If its table grows, it can hold fewer than four times the entries.
 fn put_tightly(map: &mut LruMap<String, u64>, key: String, value: u64) -> Result<bool, AllocError> {
     laws::inserts_grow_little::<String, u64, String, ByLength, RandomState>();
-    // Nothing at run time: it shows the proof that the table is sound.
     let _len = map.len();
     map.insert(key, value)
 }
@@ -182,10 +178,8 @@ fn put_into_deleted(map: &mut LruMap<String, u64>, key: String, value: u64) -> R
     map.insert(key, value)
 }
 
-/// Removes a key, which is not there then.
 fn forget(map: &mut LruMap<String, u64>, key: &str) -> Option<u64> {
     laws::removed_keys_are_absent::<String, u64, &str, ByLength, RandomState>();
-    // Nothing at run time: it shows the proof that no two keys are equal.
     let _len = map.len();
     map.remove(&key)
 }
@@ -211,10 +205,8 @@ fn resize(map: &mut LruMap<String, u64>, n: usize) -> bool {
     }
 }
 
-/// Returns the greatest usage within the bytes that the table uses, which is that number of bytes.
 fn usage_again(map: &LruMap<String, u64>, entry_bytes: usize) -> usize {
     laws::usages_are_their_budgets::<String, u64, ByLength, RandomState>();
-    // Nothing at run time: it shows the proof that the table is sound.
     let _len = map.len();
     let bytes = map.memory_usage();
     LruMap::<String, u64>::memory_usage_for_memory_budget(bytes, entry_bytes)
@@ -235,7 +227,6 @@ fn put_and_show<F: FnMut(u64, u64)>(
 
 /// Evicts what is over the limit, and returns how many entries these were.
 fn trim_and_count(map: &mut LruMap<u64, u64>) -> usize {
-    // Nothing at run time: it shows the proof that the count has room for all entries.
     let _len = map.len();
     let mut count = 0usize;
     map.trim_with(&mut |_, _| count += 1);
@@ -250,13 +241,12 @@ fn put_and_keep_all(map: &mut LruMap<u64, u64, UnlimitedCompact>, key: u64, valu
     Ok(())
 }
 
-/// Returns a map that keeps to its maximum length.
 fn map_of_length(alloc: Global, most: u32) -> LruMap<u64, u64> {
     laws::maps_keep_to_their_length::<u64, u64, RandomState>();
     LruMap::new(alloc, ByLength::new(most), [1, 2, 3, 4], 24)
 }
 
-/// Inserts a pair into such a map. The map then has the newest pairs, up to its maximum length.
+/// The map then has the newest pairs, up to its maximum length.
 fn put_newest(map: &mut LruMap<u64, u64>, key: u64, value: u64) -> Result<bool, AllocError> {
     laws::inserts_leave_the_newest::<u64, u64, RandomState>();
     laws::maps_keep_to_their_length::<u64, u64, RandomState>();

@@ -1,8 +1,6 @@
 // Erased from crates/schnellru_tests/src/every_call.rt: do not edit.
-//! Every public call that may change a map is a step, or steps one after another, for any types: so what the laws say of
-//! steps and of runs holds of each. A function here makes some of the calls, and ensures that they are a run.
-//!
-//! The forms with a callback have the same clause `step` as those without, and `try_insert` says itself that it is a run.
+//! Every public call that may change a map is a step, or steps one after another, for any types: so what the laws say
+//! of steps and of runs holds of each.
 
 #[allow(unused_imports)]
 use crate::rattle_std::prelude::*;
@@ -39,7 +37,6 @@ fn write<K: Eq + Hash, V, Q: LookupKey<K>, L: Limiter<K, V>, S: KeyHasher<K>>(
     key: &Q,
     value: V,
 ) {
-    // Nothing at run time: it shows the proof that the table is sound.
     let _len = map.len();
     if let Some(place) = map.get(key) {
         *place = value;
@@ -76,7 +73,6 @@ fn make<
 }
 
 fn write_newest<K: Eq + Hash, V, L: Limiter<K, V>, S: KeyHasher<K>>(map: &mut LruMap<K, V, L, S>, value: V) {
-    // Nothing at run time: it shows the proof that no two keys are equal.
     let _len = map.len();
     if let Some(place) = map.newest_mut() {
         *place = value;

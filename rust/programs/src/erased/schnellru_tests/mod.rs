@@ -1,9 +1,7 @@
 // Erased from crates/schnellru_tests/src/lib.rt: do not edit.
 //! Tests of `schnellru` through its public calls: what no contract of it says.
 //!
-//! Contracts say what each call returns and leaves. They do not say how often a closure, a callback or a hasher is
-//! called, or which text is printed. The module `memory` counts memory and drops. The examples of the documents are
-//! tested here too, and in `ordered` that of `ordered_table`. The worked rows are data of the program `rows`.
+//! `examples` also has those of `lru_model` and `ordered_table`. The worked rows are data of the program `rows`.
 
 #[allow(unused_imports)]
 use crate::rattle_std::prelude::*;
@@ -22,8 +20,6 @@ mod examples;
 mod memory;
 #[cfg(test)]
 mod order_of_calls;
-#[cfg(test)]
-mod ordered;
 #[cfg(test)]
 mod sizes;
 #[cfg(test)]

@@ -11,7 +11,6 @@ use crate::rattle_std::mem::forget;
 
 type Map = LruMap<u64, u64, ByCost>;
 
-/// Forgets walks, one of them after a write to the oldest value.
 fn forget_walks(map: &mut Map) {
     let mut walk = map.iter_mut();
     if walk.len() > 0 {

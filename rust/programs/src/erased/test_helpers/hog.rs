@@ -16,7 +16,6 @@ const STEP: usize = 8;
 
 const MOST: usize = 1 << 17;
 
-/// Blocks that are only held, and some spare ones, which are given back one at a time.
 pub struct Hog {
     held: Vec<Vec<u8>>,
     spare: Vec<Vec<u8>>,
@@ -27,7 +26,6 @@ fn smaller(size: usize) -> usize {
 }
 
 impl Hog {
-    /// Takes a block for each request that is to be met later, in their order, and then all memory that is left.
     pub fn new(alloc: Global, requests: &[usize]) -> Result<Hog, AllocError> {
         let mut spare = Vec::with_capacity(alloc, requests.len())?;
         for size in requests.iter().rev() {
@@ -57,7 +55,6 @@ impl Hog {
         Ok(hog)
     }
 
-    /// Gives the next spare block back, so that one more request is met.
     pub fn release(&mut self) {
         drop(self.spare.pop());
     }

@@ -21,9 +21,7 @@ impl LookupKey<String> for InsertKey<'_> {
 /// Limits nothing, takes texts, and counts them.
 #[derive(Clone, Copy, Default)]
 pub struct Counting {
-    /// How many texts became a key.
     pub inserts: u32,
-    /// How many texts came for a key that was there.
     pub replacements: u32,
 }
 

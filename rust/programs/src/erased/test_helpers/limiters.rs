@@ -30,22 +30,15 @@ impl<N: LinkType> Limiter<u64, u64> for LinkedBy<N> {
 /// Is over the limit at every length or at none, permits every second growth, and keeps what it was called with.
 #[derive(Clone, Copy, Debug)]
 pub struct Alternating {
-    /// Whether it is over the limit, at every length.
     pub over: bool,
-    /// Whether it permits the next growth.
     pub permits: bool,
-    /// How many pairs were removed.
     pub removed: u32,
-    /// The key of the last one.
     pub last: u64,
-    /// How often it was asked whether the table may grow.
     pub asked: u32,
-    /// The bytes of the last table that it was asked for.
     pub bytes: usize,
 }
 
 impl Alternating {
-    /// Whether it is over the limit, and whether it permits the first growth.
     pub fn new(over: bool, permits: bool) -> Alternating {
         Alternating { over, permits, removed: 0, last: 0, asked: 0, bytes: 0 }
     }
@@ -78,9 +71,7 @@ impl Limiter<u64, u64> for Alternating {
 /// pair as it was.
 #[derive(Clone, Copy, Debug, Default)]
 pub struct Blanking {
-    /// Whether it writes into keys too.
     pub keys: bool,
-    /// The last pair that was removed.
     pub last: (u64, u64),
 }
 

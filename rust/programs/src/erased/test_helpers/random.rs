@@ -9,18 +9,15 @@ use crate::rattle_std::prelude::*;
 pub struct Random(u64);
 
 impl Random {
-    /// A generator with this seed.
     pub fn new(seed: u64) -> Random {
         Random(seed)
     }
 
-    /// The next number.
     pub fn next(&mut self) -> u64 {
         self.0 = self.0.wrapping_mul(6_364_136_223_846_793_005).wrapping_add(1_442_695_040_888_963_407);
         self.0 ^ (self.0 >> 32)
     }
 
-    /// A number below `n`, or 0 if `n` is 0.
     pub fn below(&mut self, n: u64) -> u64 {
         (self.next() >> 33).checked_rem(n).unwrap_or(0)
     }

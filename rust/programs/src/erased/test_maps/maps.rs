@@ -8,29 +8,25 @@ use crate::rattle_std::alloc::{AllocError, Global};
 use crate::rattle_std::hash::BuildHasher;
 use crate::rattle_std::ops::RangeInclusive;
 
-/// A map of numbers with entries of 16 bytes.
 pub fn map_of<L: Limiter<u64, u64>>(alloc: Global, limiter: L) -> LruMap<u64, u64, L, RandomState> {
     LruMap::new(alloc, limiter, [1, 2, 3, 4], 16)
 }
 
-/// Leaves the pairs (1, 10), (2, 20) and (3, 30), and a limit of three pairs. Returns whether there was memory.
+/// Leaves the pairs (1, 10), (2, 20) and (3, 30), and a limit of three pairs.
 pub fn fill(map: &mut LruMap<u64, u64>) -> bool {
     map.clear();
     *map.limiter_mut() = ByLength::new(3);
     insert_all(map, 1..=3) == Ok(3)
 }
 
-/// Whether `entry == Some((&key, &value))`.
 pub fn is_pair(entry: Option<(&u64, &u64)>, key: u64, value: u64) -> bool {
     entry == Some((&key, &value))
 }
 
-/// Whether `found == Some(&value)`.
 pub fn is_value(found: Option<&u64>, value: u64) -> bool {
     found == Some(&value)
 }
 
-/// Inserts the pair of a number and ten times the number.
 pub fn insert<L: Insertion<u64, u64, u64>, S: BuildHasher>(
     map: &mut LruMap<u64, u64, L, S>,
     n: u64,
@@ -38,7 +34,6 @@ pub fn insert<L: Insertion<u64, u64, u64>, S: BuildHasher>(
     map.insert(n, n.wrapping_mul(10))
 }
 
-/// Inserts the pairs of these numbers, and returns how many inserts returned true.
 pub fn insert_all<L: Insertion<u64, u64, u64>, S: BuildHasher>(
     map: &mut LruMap<u64, u64, L, S>,
     numbers: RangeInclusive<u64>,
@@ -52,7 +47,6 @@ pub fn insert_all<L: Insertion<u64, u64, u64>, S: BuildHasher>(
     Ok(taken)
 }
 
-/// Makes space for this many more pairs.
 pub fn reserve<L: Limiter<u64, u64>, S: BuildHasher>(
     map: &mut LruMap<u64, u64, L, S>,
     n: usize,
@@ -60,12 +54,10 @@ pub fn reserve<L: Limiter<u64, u64>, S: BuildHasher>(
     map.try_reserve(n)
 }
 
-/// Moves the pairs into as few buckets as hold them, and returns whether that are fewer.
 pub fn shrink<L: Limiter<u64, u64>, S: BuildHasher>(map: &mut LruMap<u64, u64, L, S>) -> Result<bool, AllocError> {
     map.shrink_to_fit()
 }
 
-/// Removes the pairs of these numbers.
 pub fn remove_all<L: Limiter<u64, u64>, S: BuildHasher>(
     map: &mut LruMap<u64, u64, L, S>,
     numbers: RangeInclusive<u64>,

@@ -10,13 +10,10 @@ use crate::rattle_std::env;
 use crate::rattle_std::io::{self, BufReader, BufWriter, IsTerminal};
 use crate::rattle_std::process::ExitCode;
 
-/// The exit status if there is no memory for a buffer, so that nothing was read.
 const NO_BUFFER: u8 = 3;
 
-/// The exit status after an argument that the program does not know. Nothing was read.
 const UNKNOWN: u8 = 4;
 
-/// What `trace --help` prints.
 const HELP: &str = "\
 trace < KEYS
     Prints how often an LRU cache of each size misses the keys that were referenced.
@@ -53,7 +50,6 @@ pub(crate) fn main(rt: HostRuntime) -> ExitCode {
     ExitCode::from(status(&end))
 }
 
-/// Answers an argument: prints the help, or says that the argument is unknown.
 fn answer(rt: &HostRuntime, argument: &str) -> ExitCode {
     if argument == "--help" {
         let _ = print!(rt; "{HELP}");

@@ -36,8 +36,6 @@ impl<T> Table<T> {
     }
 }
 
-// Writes what the closure returns for each entry, in the place of the entry. The control bytes say which places hold
-// one.
 fn copy_entries<T, F: Fn(&T) -> Result<T, AllocError>>(
     control: &Control,
     entries: &Entries<T>,

@@ -9,15 +9,16 @@ use crate::erased::group_table::cells::bytes_of;
 use crate::erased::group_table::control::DELETED;
 
 impl<T> Table<T> {
-    /// Returns the number of buckets: none, or a power of two from 4 on. They are numbered from 0 on.
+    /// Returns the number of buckets: none, or a power of two from 4 on.
     #[inline]
     pub fn buckets(&self) -> usize {
         self.control.buckets()
     }
 
-    /// Returns whether a table with buckets has a bucket of this number. It costs one comparison.
+    /// Returns whether a table with buckets has a bucket of this number.
     ///
     /// ```text
+    /// let table: Table<u64> = Table::with_buckets(alloc, 8)?;
     /// assert!(rt; table.has_bucket(7) && !table.has_bucket(8));
     /// ```
     #[inline]
@@ -49,7 +50,9 @@ impl<T> Table<T> {
     /// reaches `u64::MAX` stays there.
     ///
     /// ```text
-    /// assert_eq!(rt; (table.placed(), table.placings()), (2, 2));
+    /// let mut table = Table::with_buckets(alloc, 8)?;
+    /// let _ = table.try_place(7, "a");
+    /// assert_eq!(rt; (table.placed(), table.placings()), (1, 1));
     /// ```
     #[inline]
     pub fn placed(&self) -> u64 {

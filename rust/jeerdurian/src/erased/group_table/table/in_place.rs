@@ -1,6 +1,4 @@
 // Erased from crates/group_table/src/table/in_place.rt: do not edit.
-//! Rehashing the entries of a table in place.
-
 #[allow(unused_imports)]
 use crate::rattle_std::prelude::*;
 

@@ -1,6 +1,4 @@
 // Erased from crates/group_table/src/table/moves.rt: do not edit.
-//! Moving entries into a fresh table, one after another.
-
 #[allow(unused_imports)]
 use crate::rattle_std::prelude::*;
 
@@ -25,7 +23,7 @@ impl<T> Table<T> {
 }
 
 // Moves entries, in rising order of their old buckets, into an empty table, and writes where each is now. The old
-// control bytes say which places hold one; afterwards none does. (Without `T: Drop` no entry can be dropped or lost.)
+// control bytes say which places hold one; afterwards none does.
 pub(crate) fn move_entries<T, N: LinkType, H: Fn(&T) -> u64>(
     control: &Control,
     old: &mut Entries<T>,

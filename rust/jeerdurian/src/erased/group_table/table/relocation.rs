@@ -1,7 +1,6 @@
 // Erased from crates/group_table/src/table/relocation.rt: do not edit.
-//! The calls of `Table` that move every entry.
-//!
-//! They do not require `T: Drop`, so a body that forgets an entry or a table does not compile.
+//! The calls of `Table` that move every entry. They do not require `T: Drop`, so a body that forgets an entry or a
+//! table does not compile.
 
 #[allow(unused_imports)]
 use crate::rattle_std::prelude::*;

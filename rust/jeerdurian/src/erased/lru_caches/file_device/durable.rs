@@ -1,5 +1,4 @@
 // Erased from crates/lru_caches/src/file_device/durable.rt: do not edit.
-//! Files whose bytes can be made durable.
 #[allow(unused_imports)]
 use crate::rattle_std::prelude::*;
 

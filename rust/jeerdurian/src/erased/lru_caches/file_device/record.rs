@@ -13,11 +13,9 @@ pub struct Record {
 }
 
 impl Record {
-    // Makes an empty record.
     pub(super) fn new() -> Record {
         Record { marker: PhantomData }
     }
 
-    // Notes a call: the kind of its event, the number of its block, and the bytes.
     pub(super) fn note(&mut self, _numbers: &[u64], _bytes: &[u8]) {}
 }

@@ -1,6 +1,4 @@
 // Erased from crates/lru_caches/src/file_device/recorded.rt: do not edit.
-//! A file whose calls are recorded.
-
 #[allow(unused_imports)]
 use crate::rattle_std::prelude::*;
 
@@ -10,7 +8,6 @@ use crate::erased::lru_caches::file_device::durable::Durable;
 use crate::erased::lru_caches::file_device::record::Record;
 use crate::rattle_std::io::{self, Read, Seek, SeekFrom, Write};
 
-// The kinds of events.
 const UNREAD: u64 = 0;
 
 const READ: u64 = 1;
@@ -22,8 +19,6 @@ const WRITTEN: u64 = 3;
 const UNSYNCED: u64 = 4;
 
 const SYNCED: u64 = 5;
-
-/// A file with the record of its calls. Each function makes the calls of one event and records the event.
 
 pub struct RecordedFile<F> {
     pub(super) file: F,
@@ -42,19 +37,16 @@ impl<F> RecordedFile<F> {
 }
 
 impl<F: Read + Write + Seek> RecordedFile<F> {
-    // Reads the block of this number.
     pub(super) fn read_block<const N: usize>(&mut self, n: u64) -> Result<[u8; N], FileError> {
         let read = read_at(&mut self.file, n);
         self.note_read(n, read)
     }
 
-    // Reads the block of this number, and fails if it does not have its checksum.
     pub(super) fn read_checked<const N: usize>(&mut self, n: u64) -> Result<[u8; N], FileError> {
         let read = checked(read_at(&mut self.file, n), n);
         self.note_read(n, read)
     }
 
-    // Records the result of a read.
     fn note_read<const N: usize>(&mut self, n: u64, read: Result<[u8; N], FileError>) -> Result<[u8; N], FileError> {
         match &read {
             Ok(block) => self.log.note(&[READ, n], block),
@@ -63,7 +55,6 @@ impl<F: Read + Write + Seek> RecordedFile<F> {
         read
     }
 
-    // Writes the block of this number.
     pub(super) fn write_block<const N: usize>(&mut self, n: u64, block: &[u8; N]) -> Result<(), FileError> {
         match write_at(&mut self.file, n, block) {
             Ok(()) => {
@@ -79,7 +70,6 @@ impl<F: Read + Write + Seek> RecordedFile<F> {
 }
 
 impl<F: Write + Durable> RecordedFile<F> {
-    // Flushes the writer and makes what was written durable.
     pub(super) fn sync(&mut self) -> Result<(), FileError> {
         match sync_file(&mut self.file) {
             Ok(()) => {
@@ -94,7 +84,6 @@ impl<F: Write + Durable> RecordedFile<F> {
     }
 }
 
-// Moves to the block of this number.
 fn seek_to<F: Seek>(file: &mut F, n: u64, size: usize) -> io::Result<()> {
     match n.checked_mul(size as u64) {
         Some(at) => {
@@ -105,7 +94,6 @@ fn seek_to<F: Seek>(file: &mut F, n: u64, size: usize) -> io::Result<()> {
     }
 }
 
-// Reads the block of this number.
 fn read_at<F: Read + Seek, const N: usize>(file: &mut F, n: u64) -> Result<[u8; N], FileError> {
     let mut block = [0u8; N];
     match seek_to(file, n, N) {

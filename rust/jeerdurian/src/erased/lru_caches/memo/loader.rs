@@ -11,8 +11,7 @@ use crate::rattle_std::hash::Hash;
 /// A memo of a function that may fail, such as a read of a file. It stores the newest values that were loaded, up to a
 /// limit, and no failure.
 ///
-/// It is proved that each value is right, and that a failure stores nothing. That a value is remembered, and the limit
-/// kept, is only tested.
+/// It is proved that each value is right, and that a failure stores nothing.
 ///
 /// The function may borrow what it reads by `&`.
 ///
@@ -74,7 +73,7 @@ impl<K: Copy + Eq + Hash, V: Copy, E, F: Fn(K) -> Result<V, E>, L: Insertion<K, 
     ///
     /// # Errors
     ///
-    /// The function failed, with this error. The stored values stay. There is no error if a value is stored.
+    /// The function failed, with this error. The stored values stay.
     pub fn load(&mut self, key: K) -> Result<V, E> {
         loaded(&mut self.map, &self.function, key)
     }
@@ -104,7 +103,6 @@ impl<K: Copy + Eq + Hash, V: Copy, E, F: Fn(K) -> Result<V, E>, L: Insertion<K, 
     }
 }
 
-// Returns the stored value of a key, or else stores what the function returns.
 fn loaded<K: Copy + Eq + Hash, V: Copy, E, F: Fn(K) -> Result<V, E>, L: Insertion<K, V, K>, S: KeyHasher<K>>(
     map: &mut LruMap<K, V, L, S>,
     function: &F,

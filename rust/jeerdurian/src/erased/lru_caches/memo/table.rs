@@ -11,6 +11,9 @@ use crate::rattle_std::hash::Hash;
 /// Says which values answer a key, for a [`MemoTable`].
 ///
 /// ```text
+/// #[derive(Drop)]
+/// struct Squares;
+///
 /// impl Question<u64, u64> for Squares {
 ///     ghost answers = { λ n value. value ≡ n * n };
 /// }
@@ -19,9 +22,8 @@ pub trait Question<K, V> {}
 
 /// A table of the newest answers to a question, up to a limit, for a function that calls itself.
 ///
-/// [`Memo`](crate::Memo) calls its function, so that function cannot use the memo. A recursion uses a table: it gets
-/// the answer at its key, or else computes and stores it. Whatever a `get` returns is an answer. A caller proves that
-/// what it stores is one.
+/// A recursion uses a table: it gets the answer at its key, or else computes and stores it. Whatever a `get` returns is
+/// an answer. A caller proves that what it stores is one.
 ///
 /// ```text
 /// let mut squares = MemoTable::new(alloc, ByLength::new(9), Squares);
@@ -113,7 +115,6 @@ impl<K: Copy + Eq + Hash, V: Copy, Q: Question<K, V>, L: Insertion<K, V, K>, S: 
     }
 }
 
-// Returns the stored answer at a key.
 fn stored<K: Copy + Eq + Hash, V: Copy, Q: Question<K, V>, L: Insertion<K, V, K>, S: KeyHasher<K>>(
     map: &mut LruMap<K, V, L, S>,
     key: K,
@@ -124,7 +125,6 @@ fn stored<K: Copy + Eq + Hash, V: Copy, Q: Question<K, V>, L: Insertion<K, V, K>
     }
 }
 
-// Stores an answer at a key.
 fn keep<K: Copy + Eq + Hash, V: Copy, Q: Question<K, V>, L: Insertion<K, V, K>, S: KeyHasher<K>>(
     map: &mut LruMap<K, V, L, S>,
     key: K,

@@ -1,5 +1,4 @@
 // Erased from crates/lru_caches/src/ordered_map/compared.rt: do not edit.
-//! Equal ordered maps, and how one is shown.
 #[allow(unused_imports)]
 use crate::rattle_std::prelude::*;
 
@@ -14,7 +13,7 @@ use crate::rattle_std::hash::Hash;
 /// assert!(rt; map == map && map != OrderedMap::new(alloc));
 /// ```
 ///
-/// Cost: `O(1)` if the lengths differ, else `O(n)` for n entries.
+/// `O(1)` if the lengths differ, else `O(n)` for n entries.
 ///
 /// After std's `Vec`; indexmap's maps are equal in any order.
 impl<K: Eq + Hash, V: PartialEq, S: KeyHasher<K>> PartialEq for OrderedMap<K, V, S> {

@@ -1,6 +1,4 @@
 // Erased from crates/lru_caches/src/ordered_map/entries.rt: do not edit.
-//! Walking the entries of an ordered map.
-
 #[allow(unused_imports)]
 use crate::rattle_std::prelude::*;
 

@@ -1,6 +1,4 @@
 // Erased from crates/lru_caches/src/ordered_map/into_entries.rt: do not edit.
-//! Taking an ordered map apart.
-
 #[allow(unused_imports)]
 use crate::rattle_std::prelude::*;
 

@@ -1,6 +1,4 @@
 // Erased from crates/lru_caches/src/ordered_map/keys.rt: do not edit.
-//! Walking the keys or the values of an ordered map.
-
 #[allow(unused_imports)]
 use crate::rattle_std::prelude::*;
 

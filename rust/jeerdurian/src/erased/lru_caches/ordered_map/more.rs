@@ -1,6 +1,4 @@
 // Erased from crates/lru_caches/src/ordered_map/more.rt: do not edit.
-//! The stored key of an entry, moves to the end of the order, and the memory of an ordered map.
-
 #[allow(unused_imports)]
 use crate::rattle_std::prelude::*;
 
@@ -41,7 +39,7 @@ impl<K: Eq + Hash, V, S: KeyHasher<K>> OrderedMap<K, V, S> {
         self.map.promote(key)
     }
 
-    /// Reserves memory for n more entries. The entries stay; no clause says that the memory is there.
+    /// Reserves memory for n more entries.
     ///
     /// ```text
     /// assert_eq!(rt; map.try_reserve(100), Ok(()));
@@ -51,15 +49,14 @@ impl<K: Eq + Hash, V, S: KeyHasher<K>> OrderedMap<K, V, S> {
     ///
     /// # Errors
     ///
-    /// As schnellru's `LruMap::try_reserve`. The entries stay then, too.
+    /// As schnellru's `LruMap::try_reserve`.
     ///
     /// After indexmap's `IndexMap::try_reserve`.
     pub fn try_reserve(&mut self, n: usize) -> Result<(), ReserveError> {
         self.map.try_reserve(n)
     }
 
-    /// Shrinks the table to as few buckets as hold the entries, and returns whether it had more. The entries stay; no
-    /// clause speaks of the table.
+    /// Shrinks the table to as few buckets as hold the entries, and returns whether it had more.
     ///
     /// ```text
     /// assert_eq!(rt; map.try_reserve(100), Ok(()));

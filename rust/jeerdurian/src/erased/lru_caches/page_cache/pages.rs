@@ -8,7 +8,6 @@ use crate::erased::lru_caches::device::BlockDevice;
 use crate::erased::lru_caches::page_cache::PageError;
 use crate::erased::schnellru::{KeyHasher, LruMap, UnlimitedCompact};
 
-// A cached block. It is dirty if no flush has written it.
 #[derive(Clone, Copy)]
 pub(super) struct Page<B> {
     pub(super) block: B,
@@ -17,7 +16,6 @@ pub(super) struct Page<B> {
 
 pub(super) type Pages<B, S> = LruMap<u64, Page<B>, UnlimitedCompact, S>;
 
-// Returns whether a call on page n can begin, and if not, why.
 pub(super) fn admit<B: Copy, D: BlockDevice<B>>(device: &D, n: u64) -> Result<(), PageError<D::Error>> {
     if !device.is_usable() {
         return Err(PageError::Broken);
@@ -28,12 +26,10 @@ pub(super) fn admit<B: Copy, D: BlockDevice<B>>(device: &D, n: u64) -> Result<()
     Ok(())
 }
 
-// Reads a block of the device.
 fn read_block<B: Copy, D: BlockDevice<B>>(device: &mut D, n: u64) -> Result<B, PageError<D::Error>> {
     device.read(n).map_err(PageError::Device)
 }
 
-// Reads a block of the device, and makes its page, which is not cached, the newest.
 pub(super) fn load<B: Copy, D: BlockDevice<B>, S: KeyHasher<u64>>(
     map: &mut Pages<B, S>,
     device: &mut D,
@@ -46,7 +42,6 @@ pub(super) fn load<B: Copy, D: BlockDevice<B>, S: KeyHasher<u64>>(
     Ok(block)
 }
 
-// Returns the block of a cached page, and makes the page the newest.
 pub(super) fn cached_block<B: Copy, S: KeyHasher<u64>>(map: &mut Pages<B, S>, n: u64) -> Option<B> {
     match map.get(&n) {
         Some(page) => Some(page.block),
@@ -54,7 +49,6 @@ pub(super) fn cached_block<B: Copy, S: KeyHasher<u64>>(map: &mut Pages<B, S>, n:
     }
 }
 
-// Replaces a cached page, makes it the newest, and returns whether it is there.
 pub(super) fn overwrite<B: Copy, S: KeyHasher<u64>>(map: &mut Pages<B, S>, n: u64, page: Page<B>) -> bool {
     match map.get(&n) {
         Some(place) => {
@@ -65,7 +59,6 @@ pub(super) fn overwrite<B: Copy, S: KeyHasher<u64>>(map: &mut Pages<B, S>, n: u6
     }
 }
 
-// Makes a page that is not cached the newest, after room is made for it.
 pub(super) fn store<B: Copy, D: BlockDevice<B>, S: KeyHasher<u64>>(
     map: &mut Pages<B, S>,
     device: &mut D,
@@ -77,7 +70,6 @@ pub(super) fn store<B: Copy, D: BlockDevice<B>, S: KeyHasher<u64>>(
     add_page(map, n, page)
 }
 
-// Removes the oldest page if the cache is full, after it is written back. If that fails, no page is removed.
 fn make_room<B: Copy, D: BlockDevice<B>, S: KeyHasher<u64>>(
     map: &mut Pages<B, S>,
     device: &mut D,
@@ -90,12 +82,10 @@ fn make_room<B: Copy, D: BlockDevice<B>, S: KeyHasher<u64>>(
     Ok(())
 }
 
-// Removes the oldest page, after it is written back. If that fails, no page is removed.
 fn evict_oldest<B: Copy, D: BlockDevice<B>, S: KeyHasher<u64>>(
     map: &mut Pages<B, S>,
     device: &mut D,
 ) -> Result<(), PageError<D::Error>> {
-    // Nothing at run time: it shows the proof that no two pages have one number.
     let _ = map.len();
     let Some((n, page)) = map.peek_oldest() else {
         return Ok(());
@@ -105,7 +95,6 @@ fn evict_oldest<B: Copy, D: BlockDevice<B>, S: KeyHasher<u64>>(
     Ok(())
 }
 
-// Writes a page to the device, if it is dirty.
 fn write_back<B: Copy, D: BlockDevice<B>>(device: &mut D, n: u64, page: &Page<B>) -> Result<(), PageError<D::Error>> {
     if !page.is_dirty {
         return Ok(());
@@ -113,7 +102,6 @@ fn write_back<B: Copy, D: BlockDevice<B>>(device: &mut D, n: u64, page: &Page<B>
     device.write(n, &page.block).map_err(PageError::Device)
 }
 
-// Writes each dirty page to the device, and syncs it.
 pub(super) fn write_all_back<B: Copy, D: BlockDevice<B>, S: KeyHasher<u64>>(
     map: &Pages<B, S>,
     device: &mut D,
@@ -122,7 +110,6 @@ pub(super) fn write_all_back<B: Copy, D: BlockDevice<B>, S: KeyHasher<u64>>(
     device.sync().map_err(PageError::Device)
 }
 
-// Writes each dirty page to the device.
 fn write_each_back<B: Copy, D: BlockDevice<B>, S: KeyHasher<u64>>(
     map: &Pages<B, S>,
     device: &mut D,
@@ -133,12 +120,10 @@ fn write_each_back<B: Copy, D: BlockDevice<B>, S: KeyHasher<u64>>(
     Ok(())
 }
 
-// Makes each page clean.
 pub(super) fn make_clean<B: Copy, S: KeyHasher<u64>>(map: &mut Pages<B, S>) {
     map.for_each_mut(|_, page| page.is_dirty = false);
 }
 
-// Adds a page, if there is memory for it.
 fn add_page<B: Copy, E, S: KeyHasher<u64>>(map: &mut Pages<B, S>, n: u64, page: Page<B>) -> Result<(), PageError<E>> {
     map.try_insert(n, page).map_err(|_| PageError::Memory)
 }

@@ -8,10 +8,9 @@ use crate::erased::lru_limits::accounts::Summing;
 use crate::rattle_std::hash::Hash;
 
 /// A limiter with a running total that keeps within a budget: a map is over the limit if and only if the total is above
-/// the budget. No callback changes the budget.
+/// the budget.
 ///
-/// Code that is generic over it makes a limiter from a budget, and sets another budget later. `ByCost` and `ByWeight`
-/// are such limiters.
+/// `ByCost` and `ByWeight` are such limiters.
 ///
 /// ```text
 /// let mut limiter = <ByCost as Budgeted<u64, u64>>::with_budget(3);
@@ -19,15 +18,13 @@ use crate::rattle_std::hash::Hash;
 /// assert_eq!(rt; Budgeted::<u64, u64>::budget(&limiter), 5);
 /// ```
 pub trait Budgeted<K: Eq + Hash, V>: Summing<K, V, K> {
-    /// Makes a limiter with a budget. Its running total is 0.
+    /// Makes a limiter with a budget, and a running total of 0.
     fn with_budget(budget: u64) -> Self;
 
-    /// Returns the budget.
     fn budget(&self) -> u64;
 
     /// Sets the budget. The running total stays, so a map may be over the limit then.
     fn set_budget(&mut self, budget: u64);
 
-    /// Returns whether the limiter accepts the entry of a new key, as `on_insert` would.
     fn has_room_for(&self, key: &K, value: &V) -> bool;
 }

@@ -1,5 +1,5 @@
 // Erased from crates/lru_limits/src/accounts/by_bytes.rt: do not edit.
-//! The limiter by the bytes of the table and of what the entries own, together.
+//! The limiter by the bytes of the table and of what the entries own.
 
 #[allow(unused_imports)]
 use crate::rattle_std::prelude::*;
@@ -90,7 +90,7 @@ impl ByBytes {
         self.owned
     }
 
-    /// Returns the bytes of the greatest table that the map may have: the one that the limiter permitted last.
+    /// Returns the bytes of the table that the limiter permitted last.
     ///
     /// ```text
     /// assert_eq!(rt; limiter.table(), 152);
@@ -99,14 +99,12 @@ impl ByBytes {
         self.table
     }
 
-    // Returns the bytes that entries may own beside the table.
     #[inline]
     const fn left(&self) -> u64 {
         self.limit.saturating_sub(self.table)
     }
 }
 
-// Returns the bytes that an entry owns.
 #[inline]
 fn bytes_of_pair<K: OwnedBytes, V: OwnedBytes>(key: &K, value: &V) -> u64 {
     key.owned_bytes().saturating_add(value.owned_bytes())

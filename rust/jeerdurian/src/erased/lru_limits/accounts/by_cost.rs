@@ -31,7 +31,7 @@ pub struct ByCost {
 }
 
 impl ByCost {
-    /// Makes a limiter with this limit. Its sum is 0 so far.
+    /// Makes a limiter with this limit.
     ///
     /// ```text
     /// let mut limiter = ByCost::new(3);

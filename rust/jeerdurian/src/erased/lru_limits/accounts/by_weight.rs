@@ -14,9 +14,8 @@ use crate::rattle_std::hash::Hash;
 /// Limits the sum of the costs of the entries: of each key, of its value, and `OVERHEAD` for the entry itself. A
 /// contract sees it as its limit and that sum.
 ///
-/// So entries without cost of their own cannot fill the memory. It rejects what [`crate::ByCost`] rejects: an entry or
-/// a replacement that costs more than the limit alone, or that would take the sum past `u64::MAX`. An entry costs at
-/// most `u64::MAX`.
+/// It rejects what [`crate::ByCost`] rejects: an entry or a replacement that costs more than the limit alone, or that
+/// would take the sum past `u64::MAX`. An entry costs at most `u64::MAX`.
 ///
 /// ```text
 /// let mut limiter: ByWeight<16> = ByWeight::new(100);
@@ -33,7 +32,7 @@ pub struct ByWeight<const OVERHEAD: u64> {
 }
 
 impl<const OVERHEAD: u64> ByWeight<OVERHEAD> {
-    /// Makes a limiter with this limit. Its sum is 0 so far.
+    /// Makes a limiter with this limit.
     ///
     /// ```text
     /// let mut limiter: ByWeight<16> = ByWeight::new(100);
@@ -73,7 +72,6 @@ impl<const OVERHEAD: u64> ByWeight<OVERHEAD> {
     }
 }
 
-// Returns the cost of an entry.
 #[inline]
 fn cost_of_pair<K: Costed, V: Costed>(overhead: u64, key: &K, value: &V) -> u64 {
     key.cost().saturating_add(value.cost()).saturating_add(overhead)

@@ -21,13 +21,11 @@ pub trait OwnedBytes {
     fn owned_bytes(&self) -> u64;
 }
 
-// Returns what a block of `bytes` bytes takes from the allocator.
 #[inline]
 fn block_bytes(bytes: u64) -> u64 {
     if bytes == 0 { 0 } else { bytes.saturating_add(31) / 16 * 16 }
 }
 
-// Returns how many bytes a value takes where it is stored.
 #[inline]
 fn bytes_of<T>() -> usize {
     size_of::<T>()
@@ -104,7 +102,6 @@ impl OwnedBytes for char {
     }
 }
 
-/// A text owns its block, however much of it is in use.
 impl OwnedBytes for String {
     #[inline]
     fn owned_bytes(&self) -> u64 {
@@ -112,7 +109,6 @@ impl OwnedBytes for String {
     }
 }
 
-/// A vector owns its block, however much of it is in use, and what its items own.
 impl<T: OwnedBytes> OwnedBytes for Vec<T> {
     fn owned_bytes(&self) -> u64 {
         let mut sum = block_bytes((self.capacity() as u64).saturating_mul(bytes_of::<T>() as u64));
@@ -123,7 +119,6 @@ impl<T: OwnedBytes> OwnedBytes for Vec<T> {
     }
 }
 
-/// A box owns its block, and what its value owns.
 impl<T: OwnedBytes> OwnedBytes for Box<T> {
     #[inline]
     fn owned_bytes(&self) -> u64 {
@@ -132,7 +127,6 @@ impl<T: OwnedBytes> OwnedBytes for Box<T> {
     }
 }
 
-/// A pair owns what its two values own.
 impl<A: OwnedBytes, B: OwnedBytes> OwnedBytes for (A, B) {
     #[inline]
     fn owned_bytes(&self) -> u64 {
@@ -140,7 +134,6 @@ impl<A: OwnedBytes, B: OwnedBytes> OwnedBytes for (A, B) {
     }
 }
 
-/// An option owns what its value owns.
 impl<T: OwnedBytes> OwnedBytes for Option<T> {
     #[inline]
     fn owned_bytes(&self) -> u64 {

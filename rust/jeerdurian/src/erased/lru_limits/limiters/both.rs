@@ -15,7 +15,7 @@ use crate::rattle_std::hash::Hash;
 ///
 /// A map is over the limit if it is over either limit, and its table may grow if both permit it. An entry is stored,
 /// and a value replaced, if both accept it. If either rejects it, neither changes. Both are notified of each entry that
-/// is evicted or removed: the second gets the key and the value with what the first wrote to them.
+/// is evicted or removed: the second gets it with what the first wrote.
 ///
 /// `Both` uses the links of the first limiter. If the first has a running total, so has `Both`: put the limiter by a
 /// cost first. `map.limiter().0` is the first limiter.

@@ -42,6 +42,7 @@ impl ByLength {
     /// Returns the limit.
     ///
     /// ```text
+    /// let limiter = ByLength::new(3);
     /// assert_eq!(rt; limiter.max_length(), 3);
     /// ```
     pub const fn max_length(&self) -> u32 {
@@ -49,7 +50,6 @@ impl ByLength {
     }
 }
 
-/// As `ByLength::new`.
 impl From<u32> for ByLength {
     fn from(max_length: u32) -> ByLength {
         ByLength::new(max_length)

@@ -48,7 +48,6 @@ impl ByMemoryUsage {
     }
 }
 
-/// As `ByMemoryUsage::new`.
 impl From<usize> for ByMemoryUsage {
     fn from(max_bytes: usize) -> ByMemoryUsage {
         ByMemoryUsage::new(max_bytes)

@@ -10,7 +10,7 @@ use crate::erased::lru_limits::limiter::{Insertion, Limiter};
 use crate::rattle_std::alloc::{AllocError, Global};
 use crate::rattle_std::hash::Hash;
 
-/// Limits nothing: a map under it is an ordered hash map. Only memory bounds the number of its entries.
+/// Limits nothing: a map under it is an ordered hash map.
 ///
 /// ```text
 /// assert!(rt; !Limiter::<u64, u64>::is_over_the_limit(&Unlimited, usize::MAX));

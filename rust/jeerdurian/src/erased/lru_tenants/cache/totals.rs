@@ -13,8 +13,6 @@ use crate::rattle_std::hash::Hash;
 impl<N: Eq + Hash, K: Eq + Hash, V, L: Budgeted<K, V>, S: KeyHasher<K> + Copy> TenantCache<N, K, V, L, S> {
     /// Sets what the budgets of all tenants add up to at most, or that nothing limits their sum.
     ///
-    /// `open` and `set_budget` return `OverTotal` if the sum would be above the limit. A cache begins without a limit.
-    ///
     /// ```text
     /// assert_eq!(rt; cache.set_total_limit(Some(5)), Ok(()));
     /// assert_eq!(rt; cache.open(2, 3), Err(TenantError::OverTotal));
@@ -24,7 +22,7 @@ impl<N: Eq + Hash, K: Eq + Hash, V, L: Budgeted<K, V>, S: KeyHasher<K> + Copy> T
     ///
     /// # Errors
     ///
-    /// `OverTotal`: the sum is above the limit. Nothing has changed, so the old limit stays.
+    /// `OverTotal`: the sum is above the limit.
     pub fn set_total_limit(&mut self, limit: Option<u64>) -> Result<(), TenantError> {
         if is_above(limit, self.budgets) {
             return Err(TenantError::OverTotal);
@@ -56,8 +54,7 @@ impl<N: Eq + Hash, K: Eq + Hash, V, L: Budgeted<K, V>, S: KeyHasher<K> + Copy> T
         self.budgets
     }
 
-    /// Returns the sum of the costs of the entries of all tenants. It is at most the sum of their budgets, and so at
-    /// most the total limit, if there is one.
+    /// Returns the sum of the costs of the entries of all tenants.
     ///
     /// ```text
     /// assert_eq!(rt; (cache.total_cost(), cache.total_budget()), (2, 3));
@@ -73,7 +70,6 @@ impl<N: Eq + Hash, K: Eq + Hash, V, L: Budgeted<K, V>, S: KeyHasher<K> + Copy> T
     }
 }
 
-// Whether a sum is above the limit, if there is one.
 pub(super) fn is_above(limit: Option<u64>, sum: u128) -> bool {
     match limit {
         Some(most) => sum > most as u128,

@@ -16,7 +16,7 @@ pub(crate) struct Chain<K, V, N> {
 }
 
 impl<K, V, N: LinkType> Chain<K, V, N> {
-    // Takes a bucket out of the chain. Its entry stays in the table, with its own links unchanged.
+    // Takes a bucket out of the chain.
     #[inline]
     pub(crate) fn unlink(&mut self, b: usize) {
         let entry = self.table.get(b);
@@ -24,8 +24,8 @@ impl<K, V, N: LinkType> Chain<K, V, N> {
         self.close_gap(newer, older, false);
     }
 
-    // Links the neighbours of a bucket with these links to each other. Its entry may be gone from the table already. If
-    // the bucket is known to be the oldest (`last`), its older link is not read.
+    // Its entry may be gone from the table already. If the bucket is known to be the oldest (`last`), its older link is
+    // not read.
     #[inline]
     pub(crate) fn close_gap(&mut self, newer: N, older: N, last: bool) {
         if last {
@@ -37,14 +37,12 @@ impl<K, V, N: LinkType> Chain<K, V, N> {
         }
     }
 
-    // Returns whether a link leads to a bucket. It compares the link with the number of buckets, and not with `MAX`:
-    // that takes one instruction less.
+    // It compares the link with the number of buckets, and not with `MAX`: that takes one instruction less.
     #[inline]
     pub(crate) fn leads(&self, link: N) -> bool {
         self.table.has_bucket(link.into_usize())
     }
 
-    // Puts a bucket that is in no chain in front of this chain, which is not empty.
     #[inline]
     pub(crate) fn link_newest(&mut self, b: usize) {
         let first = self.newest;
@@ -54,7 +52,6 @@ impl<K, V, N: LinkType> Chain<K, V, N> {
         self.newest = link;
     }
 
-    // Puts a bucket that is in no chain at the end of this chain, which is not empty.
     pub(crate) fn link_oldest(&mut self, b: usize) {
         let last = self.oldest;
         let link = N::from_usize(b);
@@ -72,7 +69,6 @@ impl<K, V, N: LinkType> Chain<K, V, N> {
         self.newest = link;
     }
 
-    // Sets the newer link of the entry at a link, or the oldest end, if the link is `MAX`.
     #[inline]
     fn set_newer(&mut self, at: N, to: N) {
         if self.leads(at) {
@@ -82,7 +78,6 @@ impl<K, V, N: LinkType> Chain<K, V, N> {
         }
     }
 
-    // Sets the older link of the entry at a link, or the newest end, if the link is `MAX`.
     #[inline]
     fn set_older(&mut self, at: N, to: N) {
         if self.leads(at) {
@@ -105,19 +100,16 @@ impl<K, V, N: LinkType> Chain<K, V, N> {
     }
 }
 
-// Writes the newer link of the entry at a link that leads to a full bucket.
 #[inline]
 fn write_newer<K, V, N: LinkType>(table: &mut Table<Entry<K, V, N>>, at: N, to: N) {
     table.get_mut(at.into_usize()).newer = to;
 }
 
-// Writes the older link of the entry at a link that leads to a full bucket.
 #[inline]
 fn write_older<K, V, N: LinkType>(table: &mut Table<Entry<K, V, N>>, at: N, to: N) {
     table.get_mut(at.into_usize()).older = to;
 }
 
-// Sets both links of the entry in a full bucket.
 #[inline]
 fn set_links<K, V, N: LinkType>(table: &mut Table<Entry<K, V, N>>, b: usize, newer: N, older: N) {
     let entry = table.get_mut(b);
@@ -125,7 +117,6 @@ fn set_links<K, V, N: LinkType>(table: &mut Table<Entry<K, V, N>>, b: usize, new
     entry.older = older;
 }
 
-// Rewrites the links of an entry to where its neighbours have moved.
 #[inline]
 fn move_links<K, V, N: LinkType>(table: &mut Table<Entry<K, V, N>>, b: usize, links: &[N]) {
     let entry = table.get_mut(b);
@@ -133,13 +124,11 @@ fn move_links<K, V, N: LinkType>(table: &mut Table<Entry<K, V, N>>, b: usize, li
     entry.older = moved_link(links, entry.older);
 }
 
-// Returns the link to where the bucket of a link has moved.
 #[inline]
 fn moved_link<N: LinkType>(links: &[N], link: N) -> N {
     if is_max(link) { link } else { (*at!(links, link.into_usize())) }
 }
 
-// Returns whether a link is `MAX`, which leads to no bucket.
 #[inline]
 fn is_max<N: LinkType>(link: N) -> bool {
     link.into_usize() == N::MAX.into_usize()

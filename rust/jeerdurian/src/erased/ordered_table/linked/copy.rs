@@ -11,8 +11,6 @@ use crate::erased::ordered_table::ordered::Pair;
 use crate::rattle_std::alloc::AllocError;
 
 impl<K, V, N: LinkType> LinkedTable<K, V, N> {
-    // Clones the pairs, into buckets of the same numbers and in the same order. The links are copied with the entries.
-    //
     // Cost: `O(buckets)`, and a clone of each key and value.
     //
     // # Errors

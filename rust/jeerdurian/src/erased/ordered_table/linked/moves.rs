@@ -11,10 +11,9 @@ use crate::rattle_std::alloc::AllocError;
 use crate::rattle_std::hash::{BuildHasher, Hash};
 
 impl<K: Eq + Hash, V, N: LinkType> LinkedTable<K, V, N> {
-    // Moves all pairs into a table of `buckets` buckets, in the same order. If the table has that many buckets already,
-    // the pairs are rehashed in place.
+    // If the table has that many buckets already, the pairs are rehashed in place.
     //
-    // Cost: `O(buckets)` of both tables, and a hash for each pair.
+    // `O(buckets)` of both tables, and a hash for each pair.
     //
     // # Errors
     //
@@ -27,8 +26,6 @@ impl<K: Eq + Hash, V, N: LinkType> LinkedTable<K, V, N> {
     }
 }
 
-// Moves the entries into a table of `buckets` buckets, or rehashes them in this one, if it has as many. Returns where
-// each is now.
 fn renumber_entries<K: Eq + Hash, V, N: LinkType, S: BuildHasher>(
     table: &mut Table<Entry<K, V, N>>,
     buckets: usize,

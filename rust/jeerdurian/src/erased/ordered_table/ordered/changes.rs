@@ -1,6 +1,5 @@
 // Erased from crates/ordered_table/src/ordered/changes.rt: do not edit.
-//! The calls that change the order of an `OrderedTable`, or its buckets. Each first lets the links show the last
-//! promotion.
+//! The calls that change the order of an `OrderedTable`, or its buckets.
 
 #[allow(unused_imports)]
 use crate::rattle_std::prelude::*;
@@ -22,7 +21,7 @@ impl<K, V, N: LinkType> OrderedTable<K, V, N> {
         self.linked.place(hash, pair);
     }
 
-    /// The same for any table.
+    /// As `place`, for any table.
     ///
     /// # Errors
     ///
@@ -51,24 +50,22 @@ impl<K, V, N: LinkType> OrderedTable<K, V, N> {
 
     /// Makes the pair in a full bucket the oldest.
     ///
-    /// Cost: `O(1)`.
+    /// `O(1)`.
     pub fn demote(&mut self, b: usize) {
         settle(&mut self.linked, &mut self.promoted);
         self.linked.demote(b);
     }
 
-    /// Takes the pair out of a full bucket.
-    ///
-    /// Cost: `O(1)`.
+    /// Cost:
     #[inline(always)]
     pub fn take(&mut self, b: usize) -> (K, V) {
         settle(&mut self.linked, &mut self.promoted);
         self.linked.take(b, false)
     }
 
-    /// Takes the oldest pair out of a table that is not empty. Its older link is not read.
+    /// Its older link is not read.
     ///
-    /// Cost: `O(1)`.
+    /// `O(1)`.
     #[inline(always)]
     pub fn take_oldest(&mut self) -> (K, V) {
         settle(&mut self.linked, &mut self.promoted);
@@ -78,9 +75,9 @@ impl<K, V, N: LinkType> OrderedTable<K, V, N> {
 }
 
 impl<K, V, N: LinkType> OrderedTable<K, V, N> {
-    /// Drops all pairs. The buckets stay, and are empty.
+    /// The buckets stay, and are empty.
     ///
-    /// Cost: `O(buckets)`.
+    /// Cost:
     pub fn clear(&mut self) {
         self.promoted = None;
         self.linked.clear();
@@ -104,7 +101,7 @@ impl<K: Eq + Hash, V, N: LinkType> OrderedTable<K, V, N> {
 }
 
 impl<K, V, N: LinkType> OrderedTable<K, V, N> {
-    /// Clones the pairs, into buckets of the same numbers and in the same order. The links are copied with the entries.
+    /// Clones the pairs, into buckets of the same numbers and in the same order.
     ///
     /// Cost: `O(buckets)`, and a clone of each key and value.
     ///

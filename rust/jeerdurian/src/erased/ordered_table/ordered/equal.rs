@@ -1,6 +1,4 @@
 // Erased from crates/ordered_table/src/ordered/equal.rt: do not edit.
-//! Equal tables: the same pairs in the same order.
-
 #[allow(unused_imports)]
 use crate::rattle_std::prelude::*;
 

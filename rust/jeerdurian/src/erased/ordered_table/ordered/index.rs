@@ -1,6 +1,4 @@
 // Erased from crates/ordered_table/src/ordered/index.rt: do not edit.
-//! The buckets by their index in the order.
-
 #[allow(unused_imports)]
 use crate::rattle_std::prelude::*;
 
@@ -26,7 +24,6 @@ impl<K, V, N: LinkType> OrderedTable<K, V, N> {
     ///
     /// Cost: `O(index)`.
     pub fn index_of(&self, b: usize) -> usize {
-        // Nothing at run time: it shows the proof that an index fits.
         let _ = self.len();
         let first = self.newest();
         let mut at = b;

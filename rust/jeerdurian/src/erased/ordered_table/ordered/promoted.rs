@@ -1,6 +1,5 @@
 // Erased from crates/ordered_table/src/ordered/promoted.rt: do not edit.
-//! The order of a table in which the bucket `promoted`, if there is one, is the newest. Its links may still show it
-//! elsewhere.
+//! Its links may still show it elsewhere.
 
 #[allow(unused_imports)]
 use crate::rattle_std::prelude::*;
@@ -8,7 +7,6 @@ use crate::rattle_std::prelude::*;
 use crate::erased::group_table::LinkType;
 use crate::erased::ordered_table::linked::LinkedTable;
 
-// Returns the bucket of the newest pair of a table that is not empty.
 #[inline]
 pub(crate) fn newest<K, V, N: LinkType>(table: &LinkedTable<K, V, N>, promoted: Option<usize>) -> usize {
     match promoted {
@@ -17,7 +15,6 @@ pub(crate) fn newest<K, V, N: LinkType>(table: &LinkedTable<K, V, N>, promoted: 
     }
 }
 
-// Returns the bucket of the oldest pair of a table that is not empty.
 #[inline]
 pub(crate) fn oldest<K, V, N: LinkType>(table: &LinkedTable<K, V, N>, promoted: Option<usize>) -> usize {
     let b = table.oldest();
@@ -34,8 +31,6 @@ pub(crate) fn oldest<K, V, N: LinkType>(table: &LinkedTable<K, V, N>, promoted: 
     }
 }
 
-// Returns the bucket after a full one in the order, towards the oldest. For the last bucket of the order, the number
-// says nothing.
 #[inline]
 pub(crate) fn older_unless_last<K, V, N: LinkType>(
     table: &LinkedTable<K, V, N>,
@@ -51,8 +46,6 @@ pub(crate) fn older_unless_last<K, V, N: LinkType>(
     }
 }
 
-// Returns the bucket before a full one in the order, towards the newest. For the first bucket of the order, the number
-// says nothing.
 #[inline]
 pub(crate) fn newer_unless_first<K, V, N: LinkType>(
     table: &LinkedTable<K, V, N>,
@@ -72,7 +65,7 @@ pub(crate) fn newer_unless_first<K, V, N: LinkType>(
     }
 }
 
-// Makes the promoted bucket, if there is one, the newest by the links, too. Afterwards no promotion waits.
+// Makes the promoted bucket, if there is one, the newest by the links, too.
 #[inline(always)]
 pub(crate) fn settle<K, V, N: LinkType>(table: &mut LinkedTable<K, V, N>, promoted: &mut Option<usize>) {
     if let Some(b) = *promoted {

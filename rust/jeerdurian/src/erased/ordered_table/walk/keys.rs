@@ -1,6 +1,4 @@
 // Erased from crates/ordered_table/src/walk/keys.rt: do not edit.
-//! Walking the keys or the values of a table in their order.
-
 #[allow(unused_imports)]
 use crate::rattle_std::prelude::*;
 
@@ -81,7 +79,6 @@ impl<'a, K, V, N: LinkType> Iterator for Values<'a, K, V, N> {
         }
     }
 
-    /// Returns exactly how many values are left, as `len` does.
     fn size_hint(&self) -> (usize, Option<usize>) {
         self.walk.size_hint()
     }
@@ -104,7 +101,6 @@ impl<'a, K, V, N: LinkType> ExactSizeIterator for Values<'a, K, V, N> {
 
 impl<'a, K, V, N: LinkType> FusedIterator for Values<'a, K, V, N> {}
 
-/// The clone returns the values that are left. Cost: `O(1)`, and no memory.
 impl<'a, K, V, N: LinkType> Clone for Values<'a, K, V, N> {
     fn clone(&self) -> Self {
         let made = || -> Result<Values<'a, K, V, N>, AllocError> { Ok(Values { walk: self.walk.try_clone()? }) };

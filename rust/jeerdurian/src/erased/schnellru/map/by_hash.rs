@@ -37,6 +37,7 @@ impl<K: Eq + Hash, V, L: Limiter<K, V>, S: KeyHasher<K>> LruMap<K, V, L, S> {
     /// it.
     ///
     /// ```text
+    /// let hash = RandomState::default().hash_one(&1u64);
     /// assert_eq!(rt; map.peek_by_hash(hash, |_, value| *value == 10).copied(), Some(10));
     /// ```
     ///
@@ -53,6 +54,7 @@ impl<K: Eq + Hash, V, L: Limiter<K, V>, S: KeyHasher<K>> LruMap<K, V, L, S> {
     /// what is written. `is_eq` is called as `get_by_hash` calls it.
     ///
     /// ```text
+    /// let hash = RandomState::default().hash_one(&1u64);
     /// if let Some(value) = map.peek_by_hash_mut(hash, |key, _| *key == 1) {
     ///     *value = 100;
     /// }
@@ -68,7 +70,6 @@ impl<K: Eq + Hash, V, L: Limiter<K, V>, S: KeyHasher<K>> LruMap<K, V, L, S> {
         Some(self.value_in_mut(b))
     }
 
-    // Returns the bucket of the entry that `is_eq` accepts, if there is one.
     #[inline]
     fn find_by<F: FnMut(&K, &V) -> bool>(&self, hash: u64, is_eq: F) -> Option<usize> {
         self.entries.find_by(hash, is_eq)

@@ -39,8 +39,7 @@ impl<K: Eq + Hash, V, L: Limiter<K, V>, S: KeyHasher<K>> LruMap<K, V, L, S> {
 
     /// Returns how many entries the table holds for sure without growing: its entries and its growth left.
     ///
-    /// It does not depend on the limiter. It may fall when an entry is removed from a table of more than 16 buckets.
-    /// Cost: `O(1)`.
+    /// It may fall when an entry is removed from a table of more than 16 buckets. Cost: `O(1)`.
     ///
     /// ```text
     /// let mut map: LruMap<u64, u64, UnlimitedCompact> = LruMap::default(alloc);
@@ -94,7 +93,7 @@ impl<K: Eq + Hash, V, L: Limiter<K, V>, S: KeyHasher<K>> LruMap<K, V, L, S> {
     /// Returns the limiter. Cost: `O(1)`.
     ///
     /// ```text
-    /// let old = map.set_limiter(ByLength::new(1));
+    /// map.set_limiter(ByLength::new(1));
     /// assert_eq!(rt; map.limiter().max_length(), 1);
     /// ```
     ///
@@ -108,9 +107,10 @@ impl<K: Eq + Hash, V, L: Limiter<K, V>, S: KeyHasher<K>> LruMap<K, V, L, S> {
     /// ```text
     /// let hash = map.hasher().hash_named(&5);
     /// let inserted = map.insert_hashed(hash, 5, 50, &mut |_, _| {})?;
+    /// assert!(rt; inserted.kept);
     /// ```
     ///
-    /// After std's `HashMap::hasher`; schnellru has no such call.
+    /// After std's `HashMap::hasher`.
     pub fn hasher(&self) -> &S {
         &self.hasher
     }
@@ -138,19 +138,16 @@ impl<K: Eq + Hash, V, L: Limiter<K, V>, S: KeyHasher<K>> LruMap<K, V, L, S> {
 }
 
 impl<K: Eq + Hash, V, L: Limiter<K, V>, S: KeyHasher<K>> LruMap<K, V, L, S> {
-    // Returns the number of buckets, all of which links reach.
     #[inline]
     pub(super) fn bucket_count(&self) -> usize {
         self.entries.buckets()
     }
 
-    // Returns how many entries the table takes before it is rehashed or grows.
     #[inline]
     pub(super) fn growth_left(&self) -> usize {
         self.entries.room()
     }
 
-    // Returns whether the limiter is over its limit.
     #[inline]
     pub(super) fn is_over_the_limit(&self) -> bool {
         self.limiter.is_over_the_limit(self.entries.len())

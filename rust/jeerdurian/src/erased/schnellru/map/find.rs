@@ -11,44 +11,36 @@ use crate::erased::schnellru::map::remove::take_out;
 use crate::rattle_std::hash::Hash;
 
 impl<K: Eq + Hash, V, L: Limiter<K, V>, S: KeyHasher<K>> LruMap<K, V, L, S> {
-    // Returns the bucket of the pair of a key, if the key is there. `inline(always)`: in a program with many look-ups
-    // the compiler would not inline it.
     #[inline(always)]
     pub(crate) fn find<Q: LookupKey<K>>(&self, key: &Q) -> Option<usize> {
         self.find_hashed(self.hasher.hash_named(key), key)
     }
 
-    // The same with the hash of the key.
     #[inline]
     pub(super) fn find_hashed<Q: LookupKey<K>>(&self, hash: u64, key: &Q) -> Option<usize> {
         self.entries.find(hash, key)
     }
 
-    // Returns the pair in a bucket.
     #[inline]
     pub(super) fn pair_in(&self, b: usize) -> &Pair<K, V> {
         self.entries.pair(b)
     }
 
-    // Lends the value in a bucket for writing.
     #[inline]
     pub(super) fn value_in_mut(&mut self, b: usize) -> &mut V {
         &mut self.entries.pair_mut(b).value
     }
 
-    // Makes the pair in a bucket the newest.
     #[inline]
     pub(super) fn promote_at(&mut self, b: usize) {
         self.entries.promote(b);
     }
 
-    // Makes the pair in a bucket the oldest.
     #[inline]
     pub(super) fn demote_at(&mut self, b: usize) {
         self.entries.demote(b);
     }
 
-    // Takes out the pair in a bucket, and notifies the limiter. Returns what the limiter leaves of the pair.
     #[inline]
     pub(super) fn take_at(&mut self, b: usize) -> (K, V) {
         take_out(&mut self.entries, &mut self.limiter, b)

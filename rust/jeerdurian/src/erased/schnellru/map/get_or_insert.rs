@@ -11,15 +11,13 @@ use crate::erased::schnellru::map::remove::discard;
 use crate::rattle_std::alloc::AllocError;
 use crate::rattle_std::hash::Hash;
 
-// Why no value is lent: the key is not there, or something failed.
-
 pub(crate) enum NotLent<E> {
     NotKept,
     Failed(E),
 }
 
-// `kept_or_error` and `kept_or` do the same for two types of error. They are two functions because their callers are
-// proved by hand: a call whose type argument is `AllocError`, and no type parameter, would need a longer proof.
+// They are two functions because their callers are proved by hand: a call whose type argument is `AllocError`, and no
+// type parameter, would need a longer proof.
 fn kept_or_error<V, E>(
     lent: Result<&mut V, NotLent<GetOrInsertError<E>>>,
 ) -> Result<Option<&mut V>, GetOrInsertError<E>> {
@@ -40,10 +38,9 @@ fn kept_or<V>(lent: Result<&mut V, NotLent<AllocError>>) -> Result<Option<&mut V
 
 impl<K: Eq + Hash, V, L: Limiter<K, V>, S: KeyHasher<K>> LruMap<K, V, L, S> {
     /// Makes the entry of a key the newest. If the key is not there, inserts it with the value that the closure
-    /// returns. Returns whether the key is in the map then.
+    /// returns, as `insert` does. Returns whether the key is in the map then.
     ///
-    /// The key is looked up once. If it is there, the closure is not called and the limiter is not notified. Otherwise
-    /// the entry is inserted as `insert` inserts it. Then `newest_mut` lends the value.
+    /// Then `newest_mut` lends the value.
     ///
     /// ```text
     /// if map.ensure_newest(1, || 0)? {
@@ -58,13 +55,10 @@ impl<K: Eq + Hash, V, L: Limiter<K, V>, S: KeyHasher<K>> LruMap<K, V, L, S> {
     /// # Errors
     ///
     /// Fails as `insert` does, after the closure was called.
-    ///
-    /// schnellru has no such call.
     pub fn ensure_newest<I: LookupKey<K>, F: FnOnce() -> V>(&mut self, key: I, make: F) -> Result<bool, AllocError>
     where
         L: Insertion<K, V, I>,
     {
-        // Nothing at run time: it opens the map, whose invariant is the clause `map`.
         let _ = &self.entries;
         let answer = self.make_newest(key, make);
         let _ = &self.entries;
@@ -88,7 +82,6 @@ impl<K: Eq + Hash, V, L: Limiter<K, V>, S: KeyHasher<K>> LruMap<K, V, L, S> {
     // Lends the newest value, if `kept` says that the key is there.
     #[inline]
     fn lend_if_kept<E>(&mut self, kept: Result<bool, E>) -> Result<&mut V, NotLent<E>> {
-        // Nothing at run time: it opens the map, whose invariant the clause speaks of.
         let _ = &self.entries;
         match kept {
             Ok(true) => Ok(self.newest_value_mut()),
@@ -97,7 +90,6 @@ impl<K: Eq + Hash, V, L: Limiter<K, V>, S: KeyHasher<K>> LruMap<K, V, L, S> {
         }
     }
 
-    // What `get_or_insert` lends, in a form whose contract reaches a caller's proof.
     pub(crate) fn lend_or_insert<I: LookupKey<K>, F: FnOnce() -> V>(
         &mut self,
         key: I,
@@ -113,9 +105,9 @@ impl<K: Eq + Hash, V, L: Limiter<K, V>, S: KeyHasher<K>> LruMap<K, V, L, S> {
     /// Lends the value of a key for writing. If the key is not there, inserts it with the value that the closure
     /// returns.
     ///
-    /// If the key is there, the closure is not called, its entry becomes the newest, and the limiter is not notified.
-    /// `None` says that the new entry is not in the map, as `false` says it of `insert`. The prover carries no contract
-    /// on this type of result into a caller's proof; write `ensure_newest` and `newest_mut` there.
+    /// If the key is there, the closure is not called, and its entry becomes the newest. `None` says that the new entry
+    /// is not in the map, as `false` says it of `insert`. The prover carries no contract on this type of result into a
+    /// caller's proof; write `ensure_newest` and `newest_mut` there.
     ///
     /// ```text
     /// assert_eq!(rt; map.get_or_insert(1, || 10)?.copied(), Some(10));
@@ -141,8 +133,7 @@ impl<K: Eq + Hash, V, L: Limiter<K, V>, S: KeyHasher<K>> LruMap<K, V, L, S> {
         kept_or(lent)
     }
 
-    /// The same as `ensure_newest` with a closure that may fail. If it fails, nothing has changed. Cost: as
-    /// `ensure_newest`.
+    /// As `ensure_newest`, with a closure that may fail. If it fails, nothing has changed. Cost: as `ensure_newest`.
     ///
     /// ```text
     /// assert!(rt; map.ensure_newest_fallible(4, || Err(7u8)).is_err());
@@ -153,10 +144,8 @@ impl<K: Eq + Hash, V, L: Limiter<K, V>, S: KeyHasher<K>> LruMap<K, V, L, S> {
     ///
     /// # Errors
     ///
-    /// `Caller` contains the error of the closure; nothing has changed then. `Memory`: the closure was called, and the
-    /// insert failed as `insert` does. The oldest entries may have been evicted.
-    ///
-    /// schnellru has no such call.
+    /// `Caller` contains the error of the closure. `Memory`: the closure was called, and the insert failed as `insert`
+    /// does. The oldest entries may have been evicted.
     pub fn ensure_newest_fallible<I: LookupKey<K>, E, F: FnOnce() -> Result<V, E>>(
         &mut self,
         key: I,
@@ -165,7 +154,6 @@ impl<K: Eq + Hash, V, L: Limiter<K, V>, S: KeyHasher<K>> LruMap<K, V, L, S> {
     where
         L: Insertion<K, V, I>,
     {
-        // Nothing at run time: it opens the map, whose invariant is the clause `map`.
         let _ = &self.entries;
         let answer = self.make_newest_if_made(key, make);
         let _ = &self.entries;
@@ -199,7 +187,6 @@ impl<K: Eq + Hash, V, L: Limiter<K, V>, S: KeyHasher<K>> LruMap<K, V, L, S> {
         }
     }
 
-    // What `get_or_insert_fallible` lends, in a form whose contract reaches a caller's proof.
     pub(crate) fn lend_or_insert_fallible<I: LookupKey<K>, E, F: FnOnce() -> Result<V, E>>(
         &mut self,
         key: I,
@@ -212,8 +199,7 @@ impl<K: Eq + Hash, V, L: Limiter<K, V>, S: KeyHasher<K>> LruMap<K, V, L, S> {
         self.lend_if_kept(kept)
     }
 
-    /// The same as `get_or_insert` with a closure that may fail. If it fails, nothing has changed. Cost: as
-    /// `get_or_insert`.
+    /// As `get_or_insert`, with a closure that may fail. If it fails, nothing has changed. Cost: as `get_or_insert`.
     ///
     /// ```text
     /// assert!(rt; map.get_or_insert_fallible(5, || Err(7u8)).is_err());
@@ -223,8 +209,8 @@ impl<K: Eq + Hash, V, L: Limiter<K, V>, S: KeyHasher<K>> LruMap<K, V, L, S> {
     ///
     /// # Errors
     ///
-    /// `Caller` contains the error of the closure; nothing has changed then. `Memory`: the closure was called, and the
-    /// insert failed as `insert` does. The oldest entries may have been evicted.
+    /// `Caller` contains the error of the closure. `Memory`: the closure was called, and the insert failed as `insert`
+    /// does. The oldest entries may have been evicted.
     ///
     /// After schnellru's `LruMap::get_or_insert_fallible`.
     pub fn get_or_insert_fallible<I: LookupKey<K>, E, F: FnOnce() -> Result<V, E>>(

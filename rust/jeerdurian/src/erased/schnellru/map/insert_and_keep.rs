@@ -26,8 +26,6 @@ impl<K: Eq + Hash, V, L: Limiter<K, V>, S: KeyHasher<K>> LruMap<K, V, L, S> {
     ///
     /// Out of memory for the returned entries: nothing has changed, and the key and the value are dropped. An insert
     /// that runs out of memory itself returns its error as the first of the two results.
-    ///
-    /// schnellru has no such call.
     pub fn insert_and_keep<I: LookupKey<K>>(
         &mut self,
         key: I,
@@ -36,7 +34,6 @@ impl<K: Eq + Hash, V, L: Limiter<K, V>, S: KeyHasher<K>> LruMap<K, V, L, S> {
     where
         L: Insertion<K, V, I>,
     {
-        // Nothing at run time: it shows the proof that there is memory for all that the callback gets.
         inserts_pass_few::<K, V, I, L, S>();
         let mut left = Vec::with_capacity(self.alloc, self.len() + 1)?;
         let done = self.insert_with(key, value, &mut |key, value| keep(&mut left, (key, value)));
@@ -44,7 +41,6 @@ impl<K: Eq + Hash, V, L: Limiter<K, V>, S: KeyHasher<K>> LruMap<K, V, L, S> {
     }
 }
 
-// Adds the pair. A vector without space would drop it, but `insert_and_keep` takes enough.
 fn keep<K, V>(pairs: &mut Vec<(K, V)>, pair: (K, V)) {
     if pairs.len() < pairs.capacity() {
         pairs.push_reserved(pair);

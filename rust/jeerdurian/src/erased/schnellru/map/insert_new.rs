@@ -1,6 +1,5 @@
 // Erased from crates/schnellru/src/map/insert_new.rt: do not edit.
-//! Inserting a key that is not there. If the limiter accepts it, the map stores the entry that the limiter returns.
-//! Nothing here requires `K: Drop` or `V: Drop`, so a body that forgets a pair does not compile.
+//! Inserting a key that is not there.
 
 #[allow(unused_imports)]
 use crate::rattle_std::prelude::*;
@@ -17,8 +16,6 @@ use crate::rattle_std::hash::Hash;
 const SMALL: usize = 32;
 
 impl<K: Eq + Hash, V, L: Limiter<K, V>, S: KeyHasher<K>> LruMap<K, V, L, S> {
-    // Inserts a key that is not there. The compiler knows the size of an entry, which `entry_bytes` of the table
-    // returns, so the program need not test it.
     #[inline(always)]
     pub(crate) fn insert_new<I: LookupKey<K>, F: FnMut(K, V)>(
         &mut self,
@@ -37,7 +34,6 @@ impl<K: Eq + Hash, V, L: Limiter<K, V>, S: KeyHasher<K>> LruMap<K, V, L, S> {
         }
     }
 
-    // The same, out of line.
     #[inline(never)]
     fn insert_by_call<I: LookupKey<K>, F: FnMut(K, V)>(
         &mut self,
@@ -52,7 +48,6 @@ impl<K: Eq + Hash, V, L: Limiter<K, V>, S: KeyHasher<K>> LruMap<K, V, L, S> {
         self.insert_in_line(hash, key, value, sink)
     }
 
-    // The same, in line.
     #[inline(always)]
     fn insert_in_line<I: LookupKey<K>, F: FnMut(K, V)>(
         &mut self,
@@ -86,8 +81,8 @@ impl<K: Eq + Hash, V, L: Limiter<K, V>, S: KeyHasher<K>> LruMap<K, V, L, S> {
         Ok(self.evict_over_limit(sink))
     }
 
-    // Stores the pair if there is no growth left. Then only a deleted bucket can take it, and this has to be tested.
-    // Out of line, so that other inserts need no such test.
+    // There is no growth left: only a deleted bucket can take the pair, and this has to be tested. Out of line, so that
+    // other inserts need no such test.
     #[cold]
     #[inline(never)]
     fn insert_without_growth<F: FnMut(K, V)>(

@@ -9,11 +9,10 @@ use crate::erased::schnellru::map::LruMap;
 use crate::rattle_std::hash::Hash;
 
 impl<K: Eq + Hash, V, L: Limiter<K, V>, S: KeyHasher<K>> LruMap<K, V, L, S> {
-    /// Lends the value of a key for writing, and makes its entry the newest. The limiter is not notified of what is
-    /// written.
+    /// Lends the value of a key for writing, and makes its entry the newest. `None` says that the key is not there. The
+    /// limiter is not notified of what is written.
     ///
-    /// `None` says that the key is not there, and nothing has changed. `String` keys are looked up by a `&str`, as
-    /// `map.get(&"a")`; `docs/LIMITERS.md` shows look-up keys of your own.
+    /// `String` keys are looked up by a `&str`, as `map.get(&"a")`; `docs/LIMITERS.md` shows look-up keys of your own.
     ///
     /// ```text
     /// if let Some(value) = map.get(&1) {
@@ -27,7 +26,6 @@ impl<K: Eq + Hash, V, L: Limiter<K, V>, S: KeyHasher<K>> LruMap<K, V, L, S> {
     /// After schnellru's `LruMap::get`.
     #[inline(always)]
     pub fn get<Q: LookupKey<K>>(&mut self, key: &Q) -> Option<&mut V> {
-        // `inline(always)`: with the search inside, the compiler would no longer inline this function.
         let b = self.find(key)?;
         self.promote_at(b);
         Some(self.value_in_mut(b))
@@ -35,8 +33,7 @@ impl<K: Eq + Hash, V, L: Limiter<K, V>, S: KeyHasher<K>> LruMap<K, V, L, S> {
 
     /// Returns the entry of a key, and makes it the newest.
     ///
-    /// The returned key is the stored one, which may differ from the equal one that is looked up. `None` says that the
-    /// key is not there, and nothing has changed.
+    /// The returned key is the stored one, which may differ from the equal one that is looked up.
     ///
     /// ```text
     /// assert!(rt; map.get_key_value(&1) == Some((&1, &10)));
@@ -45,7 +42,7 @@ impl<K: Eq + Hash, V, L: Limiter<K, V>, S: KeyHasher<K>> LruMap<K, V, L, S> {
     ///
     /// Cost: `O(1)` expected.
     ///
-    /// After `get_key_value` of the crate `lru`; schnellru has no such call.
+    /// After `get_key_value` of the crate `lru`.
     #[inline]
     pub fn get_key_value<Q: LookupKey<K>>(&mut self, key: &Q) -> Option<(&K, &V)> {
         let b = self.find(key)?;
@@ -54,7 +51,7 @@ impl<K: Eq + Hash, V, L: Limiter<K, V>, S: KeyHasher<K>> LruMap<K, V, L, S> {
         Some((&pair.key, &pair.value))
     }
 
-    /// Makes the entry of a key the newest, and returns whether the key is there. If it is not, nothing has changed.
+    /// Makes the entry of a key the newest, and returns whether the key is there.
     ///
     /// ```text
     /// assert!(rt; map.promote(&1) && !map.promote(&9));
@@ -63,7 +60,7 @@ impl<K: Eq + Hash, V, L: Limiter<K, V>, S: KeyHasher<K>> LruMap<K, V, L, S> {
     ///
     /// Cost: `O(1)` expected.
     ///
-    /// After `promote` of the crate `lru`; schnellru has no such call.
+    /// After `promote` of the crate `lru`.
     #[inline]
     pub fn promote<Q: LookupKey<K>>(&mut self, key: &Q) -> bool {
         match self.find(key) {
@@ -75,7 +72,7 @@ impl<K: Eq + Hash, V, L: Limiter<K, V>, S: KeyHasher<K>> LruMap<K, V, L, S> {
         }
     }
 
-    /// Makes the entry of a key the oldest, and returns whether the key is there. If it is not, nothing has changed.
+    /// Makes the entry of a key the oldest, and returns whether the key is there.
     ///
     /// The oldest entry is the next one to be evicted.
     ///
@@ -86,7 +83,7 @@ impl<K: Eq + Hash, V, L: Limiter<K, V>, S: KeyHasher<K>> LruMap<K, V, L, S> {
     ///
     /// Cost: `O(1)` expected.
     ///
-    /// After `demote` of the crate `lru`; schnellru has no such call.
+    /// After `demote` of the crate `lru`.
     pub fn demote<Q: LookupKey<K>>(&mut self, key: &Q) -> bool {
         match self.find(key) {
             Some(b) => {
@@ -110,14 +107,12 @@ impl<K: Eq + Hash, V, L: Limiter<K, V>, S: KeyHasher<K>> LruMap<K, V, L, S> {
     #[inline]
     pub fn newest_mut(&mut self) -> Option<&mut V> {
         if self.is_empty() {
-            // Nothing at run time: it opens the map, whose invariant the clause `map` needs.
             let _ = &self.entries;
             return None;
         }
         Some(self.newest_value_mut())
     }
 
-    // The same for a map with pairs.
     #[inline]
     pub(crate) fn newest_value_mut(&mut self) -> &mut V {
         let b = self.entries.newest();
@@ -132,7 +127,7 @@ impl<K: Eq + Hash, V, L: Limiter<K, V>, S: KeyHasher<K>> LruMap<K, V, L, S> {
     ///
     /// Cost: `O(1)` expected.
     ///
-    /// After `contains` of the crate `lru`; schnellru has no such call.
+    /// After `contains` of the crate `lru`.
     #[inline]
     pub fn contains<Q: LookupKey<K>>(&self, key: &Q) -> bool {
         self.find(key).is_some()
@@ -140,7 +135,7 @@ impl<K: Eq + Hash, V, L: Limiter<K, V>, S: KeyHasher<K>> LruMap<K, V, L, S> {
 
     /// Returns the value of a key. The order stays.
     ///
-    /// `String` keys are looked up by a `&str`, as `map.peek(&"a")`. Cost: `O(1)` expected.
+    /// Cost: `O(1)` expected.
     ///
     /// ```text
     /// assert_eq!(rt; map.peek(&1), Some(&10));
@@ -155,15 +150,13 @@ impl<K: Eq + Hash, V, L: Limiter<K, V>, S: KeyHasher<K>> LruMap<K, V, L, S> {
 
     /// Returns the entry of a key. The order stays.
     ///
-    /// The returned key is the stored one, which may differ from the equal one that is looked up.
-    ///
     /// ```text
     /// assert!(rt; map.peek_key_value(&1) == Some((&1, &10)));
     /// ```
     ///
     /// Cost: `O(1)` expected.
     ///
-    /// After std's `HashMap::get_key_value`; schnellru has no such call.
+    /// After std's `HashMap::get_key_value`.
     #[inline]
     pub fn peek_key_value<Q: LookupKey<K>>(&self, key: &Q) -> Option<(&K, &V)> {
         let b = self.find(key)?;

@@ -22,9 +22,8 @@ impl<K: Eq + Hash, V, L: Limiter<K, V>, S: KeyHasher<K>> LruMap<K, V, L, S> {
     ///
     /// Cost: `O(1)`, and one call of the closure.
     ///
-    /// After std's `Vec::pop_if`; schnellru has no such call.
+    /// After std's `Vec::pop_if`.
     pub fn pop_oldest_if<F: FnOnce(&K, &V) -> bool>(&mut self, accepts: F) -> Option<(K, V)> {
-        // Nothing at run time: it opens the map, whose invariant is the clause `map`.
         let _ = &self.entries;
         let (key, value) = self.peek_oldest()?;
         if !accepts(key, value) {
@@ -47,10 +46,7 @@ impl<K: Eq + Hash, V, L: Limiter<K, V>, S: KeyHasher<K>> LruMap<K, V, L, S> {
     /// # Errors
     ///
     /// Returns the error of the closure. Then nothing has changed.
-    ///
-    /// schnellru has no such call.
     pub fn try_pop_oldest<E, F: FnOnce(&K, &V) -> Result<(), E>>(&mut self, release: F) -> Result<Option<(K, V)>, E> {
-        // Nothing at run time: it opens the map, whose invariant is the clause `map`.
         let _ = &self.entries;
         match self.peek_oldest() {
             None => Ok(None),

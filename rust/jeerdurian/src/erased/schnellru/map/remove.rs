@@ -22,7 +22,6 @@ impl<K: Eq + Hash, V, L: Limiter<K, V>, S: KeyHasher<K>> LruMap<K, V, L, S> {
     #[inline]
     pub fn pop_oldest(&mut self) -> Option<(K, V)> {
         if self.is_empty() {
-            // Nothing at run time: it opens the map, whose invariant is the clause `map`.
             let _ = &self.entries;
             return None;
         }
@@ -56,7 +55,7 @@ impl<K: Eq + Hash, V, L: Limiter<K, V>, S: KeyHasher<K>> LruMap<K, V, L, S> {
     ///
     /// Cost: `O(1)` expected.
     ///
-    /// After std's `HashMap::remove_entry`; schnellru has no such call.
+    /// After std's `HashMap::remove_entry`.
     #[inline]
     pub fn remove_entry<Q: LookupKey<K>>(&mut self, key: &Q) -> Option<(K, V)> {
         let b = self.find(key)?;
@@ -102,13 +101,11 @@ impl<K: Eq + Hash, V, L: Limiter<K, V>, S: KeyHasher<K>> LruMap<K, V, L, S> {
 }
 
 impl<K: Eq + Hash, V, L: Limiter<K, V>, S: KeyHasher<K>> LruMap<K, V, L, S> {
-    // Takes out the oldest pair, as the limiter leaves it.
     #[inline(always)]
     pub(super) fn take_oldest(&mut self) -> (K, V) {
         take_out_oldest(&mut self.entries, &mut self.limiter)
     }
 
-    // Evicts the oldest pair, if the limiter would be over its limit with one more.
     #[inline]
     pub(super) fn make_room<F: FnMut(K, V)>(&mut self, sink: &mut F) {
         if !self.is_empty() && self.limiter.is_over_the_limit(self.entries.len() + 1) {
@@ -117,13 +114,13 @@ impl<K: Eq + Hash, V, L: Limiter<K, V>, S: KeyHasher<K>> LruMap<K, V, L, S> {
         }
     }
 
-    // Evicts the oldest pairs of a map with pairs while the limiter is over its limit. Returns whether some are left.
+    // Evicts the oldest pairs of a map with pairs while the limiter is over its limit.
     #[inline]
     pub(super) fn evict_over_limit<F: FnMut(K, V)>(&mut self, sink: &mut F) -> bool {
         if self.is_over_the_limit() { self.evict_while_over(sink) } else { true }
     }
 
-    // The same if the limiter is over its limit. Out of line, so that an insert's code does not contain the evictions.
+    // Out of line, so that an insert's code does not contain the evictions.
     #[inline(never)]
     fn evict_while_over<F: FnMut(K, V)>(&mut self, sink: &mut F) -> bool {
         'evictions: loop {
@@ -139,7 +136,6 @@ impl<K: Eq + Hash, V, L: Limiter<K, V>, S: KeyHasher<K>> LruMap<K, V, L, S> {
     }
 }
 
-// Takes the pair out of a full bucket, and notifies the limiter.
 #[inline]
 pub(super) fn take_out<K: Eq + Hash, V, L: Limiter<K, V>>(
     entries: &mut OrderedTable<K, V, L::LinkType>,
@@ -149,7 +145,6 @@ pub(super) fn take_out<K: Eq + Hash, V, L: Limiter<K, V>>(
     notify(limiter, entries.take(b))
 }
 
-// Takes out the oldest pair of a table that is not empty, and notifies the limiter.
 #[inline(always)]
 fn take_out_oldest<K: Eq + Hash, V, L: Limiter<K, V>>(
     entries: &mut OrderedTable<K, V, L::LinkType>,
@@ -158,8 +153,6 @@ fn take_out_oldest<K: Eq + Hash, V, L: Limiter<K, V>>(
     notify(limiter, entries.take_oldest())
 }
 
-// Notifies the limiter of a pair that was evicted, removed or not stored, and returns the pair as the limiter leaves
-// it.
 #[inline]
 pub(super) fn notify<K, V, L: Limiter<K, V>>(limiter: &mut L, pair: (K, V)) -> (K, V) {
     let (mut key, mut value) = pair;

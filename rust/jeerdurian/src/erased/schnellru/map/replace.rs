@@ -12,9 +12,8 @@ use crate::rattle_std::hash::Hash;
 use crate::rattle_std::mem;
 
 impl<K: Eq + Hash, V, L: Limiter<K, V>, S: KeyHasher<K>> LruMap<K, V, L, S> {
-    // Offers the limiter a new value for the pair in a bucket. If it accepts, the pair gets the value and keeps its
-    // place. If not, the pair is removed and passed to the callback. Returns whether it accepted, and the replaced
-    // value if it did, else the rejected one.
+    // Offers the limiter a new value for the pair in a bucket. If it rejects the value, the pair is removed and passed
+    // to the callback.
     #[inline]
     pub(super) fn offer_at<I: LookupKey<K>, F: FnMut(K, V)>(
         &mut self,
@@ -30,7 +29,6 @@ impl<K: Eq + Hash, V, L: Limiter<K, V>, S: KeyHasher<K>> LruMap<K, V, L, S> {
     }
 }
 
-// The same, over the table and the limiter.
 #[inline]
 pub(super) fn offer<K: Eq + Hash, V, I: LookupKey<K>, L: Insertion<K, V, I>, F: FnMut(K, V)>(
     entries: &mut OrderedTable<K, V, L::LinkType>,

@@ -23,16 +23,15 @@ impl<K: Eq + Hash, V, L: Limiter<K, V>, S: KeyHasher<K>> LruMap<K, V, L, S> {
     /// assert_eq!(rt; (map.guaranteed_capacity(), map.len()), (7, 0));
     /// ```
     ///
-    /// Cost: `O(1)` if there is enough growth left, else `O(buckets)` of both tables. A rehash at the same size takes
-    /// no memory if the map is empty.
+    /// Cost: `O(1)` if there is enough growth left, else `O(buckets)` of both tables.
     ///
     /// # Errors
     ///
     /// Each error leaves the entries and the table as they are. `TooLarge`: `len` + n overflows, or is more than half
     /// of what the table may hold, and there is no larger table for it: links cannot number one, or its bytes would
-    /// pass `isize::MAX - 15`. The table is not rehashed then, even if it would hold the entries. `Refused`: the limiter
-    /// refused the larger table. `Memory`: out of memory. After `Refused` and `Memory` the limiter keeps what it noted
-    /// when it was queried.
+    /// pass `isize::MAX - 15`. The table is not rehashed then, even if it would hold the entries. `Refused`: the
+    /// limiter refused the larger table. `Memory`: out of memory. After `Refused` and `Memory` the limiter keeps what
+    /// it noted when it was queried.
     ///
     /// After schnellru's `LruMap::try_reserve`.
     pub fn try_reserve(&mut self, n: usize) -> Result<(), ReserveError> {
@@ -53,7 +52,6 @@ impl<K: Eq + Hash, V, L: Limiter<K, V>, S: KeyHasher<K>> LruMap<K, V, L, S> {
         }
     }
 
-    // Makes room in a larger table.
     fn reserve_larger(&mut self, n: usize) -> Result<(), ReserveError> {
         match self.next_table(n) {
             Some((count, bytes)) => {

@@ -22,15 +22,14 @@ impl<K: Eq + Hash, V, L: Limiter<K, V>, S: KeyHasher<K>> LruMap<K, V, L, S> {
     /// Cost: `O(n)` for n entries. Links are written only next to an entry that is removed, or to show the last
     /// promotion.
     ///
-    /// After std's `HashMap::retain`, whose closure may write the value; schnellru has no such call.
+    /// After std's `HashMap::retain`, whose closure may write the value.
     pub fn retain<F: FnMut(&K, &V) -> bool>(&mut self, keep: F) {
         self.retain_with(keep, &mut discard);
     }
 }
 
-// Nothing here requires `K: Drop` or `V: Drop`, so a body that forgets a pair does not compile.
 impl<K: Eq + Hash, V, L: Limiter<K, V>, S: KeyHasher<K>> LruMap<K, V, L, S> {
-    /// The same as `retain`, and passes each removed entry to the callback, oldest first, as the limiter leaves it.
+    /// As `retain`, and passes each removed entry to the callback, oldest first, as the limiter leaves it.
     ///
     /// ```text
     /// let mut removed = 0u64;
@@ -39,8 +38,6 @@ impl<K: Eq + Hash, V, L: Limiter<K, V>, S: KeyHasher<K>> LruMap<K, V, L, S> {
     /// ```
     ///
     /// Cost: as `retain`, with one call of the callback for each removed entry.
-    ///
-    /// schnellru has no such call.
     pub fn retain_with<F: FnMut(&K, &V) -> bool, G: FnMut(K, V)>(&mut self, mut keep: F, sink: &mut G) {
         let mut left = self.len();
         let (_, mut next) = self.ends();
@@ -52,19 +49,15 @@ impl<K: Eq + Hash, V, L: Limiter<K, V>, S: KeyHasher<K>> LruMap<K, V, L, S> {
                 sink(key, value);
             }
         }
-        // Nothing at run time: it opens the map, whose invariant is the clause `map`.
         let _ = &self.entries;
     }
 
-    // Returns what the closure returns for the pair in bucket `b`, which is at position `at` counted from the newest.
     #[inline]
     fn passes<F: FnMut(&K, &V) -> bool>(&self, at: usize, b: usize, keep: &mut F) -> bool {
         let pair = self.entries.pair(b);
         keep(&pair.key, &pair.value)
     }
 
-    // Takes out the pair in bucket `b`, which is at position `at` counted from the newest, and notifies the limiter.
-    // Returns what the limiter leaves of the pair. The positions of newer pairs stay.
     #[inline]
     fn take_from(&mut self, at: usize, b: usize) -> (K, V) {
         take_out(&mut self.entries, &mut self.limiter, b)

@@ -14,9 +14,8 @@ impl<K: Eq + Hash, V, L: Limiter<K, V>, S: KeyHasher<K>> LruMap<K, V, L, S> {
     /// Shrinks the table to as few buckets as hold the entries, and returns true. Returns false if the table has no
     /// more than these.
     ///
-    /// The entries and their order stay. The limiter is not called. An empty map gives its table back. The entries that
-    /// move are counted as `shrunk` in the `MoveReport`. The next insert may have to grow the table again, so do not
-    /// shrink a map that is about to grow.
+    /// The entries and their order stay. The limiter is not called. An empty map gives its table back. The next insert
+    /// may have to grow the table again, so do not shrink a map that is about to grow.
     ///
     /// ```text
     /// let mut map: LruMap<u64, u64, UnlimitedCompact> = LruMap::default(alloc);
@@ -32,8 +31,6 @@ impl<K: Eq + Hash, V, L: Limiter<K, V>, S: KeyHasher<K>> LruMap<K, V, L, S> {
     /// # Errors
     ///
     /// `Err` says that the map ran out of memory. Nothing has changed then.
-    ///
-    /// schnellru has no such call.
     pub fn shrink_to_fit(&mut self) -> Result<bool, AllocError> {
         let len = self.entries.len();
         let count = match buckets_for_capacity(len, L::LinkType::MAX.into_usize()) {

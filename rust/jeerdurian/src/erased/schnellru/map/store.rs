@@ -1,6 +1,5 @@
 // Erased from crates/schnellru/src/map/store.rt: do not edit.
 //! Storing a new pair: in a free bucket, or after the table was rehashed, has grown, or the oldest pairs were evicted.
-//! Nothing here requires `K: Drop` or `V: Drop`, so a body that forgets a pair does not compile.
 
 #[allow(unused_imports)]
 use crate::rattle_std::prelude::*;
@@ -13,19 +12,17 @@ use crate::rattle_std::alloc::AllocError;
 use crate::rattle_std::hash::Hash;
 
 impl<K: Eq + Hash, V, L: Limiter<K, V>, S: KeyHasher<K>> LruMap<K, V, L, S> {
-    // Stores a pair whose key is new and has this hash in a table with growth left, as the newest.
     #[inline(always)]
     pub(super) fn store_in_room(&mut self, hash: u64, pair: (K, V)) {
         self.entries.place(hash, pair);
     }
 
-    // Stores the pair in the first free bucket, if the table may fill that one. Otherwise returns it.
     pub(super) fn store_in_bucket(&mut self, hash: u64, pair: (K, V)) -> Result<(), (K, V)> {
         self.entries.try_place(hash, pair)?;
         Ok(())
     }
 
-    // Stores a pair that no bucket takes, after a change of the table. Returns whether the pair is stored.
+    // Returns whether the pair is stored.
     pub(super) fn store_without_bucket<F: FnMut(K, V)>(
         &mut self,
         hash: u64,
@@ -40,7 +37,6 @@ impl<K: Eq + Hash, V, L: Limiter<K, V>, S: KeyHasher<K>> LruMap<K, V, L, S> {
         }
     }
 
-    // Stores the pair in a larger table, if there is one and the limiter grants it.
     fn store_after_growth<F: FnMut(K, V)>(
         &mut self,
         hash: u64,
@@ -59,7 +55,7 @@ impl<K: Eq + Hash, V, L: Limiter<K, V>, S: KeyHasher<K>> LruMap<K, V, L, S> {
         }
     }
 
-    // Stores the pair after the oldest were evicted. If there are none, the pair is not stored.
+    // Stores the pair after the oldest were evicted.
     fn store_without_growth<F: FnMut(K, V)>(
         &mut self,
         hash: u64,
@@ -73,7 +69,6 @@ impl<K: Eq + Hash, V, L: Limiter<K, V>, S: KeyHasher<K>> LruMap<K, V, L, S> {
         self.store_after_eviction(hash, pair, sink)
     }
 
-    // Stores the pair after the oldest pairs were evicted, at least one.
     fn store_after_eviction<F: FnMut(K, V)>(
         &mut self,
         hash: u64,
@@ -95,8 +90,6 @@ impl<K: Eq + Hash, V, L: Limiter<K, V>, S: KeyHasher<K>> LruMap<K, V, L, S> {
         }
     }
 
-    // Moves all pairs to a table of `count` buckets, counts the moves, and stores the pair there. If the number of
-    // buckets stays and there are no pairs, this needs no memory.
     #[cold]
     fn store_after_move<F: FnMut(K, V)>(
         &mut self,
@@ -118,7 +111,6 @@ impl<K: Eq + Hash, V, L: Limiter<K, V>, S: KeyHasher<K>> LruMap<K, V, L, S> {
         }
     }
 
-    // Notifies the limiter of a pair that was not stored, and passes what it left of the pair to the callback.
     fn pass_unstored<F: FnMut(K, V)>(&mut self, pair: (K, V), sink: &mut F) {
         let (key, value) = notify(&mut self.limiter, pair);
         sink(key, value);

@@ -24,7 +24,7 @@ impl<K: Eq + Hash, V, L: Limiter<K, V>, S: KeyHasher<K>> LruMap<K, V, L, S> {
     ///
     /// Cost: `O(1)` for each entry that is evicted.
     ///
-    /// After Guava's `Cache::cleanUp`; schnellru has no such call.
+    /// After Guava's `Cache::cleanUp`.
     pub fn trim(&mut self) {
         self.trim_with(&mut discard);
     }
@@ -41,15 +41,14 @@ impl<K: Eq + Hash, V, L: Limiter<K, V>, S: KeyHasher<K>> LruMap<K, V, L, S> {
     ///
     /// Cost: `O(1)` for each entry that is evicted.
     ///
-    /// After `resize` of the crate `lru`; schnellru has no such call.
+    /// After `resize` of the crate `lru`.
     pub fn set_limiter(&mut self, limiter: L) -> L {
         self.set_limiter_with(limiter, &mut discard)
     }
 }
 
-// Nothing here requires `K: Drop` or `V: Drop`, so a body that forgets a pair does not compile.
 impl<K: Eq + Hash, V, L: Limiter<K, V>, S: KeyHasher<K>> LruMap<K, V, L, S> {
-    /// The same as `trim`, and passes each evicted entry to the callback, oldest first, as the limiter leaves it.
+    /// As `trim`, and passes each evicted entry to the callback, oldest first, as the limiter leaves it.
     ///
     /// ```text
     /// let mut evicted = 0u64;
@@ -59,18 +58,14 @@ impl<K: Eq + Hash, V, L: Limiter<K, V>, S: KeyHasher<K>> LruMap<K, V, L, S> {
     /// ```
     ///
     /// Cost: as `trim`, with one call of the callback for each evicted entry.
-    ///
-    /// schnellru has no such call.
     pub fn trim_with<F: FnMut(K, V)>(&mut self, sink: &mut F) {
         if !self.is_empty() {
             self.evict_over_limit(sink);
         }
-        // Nothing at run time: it opens the map, whose invariant is the clause `map`.
         let _ = &self.entries;
     }
 
-    /// The same as `set_limiter`, and passes each evicted entry to the callback, oldest first, as the new limiter
-    /// leaves it.
+    /// As `set_limiter`, and passes each evicted entry to the callback, oldest first, as the new limiter leaves it.
     ///
     /// ```text
     /// let mut evicted = 0u64;
@@ -79,8 +74,6 @@ impl<K: Eq + Hash, V, L: Limiter<K, V>, S: KeyHasher<K>> LruMap<K, V, L, S> {
     /// ```
     ///
     /// Cost: as `set_limiter`, with one call of the callback for each evicted entry.
-    ///
-    /// schnellru has no such call.
     pub fn set_limiter_with<F: FnMut(K, V)>(&mut self, limiter: L, sink: &mut F) -> L {
         let old = mem::replace(&mut self.limiter, limiter);
         self.trim_with(sink);

@@ -11,7 +11,7 @@ use crate::rattle_std::hash::Hash;
 
 impl<K: Eq + Hash, V, L: Admission<K, V> + Copy, S: KeyHasher<K>> LruMap<K, V, L, S> {
     /// Inserts a new key with its value, as the newest entry, if nothing has to be evicted for it. Otherwise returns
-    /// both. Then no entry is evicted, moves in the order of use, or changes its value.
+    /// both.
     ///
     /// While no growth is left it fills no deleted bucket, but reserves. So if the limiter refuses a larger table, it
     /// may return an entry that `insert` would store without an eviction.
@@ -39,16 +39,14 @@ impl<K: Eq + Hash, V, L: Admission<K, V> + Copy, S: KeyHasher<K>> LruMap<K, V, L
     /// If there was growth left, nothing has changed. If there was none, the table may have more buckets, and the
     /// limiter keeps what it noted when it was queried for them.
     ///
-    /// After std's `HashMap::try_insert`; schnellru has no such call.
+    /// After std's `HashMap::try_insert`.
     pub fn try_insert(&mut self, key: K, value: V) -> Result<(), (K, V)> {
         let hash = self.hasher.hash_named(&key);
         let inserted = self.try_insert_hashed(hash, key, value);
-        // Nothing at run time: it opens the map, whose invariant the clauses need.
         let _ = &self.entries;
         inserted
     }
 
-    // The same for a key that has this hash.
     fn try_insert_hashed(&mut self, hash: u64, key: K, value: V) -> Result<(), (K, V)> {
         match self.find_hashed(hash, &key) {
             Some(_) => Err((key, value)),
@@ -56,7 +54,6 @@ impl<K: Eq + Hash, V, L: Admission<K, V> + Copy, S: KeyHasher<K>> LruMap<K, V, L
         }
     }
 
-    // The same for a key that is not there.
     fn try_insert_new(&mut self, hash: u64, key: K, value: V) -> Result<(), (K, V)> {
         if !self.can_store(&key, &value) {
             return Err((key, value));
@@ -68,8 +65,7 @@ impl<K: Eq + Hash, V, L: Admission<K, V> + Copy, S: KeyHasher<K>> LruMap<K, V, L
         Ok(())
     }
 
-    // Makes sure that there is growth left for one entry more. Returns whether there is, and the limiter can store the
-    // entry then.
+    // Returns whether there is, and the limiter can store the entry then.
     fn get_ready_for(&mut self, key: &K, value: &V) -> bool {
         if self.growth_left() > 0 {
             return true;
@@ -80,7 +76,6 @@ impl<K: Eq + Hash, V, L: Admission<K, V> + Copy, S: KeyHasher<K>> LruMap<K, V, L
         }
     }
 
-    // Returns whether the limiter accepts the entry of a new key, and is not over its limit with it.
     fn can_store(&self, key: &K, value: &V) -> bool {
         let length = self.entries.len();
         if !self.limiter.accepts(length, key, value) {
@@ -91,9 +86,7 @@ impl<K: Eq + Hash, V, L: Admission<K, V> + Copy, S: KeyHasher<K>> LruMap<K, V, L
         !limiter.is_over_the_limit(length + 1)
     }
 
-    // Inserts a key that is new and has this hash, if there is growth left and the limiter can store the entry.
     fn add(&mut self, hash: u64, key: K, value: V) {
-        // The result is `Ok(true)`: there is growth left, and the limiter accepts the entry and needs no memory for it.
         let _ = self.insert_new(hash, key, value, &mut discard);
     }
 }

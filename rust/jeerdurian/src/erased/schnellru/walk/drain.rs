@@ -12,10 +12,10 @@ use crate::rattle_std::iter::FusedIterator;
 /// An iterator that takes the entries out of a map, from both ends. Dropping it clears the map; forgetting it leaves
 /// the other entries in the map.
 ///
-/// It takes an entry as `pop_newest` or `pop_oldest` does: the limiter is notified, and the entry is returned as the
-/// limiter leaves it. The limiter is notified of the clear itself, not of each entry that it drops.
+/// The limiter is notified of the clear itself, not of each entry that it drops.
 ///
 /// ```text
+/// let mut sum = 0u64;
 /// for (key, value) in map.drain() {
 ///     sum = sum.wrapping_add(key.wrapping_mul(value));
 /// }
@@ -50,7 +50,6 @@ impl<'a, K: Eq + Hash, V, L: Limiter<K, V>, S: KeyHasher<K>> Iterator for Drain<
         self.map.pop_newest()
     }
 
-    /// Returns exactly how many entries are left, as `len` does.
     fn size_hint(&self) -> (usize, Option<usize>) {
         let len = self.map.len();
         (len, Some(len))
@@ -75,6 +74,7 @@ impl<K: Eq + Hash, V, L: Limiter<K, V>, S: KeyHasher<K>> LruMap<K, V, L, S> {
     /// Takes out the entries, newest first. When the iterator is dropped, the map is cleared.
     ///
     /// ```text
+    /// let mut sum = 0u64;
     /// for (key, value) in map.drain() {
     ///     sum = sum.wrapping_add(key.wrapping_mul(value));
     /// }

@@ -11,8 +11,7 @@ use crate::rattle_std::iter::FusedIterator;
 
 /// An iterator that owns a map and takes the entries out of it from both ends: `next` takes the newest.
 ///
-/// It takes an entry as `pop_newest` or `pop_oldest` does: the limiter is notified, and the entry is returned as the
-/// limiter leaves it. Dropping the iterator drops the other entries, of which the limiter is not notified.
+/// Dropping the iterator drops the other entries, of which the limiter is not notified.
 ///
 /// ```text
 /// assert_eq!(rt; map.into_iter().next_back(), Some((1, 10)));
@@ -29,7 +28,6 @@ impl<K: Eq + Hash, V, L: Limiter<K, V>, S: KeyHasher<K>> Iterator for IntoIter<K
         self.map.pop_newest()
     }
 
-    /// Returns exactly how many entries are left, as `len` does.
     fn size_hint(&self) -> (usize, Option<usize>) {
         let len = self.map.len();
         (len, Some(len))

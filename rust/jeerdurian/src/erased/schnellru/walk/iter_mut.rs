@@ -74,9 +74,10 @@ impl<'a, K: Eq + Hash, V, L: Limiter<K, V>, S: KeyHasher<K>> IterMut<'a, K, V, L
         None
     }
 
-    /// The same as `next`, if an entry is left.
+    /// As `next`, if an entry is left.
     ///
     /// ```text
+    /// let mut walk = map.iter_mut();
     /// if walk.len() > 0 {
     ///     let (_, value) = walk.lend_next();
     ///     *value = 200;
@@ -96,9 +97,10 @@ impl<'a, K: Eq + Hash, V, L: Limiter<K, V>, S: KeyHasher<K>> IterMut<'a, K, V, L
         }
     }
 
-    /// The same as `next_back`, if an entry is left.
+    /// As `next_back`, if an entry is left.
     ///
     /// ```text
+    /// let mut walk = map.iter_mut();
     /// if walk.len() > 0 {
     ///     let (_, value) = walk.lend_next_back();
     ///     *value = 100;
@@ -157,9 +159,8 @@ impl<K: Eq + Hash, V, L: Limiter<K, V>, S: KeyHasher<K>> LruMap<K, V, L, S> {
     ///
     /// Cost: `O(n)` for n entries.
     ///
-    /// After `Iterator::for_each` over the `iter_mut` of std's `HashMap`; schnellru has no such call.
+    /// After `Iterator::for_each` over the `iter_mut` of std's `HashMap`.
     pub fn for_each_mut<F: FnMut(&K, &mut V)>(&mut self, mut f: F) {
-        // Nothing at run time: it shows the proof that a position fits.
         let _ = self.len();
         let (mut next, _) = self.ends();
         let mut at = 0;
@@ -168,11 +169,9 @@ impl<K: Eq + Hash, V, L: Limiter<K, V>, S: KeyHasher<K>> LruMap<K, V, L, S> {
             self.write_at(at, b, &mut f);
             at += 1;
         }
-        // Nothing at run time: it opens the map, whose invariant is the clause `map`.
         let _ = &self.entries;
     }
 
-    // Calls the closure with the pair in bucket `b`, which is at position `at` counted from the newest.
     #[inline]
     fn write_at<F: FnMut(&K, &mut V)>(&mut self, at: usize, b: usize, f: &mut F) {
         let (key, value) = self.pair_at_mut(at, b);

@@ -10,7 +10,6 @@ use crate::rattle_std::alloc::{AllocError, Global};
 use crate::rattle_std::cell::Cell;
 use crate::rattle_std::rc::Rc;
 
-// Takes all memory but that for the first requests.
 fn hog(alloc: Global, requests: &[usize; 3], met: usize) -> Result<Hog, AllocError> {
     let mut hog = Hog::new(alloc, requests)?;
     for _ in 0..met {
@@ -19,7 +18,7 @@ fn hog(alloc: Global, requests: &[usize; 3], met: usize) -> Result<Hog, AllocErr
     Ok(hog)
 }
 
-// Whether a growth succeeded exactly if its three requests were met. If memory has no end, it always succeeds.
+// Whether a growth succeeded exactly if its three requests were met.
 fn is_expected(hog: &Result<Hog, AllocError>, met: usize, grew: bool) -> bool {
     match hog {
         Ok(hog) => grew == (met == 3 || !hog.took_all()),
@@ -29,7 +28,7 @@ fn is_expected(hog: &Result<Hog, AllocError>, met: usize, grew: bool) -> bool {
 
 type Cache<'a> = PageCache<u64, Disk<'a>>;
 
-// A cache of at most four pages, three of which are written. Out of memory, fewer are.
+// A cache of at most four pages, three of which are written.
 fn cache_of_three(alloc: Global, calls_left: &Cell<u64>) -> Cache<'_> {
     let disk = Disk::new([10, 11, 12, 13], [false; 4], calls_left);
     let mut cache = PageCache::new(alloc, disk, 4);
@@ -40,7 +39,7 @@ fn cache_of_three(alloc: Global, calls_left: &Cell<u64>) -> Cache<'_> {
 }
 
 /// Whether a read and a write of a fourth page, and the insert of a fourth entry of an ordered map, succeed exactly if
-/// all requests of the growth are met. The first ones are met.
+/// all requests of the growth are met.
 pub fn grows_if_met(alloc: Global, met: usize) -> bool {
     let calls_left = Cell::new(9);
     let mut cache = cache_of_three(alloc, &calls_left);
@@ -57,7 +56,6 @@ pub fn grows_if_met(alloc: Global, met: usize) -> bool {
     is_expected(&second, met, map.insert(3, 3).is_ok()) && right
 }
 
-// Makes a cache of three pages, if there is memory for one, and ends it. Returns whether it found memory.
 fn finds_memory(alloc: Global, closes: bool) -> bool {
     let calls_left = Cell::new(9);
     let cache = cache_of_three(alloc, &calls_left);
@@ -89,7 +87,6 @@ pub fn caches_that_find_memory(alloc: Global) -> u64 {
 
 type Held = OrderedMap<Rc<u64>, Rc<u64>>;
 
-// Inserts a key and a value, of which the map gets references of its own. Returns how often the key is held then.
 fn insert(map: &mut Held, key: &Rc<u64>, value: &Rc<u64>) -> usize {
     let (owned, value) = (Rc::try_clone(key), Rc::try_clone(value));
     if let (Ok(owned), Ok(value)) = (owned, value) {
@@ -98,9 +95,6 @@ fn insert(map: &mut Held, key: &Rc<u64>, value: &Rc<u64>) -> usize {
     Rc::strong_count(key)
 }
 
-// Inserts a key without memory, then twice, and another key with it as the value, and removes them. Returns how often
-// the key is held after the first insert, after the third, after a retain that keeps it alone, after it is removed and
-// inserted again, and after a clear.
 fn references_of(alloc: Global, key: &Rc<u64>, other: &Rc<u64>) -> [usize; 5] {
     let mut map = OrderedMap::new(alloc);
     let hog = Hog::new(alloc, &[]);
@@ -121,7 +115,6 @@ fn references_of(alloc: Global, key: &Rc<u64>, other: &Rc<u64>) -> [usize; 5] {
     [refused, twice, retained, again, Rc::strong_count(key)]
 }
 
-/// Returns how often an ordered map holds a key. Out of memory, it is never held.
 pub fn references(alloc: Global) -> [usize; 5] {
     match (Rc::new(alloc, 1u64), Rc::new(alloc, 4u64)) {
         (Ok(key), Ok(other)) => references_of(alloc, &key, &other),

@@ -1,6 +1,4 @@
 // Erased from crates/lru_caches_tests/src/trials/recursion.rt: do not edit.
-//! A recursive function that keeps its answers in a memo table.
-
 #[allow(unused_imports)]
 use crate::rattle_std::prelude::*;
 
@@ -8,13 +6,10 @@ use crate::erased::lru_caches::{MemoTable, Question};
 use crate::erased::schnellru::ByLength;
 use crate::rattle_std::alloc::Global;
 
-/// Which is the Fibonacci number of an index?
-
 struct FibonacciNumbers;
 
 impl Question<u64, u64> for FibonacciNumbers {}
 
-/// The Fibonacci number of an index, modulo 2^64. Its recursion would take about 1.6^n steps without the table.
 fn fibonacci(table: &mut MemoTable<u64, u64, FibonacciNumbers, ByLength>, n: u64) -> u64 {
     if n < 2 {
         return n;

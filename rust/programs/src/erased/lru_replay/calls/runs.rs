@@ -19,6 +19,7 @@ use crate::rattle_std::hash::Hash;
 /// to read a run.
 ///
 /// ```text
+/// let mut map: LruMap<u64, u64> = LruMap::new(alloc, ByLength::new(3), [1, 2, 3, 4], 16);
 /// let calls = vec![in alloc; Call::Insert(1, 10), Call::Get(1), Call::Peek(2)]?;
 /// let answers = run_calls(alloc, &mut map, calls)?;
 /// let gives = answers.get(1) == Some(&Answer::Value(Some(10)));
@@ -51,7 +52,6 @@ where
     S: KeyHasher<K>,
 {
     let answer = answer_to(alloc, map, call);
-    // Nothing at run time: it shows the proof that what holds of every map holds.
     let _len = map.len();
     answer
 }

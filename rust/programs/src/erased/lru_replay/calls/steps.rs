@@ -73,7 +73,6 @@ pub fn get_by_hash<K: Eq + Hash, V: Copy, L: Limiter<K, V>, S: KeyHasher<K>>(
     hash: u64,
     key: &K,
 ) -> Option<V> {
-    // Nothing at run time: it shows the proof that no two keys are equal.
     let _len = map.len();
     match map.get_by_hash(hash, |other, _| key == other) {
         Some(value) => Some(*value),
@@ -87,7 +86,6 @@ pub fn peek_by_hash<K: Eq + Hash, V: Copy, L: Limiter<K, V>, S: KeyHasher<K>>(
     hash: u64,
     key: &K,
 ) -> Option<V> {
-    // Nothing at run time: it shows the proof that no two keys are equal.
     let _len = map.len();
     match map.peek_by_hash(hash, |other, _| key == other) {
         Some(value) => Some(*value),

@@ -17,6 +17,7 @@ use crate::rattle_std::hash::Hash;
 /// `CostDiffers`, and change nothing. So a total that is the sum of the costs is their sum after every call.
 ///
 /// ```text
+/// let mut costs: LruMap<u64, u64, ByCost> = LruMap::new(alloc, ByCost::new(10), [1, 2, 3, 4], 16);
 /// let calls = vec![in alloc; Call::Insert(1, 2), Call::Write(1, 3), Call::Peek(1)]?;
 /// let answers = run_summing(alloc, &mut costs, calls)?;
 /// let refuses = answers.get(1) == Some(&Answer::CostDiffers);
@@ -68,7 +69,6 @@ where
     L: Summing<K, V, K>,
     S: KeyHasher<K>,
 {
-    // Nothing at run time: it shows the proof that what holds of every map holds.
     let _len = map.len();
     match call {
         Call::Write(key, value) => match map.peek_key_value(key) {

@@ -1,5 +1,5 @@
 // Erased from crates/schnellru_tests/src/memory/clones.rt: do not edit.
-//! Copies: whole, and refused. No clause says how often something is copied, or what a refused copy drops.
+//! Copies: whole, and refused.
 
 #[allow(unused_imports)]
 use crate::rattle_std::prelude::*;
@@ -48,8 +48,7 @@ fn is_cloned_once(map: &Map, lives: &Lives, allowed: u64) -> bool {
     (is_made == (allowed >= 16)) & (left == allowed.saturating_sub(16)) & lives.are(8)
 }
 
-/// A clear is reported after the pairs were dropped. The limiter, which is counted as a key, and the hasher are dropped
-/// with the walk that takes the map apart.
+/// A clear is reported after the pairs were dropped.
 #[ignore = "the clone of a `Storing` cannot fail"]
 #[test]
 fn each_key_and_value_is_cloned_once() {

@@ -1,6 +1,5 @@
 // Erased from crates/schnellru_tests/src/memory/drops.rt: do not edit.
-//! Each key and each value is dropped once: none twice, and none is forgotten. No clause says when a value is dropped.
-//! The limiters of the crate are tried one by one in `lru_limits_tests`.
+//! Each key and each value is dropped once: none twice, and none is forgotten.
 #[allow(unused_imports)]
 use crate::rattle_std::prelude::*;
 
@@ -9,7 +8,6 @@ use crate::erased::schnellru::{Both, GetOrInsertError, KeyHasher};
 use crate::programs::test_helpers::{Hog, Random, check};
 use crate::rattle_std::alloc::Global;
 
-/// A random value. The greatest one and any other that is not 0 have no sum of 64 bits.
 fn random_value<'a>(random: &mut Random, lives: &'a Lives) -> Live<'a> {
     match random.below(12) {
         11 => lives.value(u64::MAX),
@@ -17,13 +15,11 @@ fn random_value<'a>(random: &mut Random, lives: &'a Lives) -> Live<'a> {
     }
 }
 
-/// Inserts what a closure makes, and returns whether there was memory.
 fn insert_made<'a>(map: &mut Map<'a>, key: Live<'a>, value: Live<'a>, lends: bool) -> bool {
     let make = move || value;
     if lends { map.get_or_insert(key, make).is_ok() } else { map.ensure_newest(key, make).is_ok() }
 }
 
-/// Inserts what a closure makes, unless it drops the value and fails, and returns whether there was memory.
 fn insert_if_made<'a>(map: &mut Map<'a>, key: Live<'a>, (value, fails): (Live<'a>, bool), lends: bool) -> bool {
     let make = move || if fails { Err(0u8) } else { Ok(value) };
     let error =
@@ -31,8 +27,6 @@ fn insert_if_made<'a>(map: &mut Map<'a>, key: Live<'a>, (value, fails): (Live<'a
     error != Some(GetOrInsertError::Memory)
 }
 
-/// Makes a random call that inserts, and returns whether there was memory. Each closure owns its value, also if it is
-/// not called, or fails.
 fn random_insert<'a>(map: &mut Map<'a>, random: &mut Random, lives: &'a Lives) -> bool {
     let (key, value) = (lives.key(random.below(40)), random_value(random, lives));
     let mut sink = |key: Live, value: Live| drop((key, value));
@@ -53,7 +47,6 @@ fn random_insert<'a>(map: &mut Map<'a>, random: &mut Random, lives: &'a Lives) -
     }
 }
 
-/// Makes another random call, and drops what it returns.
 fn random_call<'a>(map: &mut Map<'a>, random: &mut Random, lives: &'a Lives) {
     let number = random.below(40);
     match random.below(40) {
@@ -78,8 +71,6 @@ fn random_call<'a>(map: &mut Map<'a>, random: &mut Random, lives: &'a Lives) {
     }
 }
 
-/// Makes random calls on a map of this many pairs. Returns whether after each the keys and values that live are those
-/// of the map, and none after its drop.
 fn balances<'a>(mut map: Map<'a>, lives: &'a Lives, pairs: u64) -> bool {
     let mut random = Random::new(pairs.wrapping_add(1));
     let mut right = fill_with(&mut map, lives, pairs);
@@ -134,7 +125,6 @@ fn is_refused<'a>(alloc: Global, map: &mut Map<'a>, lives: &'a Lives) -> bool {
     }
 }
 
-/// The limiter of the map, with another limit of the sum.
 fn with_most(map: &Map, most: u64) -> Limit {
     Both(map.limiter().0.with_limit(most), map.limiter().1)
 }
@@ -198,7 +188,6 @@ fn a_replaced_value_is_dropped_first() {
     run(HostRuntime).passes();
 }
 
-/// Makes a call with a closure that owns a value, and compares a value that it gets with this value.
 fn ask<'a>(map: &mut Map<'a>, call: u64, hash: u64, value: Live<'a>) {
     if call == 0 {
         drop(map.try_pop_oldest(move |_, other| if *other == value { Ok(()) } else { Err(0u8) }));

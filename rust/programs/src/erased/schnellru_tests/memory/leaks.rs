@@ -13,7 +13,7 @@ const SPARE: usize = 1 << 16;
 
 const CYCLES: u32 = 5000;
 
-/// The same for maps of 400 pairs, and a cycle that loses 600 bytes.
+/// For maps of 400 pairs, and a cycle that loses 600 bytes.
 const LARGE_SPARE: usize = 120_000;
 
 const LARGE_CYCLES: u32 = 200;
@@ -58,7 +58,7 @@ fn refused(map: &mut Sized) -> bool {
     made
 }
 
-/// The same calls on maps that are dropped afterwards, with and without pairs.
+/// These calls on maps that are dropped afterwards, with and without pairs.
 fn dropped(alloc: Global) -> bool {
     let mut map = LruMap::with_hasher(alloc, ByMemoryUsage::new(560), LastByte(0), 16);
     let mut small = map_of(alloc, ByMemoryUsage::new(84));
@@ -88,8 +88,7 @@ fn calls_give_their_memory_back() {
     run(HostRuntime).passes();
 }
 
-/// Makes new maps, and returns whether the only block of memory that is left is still there. `with_seed` calls `new`,
-/// and each of these calls `with_hasher`.
+/// Makes new maps, and returns whether the only block of memory that is left is still there.
 fn leave_the_block(alloc: Global) -> bool {
     let _limited = Compact::with_limiter(alloc, UnlimitedCompact);
     let _seeded = Compact::with_seed(alloc, UnlimitedCompact, [1, 2, 3, 4], 16);

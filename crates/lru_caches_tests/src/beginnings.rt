@@ -1,0 +1,39 @@
+//! What the examples of the docs begin with, and the texts of errors.
+use crate::disk::Disk;
+use lru_caches::{FileError, OrderedMap, PageCache, PageError};
+use std::test::Fail;
+use test_helpers::check;
+
+pub type Map = OrderedMap<u64, u64>;
+
+pub type Cache<'a> = PageCache<u64, Disk<'a>>;
+
+/// Leaves the entries (1, 11) and (2, 20). Returns whether there was memory.
+pub fn refill(map: &mut Map) -> bool {
+    map.clear();
+    (map.insert(1, 11), map.insert(2, 20)) == (Ok(None), Ok(None))
+}
+
+/// Leaves 11 in block 1 of the disk, and 20 in its page. Returns whether the disk worked.
+pub fn rewrite(cache: &mut Cache<'_>) -> bool {
+    (cache.write(1, 11), cache.flush(), cache.write(1, 20)) == (Ok(()), Ok(()), Ok(()))
+}
+
+#[test]
+fn of_the_errors(rt: HostRuntime) -> Result<(), Fail> {
+    let alloc = rt.alloc();
+    let (failed, damaged): (PageError<FileError>, PageError<FileError>) = (
+        PageError::Device(FileError::File),
+        PageError::Device(FileError::Damaged),
+    );
+    let text = format!(in alloc; "{failed}; {damaged}")?;
+    check!(rt; text.as_str() == "the device failed: the file failed; the device failed: a damaged block");
+    let others: [PageError<FileError>; 3] = [
+        PageError::Memory,
+        PageError::NoBlock,
+        PageError::Broken,
+    ];
+    let text = format!(in alloc; "{}; {}; {}", others[0], others[1], others[2])?;
+    check!(rt; text.as_str() == "out of memory; no such block; a sync of the device has failed");
+    Ok(())
+}

@@ -1,0 +1,17 @@
+//! Written by `docs/examples.py` from the examples in the doc comments. Do not change it by hand.
+use lru_trace::Curve;
+use std::test::Fail;
+use test_helpers::{all, check};
+
+#[test]
+fn of_curve(rt: HostRuntime) -> Result<(), Fail> {
+    let alloc = rt.alloc();
+    let mut curve = Curve::new(alloc)?;
+    for key in ["a", "b", "a", "c", "a"] {
+        if curve.references() < u64::MAX {
+            curve.refer(key)?;
+        }
+    }
+    check!(rt; (curve.misses(0), curve.misses(1), curve.misses(2)) == (5, 5, 3));
+    Ok(())
+}

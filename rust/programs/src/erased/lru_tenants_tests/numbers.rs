@@ -1,0 +1,58 @@
+// Erased from crates/lru_tenants_tests/src/numbers.rt: do not edit.
+//! The cache of numbers that the examples of the docs begin with, and what they leave out: texts of errors, and keys that
+//! are texts.
+#[allow(unused_imports)]
+use crate::rattle_std::prelude::*;
+
+use crate::erased::lru_tenants::{TenantCache, TenantError, costs_are_within_the_total_limit};
+use crate::programs::test_helpers::check;
+use crate::rattle_std::test::Fail;
+
+pub type Numbers = TenantCache<u64, u64, u64>;
+
+/// Leaves one tenant, whose name is 1, with a budget of 3 and the entry (7, 2).
+pub fn refill(cache: &mut Numbers) -> bool {
+    let _ = (cache.close(&1), cache.close(&2), cache.set_total_limit(None));
+    (cache.open(1, 3), cache.put(&1, 7, 2)) == (Ok(()), Ok(true))
+}
+
+#[test]
+fn of_the_law_on_totals() {
+    let run = |rt: HostRuntime| -> () {
+        let cache: Numbers = TenantCache::new(rt.alloc(), [1, 2, 3, 4], 32);
+        costs_are_within_the_total_limit(&cache);
+    };
+    run(HostRuntime).passes();
+}
+
+#[test]
+fn of_the_errors() {
+    let run = |rt: HostRuntime| -> Result<(), Fail> {
+        for (error, text, number) in [
+            (TenantError::AlreadyOpen, "already open", 1),
+            (TenantError::NotOpen, "not open", 2),
+            (TenantError::Memory, "out of memory", 3),
+            (TenantError::OverTotal, "over the total limit", 4),
+        ] {
+            check!(rt; format!(in rt.alloc(); "{error}")?.as_str() == text);
+            check!(rt; error as u8 == number);
+        }
+        Ok(())
+    };
+    run(HostRuntime).passes();
+}
+
+#[test]
+fn of_keys_that_are_texts() {
+    let run = |rt: HostRuntime| -> Result<(), Fail> {
+        let alloc = rt.alloc();
+        let key = String::from_str(alloc, "a")?;
+        let page = String::from_str(alloc, "hello")?;
+        let mut pages: TenantCache<u64, String, String> = TenantCache::new(alloc, [1, 2, 3, 4], 64);
+        check!(rt; (pages.open(1, 10), pages.put(&1, key, page)) == (Ok(()), Ok(true)));
+        let page = pages.get(&1, &"a")?.ok_or("no page")?;
+        check!(rt; page.as_str() == "hello");
+        Ok(())
+    };
+    run(HostRuntime).passes();
+}

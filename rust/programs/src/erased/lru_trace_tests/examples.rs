@@ -1,0 +1,24 @@
+// Erased from crates/lru_trace_tests/src/examples.rt: do not edit.
+//! Written by `docs/examples.py` from the examples in the doc comments. Do not change it by hand.
+#[allow(unused_imports)]
+use crate::rattle_std::prelude::*;
+
+use crate::erased::lru_trace::Curve;
+use crate::programs::test_helpers::{all, check};
+use crate::rattle_std::test::Fail;
+
+#[test]
+fn of_curve() {
+    let run = |rt: HostRuntime| -> Result<(), Fail> {
+        let alloc = rt.alloc();
+        let mut curve = Curve::new(alloc)?;
+        for key in ["a", "b", "a", "c", "a"] {
+            if curve.references() < u64::MAX {
+                curve.refer(key)?;
+            }
+        }
+        check!(rt; (curve.misses(0), curve.misses(1), curve.misses(2)) == (5, 5, 3));
+        Ok(())
+    };
+    run(HostRuntime).passes();
+}
