@@ -19,11 +19,9 @@ pub record Ending (K V S : Type 0) : Type 0 where
   pub left : Contents K V S
 
 module _ {K V S : Type 0} (rules : Rules K V S) (pair : K × V) where
-  -- the pair is stored, as the newest
   abbrev pub lands : Contents K V S → Ending K V S
   lands c = record { there = true; left = record { pairs = pair ∷ c.pairs; limiter = c.limiter } }
 
-  -- the pair is not stored, and the limiter is notified of it
   abbrev pub not_landed : Contents K V S → Ending K V S
   not_landed c = let s = (rules.on_removed c.limiter pair.0 pair.1).limiter in
       record { there = false; left = record { pairs = c.pairs; limiter = s } }
@@ -32,7 +30,6 @@ module _ {K V S : Type 0} (rules : Rules K V S) (pair : K × V) where
   abbrev pub evicts : Contents K V S → Ending K V S
   evicts c = if is_empty c.pairs then not_landed c else lands (pops rules 1 c)
 
-  -- the contents after the limiter was queried for a table of n bytes (`on_grow`)
   abbrev pub asks : ℕ → Contents K V S → Contents K V S
   asks bytes c = record { pairs = c.pairs; limiter = (rules.on_grow c.limiter bytes).limiter }
 
@@ -64,11 +61,9 @@ module _ {K V S : Type 0} (rules : Rules K V S) where
   abbrev pub trimmed : Contents K V S → Ending K V S
   trimmed c = record { there = not (is_empty (trim rules c).pairs); left = trim rules c }
 
-  -- how an insert ends after its insertion into the table
   abbrev pub settled : Ending K V S → Ending K V S
   settled l = if l.there then trimmed l.left else l
 
--- the insert returns whether the pair is in the map, and leaves these contents
 abbrev pub IsEnding : {K V S : Type 0} → Ending K V S → Result Bool AllocError → Contents K V S → Type 0
 IsEnding e result new = (result ≡ Ok e.there) × (new ≡ e.left)
 
@@ -81,7 +76,6 @@ module _ {K V S I : Type 0} (rules : Rules K V S) (offers : Offers K V S I) (nam
       then trimmed rules (with_replaced rules offers names pair i v old)
       else record { there = false; left = with_removed rules offers names pair i v old }
 
-  -- if the key is new, `on_insert` of the limiter returned this pair or none, and the limiter is s then
   abbrev pub ending_new : S → Option (K × V) → Ending K V S
   ending_new s None = record { there = false; left = record { pairs = old.pairs; limiter = s } }
   ending_new s (Some pair) =
@@ -133,7 +127,6 @@ module _ {K V S I : Type 0} (rules : Rules K V S) (offers : Offers K V S I) (nam
   -- The insert returns `Ok`, and the pairs, the limiter, and whether the limiter was queried for growth determine how it
   -- ends.
   pub record EndsAsAsked (old : Contents K V S) (result : Result Bool AllocError) (new : Contents K V S) : Type 0 where
-    -- for a table of how many bytes the limiter was queried, if it was
     pub asked : Option ℕ
     pub ends : EndsIfLanded rules offers names (lands_after rules asked) i v old result new
     -- it permitted that table, after it returned a pair and `make_room` followed
@@ -147,15 +140,12 @@ module _ {K V S I : Type 0} (rules : Rules K V S) (offers : Offers K V S I) (nam
     pub s : S
     pub pair : K × V
     pub given : MayGive rules offers names i v (contents old) s (Some pair)
-    -- the map after `make_room`
     pub ready : State K V S H
     pub way : Leaves (record old { limiter = s }) (make_room rules (record { pairs = old.pairs; limiter = s })) ready
     pub outgrown : IsOutgrown (hash_of ready.hasher pair.0) ready
-    -- and after the limiter was queried, if it was
     pub mid : State K V S H
     pub refused : CannotGrow rules ready mid
 
--- two inserts return the same, and leave the same contents
 pub record EndsAlike {K V S : Type 0} (result other : Result Bool AllocError)
     (new others : Contents K V S) : Type 0 where
   pub answers : result ≡ other
@@ -190,6 +180,5 @@ pub record HasTableFor {K V S H : Type 0} (n : ℕ) (st : State K V S H) : Type 
   pub usable : usage st.entry_bytes count ≡ Some bytes
   pub takes : n ≤ full_capacity count
 
--- there is a table for the pairs, and for one pair more
 abbrev pub HasTables : {K V S H : Type 0} → State K V S H → Type 0
 HasTables st = (table_for 1 st ≢ no_table) × (table_for 0 st ≢ no_table)

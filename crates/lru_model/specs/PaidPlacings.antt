@@ -1,8 +1,4 @@
 -- What all insertions into the table cost, those of a reservation for which no growth was left included.
---     terms               what the limiter accepts (`Terms` of `lru_limits`)
---     rules, offers       what the limiter does (`Rules`, `Offers` of `lru_limits`)
---     eq                  whether two keys are equal
---     hash_of h k         the hash of the key k, by the hasher h
 use Rattle.std.specs.Prelude.{◌≡◌, ℕ, ◌+◌, ◌-◌, ◌*◌, ◌^◌, ◌≤◌, ◌<◌, Bool, Result}
 use Rattle.lru_limits.specs.Rules.{Rules, Offers}
 use Rattle.lru_limits.specs.Admissions.{Terms}

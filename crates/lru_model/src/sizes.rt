@@ -1,5 +1,5 @@
 //! What the table of a map takes in bytes, by the bytes of an entry that the map counts, and the table that it grows
-//! into. Each function costs `O(1)`; the map's own calls show what they return.
+//! into.
 ghost use Rattle.std.specs.Prelude.{◌≡◌, ◌-◌, ◌/◌, ◌^◌, ◌<◌, ◌≤◌};
 ghost use Rattle.group_table.specs.Sizes.{IsBucketCount, full_capacity};
 ghost use Rattle.lru_model.specs.Sizes.{bytes_of, usage, IsGreatestUsage, target, larger};

@@ -266,7 +266,6 @@ module _ {K V S I : Type 0} {rules : Rules K V S} {offers : Offers K V S I} {nam
     rewritten = rewritten_distinct rules offers names looks_up laws equivalence;
   }
 
--- keys that equal distinct ones, one by one, are distinct
 module _ {K V : Type 0} {eq : K → K → Bool} (laws : IsEquivalence eq) (R : K × V → K × V → Type 0)
     (equal : (p q : K × V) → R p q → eq p.0 q.0 ≡ true) where
   apart_same : (x y : K) (xs ys : List (K × V)) → eq x y ≡ true → AllZip R xs ys → AllByRecursion (λ k. eq x k ≡ false)

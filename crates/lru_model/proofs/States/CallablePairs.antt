@@ -105,7 +105,6 @@ module _ {K V S F : Type 0} (rules : Rules K V S) (closure : Mut F (K × (V × U
       (g, called, taken) (widen next passed)
 
   module _ {H : Type 0} (st u : State K V S H) (left : K × V) (popped : PopOldest rules st (Some left) u) where
-    -- the oldest pair, which left
     abbrev Oldest : Type 0
     Oldest = (pair : K × V) × (last st.pairs ≡ Some pair) × (Some left ≡ left_of rules st.limiter (Some pair))
 

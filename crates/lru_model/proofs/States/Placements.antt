@@ -88,7 +88,6 @@ module _ {K V S H : Type 0} (rules : Rules K V S) (hash_of : H → K → ℕ) (p
             (subst (λ b. IsPlacedIfMemory rules pair b (full_capacity b / 2) (length left.pairs) left outcome new) same
             m)
 
-    -- the limiter was asked for a larger table
     module _ (count bytes : ℕ) (next : table_for 1 old ≡ new_table count bytes) (s : S)
         (queried : s ≡ (rules.on_grow old.limiter bytes).limiter) where
       pub grown_place : (rules.on_grow old.limiter bytes).allowed ≡ true →
@@ -130,7 +129,6 @@ pub record IsStuck (hash least : ℕ) (marks : List Mark) (pairs : ℕ) : Type 0
   pub half : least ≤ pairs
   pub no_bucket : NoBucketTakes hash pairs marks
 
--- The n oldest pairs were evicted, each because no bucket took the new pair, and then one more.
 module _ {K V S H : Type 0} (rules : Rules K V S) (hash : ℕ) (pair : K × V) (old before left : State K V S H)
     (ok : IsSized old) (is_full : HasPairsButNoGrowth old) (n : ℕ) (gone : OldestEvicted rules hash n old before)
     (stuck : IsStuck hash (full_capacity (buckets old) / 2) before.table.marks (length before.pairs))

@@ -12,7 +12,6 @@ pub some_there : {X : Type 0} (xs : List X) → (xs ≡ [] → ⊥) → 0 < leng
 some_there [] some = absurd (some refl)
 some_there (x ∷ xs) some = omega arith
 
--- the limiter was asked for a larger table
 module _ {K V S H : Type 0} (rules : Rules K V S) (n : ℕ) (old new : State K V S H)
     (needs_growth : NeedsGrowthFor n old)
     (count bytes : ℕ) (is : table_for n old ≡ new_table count bytes)

@@ -47,7 +47,6 @@ module _ {n entry_bytes max : ℕ} {counts : Counts} (old new : TableState)
     | inr d ↦ absurd (omega (arith, (deleted_first_large ok hash (fills.bucket, fills.first, d.0)).1, exact))
   ]
 
-  -- an entry went into the first free bucket of a table
   module _ (b : ℕ) (within : b < length old.marks) (first : IsFirstFree old.marks hash b)
       (filled : room new.marks + room_at old.marks b ≡ room old.marks)
       (marks : new.marks ≡ slice_set old.marks b (full tt)) (places : new.places ≡ b ∷ old.places) where

@@ -12,7 +12,6 @@ use Rattle.lru_model.proofs.TableSizes.Growth.{full_capacity-double}
 use Rattle.lru_model.proofs.TableSizes.Doubling.{target_keeps}
 
 module _ {K V S H : Type 0} (n : ℕ) (st : State K V S H) (ok : IsSized st) (some : 0 < length st.pairs + n) where
-  -- a larger table is one that there can be, and is at most half full
   module _ (count bytes : ℕ) (is : table_for n st ≡ new_table count bytes) where
     there : IsPowerFromFour count × (count < st.max) × (full_capacity (buckets st) ≤ full_capacity count)
     there = target_new st.max st.entry_bytes (buckets st) (length st.pairs + n) count bytes ok.table.count some is

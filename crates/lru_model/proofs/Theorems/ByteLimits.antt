@@ -156,7 +156,6 @@ module _ {K V : Type 0} (bytes_of : K → V → ℕ) where
       limiter = subst (Frees old.limiter) (sym same) (frees_self old.limiter);
     })
 
-    -- the limiter is queried for a table that is no smaller,
     module _ (st : State K V Bytes H) (count bytes : ℕ) (is : usage st.entry_bytes count ≡ Some bytes)
         (k : Counts st) where
       abbrev after : Bool → Bytes

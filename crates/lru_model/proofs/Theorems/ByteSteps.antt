@@ -65,7 +65,6 @@ module _ {K V : Type 0} (bytes_of : K → V → ℕ) where
   owned_of pair = bytes_of pair.0 pair.1
 
 module _ {K V H : Type 0} (bytes_of : K → V → ℕ) (most : ℕ) where
-  -- the limiter counts the table, and it is within its limit or the oldest pairs were evicted until it was
   abbrev Ends : State K V Bytes H → Type 0
   Ends new = Counts bytes_of most new × (Within bytes_of most 0 new ⊎ IsWithin (rules bytes_of) (contents new))
 

@@ -117,7 +117,6 @@ module _ {K V S H : Type 0} (rules : Rules K V S) (hash_of : H → K → ℕ) (o
       (λ j. landing rules pair (l.room.table j) (spare j) (l.is j).entry_bytes (l.is j).max (same j)) in
       subst (λ x. LandsAs rules pair x outcome landed) is (place_lands rules hash_of pair ready tiny outcome landed p)
 
--- an insert ends as the pairs and the limiter have it
 module _ {K V S H : Type 0} (rules : Rules K V S) where
   pub trimmed_ends : (mid : State K V S H) (c : Contents K V S) (result : Result Bool AllocError) (new : State K V S H)
       → result ≡ Ok (not (is_empty new.pairs)) → Leaves mid (trim rules c) new

@@ -66,7 +66,6 @@ module _ {K V S H I E : Type 0} {rules : Rules K V S} {offers : Offers K V S I} 
   says_if_made {result} {new} d (as_made flag step r) =
       rw r (says_or_memory rules (names i) new E flag (makes_says looks_up laws d step))
 
--- why it runs out of memory
 module _ {K V S H I : Type 0} {rules : Rules K V S} {offers : Offers K V S I} {names : I → K → Bool}
     {hash_of : H → K → ℕ} {i : I} {old new : State K V S H} where
   pub newest_out_of_memory : {makes : V → Type 0} {result : Result Bool AllocError} → IsErr result

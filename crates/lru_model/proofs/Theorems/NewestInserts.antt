@@ -212,7 +212,6 @@ keeps_written names value old keeps = record {
   sized = written_sized old names value keeps.sized;
 }
 
--- after a list of inserts
 module _ {K V H : Type 0} (eq : K → K → Bool) (old : State K V ℕ H) (keeps : KeepsToLength old) where
   pub record LeavesNewestOf (inserted : List (K × V)) (new : State K V ℕ H) : Type 0 where
     pub keeps_on : KeepsToLength new

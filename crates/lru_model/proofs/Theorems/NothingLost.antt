@@ -24,7 +24,6 @@ use Rattle.lru_model.proofs.Theorems.Moves.{KeepsWay, left_are, leaves_keep, mak
 use Rattle.lru_model.proofs.Theorems.Ways.{Lands, place_lands}
 
 module _ {K V S : Type 0} where
-  -- the pairs of the map, and then those on the list, oldest last
   abbrev all_of : Contents K V (S × List (K × V)) → List (K × V)
   all_of c = c.pairs ++ reverse c.limiter.1
 

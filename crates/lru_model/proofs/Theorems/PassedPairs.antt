@@ -17,7 +17,6 @@ use Rattle.lru_model.specs.Callbacks.{noting, noting_offers, noted, InsertPasses
 use Rattle.lru_model.proofs.Theorems.Limits.{length-without}
 
 module _ {K V S : Type 0} where
-  -- how many pairs are there and on the list
   abbrev in_all : Contents K V (S × List (K × V)) → ℕ
   in_all c = length c.pairs + length c.limiter.1
 

@@ -179,7 +179,6 @@ module _ {K V S H I : Type 0} {rules : Rules K V S} {offers : Offers K V S I} {n
       → Insert rules offers names hash_of i v old result new
   plain_insert {before} {after} {old} {new} step = plain_insert_of (noted before old) (noted after new) step
 
--- and so is an update
 module _ {K V S H I : Type 0} {rules : Rules K V S} {offers : Offers K V S I} {names : I → K → Bool} {i : I} {v : V}
     {result : Updated V} where
   pub plain_update : {before after : List (K × V)} {old new : State K V S H}
@@ -196,7 +195,6 @@ pub plain_trims : {K V S H : Type 0} (rules : Rules K V S) (before after : List 
 plain_trims rules before after old new step = plain_leaves (noted before old) (noted after new) _
     (trim rules (contents old)) (plain_trim rules (contents (noted before old))) step
 
--- and so is a retain
 module _ {K V S : Type 0} (rules : Rules K V S) where
   plain_retained : (asked : List ((K × V) × Bool)) (s : S × List (K × V))
       → plain_contents (retained (noting rules) asked s) ≡ retained rules asked s.0

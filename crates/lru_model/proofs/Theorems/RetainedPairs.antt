@@ -16,7 +16,6 @@ module _ {K V S : Type 0} (rules : Rules K V S) where
   total-retained f ((pair, false) ∷ older) s = omega (arith, total-retained f older s)
 
 module _ {K V S : Type 0} (rules : Rules K V S) (R : Contents K V S → Contents K V S → Type 0) (k : Keeps rules R) where
-  -- with these newer pairs before those that are asked, and before those that stay
   abbrev Stays : List (K × V) → List ((K × V) × Bool) → S → Type 0
   Stays newer asked s = R (record { pairs = newer ++ map (λ one. one.0) asked; limiter = s })
       (record { pairs = newer ++ (retained rules asked s).pairs; limiter = (retained rules asked s).limiter })

@@ -23,7 +23,6 @@ use Rattle.lru_model.proofs.Theorems.Moves.{behind, left_are}
 module _ {K V S H I : Type 0} (rules : Rules K V S) (offers : Offers K V S I) (names : I → K → Bool) (i : I) (v : V)
     (pair : K × V) (old : State K V S H) (result : Result Bool AllocError) (new : State K V S H) (hash_of : H → K → ℕ)
   where
-    -- a bucket of this table takes the pair, which no limiter changes
     abbrev Fits : Type 0
     Fits = (ready : State K V S H) → (ready.pairs ≡ old.pairs) × (ready.hasher ≡ old.hasher)
         → ready.table.marks ≡ old.table.marks → (outcome : Outcome) (landed : State K V S H)

@@ -35,7 +35,6 @@ module _ {K V S H I : Type 0} (rules : Rules K V S) (offers : Offers K V S I) (n
 
 module _ {K V S H : Type 0} {rules : Rules K V S} {offers : Offers K V S K} {most : S → ℕ} (names : K → K → Bool)
     (hash_of : H → K → ℕ) where
-  -- a number that no callback changes stays as it is
   module _ (fixed : IsFixed rules offers most) where
     pub step_keeps_number : (old new : State K V S H) → Step rules offers names hash_of old new
         → most new.limiter ≡ most old.limiter

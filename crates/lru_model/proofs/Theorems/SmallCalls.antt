@@ -38,7 +38,6 @@ module _ {K V S H : Type 0} (rules : Rules K V S) where
       let spare = room_cleared (buckets st) in
       (λ j. record { count = count j; spare = spare j; bare = (clears (shape st)).bare })
 
--- all pairs moved into a table of n buckets
 abbrev moved_to : {K V S H : Type 0} → ℕ → Shape K V S H → Shape K V S H
 moved_to count sh = record {
   count = count;
@@ -101,7 +100,6 @@ module _ {K V S H : Type 0} (rules : Rules K V S) (n : ℕ) (old : State K V S H
       ∙ rw (t, d, r) (ap (λ st. (Err Refused, shape st)) (sym e))
 
 module _ {K V S H : Type 0} where
-  -- what a shrink into the buckets that the pairs need returns and makes of a shape, if memory runs out or not
   abbrev shrink_to : Option ℕ → Bool → Shape K V S H → Option Bool × Shape K V S H
   shrink_to None runs_out sh = (Some false, sh)
   shrink_to (Some count) runs_out sh =

@@ -61,7 +61,6 @@ module _ {K V S H : Type 0} where
       (arith, l.room.exact small, ap (λ st. length st.pairs) l.is) in
       (λ j. record { count = l.room.table j; spare = spare j; bare = record (l.is j) { table = empty_table } })
 
-  -- with a pair stored in a table with these numbers of buckets, of growth left, and of moves
   abbrev landed : K × V → Shape K V S H → ℕ → ℕ → ℕ → Shape K V S H
   landed pair sh count spare moves = record {
     count = count;
@@ -85,7 +84,6 @@ is_no_memory no_memory = true
 is_no_memory placed = false
 is_no_memory refused = false
 
--- What an insertion makes of a shape, if memory runs out or not.
 module _ {K V S H : Type 0} (rules : Rules K V S) (pair : K × V) (runs_out : Bool) where
   abbrev turned : Shape K V S H → Shape K V S H
   turned sh = relimited (rules.on_removed sh.bare.limiter pair.0 pair.1).limiter sh
@@ -93,7 +91,6 @@ module _ {K V S H : Type 0} (rules : Rules K V S) (pair : K × V) (runs_out : Bo
   abbrev if_memory : Shape K V S H → ℕ → ℕ → ℕ → Outcome × Shape K V S H
   if_memory sh count spare moves = cond runs_out (no_memory, turned sh) (placed, landed pair sh count spare moves)
 
-  -- the oldest is evicted for it, or it is not stored if there is none
   abbrev evict : Shape K V S H → Outcome × Shape K V S H
   evict sh = let left = with_left (pops rules 1 (contents sh.bare)) sh in
       cond (is_empty sh.bare.pairs) (refused, turned sh)
@@ -235,7 +232,6 @@ pub said_err : (result : Result Bool AllocError) → is_err result ≡ true → 
 said_err (Ok a) e = absurd (grind (arith, e))
 said_err (Err d) e = refl
 
--- What an insert returns and makes of a shape, if memory runs out or not.
 module _ {K V S H : Type 0} (rules : Rules K V S) where
   abbrev trimmed : Contents K V S → Shape K V S H → Option Bool × Shape K V S H
   trimmed c sh = let d = trim rules c in (Some (not (is_empty d.pairs)), with_left d sh)

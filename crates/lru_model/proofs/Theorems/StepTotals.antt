@@ -19,7 +19,6 @@ use Rattle.lru_model.proofs.Theorems.Sums.{total, total-front, total-back, total
 
 module _ {K V S H I : Type 0} (f : K × V → ℕ) {rules : Rules K V S} {offers : Offers K V S I} {names : I → K → Bool}
     {hash_of : H → K → ℕ} {old new : State K V S H} where
-  -- a call that is no insert and no update leaves no greater total
   module _ {R : Type 0}
       (inserted_so : (k : I) (v : V) (result : Result Bool AllocError)
       → Insert rules offers names hash_of k v old result new → R)

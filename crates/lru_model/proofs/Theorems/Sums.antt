@@ -98,7 +98,6 @@ module _ {K V : Type 0} (cost : K × V → ℕ) (names : K → Bool) where
       go false e h = omega (arith, h e)
 
 module _ {K V : Type 0} (cost : K × V → ℕ) (names : K → Bool) (v : V) where
-  -- the named pair costs the same with the value v
   abbrev KeepsPair : List (K × V) → Type 0
   KeepsPair xs = MatchOption (lookup_entry names xs) (Unit {0}) (λ p. cost (p.0, v) ≡ cost (p.0, p.1))
 
@@ -118,7 +117,6 @@ module _ {K V : Type 0} (cost : K × V → ℕ) (names : K → Bool) (v : V) whe
 
 module _ {K V S I : Type 0} {rules : Rules K V S} {offers : Offers K V S I} {cost : K → V → ℕ}
     {account : S → ℕ} (laws : IsAccount rules offers cost account) where
-  -- the running total is the sum over the pairs
   abbrev Holds : Contents K V S → Type 0
   Holds c = account c.limiter ≡ total (λ p. cost p.0 p.1) c.pairs
 

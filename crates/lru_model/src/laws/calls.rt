@@ -52,8 +52,7 @@ pub fn calls_pay_for_moves<
 {}
 
 /// With a limiter that limits the length to `most` entries (`LimitsLength`), as `ByLength` does, each call leaves that
-/// limit as it is, and at most `most` entries, if there were no more before. `length-limits`, `storing-length` and
-/// `both-first_length` of `lru_limits` say which limiters do.
+/// limit as it is, and at most `most` entries, if there were no more before.
 pub fn calls_keep_the_length<K: Eq + Hash, V, L: Insertion<K, V, K>, S: KeyHasher<K>>()
     ensures limit { (most : L → ℕ) → LimitsLength L.rules L.offers most → (old new : State K V L S) →
         Step L.rules L.offers K.eq S.hash_of old new → most new.limiter ≡ most old.limiter }

@@ -1,4 +1,4 @@
-//! What is proved of runs, which are calls one after another. Each law is the law of one call (`calls`), by induction.
+//! What is proved of runs, which are calls one after another.
 
 ghost use Rattle.std.specs.Prelude.{◌≡◌, ℕ, ◌≤◌, Bool, length};
 ghost use Rattle.lru_limits.specs.Limits.{LimitsLength, LimitsMemory};
