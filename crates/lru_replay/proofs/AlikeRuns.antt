@@ -347,7 +347,6 @@ module _ {K V S H : Type 0} (rules : Rules K V S) (offers : Offers K V S K) (eq 
         replies_by old other new last alike small after too reply answer (λ sh. cost_differs) (λ sh. sh)
         s.1 (ap shape s.2) t.1 (ap shape t.2)
 
--- Where two steps of the same call are alike, so are two runs of the same calls.
 module _ {K V S H : Type 0} {rules : Rules K V S} {offers : Offers K V S K} {eq : K → K → Bool} {hash_of : H → K → ℕ}
     {IsStep : State K V S H → Call K V S → Reply K V → State K V S H → Type 0}
     (moves : (old new : State K V S H) (call : Call K V S) (reply : Reply K V) → IsStep old call reply new

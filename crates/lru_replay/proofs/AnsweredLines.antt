@@ -86,7 +86,6 @@ module _ {S : Type 0} {rules : Rules ℕ ℕ S} {offers : Offers ℕ ℕ S ℕ} 
       begins_after w₀ w₁ w₂ so_far.text (fed next) so_far.wrote begun,
     )
 
-    -- the last line, which the input's end ended, was answered, or a write failed within its answer line
     module _ (taken : TakesRest r₁ r₂ line) (some : 0 < length line) where
       all_lines : IfSome r₀ (λ input. lines_of input ≡ so_far.lines ++ line ∷ [])
       all_lines = IfSome_then r₀ (lines_at_end r₀ r₁ r₂ so_far.lines line so_far.reads taken)

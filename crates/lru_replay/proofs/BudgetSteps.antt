@@ -99,14 +99,12 @@ module _ {K V : Type 0} (cost : V → ℕ) (value_of : K → V) (n : ℕ) (fits 
           limiter = spending cost value_of n (spent costs keys - costs key + costs key);
         }) (omega (arith, all))))
 
-  -- a new pair, before room is made for it
   abbrev offering : K → List K → Left
   offering key keys = record {
     pairs = map pair keys;
     limiter = spending cost value_of n (spent costs keys + costs key);
   }
 
-  -- these contents with a pair in front
   abbrev onto : K → Left → Left
   onto key c = record { pairs = pair key ∷ c.pairs; limiter = c.limiter }
 

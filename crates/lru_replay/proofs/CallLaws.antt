@@ -35,10 +35,6 @@ module _ {K V S H : Type 0} {rules : Rules K V S} {offers : Offers K V S K} {eq 
   any_run old calls replies new run = steps_run eq (AnyStep rules offers eq hash_of)
       (λ old new call reply step is. moves old new call reply step) old calls replies new run (any_call calls)
 
--- What each step of the map keeps of a limit, and the limit itself, each call keeps that sets no other limiter.
---     limit           the limit of a limiter
---     Within n st     the map is within the limit n
---     IsStep, Keeps   a step of a run, and what is known of a call that is carried out
 module _ {K V S H N : Type 0} (rules : Rules K V S) (offers : Offers K V S K) (eq : K → K → Bool)
     (hash_of : H → K → ℕ) (limit : S → N) (Within : N → State K V S H → Type 0)
     (law : (old new : State K V S H) → Run (Step rules offers eq hash_of) new old → Within (limit old.limiter) old

@@ -70,7 +70,6 @@ pub next_items : {K V S : Type 0} (done : List (Call K V S)) {all left later : L
 next_items done {later = later} {call} first items =
     append_assoc done (call ∷ []) later ∙ ap (λ l. done ++ l) (sym first) ∙ items
 
--- What is known of those that were carried out.
 module _ {K V S A : Type 0} (IsStep : A → Call K V S → Reply K V → A → Type 0) (Holds : A → Type 0) (old : A)
     (done : List (Call K V S)) where
   pub next_run : (answers after : List (Answer K V)) (mid : A) (call : Call K V S)

@@ -67,7 +67,6 @@ no_limit (Some x) b endings.Nothing first (taken, nothing) none = only_first (So
     (λ input. NamesNoLimit (lines_of input)) taken
     (λ input same. none_first (lines_of input) (same ∙ ap lines_of nothing))
 
--- A text of the first n lines goes on for more lines.
 module _ {S : Type 0} (rules : Rules ℕ ℕ S) (offers : Offers ℕ ℕ S ℕ) (reported : S → Option ℕ)
     (offered : AlwaysOffers offers) (old : Map S) (sized : IsSized old) where
   text_goes_on : (lines more : List (List ℕ)) (text : List ℕ) → IsTextOf rules offers reported old lines text
@@ -209,7 +208,6 @@ flush_failed a b w v (Err errors.Write) h = h
 pub first_failed : (a b w : Option (List ℕ)) (part : List ℕ) → TakesPart a b part → Replays a b w w (Err errors.Read)
 first_failed a b w part taken = ([], [], part, refl, (tt, taken.0, taken.1), Appends-nil w)
 
--- The first line names no limit.
 module _ (a b w v : Option (List ℕ)) (ending : Ending) (first : List ℕ)
     (none : (limit : Limit) → SpellsLimit first limit → ⊥) (taken : TakesLine a b ending first) where
   takes_first : TakesFirst a b
@@ -253,7 +251,6 @@ done_first a b w ending first limit spells not_fed line =
       Appends-nil w,
     ))) taken.2
 
--- The others were answered after the first.
 module _ (a b c w v : Option (List ℕ)) (first : List ℕ) (limit : Limit) (spells : SpellsLimit first limit)
     (taken : TakesFed a b first) where
   pub done_others : Answers (IsTextUnder limit) b c w v (Ok tt) → Replays a c w v (Ok ends.Done)

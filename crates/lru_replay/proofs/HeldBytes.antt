@@ -39,7 +39,6 @@ module _ {S : Type 0} (rules : Rules ℕ ℕ S) (offers : Offers ℕ ℕ S ℕ) 
     written,
   )
 
--- It names the limit that the line names, or none if the line names none.
 module _ (line held : List ℕ) (is : held ≡ take HELD line) where
   pub whole_limit : (limit : Limit) → SpellsLimit held limit → SpellsLimit line limit
   whole_limit limit spells =

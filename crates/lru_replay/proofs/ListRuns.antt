@@ -129,8 +129,6 @@ module _ {K V S H : Type 0} (rules : Rules K V S) (offers : Offers K V S K) (eq 
       summing_in_list cost account call reply (inl (keeps, step)) = inl (keeps, call_in_list call reply step)
       summing_in_list cost account call reply (inr (differs, is, e)) = inr (differs, is, ap contents e)
 
--- Runs of any of these steps.
---     moves     each is a step of the map, or changes nothing
 module _ {K V S H : Type 0} {rules : Rules K V S} {offers : Offers K V S K} {eq : K → K → Bool} {hash_of : H → K → ℕ}
     {IsStep : State K V S H → Call K V S → Reply K V → State K V S H → Type 0}
     (moves : (old new : State K V S H) (call : Call K V S) (reply : Reply K V) → IsStep old call reply new
@@ -142,7 +140,6 @@ module _ {K V S H : Type 0} {rules : Rules K V S} {offers : Offers K V S K} {eq 
     | inr same ↦ ap (λ st. st.hasher) same
   ]
 
-  -- if each call is one on a list, a run is
   module _ (IsListStep : (K → ℕ) → Contents K V S → Call K V S → Reply K V → Contents K V S → Type 0)
       (in_list : (old new : State K V S H) → HasTables old → (call : Call K V S) (reply : Reply K V)
       → IsStep old call reply new → IsListStep (hash_of old.hasher) (contents old) call reply (contents new)) where
@@ -161,7 +158,6 @@ module _ {K V S H : Type 0} {rules : Rules K V S} {offers : Offers K V S K} {eq 
     )
     run_in_list hasher old calls replies new built tables none = absurd none
 
-  -- If links and bytes reach a table for the pairs and one more for each call, they reach the table of each state.
   module _ (adds : (old new : State K V S H) → AnyStep rules offers eq hash_of old new
       → length new.pairs ≤ length old.pairs + 1) where
     table_stays : (n m : ℕ) (old new : State K V S H) → m ≤ n → new.max ≡ old.max → new.entry_bytes ≡ old.entry_bytes

@@ -10,7 +10,6 @@ use Rattle.lru_replay.proofs.CallKinds.{kind_of, named_step}
 
 module _ {K V S H : Type 0} (rules : Rules K V S) (offers : Offers K V S K) (eq : K → K → Bool)
     (hash_of : H → K → ℕ) (test : K → Bool) where
-  -- a call that names keys that pass the test is such a step of the map, or changes nothing
   abbrev Among : State K V S H → State K V S H → Type 0
   Among old new = StepAmong rules offers eq hash_of test old new ⊎ (new ≡ old)
 

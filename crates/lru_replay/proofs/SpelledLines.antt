@@ -100,7 +100,6 @@ split_or line word given =
     ]
 
 module _ {X : Type 0} (words : Words X) (line : List ℕ) where
-  -- what a line means that is split
   module _ (word : List ℕ) (given : Numbers) (is : IsSplit line word given) where
     one_meaning : (x : X) → Spells words line x → said_of words word given ≡ Some x
     one_meaning x (other, others, split, means) =

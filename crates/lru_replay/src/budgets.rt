@@ -1,5 +1,4 @@
-//! What a larger limit of cost is worth: a theorem on lists of calls that make references, from an empty map. The function
-//! does nothing: its contract is the theorem.
+//! What a larger limit of cost is worth: a theorem on lists of calls that make references, from an empty map.
 ghost use Rattle.std.specs.Prelude.{◌≡◌, ◌≤◌, [], List, length, take};
 ghost use Rattle.lru_model.specs.Lists.{keys_of};
 ghost use Rattle.lru_model.specs.State.{State};

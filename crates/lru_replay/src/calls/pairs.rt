@@ -12,7 +12,6 @@ use schnellru::{Insertion, KeyHasher, Limiter, LruMap};
 use std::alloc::Global;
 use std::hash::Hash;
 
-/// Returns all pairs, newest first.
 pub fn list<K: Copy + Eq + Hash, V: Copy, L: Insertion<K, V, K>, S: KeyHasher<K>>(
     alloc: Global,
     map: &LruMap<K, V, L, S>,
@@ -28,7 +27,6 @@ pub fn list<K: Copy + Eq + Hash, V: Copy, L: Insertion<K, V, K>, S: KeyHasher<K>
     Answer::Pairs(pairs)
 }
 
-/// Returns the answer to an insert, with the pairs that the map loses.
 pub fn insert_with<K: Eq + Hash + Drop, V: Drop, L: Insertion<K, V, K>, S: KeyHasher<K>>(
     map: &mut LruMap<K, V, L, S>,
     key: K,
@@ -62,7 +60,6 @@ pub fn drain_pairs<K: Eq + Hash + Drop, V: Drop, L: Insertion<K, V, K>, S: KeyHa
     Answer::Pairs(pairs)
 }
 
-/// Takes out the `count` newest pairs, one after another.
 fn take_newest<K: Eq + Hash, V, L: Limiter<K, V>, S: KeyHasher<K>>(
     map: &mut LruMap<K, V, L, S>,
     count: usize,
@@ -79,7 +76,6 @@ fn take_newest<K: Eq + Hash, V, L: Limiter<K, V>, S: KeyHasher<K>>(
     }
 }
 
-/// Takes out the `count` oldest pairs, one after another.
 fn take_oldest<K: Eq + Hash, V, L: Limiter<K, V>, S: KeyHasher<K>>(
     map: &mut LruMap<K, V, L, S>,
     count: usize,
@@ -94,7 +90,6 @@ fn take_oldest<K: Eq + Hash, V, L: Limiter<K, V>, S: KeyHasher<K>>(
     }
 }
 
-/// Adds the pair, if there is one.
 fn add<K, V>(pairs: &mut Vec<(K, V)>, pair: Option<(K, V)>)
     requires { vec_len pairs.old < vec_capacity pairs.old }
     ensures items { pairs.new.items ≡ pairs.old.items ++ option_to_list pair }

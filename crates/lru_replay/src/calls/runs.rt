@@ -43,7 +43,6 @@ pub fn run_calls<
     map: &mut LruMap<K, V, L, S>,
     calls: Vec<Call<K, V, L>>,
 ) -> Result<Vec<Answer<K, V>>, AllocError>
-    // The answers and the map after them are a run from the map before, and each state in between is a map.
     ensures run { IfOk result (λ answers. IsRun (CallStep L.rules L.offers K.eq S.hash_of) (IsMap K.eq)
         map.old calls.items (all_said answers.items) map.new) }
     ensures unmade { OnErr result (map.new ≡ map.old) }
@@ -55,7 +54,6 @@ pub fn run_calls<
     Ok(answers)
 }
 
-/// Carries out a call.
 pub(crate) fn make_call<K, V, L, S>(
     alloc: Global,
     map: &mut LruMap<K, V, L, S>,
@@ -74,7 +72,6 @@ where
     answer
 }
 
-/// Returns the answer to a call.
 fn answer_to<K, V, L, S>(
     alloc: Global,
     map: &mut LruMap<K, V, L, S>,

@@ -10,7 +10,6 @@ use crate::Answer;
 use schnellru::{Insertion, KeyHasher, Limiter, LruMap};
 use std::hash::Hash;
 
-/// Returns the answer to an insert.
 pub fn insert<K: Eq + Hash + Drop, V: Drop, L: Insertion<K, V, K>, S: KeyHasher<K>>(
     map: &mut LruMap<K, V, L, S>,
     key: K,
@@ -24,7 +23,6 @@ pub fn insert<K: Eq + Hash + Drop, V: Drop, L: Insertion<K, V, K>, S: KeyHasher<
     }
 }
 
-/// Returns the answer to a get that inserts.
 pub fn get_or_insert<K: Eq + Hash + Drop, V: Copy + Drop, L: Insertion<K, V, K>, S: KeyHasher<K>>(
     map: &mut LruMap<K, V, L, S>,
     key: K,
@@ -39,7 +37,6 @@ pub fn get_or_insert<K: Eq + Hash + Drop, V: Copy + Drop, L: Insertion<K, V, K>,
     }
 }
 
-/// Returns the value of the newest pair, if there is one.
 fn newest_value<K: Eq + Hash, V: Copy, L: Limiter<K, V>, S: KeyHasher<K>>(
     map: &LruMap<K, V, L, S>,
 ) -> Option<V>
@@ -51,7 +48,6 @@ fn newest_value<K: Eq + Hash, V: Copy, L: Limiter<K, V>, S: KeyHasher<K>>(
     }
 }
 
-/// Returns the value of the key, and makes its pair the newest.
 pub fn get<K: Eq + Hash, V: Copy, L: Limiter<K, V>, S: KeyHasher<K>>(
     map: &mut LruMap<K, V, L, S>,
     key: &K,
@@ -65,7 +61,6 @@ pub fn get<K: Eq + Hash, V: Copy, L: Limiter<K, V>, S: KeyHasher<K>>(
     }
 }
 
-/// Writes the value of the key. Returns whether the key is there.
 pub fn write<K: Eq + Hash, V: Drop, L: Limiter<K, V>, S: KeyHasher<K>>(
     map: &mut LruMap<K, V, L, S>,
     key: &K,
@@ -83,7 +78,6 @@ pub fn write<K: Eq + Hash, V: Drop, L: Limiter<K, V>, S: KeyHasher<K>>(
     }
 }
 
-/// Returns the value of the key, if a search by the hash finds it, and makes its pair the newest.
 pub fn get_by_hash<K: Eq + Hash, V: Copy, L: Limiter<K, V>, S: KeyHasher<K>>(
     map: &mut LruMap<K, V, L, S>,
     hash: u64,
@@ -99,7 +93,6 @@ pub fn get_by_hash<K: Eq + Hash, V: Copy, L: Limiter<K, V>, S: KeyHasher<K>>(
     }
 }
 
-/// The value of the key, if a search by the hash finds it.
 pub fn peek_by_hash<K: Eq + Hash, V: Copy, L: Limiter<K, V>, S: KeyHasher<K>>(
     map: &LruMap<K, V, L, S>,
     hash: u64,
@@ -114,7 +107,6 @@ pub fn peek_by_hash<K: Eq + Hash, V: Copy, L: Limiter<K, V>, S: KeyHasher<K>>(
     }
 }
 
-/// Returns the oldest pair, if there is one.
 pub fn peek_oldest<K: Copy + Eq + Hash, V: Copy, L: Limiter<K, V>, S: KeyHasher<K>>(
     map: &LruMap<K, V, L, S>,
 ) -> Option<(K, V)>
@@ -126,7 +118,6 @@ pub fn peek_oldest<K: Copy + Eq + Hash, V: Copy, L: Limiter<K, V>, S: KeyHasher<
     }
 }
 
-/// Returns the newest pair, if there is one.
 pub fn peek_newest<K: Copy + Eq + Hash, V: Copy, L: Limiter<K, V>, S: KeyHasher<K>>(
     map: &LruMap<K, V, L, S>,
 ) -> Option<(K, V)>
@@ -138,7 +129,6 @@ pub fn peek_newest<K: Copy + Eq + Hash, V: Copy, L: Limiter<K, V>, S: KeyHasher<
     }
 }
 
-/// Returns the answer to a call for the figures of the map.
 pub fn stats<K: Eq + Hash, V, L: Insertion<K, V, K>, S: KeyHasher<K>>(
     map: &LruMap<K, V, L, S>,
 ) -> Answer<K, V>

@@ -41,15 +41,12 @@ where
     V: Copy + Drop,
     L: Summing<K, V, K> + Drop,
     S: KeyHasher<K>,
-    // The answers and the map after them are a run from the map before, and each state in between is a map,
     ensures run { IfOk result (λ answers. IsRun (SummingStep L.rules L.offers K.eq S.hash_of
         L.cost_of L.account) (IsMap K.eq) map.old calls.items (all_said answers.items) map.new) }
-    // whose total is the sum of the costs, if it was so before.
     ensures sums { IsSummed L.cost_of L.account map.old → IfOk result (λ answers. IsRun
         (SummingStep L.rules L.offers K.eq S.hash_of L.cost_of L.account)
         (λ st. IsMap K.eq st × IsSummed L.cost_of L.account st)
         map.old calls.items (all_said answers.items) map.new) }
-    // So it is after all calls.
     ensures account { IsSummed L.cost_of L.account map.old → IsSummed L.cost_of L.account map.new }
     ensures unmade { OnErr result (map.new ≡ map.old) }
 {
@@ -60,7 +57,6 @@ where
     Ok(answers)
 }
 
-/// Carries out a call, unless the total would be wrong after it.
 fn make_summing_call<K, V, L, S>(
     alloc: Global,
     map: &mut LruMap<K, V, L, S>,
@@ -83,7 +79,6 @@ where
     make_call(alloc, map, call)
 }
 
-/// Returns whether the total is right after the call.
 fn keeps_cost<K, V, L, S>(map: &LruMap<K, V, L, S>, call: &Call<K, V, L>) -> bool
 where
     K: Eq + Hash,

@@ -2,7 +2,6 @@
 ghost use Rattle.std.specs.Prelude.{◌≡◌, ◌<◌, ◌≤◌, ◌+◌, ◌∷◌, [], ◌++◌, length, take, drop};
 ghost use Rattle.lru_replay.specs.Lines.{Lacks};
 
-/// Returns the first position of the byte, or else the length.
 pub fn index_of(bytes: &[u8], byte: u8) -> usize
     ensures within { result ≤ length bytes.now }
     ensures before { Lacks byte (take result bytes.now) }

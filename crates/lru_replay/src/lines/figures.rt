@@ -5,7 +5,6 @@ use lru_limits::{ByCost, ByLength, ByMemoryUsage, UnlimitedCompact};
 
 /// A limiter of a replay, which may have a running total of costs.
 pub trait ReportsCost {
-    /// Returns the running total of costs, if there is one.
     ghost reported: { Self → Option ℕ };
 
     /// Returns the running total of costs, if there is one.
@@ -48,16 +47,10 @@ impl ReportsCost for ByCost {
 /// The figures of a map.
 #[derive(Clone, Copy)]
 pub struct Figures {
-    /// The number of pairs.
     pub len: usize,
-    /// How many pairs the table holds for sure without growing.
     pub capacity: usize,
-    /// The bytes of the table, as `memory_usage` counts them.
     pub memory: usize,
-    /// How many entries inserts have moved.
     pub moved: u64,
-    /// How many new entries inserts have stored.
     pub placed: u64,
-    /// How many entries shrinks have rehashed.
     pub shrunk: u64,
 }

@@ -13,7 +13,6 @@ const LONGEST: usize = 48;
 /// How many bytes of a line are held: one more than the longest line with a meaning, so that longer lines are noticed.
 pub const HELD: usize = LONGEST + 1;
 
-/// The first `HELD` bytes of a line.
 #[derive(Drop)]
 pub struct Line {
     bytes: [u8; HELD],
@@ -32,7 +31,6 @@ impl Model for Line {
 }
 
 impl Line {
-    /// Returns an empty line.
     pub fn new() -> Line
         ensures { result ≡ [] }
     {
@@ -42,7 +40,6 @@ impl Line {
         }
     }
 
-    /// Returns the bytes that are held.
     pub fn as_slice(&self) -> &[u8]
         ensures { result.now ≡ self.now }
     {
@@ -75,7 +72,6 @@ impl Line {
         self.len += 1;
     }
 
-    /// Adds the bytes that fit at the end.
     fn extend(&mut self, piece: &[u8])
         requires { length self.old ≤ HELD }
         ensures { self.new ≡ take HELD (self.old ++ piece.now) }
@@ -92,11 +88,8 @@ impl Line {
 /// What one look at the reader's buffer gave of a line.
 #[derive(Clone, Copy)]
 pub enum Piece {
-    /// A part of the line, and more may follow.
     Part,
-    /// The rest of the line, and its line feed.
     Last,
-    /// Nothing: the reader's end.
     End,
 }
 
@@ -136,11 +129,8 @@ fn take_piece<R: BufRead>(reader: &mut R, line: &mut Line) -> Result<Piece, Repl
 /// How a line ended.
 #[derive(Clone, Copy)]
 pub enum Ending {
-    /// By its line feed.
     Feed,
-    /// By the input's end, which came after at least one byte.
     InputEnd,
-    /// There was no line: nothing was left of the input.
     Nothing,
 }
 

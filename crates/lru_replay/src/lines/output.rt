@@ -1,4 +1,4 @@
-//! The texts of replies, written piece by piece. Each function fails with `ReplayError::Write` if the writer fails.
+//! The texts of replies, written piece by piece.
 ghost use Rattle.std.specs.Prelude.{Option, [], ◌++◌, decimal};
 ghost use Rattle.lru_replay.specs.Output.{Writes, flag_text, value_text, left_text, pair_text, rest_text};
 ghost use Rattle.lru_replay.specs.Output.{reservation_text, shrink_text, figures_text, placed_text, cost_text};
@@ -12,7 +12,6 @@ use lru_model::{ReserveError, Updated};
 use std::alloc::AllocError;
 use std::io::{ErrorKind, Write};
 
-/// Writes all the bytes. An interrupted write is repeated.
 pub fn write_bytes<W: Write>(writer: &mut W, bytes: &[u8]) -> Result<(), ReplayError>
     ensures { Writes (W.contents writer.old) (W.contents writer.new) result bytes.now }
 {
@@ -34,7 +33,6 @@ pub fn write_bytes<W: Write>(writer: &mut W, bytes: &[u8]) -> Result<(), ReplayE
     Err(ReplayError::Write)
 }
 
-/// Writes the text of an answer. The running total follows the figures, if the limiter keeps one.
 pub fn write_answer<W: Write>(
     writer: &mut W,
     answer: Answer<u64, u64>,
@@ -74,7 +72,6 @@ pub fn write_answer<W: Write>(
     }
 }
 
-/// Writes `true` or `false`.
 fn write_flag<W: Write>(writer: &mut W, flag: bool) -> Result<(), ReplayError>
     ensures { Writes (W.contents writer.old) (W.contents writer.new) result (flag_text flag) }
 {
@@ -85,7 +82,6 @@ fn write_flag<W: Write>(writer: &mut W, flag: bool) -> Result<(), ReplayError>
     }
 }
 
-/// Writes what an insert returned, and after it the pairs that the map lost.
 fn write_given<W: Write>(
     writer: &mut W,
     done: Result<bool, AllocError>,
@@ -97,7 +93,6 @@ fn write_given<W: Write>(
     write_passed(writer, out)
 }
 
-/// Writes whether the key is there, or `no memory`.
 fn write_insert<W: Write>(writer: &mut W, done: Result<bool, AllocError>) -> Result<(), ReplayError>
     ensures { Writes (W.contents writer.old) (W.contents writer.new) result (insert_text done) }
 {
@@ -107,7 +102,6 @@ fn write_insert<W: Write>(writer: &mut W, done: Result<bool, AllocError>) -> Res
     }
 }
 
-/// Writes each pair with a space before it.
 fn write_passed<W: Write>(writer: &mut W, pairs: &[(u64, u64)]) -> Result<(), ReplayError>
     ensures { Writes (W.contents writer.old) (W.contents writer.new) result (rest_text pairs.now) }
 {
@@ -118,7 +112,6 @@ fn write_passed<W: Write>(writer: &mut W, pairs: &[(u64, u64)]) -> Result<(), Re
     Ok(())
 }
 
-/// Writes the pairs with one space between them, or `-` for none.
 fn write_listed<W: Write>(writer: &mut W, pairs: &[(u64, u64)]) -> Result<(), ReplayError>
     ensures { Writes (W.contents writer.old) (W.contents writer.new) result (pairs_text pairs.now) }
 {
@@ -129,7 +122,6 @@ fn write_listed<W: Write>(writer: &mut W, pairs: &[(u64, u64)]) -> Result<(), Re
     write_passed(writer, rest)
 }
 
-/// Writes the value, or `none`.
 fn write_value<W: Write>(writer: &mut W, value: Option<u64>) -> Result<(), ReplayError>
     ensures { Writes (W.contents writer.old) (W.contents writer.new) result (value_text value) }
 {
@@ -139,7 +131,6 @@ fn write_value<W: Write>(writer: &mut W, value: Option<u64>) -> Result<(), Repla
     }
 }
 
-/// Writes the pair, or `none`.
 fn write_left<W: Write>(writer: &mut W, left: Option<(u64, u64)>) -> Result<(), ReplayError>
     ensures { Writes (W.contents writer.old) (W.contents writer.new) result (left_text left) }
 {
@@ -149,7 +140,6 @@ fn write_left<W: Write>(writer: &mut W, left: Option<(u64, u64)>) -> Result<(), 
     }
 }
 
-/// Writes that there is room, or why not.
 fn write_reservation<W: Write>(
     writer: &mut W,
     reserved: Result<(), ReserveError>,
@@ -164,7 +154,6 @@ fn write_reservation<W: Write>(
     }
 }
 
-/// Writes whether the table has fewer buckets now, as `ok` or `kept`, or `no memory`.
 fn write_shrink<W: Write>(
     writer: &mut W,
     shrunk: Result<bool, AllocError>,
@@ -178,7 +167,6 @@ fn write_shrink<W: Write>(
     }
 }
 
-/// Writes what an update did, and the value that the map does not have then.
 fn write_updated<W: Write>(writer: &mut W, updated: Updated<u64>) -> Result<(), ReplayError>
     ensures { Writes (W.contents writer.old) (W.contents writer.new) result (updated_text updated) }
 {
@@ -189,7 +177,6 @@ fn write_updated<W: Write>(writer: &mut W, updated: Updated<u64>) -> Result<(), 
     }
 }
 
-/// Writes the figures by their names.
 fn write_figures<W: Write>(writer: &mut W, figures: Figures) -> Result<(), ReplayError>
     ensures { Writes (W.contents writer.old) (W.contents writer.new) result (figures_text figures) }
 {
@@ -200,7 +187,6 @@ fn write_figures<W: Write>(writer: &mut W, figures: Figures) -> Result<(), Repla
     write_placed(writer, figures.placed, figures.shrunk)
 }
 
-/// Writes how many entries inserts stored, and after it how many shrinks rehashed, if any.
 fn write_placed<W: Write>(writer: &mut W, placed: u64, shrunk: u64) -> Result<(), ReplayError>
     ensures { Writes (W.contents writer.old) (W.contents writer.new) result (placed_text placed shrunk) }
 {
@@ -212,7 +198,6 @@ fn write_placed<W: Write>(writer: &mut W, placed: u64, shrunk: u64) -> Result<()
     }
 }
 
-/// Writes the cost after the figures, if there is one.
 fn write_cost<W: Write>(writer: &mut W, cost: Option<u64>) -> Result<(), ReplayError>
     ensures { Writes (W.contents writer.old) (W.contents writer.new) result (cost_text cost) }
 {
@@ -222,7 +207,6 @@ fn write_cost<W: Write>(writer: &mut W, cost: Option<u64>) -> Result<(), ReplayE
     }
 }
 
-/// Writes a name and its number.
 fn write_named<W: Write>(writer: &mut W, name: &[u8], number: u64) -> Result<(), ReplayError>
     ensures { Writes (W.contents writer.old) (W.contents writer.new) result (named_text name.now number) }
 {
@@ -230,7 +214,6 @@ fn write_named<W: Write>(writer: &mut W, name: &[u8], number: u64) -> Result<(),
     write_number(writer, number)
 }
 
-/// Writes the pair, with a space before it if others were written, or nothing for none.
 pub fn write_next<W: Write>(
     writer: &mut W,
     any: bool,
@@ -248,7 +231,6 @@ pub fn write_next<W: Write>(
     write_pair(writer, key, value)
 }
 
-/// Writes the key and the value, with a colon between them.
 pub fn write_pair<W: Write>(writer: &mut W, key: u64, value: u64) -> Result<(), ReplayError>
     ensures { Writes (W.contents writer.old) (W.contents writer.new) result (pair_text (key, value)) }
 {
@@ -257,7 +239,6 @@ pub fn write_pair<W: Write>(writer: &mut W, key: u64, value: u64) -> Result<(), 
     write_number(writer, value)
 }
 
-/// Writes a number in decimal digits, which are made from the last to the first.
 fn write_number<W: Write>(writer: &mut W, number: u64) -> Result<(), ReplayError>
     ensures { Writes (W.contents writer.old) (W.contents writer.new) result (decimal number) }
 {

@@ -1,4 +1,3 @@
-//! The line `list`: the pairs of a map, written one after another.
 ghost use Rattle.lru_replay.specs.Output.{Writes, rest_text, pairs_text};
 
 use crate::ReplayError;
@@ -6,7 +5,6 @@ use crate::lines::output::{write_bytes, write_pair};
 use schnellru::{LinkType, Walk};
 use std::io::Write;
 
-/// Writes the pairs with one space between them, or `-` for none.
 pub fn write_pairs<N: LinkType, W: Write>(
     writer: &mut W,
     pairs: Walk<'_, u64, u64, N>,

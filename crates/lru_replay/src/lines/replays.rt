@@ -20,10 +20,8 @@ use schnellru::{
 use std::alloc::Global;
 use std::io::{BufRead, Write};
 
-/// The bytes that the map counts for an entry, unless the first line says otherwise.
 const ENTRY_BYTES: usize = 32;
 
-/// Carries out what a line says, and writes the answer. The lines `list` and `drain` take no memory for it.
 fn answer_call<L: Insertion<u64, u64, u64> + ReportsCost + Drop, W: Write>(
     alloc: Global,
     map: &mut LruMap<u64, u64, L>,
@@ -47,7 +45,6 @@ fn answer_call<L: Insertion<u64, u64, u64> + ReportsCost + Drop, W: Write>(
     write_answer(writer, answer, cost)
 }
 
-/// Carries out what a line says, and writes the answer line.
 fn answer_line<L: Insertion<u64, u64, u64> + ReportsCost + Drop, W: Write>(
     alloc: Global,
     map: &mut LruMap<u64, u64, L>,
@@ -64,14 +61,12 @@ fn answer_line<L: Insertion<u64, u64, u64> + ReportsCost + Drop, W: Write>(
     write_bytes(writer, b"\n")
 }
 
-/// Does nothing at run time: it shows the proof that the table is sound, as the table of every map is.
 fn learn<L: Insertion<u64, u64, u64>>(map: &LruMap<u64, u64, L>)
     ensures { IsSized map.now }
 {
     let _len = map.len();
 }
 
-/// Answers the lines up to the reader's end.
 fn answer_lines<L: Insertion<u64, u64, u64> + ReportsCost + Drop, R: BufRead, W: Write>(
     alloc: Global,
     map: &mut LruMap<u64, u64, L>,
@@ -92,7 +87,6 @@ fn answer_lines<L: Insertion<u64, u64, u64> + ReportsCost + Drop, R: BufRead, W:
     Err(ReplayError::Read)
 }
 
-/// Answers the lines on an empty map with this limiter and `entry_bytes` bytes an entry.
 fn answer_with<L: Insertion<u64, u64, u64> + ReportsCost + Drop, R: BufRead, W: Write>(
     alloc: Global,
     limiter: L,
@@ -108,7 +102,6 @@ fn answer_with<L: Insertion<u64, u64, u64> + ReportsCost + Drop, R: BufRead, W: 
     answer_lines(alloc, &mut map, reader, writer)
 }
 
-/// Answers the lines on an empty map under the limit.
 fn answer_under<R: BufRead, W: Write>(
     alloc: Global,
     limit: Limit,
@@ -129,7 +122,6 @@ fn answer_under<R: BufRead, W: Write>(
     }
 }
 
-/// Reads the first line, and answers the others if it names a limit.
 fn answer_all<R: BufRead, W: Write>(
     alloc: Global,
     reader: &mut R,

@@ -1,5 +1,4 @@
-//! The pairs that the line `drain` takes out, written as they go. Each function fails with `ReplayError::Write` if the
-//! writer fails.
+//! The pairs that the line `drain` takes out, written as they go.
 ghost use Rattle.std.specs.Prelude.{ℕ, List, [], ◌++◌, Option, if◌then◌else◌, codes};
 ghost use Rattle.lru_replay.specs.Output.{Writes, taken_text};
 
@@ -7,7 +6,6 @@ use crate::lines::outcome::ReplayError;
 use crate::lines::output::{write_bytes, write_next};
 use std::io::Write;
 
-/// Writes a pair after others, if there is one, unless a write has failed.
 pub fn write_taken<W: Write>(
     writer: &mut W,
     before: Result<(), ReplayError>,
@@ -21,7 +19,6 @@ pub fn write_taken<W: Write>(
     write_next(writer, any, taken)
 }
 
-/// Writes `-` if there were no pairs.
 pub fn end_of_pairs<W: Write>(
     writer: &mut W,
     before: Result<(), ReplayError>,

@@ -8,14 +8,10 @@ ghost use Rattle.lru_replay.specs.Grammar.{SpellsCall, limit_words, FitsLimit, S
 use crate::calls::Call;
 use crate::lines::bytes::index_of;
 
-/// The numbers after the word of a line.
 #[derive(Clone, Copy)]
 pub enum Numbers {
-    /// There is none.
     Zero,
-    /// One number.
     One(u64),
-    /// Two numbers.
     Two(u64, u64),
 }
 
@@ -32,7 +28,6 @@ pub enum Limit {
     Compact,
 }
 
-/// Returns the call that the line spells.
 pub fn call_of<L>(line: &[u8]) -> Option<Call<u64, u64, L>>
     ensures some { IfSome result (λ call. SpellsCall line.now call) }
     ensures none { IfNone result ((call : Call ℕ ℕ L) → SpellsCall line.now call → ⊥) }
@@ -45,7 +40,6 @@ pub fn call_of<L>(line: &[u8]) -> Option<Call<u64, u64, L>>
     }
 }
 
-/// Returns the limit that the line names.
 pub fn limit_of(line: &[u8]) -> Option<Limit>
     ensures some { IfSome result (λ limit. SpellsLimit line.now limit) }
     ensures none { IfNone result ((limit : Limit) → SpellsLimit line.now limit → ⊥) }
@@ -54,7 +48,6 @@ pub fn limit_of(line: &[u8]) -> Option<Limit>
     limit_with(word, given)
 }
 
-/// Splits a line into its word and the numbers after it.
 fn split(line: &[u8]) -> Option<(&[u8], Numbers)>
     ensures some { IfSome result (λ parts. IsSplit line.now parts.0.now parts.1) }
     ensures none { IfNone result ((word : List ℕ) (given : Numbers) → IsSplit line.now word given → ⊥) }
@@ -72,7 +65,6 @@ fn split(line: &[u8]) -> Option<(&[u8], Numbers)>
     Some((word, Numbers::One(n)))
 }
 
-/// Reads two numbers with one space between them.
 fn number_pair(words: &[u8]) -> Option<(u64, u64)>
     ensures some { IfSome result (λ pair. SpellsPair words.now pair.0 pair.1) }
     ensures none { IfNone result ((k v : ℕ) → SpellsPair words.now k v → ⊥) }
@@ -86,7 +78,6 @@ fn number_pair(words: &[u8]) -> Option<(u64, u64)>
     Some((first, second))
 }
 
-/// Reads a number in decimal digits, with no zero in front of another digit.
 fn number(word: &[u8]) -> Option<u64>
     ensures some { IfSome result (λ n. SpellsNumber word.now n) }
     ensures none { IfNone result ((n : ℕ) → SpellsNumber word.now n → ⊥) }
@@ -110,7 +101,6 @@ fn starts_as_number(word: &[u8]) -> bool
     word[0] != b'0' || word.len() == 1
 }
 
-/// Returns the call of a word alone.
 fn plain_call<L>(word: &[u8]) -> Option<Call<u64, u64, L>>
     ensures { result ≡ said_of call_words word.now numbers.Zero }
 {
@@ -135,7 +125,6 @@ fn plain_call<L>(word: &[u8]) -> Option<Call<u64, u64, L>>
     None
 }
 
-/// Returns the call of a word and a number.
 fn call_with_number<L>(word: &[u8], n: u64) -> Option<Call<u64, u64, L>>
     ensures { result ≡ said_of call_words word.now (numbers.One n) }
 {
@@ -170,7 +159,6 @@ fn call_with_number<L>(word: &[u8], n: u64) -> Option<Call<u64, u64, L>>
     None
 }
 
-/// Returns the call of a word and two numbers.
 fn call_with_pair<L>(word: &[u8], key: u64, value: u64) -> Option<Call<u64, u64, L>>
     ensures { result ≡ said_of call_words word.now (numbers.Two key value) }
 {
@@ -186,7 +174,6 @@ fn call_with_pair<L>(word: &[u8], key: u64, value: u64) -> Option<Call<u64, u64,
     None
 }
 
-/// Returns the limit of a word and its numbers.
 fn limit_with(word: &[u8], given: Numbers) -> Option<Limit>
     ensures some { IfSome result (λ limit. FitsLimit limit × (said_of limit_words word.now given ≡ Some limit)) }
     ensures none { IfNone result ((limit : Limit) → FitsLimit limit →

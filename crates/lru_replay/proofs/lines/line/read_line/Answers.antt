@@ -8,7 +8,6 @@ use Rattle.lru_replay.specs.Lines.{TakesPart, TakesRest}
 use Rattle.lru_replay.proofs.ByteLists.{Lacks-append, kept_again, nothing_held, some_held, Consumes_end}
 use Rattle.lru_replay.proofs.lines.line.read_line.Goals as goal
 
--- after a part of a line, more was read: what is held of it, and the rest of it
 module _ (bytes more line next : List ℕ) (kept : line ≡ take HELD bytes) (now : next ≡ take HELD (line ++ more)) where
   held : next ≡ take HELD (bytes ++ more)
   held = now ∙ ap (λ l. take HELD (l ++ more)) kept ∙ kept_again HELD bytes more
