@@ -46,7 +46,6 @@ module _ (R : RattleType) where
   module _ {M : Type 1} {𝓤 : Ura M} (𝓛 : Logic 𝓤) where
     open 𝓛 use {H}
 
-    -- once the place at this number of bytes into the block holds p, the row is whole again
     abbrev Row : ℕ → ℕ → List Held → ℕ → ℕ → Held → SProp 𝓤
     Row block o held b far p = wand 𝓤 (sem 𝓛 (place R block far p)) (sem 𝓛 (places R block o (slice_set held b p)))
 

@@ -59,7 +59,6 @@ module _ {T : Type 0} (old new : List (Slot T)) (b : ℕ) where
   entry_count-removes there (inl w) = one_fewer empty refl there w.1
   entry_count-removes there (inr w) = one_fewer deleted refl there w.1
 
--- a removal is one of the bucket states
 module _ {A : Type 0} where
   state_again : (s : Bucket A) → mark_of (mark_of s) ≡ mark_of s
   state_again empty = refl

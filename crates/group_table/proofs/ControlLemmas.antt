@@ -91,7 +91,6 @@ module _ (control : List ℕ) (b byte : ℕ) (circle : IsCircle control) (within
     });
   }
 
--- sixteen places back on a circle, counted by words that wrap
 module _ (n b : ℕ) (power : IsPowerFromFour n) (fits : n < 2 ^ 64) (word : b < 2 ^ 64) where
   turns : (q : ℕ) × (2 ^ 64 ≡ n * q) × (0 < q)
   turns = elim (dec_lt 62 power.0) [

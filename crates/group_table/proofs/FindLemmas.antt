@@ -35,7 +35,6 @@ has_tag-slot_of : {T : Type 0} (byte tag : ℕ) (e : Option T) → byte ≢ tag 
 has_tag-slot_of {T} byte tag None p = has_tag-test T tag (nat_eq byte 128)
 has_tag-slot_of byte tag (Some entry) p = ne_eqb byte tag p
 
--- one lane, by its byte
 module _ {T : Type 0} (control : List ℕ) (entries : List (Option T)) (laid_out : IsLaidOut control entries)
     (start lane b : ℕ) (is : b ≡ (start + lane) % length entries)
     (within : b < length entries) where
@@ -76,7 +75,6 @@ module _ {T : Type 0} (control : List ℕ) (entries : List (Option T)) (laid_out
         accepted = asked;
       }
 
--- a group, from its first step on
 module _ {T F : Type 0} (closure : Mut F (Bor T × Unit {0}) Bool) (slots : List (Slot T)) (hash s : ℕ)
     (power : IsPowerFromFour (length slots)) (whole : s % 16 ≡ 0)
     (within : s < length slots) (none_before : (t : ℕ) → t < s → mark_probed (marks_of slots) hash t ≢ empty)
@@ -191,7 +189,6 @@ FindsNone-empty closure slots hash f e = record {
   complete = λ hash_of fits b there same. absurd (empty_not_full _ (bucket_at-past slots b (omega (arith, e))) there);
 }
 
--- none of the first steps comes to an empty bucket, so that the search goes on
 module _ {T : Type 0} (control : List ℕ) (entries : List (Option T)) (laid_out : IsLaidOut control entries) (hash s : ℕ)
     (pos : 0 < length entries) (whole : s % 16 ≡ 0)
     (none_before : (t : ℕ) → t < s → mark_probed (marks_by control entries) hash t ≢ empty)
@@ -228,7 +225,6 @@ pub record GoesPast {T F : Type 0} (closure : Mut F (Bor T × Unit {0}) Bool) (s
   pub refused : RejectsEach closure slots f (candidates slots hash n) g
   pub not_empty : (before : ℕ) → before < n → mark_probed (marks_of slots) hash before ≢ empty
 
--- the search comes to a group
 module _ {T F : Type 0} (closure : Mut F (Bor T × Unit {0}) Bool) (control : List ℕ) (entries : List (Option T))
     (laid_out : IsLaidOut control entries)
     (some : (b : ℕ) × (b < length entries) × (bucket_at (marks_by control entries) b ≡ empty)) (hash : ℕ) where
@@ -268,7 +264,6 @@ module _ {T F : Type 0} (closure : Mut F (Bor T × Unit {0}) Bool) (control : Li
           FindsNone-from closure slots hash (passed_by probe) power at_slots.whole past.within past.not_empty f between
           g past.refused (rw (at_slots.start, tag_is) at here.0) (rw at_slots.start at here.1)
 
-      -- or goes past it
       module _ (here : RejectsGroup closure slots tag probe.start between g
           × HasNoEmptyLane slots probe.start (width slots)) where
         more : passed_by probe + 16 < length entries

@@ -21,7 +21,6 @@ with_hash-elsewhere hash_of b hash k p = rw (ne_eqb k b p)
 pub one_held : {A : Type 0} (s : Bucket A) (x y : A) → s ≡ full x → s ≡ full y → x ≡ y
 one_held s x y p q = cc
 
--- a search goes on past the buckets that it went past, as long as none of them is emptied
 module _ (marks : List Mark) (b : ℕ) (m : Mark) (within : b < length marks) (stays : m ≢ empty) where
   goes_past : (hash t : ℕ) → mark_probed marks hash t ≢ empty → mark_probed (set marks b m) hash t ≢ empty
   goes_past hash t goes e =
@@ -39,7 +38,6 @@ module _ (marks : List Mark) (b : ℕ) (m : Mark) (within : b < length marks) (s
     goes_on = λ before p. goes_past hash before (r.goes_on before p);
   }
 
--- a bucket is emptied only if each search that went past it ended in the same group
 module _ (marks : List Mark) (b : ℕ) (near : HasEmptyNeighbours (IsEmpty marks) (length marks) b) where
   goes_on_past : (hash step : ℕ) → ((before : ℕ) → before / 16 < step / 16 → mark_probed marks hash before ≢ empty)
       → (before : ℕ) → before / 16 < step / 16
@@ -112,7 +110,6 @@ module _ {T : Type 0} where
     reached = λ b there. rw (← agree b there) (fits.reached b there);
   }
 
-  -- a bucket whose entry left
   module _ (slots : List (Slot T)) (hash_of : ℕ → ℕ) (b : ℕ) (s : Slot T) (p : b < length slots)
       (not_full : is_full s ≡ true → ⊥)
       (reaches : (hash k : ℕ) → Reaches (marks_of slots) hash k → Reaches (set (marks_of slots) b (mark_of s)) hash k)

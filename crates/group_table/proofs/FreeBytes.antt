@@ -14,7 +14,6 @@ free_bytes control = count_by (λ byte. nat_le 128 byte) control
 abbrev frees : ℕ → ℕ
 frees byte = cond (nat_le 128 byte) 1 0
 
--- a tag at a free bucket leaves fewer
 module _ (tag : ℕ) (tag_fits : tag < 128) where
   not_free : frees tag ≡ 0
   not_free = ap (λ t. cond {A = ℕ} t 1 0) (lt-leb 128 tag tag_fits)

@@ -22,7 +22,6 @@ use Rattle.group_table.proofs.MoveLemmas.{Moves-none}
 use Rattle.group_table.proofs.RelocationLemmas.{entry_count-laid_out}
 use Rattle.group_table.proofs.PlaceCounts.{place_within, count-taken}
 
--- what a place is by what is placed there and what stands there
 module _ {T : Type 0} (old gone placed now : List (Option T)) (b : ℕ) where
   settled_by_placed : (entry : T) → place_at placed b ≡ Some entry → IsSettled old gone placed now b
       ⊎ IsWaiting old gone placed now b → IsSettled old gone placed now b
@@ -39,14 +38,12 @@ module _ {T : Type 0} (old gone placed now : List (Option T)) (b : ℕ) where
   waiting_by_none entry e f (inl s) = absurd (none-some entry (sym e ∙ sym s.stands ∙ f))
   waiting_by_none entry e f (inr w) = w
 
--- the number of control bytes gives the number of places
 module _ {T N : Type 0} {number : N → ℕ} {none : N} {IsGiven : (ℕ → ℕ) → Type 0} {whole now : List (Option T)}
     {control : List ℕ} {links : List N} {passed : ℕ}
     (half : IsHalfway number none IsGiven whole now control links passed) where
   pub buckets_now : buckets_of control ≡ length now
   buckets_now = buckets_are _ _ half.valid.laid_out ∙ half.placed_length ∙ sym half.now_length
 
--- nothing has gone, and the control bytes are cleared
 module _ {T N : Type 0} (number : N → ℕ) (none : N) (IsGiven : (ℕ → ℕ) → Type 0) (whole : List (Option T))
     (links : List N) (m : ℕ)
     (power : IsPowerFromFour (length whole)) (m_is : m ≡ length whole + 16) (fits : m < 2 ^ 63)
@@ -82,7 +79,6 @@ module _ {T N : Type 0} (number : N → ℕ) (none : N) (IsGiven : (ℕ → ℕ)
     hashes = λ hash_at given moved_hash_of same. Fits-none _ moved_hash_of all_empty;
   }
 
--- the first place that has not been passed
 module _ {T N : Type 0} (number : N → ℕ) (none : N) (IsGiven : (ℕ → ℕ) → Type 0) (whole now : List (Option T))
     (control : List ℕ) (links : List N) (b : ℕ)
     (half : IsHalfway number none IsGiven whole now control links b) where
@@ -125,7 +121,6 @@ module _ {T N : Type 0} (number : N → ℕ) (none : N) (IsGiven : (ℕ → ℕ)
   pub IsHalfway-none : place_at now b ≡ None → IsHalfway number none IsGiven whole now control links (b + 1)
   IsHalfway-none gone = passed_by (settled_by_none whole half.gone half.placed now b gone (half.each b))
 
-  -- an entry waits there, and is taken out
   module _ (entry : T) (byte : 128 ≤ get_or control b 0) (there : place_at now b ≡ Some entry) where
     in_now : b < length now
     in_now = place_within now b entry there
@@ -197,7 +192,6 @@ module _ {T N : Type 0} (number : N → ℕ) (none : N) (IsGiven : (ℕ → ℕ)
           subst (λ then. IsHalfway number none IsGiven whole then control links (b + 1)) (sym same) (IsHalfway-none is)
       at (Some entry) is = (stood_there entry byte is, IsHalfway-taken entry byte is)
 
--- no entry waits any more
 module _ {T N : Type 0} (number : N → ℕ) (none : N) (IsGiven : (ℕ → ℕ) → Type 0) (whole now : List (Option T))
     (control : List ℕ) (links : List N)
     (half : IsHalfway number none IsGiven whole now control links (length whole)) where

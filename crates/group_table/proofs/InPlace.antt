@@ -12,8 +12,6 @@ abbrev pub StaysWhereFree : {T : Type 0} → List (Option T) → List (Option T)
 StaysWhereFree old now control passed = (b : ℕ) → passed ≤ b → b < length old → IsFreeByte (slice_index control b)
     → place_at now b ≡ place_at old b
 
--- One place. `old` is what it held before the rehash, `gone` is the same if that entry has moved, `placed` is the entry
--- that has moved here, and `now` is what it holds.
 module _ {T : Type 0} (old gone placed now : List (Option T)) (b : ℕ) where
   -- the old entry has moved, and the place holds what was moved here
   pub record IsSettled : Type 0 where

@@ -87,7 +87,6 @@ module _ {T : Type 0} (control : List ℕ) (entries : List (Option T)) (r : ℕ)
             ∙ ap (λ t. set (slots_of control entries) b (full (record { tag = t; entry = entry }))) is;
       }
 
--- what comes of it
 module _ {T : Type 0} {old new : List (Slot T)} {hash : ℕ} {entry : T} {b : ℕ}
     (joins : Joins old new hash entry b) where
   abbrev filled : Slot T

@@ -30,7 +30,6 @@ module _ {T N : Type 0} (number : N → ℕ) (none : N) where
     onto = λ c there. absurd (empty_not_full _ (fresh c) there);
   }
 
-  -- a bucket without an entry adds nothing
   module _ (old more : ℕ → Option T) {new : List (Slot T)} (links : List N) (same : (b : ℕ) → more b ≡ old b) where
     pub Moves-same : Moves number none old new links → Moves number none more new links
     Moves-same m = record {
@@ -45,7 +44,6 @@ module _ {T N : Type 0} (number : N → ℕ) (none : N) where
     KeepsHashes-same hash_of keeps moved_hash_of gives =
         keeps moved_hash_of (λ b entry e. gives b entry (same b ∙ e))
 
-  -- one more entry moves
   module _ (link : ℕ → N) (laws : IsLinkType number link none)
       (old more : ℕ → Option T) {new joined : List (Slot T)} {links : List N} (b : ℕ) {c hash : ℕ} {entry : T}
       (was : old b ≡ None) (is : more b ≡ Some entry) (others : (k : ℕ) → k ≢ b → more k ≡ old k)
@@ -120,7 +118,6 @@ module _ {T N : Type 0} (number : N → ℕ) (none : N) where
           | inr h ↦ with_hash-elsewhere moved_hash_of c hash k h
         ]) (Fits-reached new moved_hash_of hash c entry joins.within joins.reached before))
 
--- the entries in the first b places, and one place more
 module _ {T : Type 0} (places : List (Option T)) (b : ℕ) (within : b < length places) where
   next_place : take (b + 1) places ≡ take b places ++ get_or places b None ∷ []
   next_place = take_more places b None within

@@ -7,7 +7,6 @@ use Rattle.std.proofs.lemmas.List.Sums.{sum_by-set, sum_by-cons}
 use native.Mathlib.Decide.{dec_lt}
 use Rattle.group_table.specs.Moves.{place_at}
 
--- how many places have an entry
 module _ {T : Type 0} where
   abbrev counts : Option T → ℕ
   counts place = cond (is_some place) 1 0

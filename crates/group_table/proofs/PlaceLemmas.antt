@@ -192,7 +192,6 @@ module _ {T : Type 0} {control : List ℕ} {entries : List (Option T)} {r spent 
         let frees = free_of (bucket_at (slots_of control entries) b) r spent spends in
         omega (arith, frees.2, room_spent, room_by _ _ _ IsValid-placed, room_by control entries r valid)
 
--- a free bucket, by the bucket states
 module _ {T : Type 0} {control : List ℕ} {entries : List (Option T)} {r : ℕ} (valid : IsValid control entries r)
     (b : ℕ) (bucket : b < length (slots_of control entries))
     (free : is_full (bucket_at (marks_by control entries) b) ≡ false) where

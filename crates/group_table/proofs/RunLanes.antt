@@ -15,7 +15,6 @@ use Rattle.group_table.proofs.LaneLemmas.{all_real, lane_byte, byte_between}
 module _ (control : List ℕ) (n : ℕ) (power : IsPowerFromFour n) (repeated : IsRepeated control n) (b : ℕ)
     (bound : b < n) where
   module _ (mask run : ℕ) (small : run ≤ 16) where
-    -- the lanes from the bucket on
     module _ (h : IsMaskAt (λ byte. byte ≡ 255) control b mask)
         (none : (lane : ℕ) → lane < run → HasLane mask lane → ⊥) where
       pub run_from_lanes : (run < 16 → HasLane mask run) → 16 ≤ n → IsRunFrom control n b run
@@ -43,7 +42,6 @@ module _ (control : List ℕ) (n : ℕ) (power : IsPowerFromFour n) (repeated : 
         | no q ↦ omega arith
       ]
 
-    -- the lanes up to the bucket before
     module _ (start : ℕ) (is : start ≡ (b + (n - 16)) % n) (h : IsMaskAt (λ byte. byte ≡ 255) control start mask)
         (none : (lane : ℕ) → lane < 16 → 16 ≤ lane + run → HasLane mask lane → ⊥) where
       start_within : start < n

@@ -26,7 +26,6 @@ use Rattle.group_table.proofs.PlaceCounts.{place_within, count-filled, count-cha
 use Rattle.group_table.proofs.HalfwayLemmas.{buckets_now, settled_by_none, waiting_by_none, stood_there}
 use Rattle.group_table.proofs.HalfwayLemmas.{IsHalfway-taken}
 
--- an entry that was taken out goes into the first free bucket
 module _ {T N : Type 0} {number : N → ℕ} {none : N} {IsGiven : (ℕ → ℕ) → Type 0} (whole : List (Option T))
     {now : List (Option T)} {control : List ℕ} {links : List N} {passed : ℕ} (old : ℕ) {entry : T}
     (half : IsHalfway number none IsGiven (set whole old None) now control links passed)
@@ -139,7 +138,6 @@ module _ {T N : Type 0} {number : N → ℕ} {none : N} {IsGiven : (ℕ → ℕ)
         (omega (arith, half.links_length, same_length, in_whole))
         (omega (arith, in_placed reached, half.placed_length, same_length, below)) joins half.moves
 
-    -- by what is in each place then
     module _ (next : List (Option T)) (next_length : length next ≡ length whole)
         (counted : count_by is_some now_then ≡ count_by is_some next)
         (elsewhere : (k : ℕ) → k ≢ b → place_at next k ≡ place_at whole k)
@@ -230,7 +228,6 @@ module _ {T N : Type 0} {number : N → ℕ} {none : N} {IsGiven : (ℕ → ℕ)
         rw same_bytes (IsHalfway-then whole refl (count-filled now b entry (put_within reached) free ∙ one_fewer)
         (λ k other. refl) there)
 
-    -- the entry that stood there is taken out
     module _ (waiting : T) (found : place_at now b ≡ Some waiting) where
       waits_there : IsWaiting (set whole old None) half.gone half.placed now b
       waits_there = waiting_by_none (set whole old None) half.gone half.placed now b waiting free_placed found
@@ -271,7 +268,6 @@ module _ {T N : Type 0} {number : N → ℕ} {none : N} {IsGiven : (ℕ → ℕ)
         at None is = IsHalfway-last is
         at (Some waiting) is = (stood_next waiting is, IsHalfway-next waiting is)
 
--- the first place that has not been passed, with an entry that a search for it reads among the first
 module _ {T N : Type 0} (number : N → ℕ) (none : N) (link : ℕ → N)
     (laws : IsLinkType number link none) (IsGiven : (ℕ → ℕ) → Type 0)
     (whole now : List (Option T)) (control : List ℕ) (links : List N) (b : ℕ) (entry : T)

@@ -42,7 +42,6 @@ module _ {T : Type 0} (whole now : List (Option T)) (control : List ℕ) (passed
           get_or-set_other now b k place None other ∙ stays k from within (rw (other_byte k within other) at free)
     ]
 
--- in a place that is passed no entry waits
 module _ {T N : Type 0} {number : N → ℕ} {none : N} {IsGiven : (ℕ → ℕ) → Type 0} {whole now : List (Option T)}
     {control : List ℕ} {links : List N} {passed : ℕ}
     (half : IsHalfway number none IsGiven whole now control links passed) where

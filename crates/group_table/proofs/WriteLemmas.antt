@@ -155,7 +155,6 @@ module _ {T : Type 0} (control : List ℕ) (entries : List (Option T)) (laid_out
     bytes = λ p q. rw (slots_of-written control entries b byte e) (new_bytes p (rw length-written at q));
   }
 
--- the invariant of the fields, and the number of entries, after a write
 module _ {T : Type 0} (control : List ℕ) (entries : List (Option T)) (r : ℕ) (valid : IsValid control entries r)
     (b byte : ℕ) (e : Option T) (within : b < length entries)
     (agrees : Agrees byte e) where

@@ -19,7 +19,6 @@ pub(crate) const DELETED: u8 = 0x80;
 #[derive(Drop)]
 pub(crate) struct Control {
     bytes: Vec<u8>,
-    // The number of the last bucket, by which a position is wrapped; 0 without buckets.
     last: usize,
 }
 
@@ -108,7 +107,6 @@ impl Control {
         wrap(place, self.last)
     }
 
-    // Returns the bucket sixteen positions before a bucket on the circle; of 4 or 8 buckets that is the bucket itself.
     #[inline]
     pub(crate) fn sixteen_before(&self, b: usize) -> usize
         requires { 0 < buckets_of self.now }
@@ -169,8 +167,6 @@ pub(crate) fn emptied_byte(gives_room: usize) -> u8
     (gives_room & 0x7f) as u8 | DELETED
 }
 
-// Returns how much of the growth left an entry takes in a free bucket with this byte: one in an empty bucket, none in a
-// deleted one.
 #[inline]
 pub(crate) fn room_taken(byte: u8) -> usize
     requires { (byte ≡ deleted_byte) ⊎ (byte ≡ empty_byte) }

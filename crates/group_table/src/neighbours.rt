@@ -28,7 +28,6 @@ fn empty_from(control: &Control, b: usize) -> u16
     control.group(b).match_empty()
 }
 
-// Returns all ones if the first number is less than the second, and 0 otherwise.
 #[inline]
 fn ones_if_less(low: u32, high: u16) -> usize
     ensures { result ≡ (if nat_lt low high then 2 ^ 64 - 1 else 0) }
@@ -37,9 +36,8 @@ fn ones_if_less(low: u32, high: u16) -> usize
     (difference >> 32).cast_unsigned() as usize
 }
 
-// Returns all ones if every 16 neighbouring buckets around this one contain an empty one, and 0 otherwise. The caller
-// makes a count and a byte of it, for which a `bool` would take more instructions. The neighbouring buckets lie between
-// the last empty bucket before this one and the first one after it, so the used buckets between these decide.
+// Returns all ones if every 16 neighbouring buckets around this one contain an empty one, and 0 otherwise. The
+// neighbouring buckets lie between the last empty bucket before this one and the first one after it.
 #[inline]
 pub(crate) fn ones_if_empty_neighbours(control: &Control, b: usize) -> usize
     requires bucket { b < buckets_of control.now }

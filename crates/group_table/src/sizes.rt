@@ -16,13 +16,11 @@ pub fn full_capacity(buckets: usize) -> usize
     }
 }
 
-/// Returns the number of buckets for `capacity` entries: 0 for none, else a power of two. Returns `None` if it is not
-/// below `max`, the number of the link type's `MAX`, or if eight times the capacity overflows.
+/// Returns the number of buckets for `capacity` entries: 0 for none, else a power of two.
 #[tactic(auto, unfolding(crate::specs::Sizes::buckets_for))]
 pub fn buckets_for_capacity(capacity: usize, max: usize) -> Option<usize>
     ensures value { result ≡ buckets_for max capacity }
 
-    // The result is below the limit, is a number of buckets that a table can have, and holds that many entries.
     ensures below { IfSome result (λ b. 0 < b → b < max) }
     ensures valid { IfSome result IsBucketCount }
     ensures holds { IfSome result (λ b. capacity ≤ full_capacity b) }

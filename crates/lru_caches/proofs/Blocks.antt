@@ -37,7 +37,6 @@ module _ {B D E S : Type 0} (d : device.Ghosts D B E S) where
   pub crash-same : (pages : List (ℕ × Page B)) (it : D) → CrashAdds d pages it it
   crash-same pages it n block left = inl left
 
-  -- a device on which only the block of a cached page may have changed
   module _ (pages : List (ℕ × Page B)) (old new : D) (k : ℕ) (page : Page B)
       (there : lookup (nat_eq k) pages ≡ Some page) (others : (m : ℕ) → m ≢ k → d.blocks new m ≡ d.blocks old m) where
     pub shown-written_back : (n : ℕ) → block_at d pages new n ≡ block_at d pages old n

@@ -44,7 +44,6 @@ pub length-cleaned : {B : Type 0} (pages : List (ℕ × Page B)) → length (cle
 length-cleaned [] = refl
 length-cleaned (page ∷ pages) = ap suc (length-cleaned pages)
 
--- a closure that makes each page clean, called with every page
 module _ {B F : Type 0} (closure : Mut F (Bor ℕ × (MutBor (Page B) × Unit {0})) (Unit {0} × (MutBor (Page B) × Unit {0})))
     (clears : (f : F) (key : Bor ℕ) (value left : MutBor (Page B)) (g : F)
     → Called closure f (key, (value, tt)) (tt, (left, tt)) g

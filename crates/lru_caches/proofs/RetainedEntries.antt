@@ -35,7 +35,6 @@ module _ {X : Type 0} where
   picked_push (false ∷ cs) (y ∷ ys) b x same =
       let fewer : length cs ≡ length ys = omega (arith, same) in picked_push cs ys b x fewer
 
-  -- the answers, and what they were given for, the last of which comes first in the list
   abbrev answers_of : List (X × Bool) → List Bool
   answers_of [] = []
   answers_of (one ∷ rest) = answers_of rest ++ one.1 ∷ []

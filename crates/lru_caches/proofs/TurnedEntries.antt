@@ -92,7 +92,6 @@ module _ {K X : Type 0} (test : K → Bool) where
       go true e later = absurd (none-some x (sym e))
       go false e later = later e
 
-  -- and it ends before an entry of another key
   module _ (x : K × X) (other : test x.0 ≡ false) where
     found_before : (xs : List (K × X)) → lookup test (xs ++ x ∷ []) ≡ lookup test xs
     found_before [] = ap (λ b. cond b (Some x.1) None) other
@@ -121,7 +120,6 @@ module _ {K X : Type 0} (test : K → Bool) where
         go true later = refl
         go false later = ap (λ l. y ∷ l) later
 
--- a test of one key, up to equality, and a list with distinct keys
 module _ {K X : Type 0} {eq : K → K → Bool} (test : K → Bool)
     (one : (x y : K) → test x ≡ true → test y ≡ eq x y) where
   pub none_more : (x : K) (xs : List (K × X)) → test x ≡ true → AllByRecursion (λ y. eq x y ≡ false) (keys_of xs)
@@ -204,7 +202,6 @@ module _ {K X : Type 0} {eq : K → K → Bool} (test : K → Bool)
       turned None ys = sym (append-nil (reverse ys))
       turned (Some p) ys = reverse-cons p ys
 
-  -- so an insert writes the value of a key that is there, and adds a new one in front before the list is turned round
   module _ (xs : List (K × X)) (d : IsDistinct eq (keys_of xs)) (k : K) (w : X) where
     put-as : (o : Option X) → lookup test xs ≡ o
         → (if is_some o then set_value test (reverse xs) w else reverse xs ++ (k, w) ∷ [])
@@ -218,7 +215,6 @@ module _ {K X : Type 0} {eq : K → K → Bool} (test : K → Bool)
     pub put-new : lookup test xs ≡ None → reverse ((k, w) ∷ xs) ≡ put test (k, w) (reverse xs)
     put-new e = reverse-cons (k, w) xs ∙ put-as None e
 
--- two lists that are compared item by item
 module _ {X Y : Type 0} (eq : X → Y → Bool) where
   longer : (y : Y) (ys : List Y) → pointwise eq [] (ys ++ y ∷ []) ≡ false
   longer y [] = refl

@@ -32,7 +32,7 @@ pub trait BlockDevice<B> {
     /// Whether the device has a block of this number. No call changes it.
     ghost has: { Self → ℕ → Bool };
 
-    /// The block of each number, if it is known. A device over a file knows a block once it was read or written.
+    /// The block of each number, if it is known.
     ghost blocks: { Self → ℕ → Option Self.Seen };
 
     /// What a crash at this moment may leave as the block of this number.

@@ -33,9 +33,8 @@ pub enum FileError {
 /// A device of the blocks of a file, of `N` bytes each.
 ///
 /// Nothing is proved of the bytes that an operating system returns or keeps. So contracts see the record of the calls
-/// on the file and of their results, which no memory holds. What a block is, and what a crash may leave, is read off
-/// this record (`specs/Files`). That a read returns what was written there last has the premise `IsHonest`: the file
-/// answered as the record says.
+/// on the file, which takes no memory (`specs/Files`). That a read returns what was written there last has the premise
+/// `IsHonest`: the file answered as the record says.
 ///
 /// [`HashedFileDevice`] also finds torn and foreign blocks.
 ///

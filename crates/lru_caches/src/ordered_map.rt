@@ -54,7 +54,7 @@ impl<K: Eq + Hash, V, S: KeyHasher<K>> Model for OrderedMap<K, V, S> {
 impl<K: Eq + Hash, V> OrderedMap<K, V, RandomState> {
     /// Makes an empty map with the default hasher.
     ///
-    /// Everyone knows its seeds: if strangers choose the keys, call `with_hasher`. Cost: `O(1)`, and no memory.
+    /// Cost: `O(1)`, and no memory.
     ///
     /// ```
     /// let mut map: OrderedMap<u64, u64> = OrderedMap::new(alloc);

@@ -18,8 +18,7 @@ use thiserror::Error;
 mod pages;
 
 /// Why a call on a page cache failed. A call that fails changes no block that the cache shows, unless a `sync` of the
-/// device failed in it: then `flush` or `close` returned `Device`, and later calls return `Broken`, unless they read a
-/// cached page.
+/// device failed in it: then later calls return `Broken`, unless they read a cached page.
 ///
 /// The text contains the text of the device's error, so a `PageError<E>` is `Display` if `E` is.
 ///
@@ -46,8 +45,8 @@ pub enum PageError<E> {
 /// A write-back cache of the blocks of a device.
 ///
 /// It keeps the pages that were used last, up to its capacity. A write changes the cached page alone: the page is dirty
-/// then, and goes to the device when it is evicted or flushed. So the cache shows a block at each number, which is the
-/// cached page, or else the block of the device.
+/// then, and goes to the device when it is evicted or flushed. So it shows the cached page at each number, or else the
+/// block of the device.
 ///
 /// After a `flush` that returned `Ok`, a crash leaves each block as it was shown at that flush or was written later;
 /// `docs/CACHES.md` says what this supposes of a disk. After a `sync` that failed, each call but `discard`, and reads

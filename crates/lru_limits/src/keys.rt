@@ -10,8 +10,7 @@ use std::hash::{BuildHasher, Hash};
 ///
 /// It is implemented for every key itself, and for `&str` if the keys are `String`s: `"a".is_key(&key)` returns whether
 /// the key is the text `a`. An impl of your own says by `names` which key it names, computes that test in `is_key`, and
-/// proves two laws: it names one key up to equality, and it writes to a hasher what that key writes. A derived `Hash`
-/// of a struct with one field writes what the field writes.
+/// proves two laws. A derived `Hash` of a struct with one field writes what the field writes.
 ///
 /// ```
 /// let key = String::from_str(rt.alloc(), "a")?;
@@ -25,7 +24,6 @@ pub trait LookupKey<K: Eq + Hash>: Hash {
     fn is_key(&self, key: &K) -> bool
         ensures { result ≡ names self.now key.now };
 
-    /// The value names one key up to equality, and writes to a hasher what that key writes.
     ghost laws: { IsLookup names K.eq Self.hash_input K.hash_input };
 }
 
@@ -68,7 +66,6 @@ pub trait KeyHasher<K: Eq + Hash>: BuildHasher {
     /// Equal keys have equal hashes.
     ghost respects_eq: { (s : Self) (x y : K) → IsTrue (K.eq x y) → hash_of s x ≡ hash_of s y };
 
-    /// The hash is what the built hasher makes of the bytes that the key writes.
     ghost by_builder: { (s : Self) (k : K) →
         hash_of s k ≡ hash_by K.hash_input Self.BuildHasher Self.Hasher.Hasher s k };
 }

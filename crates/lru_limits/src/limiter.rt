@@ -1,7 +1,4 @@
 //! What a limiter is: the callbacks of a map, and their laws.
-//!
-//! A `ghost` member of a trait is a term that only the prover sees: each impl defines its own, its code is proved to
-//! compute it, and the contracts of the map cite it.
 ghost use Rattle.std.specs.Prelude.{◌≡◌, IfOk, OnErr};
 ghost use Rattle.lru_limits.specs.Laws.{IsInsertion};
 ghost use Rattle.lru_limits.specs.Rules.{Rules, Offers};
@@ -59,10 +56,9 @@ pub trait Limiter<K, V> {
     /// Returns whether the map may have a table of `new_memory_usage` bytes, which is more than it has.
     ///
     /// Called by an insert that finds no bucket for a new entry, and by `try_reserve` if too little growth is left.
-    /// Neither calls it if there is no larger table, or if the old and the new entries are at most half of what the
-    /// table may hold, because then the table is rehashed at its size. After `false` the insert evicts the oldest
-    /// entries to store the new one, and `try_reserve` returns `Refused`. After `true` there may still be no memory for
-    /// the table; the limiter is not notified of that.
+    /// Neither calls it if there is no larger table, or if the table is rehashed at its size. After `false` the insert
+    /// evicts the oldest entries to store the new one, and `try_reserve` returns `Refused`. After `true` there may
+    /// still be no memory for the table; the limiter is not notified of that.
     fn on_grow(&mut self, new_memory_usage: usize) -> bool
         ensures limiter { self.new ≡ (rules.on_grow self.old new_memory_usage).limiter }
         ensures allowed { result ≡ (rules.on_grow self.old new_memory_usage).allowed };
@@ -72,8 +68,7 @@ pub trait Limiter<K, V> {
 ///
 /// `I` is the key itself, or something that names the key and becomes it only if it is stored, as a `&str` that becomes
 /// a `String`. The impl defines `offers`: what may be stored of an offered entry, when an offer may run out of memory,
-/// and what a replacement does to the key and the values. For a limiter that stores entries as they come, use
-/// [`crate::Storing`].
+/// and what a replacement does. For a limiter that stores entries as they come, use [`crate::Storing`].
 ///
 /// ```
 /// let mut limiter = ByCost::new(3);

@@ -49,7 +49,6 @@ module _ {N K V L S : Type 0} where
   leaves-updated eq name left old new updates =
       record { tenants = updates.0; hasher = refl; entry_bytes = refl; total_limit = refl }
 
--- what holds of each value holds of each after a removal
 module _ {K X S : Type 0} (P : X → Type 0) where
   pub kept-removed : (test : K → Bool) (old new : HashMap K X S) → All P (values old)
       → IsPermutation (remove_entry test old.entries) new.entries → All P (values new)
@@ -84,7 +83,6 @@ pub found-all : {K X S : Type 0} (P : X → Type 0) (test : K → Bool) (map : H
     → get_by test map ≡ Some x → All P (values map) → P x
 found-all P test map x found all = subst (λ o. IfSome o P) found (IfSome-lookup_from_All P test map.entries all)
 
--- the table of tenants is written at a tenant that is open
 module _ {N K V L S : Type 0} (names : N → N → Bool) where
   module _ (Holds : State K V L S → Type 0) (name : N) (old new : HashMap N (State K V L S) S) where
     pub all-written : (was left : State K V L S) → WritesThrough names (names name) old left new

@@ -110,7 +110,6 @@ module _ {N K V L S : Type 0} (names : N → N → Bool) {eq : K → K → Bool}
         → sum_by (λ map. budget map.limiter) (values new) ≡ sum_by (λ map. budget map.limiter) (values old)
     same-sum same = omega (arith, same, sum-written, kept.sum)
 
-  -- a tenant is removed, or there is none: the sum is the sum of the others
   module _ (name : N) (entries : IsPermutation (remove_entry (names name) old.entries) new.entries)
       (same : hasher_of new ≡ hasher_of old) where
     pub sum-removed : sum_by (λ map. budget map.limiter) (values new)

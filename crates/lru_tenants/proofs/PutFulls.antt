@@ -12,7 +12,6 @@ use Rattle.lru_model.specs.declared.results.Inserted.{Inserted}
 use Rattle.lru_tenants.specs.PutFulls.{rejects}
 use Rattle.lru_tenants.specs.TenantRuns.{put_answer}
 
--- an entry that is rejected has a new key
 module _ {K V L S : Type 0} (accepts : L → K → V → Bool) (eq : K → K → Bool) (key : K) (value : V) where
   pub is-rejected : (map : State K V L S) → rejects accepts eq key value map ≡ true
       → (accepts map.limiter key value ≡ false) × (lookup_entry (eq key) map.pairs ≡ None)

@@ -1,4 +1,3 @@
--- What the contracts of `lru_tenants` cite.
 pub mod Cache
 pub mod Inside
 pub mod Isolation

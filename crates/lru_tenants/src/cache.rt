@@ -228,7 +228,7 @@ impl<
     ///
     /// It is an `insert` into the map of the tenant. `ByCost` and `ByWeight` reject an entry that alone costs more than
     /// the budget, or that would take the tenant's total past `u64::MAX`; if the key is there, its entry is removed
-    /// then. Otherwise the tenant's oldest entries are evicted until the total is within the budget.
+    /// then. Otherwise its oldest entries are evicted until the total is within the budget.
     ///
     /// ```
     /// assert_eq!(rt; cache.put(&1, 8, 1), Ok(true));

@@ -85,7 +85,6 @@ module _ {K : Type 0} where
         go false true h ih = omega (arith, ih)
         go false false h ih = omega (arith, ih)
 
--- What is left while keys are evicted from the old end.
 module _ {K : Type 0} (cost : K → ℕ) where
   -- what the keys cost together
   abbrev pub spent : List K → ℕ

@@ -112,7 +112,6 @@ module _ {K : Type 0} {eq : K → K → Bool} (laws : IsEquivalence eq) where
       );
     }
 
-  -- So no run of such steps pays less often.
   module _ (IsStep : K → List K → ℕ → List K → Type 0) (refer : K → List K → List K → List K)
       (step : (c p : ℕ) (key : K) (trace keys old new : List K) → Ordered eq (key ∷ trace) keys
       → IsAhead c (key ∷ trace) keys old → IsStep key old p new → Step c p key trace keys new (refer key trace keys))

@@ -20,7 +20,6 @@ module _ {K : Type 0} {eq : K → K → Bool} (laws : IsEquivalence eq) (k h b :
     (IsStep : K → List K → ℕ → List K → Type 0)
     (gains : (key : K) (old : List K) (one : ℕ) (new : List K) → IsStep key old one new
     → Gains laws k h b IsStep key old one new) where
-  -- a trace in two parts: LRU misses j times in the first, and the policy pays `before` there
   record Split (xs old new : List K) (missed paid j : ℕ) : Type 0 where
     first : List K
     rest : List K

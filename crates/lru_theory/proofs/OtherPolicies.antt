@@ -11,7 +11,6 @@ use Rattle.lru_theory.proofs.Affordable.{Front, none, both}
 use Rattle.lru_theory.proofs.Windows.{Within, Gains, in_either, in_named, in_less}
 
 module _ {K : Type 0} {eq : K → K → Bool} (laws : IsEquivalence eq) where
-  -- the keys of the new cache that were not in the old one
   abbrev gained : List K → List K → List K
   gained old [] = []
   gained old (x ∷ xs) = cond (is_in eq x old) (gained old xs) (x ∷ gained old xs)

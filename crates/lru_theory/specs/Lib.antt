@@ -1,4 +1,3 @@
--- What the contracts of `lru_theory` cite.
 pub mod Traces
 pub mod Policies
 pub mod Inclusion

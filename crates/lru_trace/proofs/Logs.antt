@@ -239,7 +239,6 @@ module _ {Z : Type 0} {levels : ℕ} {log : Vec (Option ℕ) Z} {slots : List (O
       go None e = refl
       go (Some s) e = clash absent (referenced key s e)
 
-  -- a key that is not there comes behind all others
   module _ (key : ℕ) (within : key < length slots) (absent : is_in nat_eq key (newest log.items) ≡ false) where
     abbrev more : List (Option ℕ)
     more = log.items ++ Some key ∷ []

@@ -160,7 +160,6 @@ counted (suc d) (suc n) (x ∷ xs) h =
     go (inl few) = lt-leb (suc n) (suc d) (omega (arith, few)) ∙ sym (lt-leb n d few)
     go (inr many) = le-leb (suc n) (suc d) (omega (arith, many)) ∙ sym (le-leb n d many)
 
--- one name more
 module _ (old new : List (String Global × ℕ)) (key : List ℕ) (number : ℕ)
     (after : (x : List ℕ) → number_in new x ≡ update bytes_eq (number_in old) key (Some number) x) where
   pub found_more : number_in new key ≡ Some number

@@ -27,7 +27,7 @@ mod moves;
 mod place;
 
 // A pair with its neighbours in the order; `MAX` at the ends. The key and the value are side by side, and so are the
-// value and the links: a look at a pair and a step of a walk each usually read one line of memory.
+// value and the links, so that a look or a step reads one line of memory.
 #[derive(Drop)]
 pub(crate) struct Entry<K, V, N> {
     pair: Pair<K, V>,
@@ -40,7 +40,6 @@ pub(crate) struct LinkedTable<K, V, N: LinkType> {
     chain: Chain<K, V, N>,
 }
 
-// Not derived, because each crate that drops a table would then prove the drop of each part again.
 impl<K: Drop, V: Drop, N: LinkType> Drop for LinkedTable<K, V, N> {
     fn drop(self) {
         let LinkedTable { chain } = self;

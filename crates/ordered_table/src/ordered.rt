@@ -1,4 +1,4 @@
-//! `OrderedTable`: a table whose entries are in an order. Its links may show the last promotion one call later.
+//! `OrderedTable`: a table whose entries are in an order.
 ghost use Rattle.std.specs.Prelude.{◌≡◌, ℕ, ◌+◌, ◌<◌, false, [], length, Some, IfSome, IfNone, IsTrue};
 ghost use Rattle.std.specs.Borrow.{sem};
 ghost use Rattle.group_table.specs.Bucket.{marks_of, IsFull, entry_at, room};
@@ -48,12 +48,10 @@ pub struct Pair<K, V> {
 pub struct OrderedTable<K, V, N: LinkType> {
     linked: LinkedTable<K, V, N>,
     // The bucket of the last promotion, as long as its links show where it was before. The next call that changes the
-    // order changes them. A promotion writes to the neighbours of the bucket, and some processors let no read pass a
-    // write whose address is still to come from memory. By the next call the address is there.
+    // order changes them.
     promoted: Option<usize>,
 }
 
-// Not derived, because each crate that drops a table would then prove the drop of each part again.
 impl<K: Drop, V: Drop, N: LinkType> Drop for OrderedTable<K, V, N> {
     fn drop(self) {
         let OrderedTable {

@@ -66,8 +66,6 @@ module _ {M : Type 1} {𝓤 : Ura M} (𝓛 : Logic 𝓤) (𝓜 : Model 𝓤 𝓛
   abbrev 𝓣 : MachineTables 𝓤 𝓛.H 𝓜
   𝓣 = tables 𝓤 𝓛.H 𝓜 𝓡 𝓡.env
 
-  -- The code of both, over the two functions that are called. σ, σ₁ and σ₅ are the types behind references to the map,
-  -- and τ₂ and τ₃ are the types of the key and of the closure.
   abbrev fn : (base : Fn) (σ σ₁ σ₅ τ₂ τ₃ : Ty) (first second : Callee) → Fn
   fn base σ σ₁ σ₅ τ₂ τ₃ first second =
       let got : Ty = layout (result.the_row (MutRef erased [] (param 1 V)) (NL.the_row E)) in
@@ -84,10 +82,8 @@ module _ {M : Type 1} {𝓤 : Ura M} (𝓛 : Logic 𝓤) (𝓜 : Model 𝓤 𝓛
             (seq (call second (copy (place 8 []) ∷ []) (place 0 [])) return)))));
       }
 
-  -- The second call takes some of the tokens, and requires something of their lifetimes.
   module _ (tokens taken left : SProp 𝓤) (takes : ent 𝓤 tokens (sep 𝓤 taken left))
       (gives : ent 𝓤 (sep 𝓤 taken left) tokens) (ls : List (Lft × Lft)) (within : AllWithin ls) where
-    -- what the first call leaves, and the second
     abbrev Lends : {W : Type 0} → (W → Fml) → Val → SProp 𝓤
     Lends {W} last v = 𝓛.H.⇛ (ex 𝓤 (λ (x : Got.Denot). sep 𝓤 (sep 𝓤 tokens (sem 𝓛 (Got.own_val x (v ∷ []))))
         (ex 𝓤 (λ (w : W). sep 𝓤 (sem 𝓛 (last w)) (sem 𝓛 (Or x))))))

@@ -46,7 +46,6 @@ pub on_err_then : {T E P Q : Type 0} (r : Result T E) → (P → Q) → OnErr r 
 on_err_then (Ok x) f h = tt
 on_err_then (Err e) f h = f h
 
--- what `lend_or_insert` lends is what `get_or_insert` lends
 module _ {M : Type 1} {𝓤 : Ura M} (𝓛 : Logic 𝓤) (K V L S N H : RattleType) (key : HashMembers K.Denot) (limits :
     limiter.Ghosts L.Denot K.Denot V.Denot N.Denot)
     (links : link_type.Ghosts N.Denot) (hashed
@@ -85,7 +84,6 @@ module _ {M : Type 1} {𝓤 : Ura M} (𝓛 : Logic 𝓤) (K V L S N H : RattleTy
       {V = V.Denot} {E = E} (lent_or_none (Err (Failed e)))) s.0.0 s.0.1) (s.0, (λ w h. absurd cc), (λ _. s.2)) $
       done !)
 
--- the results' types, for errors of the type E, and their laws
 module _ (κ : Lft) (V E : RattleType) where
   abbrev Ref : RattleType
   Ref = MutRef (named 0) κ (param 1 V)

@@ -69,7 +69,6 @@ module _ {M : Type 1} {𝓤 : Ura M} (𝓛 : Logic 𝓤) (𝓜 : Model 𝓤 𝓛
   abbrev Walk : Type 0
   Walk = IterMut K.Denot V.Denot L.Denot S.Denot N.Denot H.Denot kP kH lL nL sK sB hH
 
-  -- its type, whose lifetime is ℓ
   abbrev At : NamedLft → RattleType
   At ℓ = W.the_row ℓ K V L S N H kP kH lL nL sK sB hH
 
@@ -79,7 +78,6 @@ module _ {M : Type 1} {𝓤 : Ura M} (𝓛 : Logic 𝓤) (𝓜 : Model 𝓤 𝓛
   abbrev Two : Lfts 8 → RattleType
   Two κs = Lent κs.0 K V
 
-  -- a function that is passed such a walk, and whose result has this type
   abbrev Of : (Lfts 8 → RattleType) → Ended
   Of R = record {
     signature = record {
@@ -91,7 +89,6 @@ module _ {M : Type 1} {𝓤 : Ura M} (𝓛 : Logic 𝓤) (𝓜 : Model 𝓤 𝓛
     kept = (no, tt);
   }
 
-  -- what it requires of the lifetimes
   abbrev within : Lfts 8 → List (Lft × Lft)
   within κs = (κs.1.1.0, K.lives) ∷ (κs.1.1.1.0, V.lives) ∷ (κs.1.1.1.1.0, L.lives)
       ∷ (κs.1.1.1.1.1.0, S.lives) ∷ (κs.1.1.1.1.1.1.0, N.lives) ∷ (κs.1.1.1.1.1.1.1.0, H.lives) ∷ []
@@ -99,7 +96,6 @@ module _ {M : Type 1} {𝓤 : Ura M} (𝓛 : Logic 𝓤) (𝓜 : Model 𝓤 𝓛
   abbrev Lives : Lfts 8 → SProp 𝓤 → SProp 𝓤
   Lives κs = Outlive 𝓤 (within κs)
 
-  -- the code of both, over the function that is called; σ₁ and σ₂ are the types behind the references to the walk
   abbrev fn : Fn → Ty → Ty → Callee → Fn
   fn base σ₁ σ₂ called =
       let pair : Lifetime → RattleType = λ ℓ. Tuple (ShrRef ℓ [] K ∷ MutRef ℓ [] V ∷ []) in
@@ -118,13 +114,10 @@ module _ {M : Type 1} {𝓤 : Ura M} (𝓛 : Logic 𝓤) (𝓜 : Model 𝓤 𝓛
             (seq (assign (place 0 []) (aggregate (int w8 0 ∷ []))) return))));
       }
 
-  -- `lent` is the pair that is lent, and `ends` the walk once a value was written there
   module _ (lent : Walk → Option (K.Denot × V.Denot)) (ends : Walk → V.Denot → Walk) where
-    -- the pair that is lent, if one is left
     abbrev next : Walk → Option (K.Denot × V.Denot)
     next s = if nat_lt (walk_start s) (walk_end s) then lent s else None
 
-    -- the contract of the function that is called, and the contract of both
     abbrev Lends : Clauses 𝓤 (Of Two)
     Lends κs a = record {
       ghost = Unit {0};

@@ -8,7 +8,6 @@ use Rattle.ordered_table.specs.OrderedTable.{bucket_after, bucket_before, withou
 use Rattle.ordered_table.proofs.Chains.Orders.{distinct_head, distinct_tail}
 use Rattle.ordered_table.proofs.Tables.Places.{after_at, before_at, get_none, got_in}
 
--- b is at a position of an order without duplicates, and r is its neighbour, if it has one on this side
 module _ (order : List ℕ) (at b r : ℕ) (distinct : AllPairs ◌≢◌ order) (here : slice_get order at ≡ Some b) where
   pub next_place : 1 < length order - at → ((c : ℕ) → bucket_after b order ≡ Some c → r ≡ c)
       → Some r ≡ slice_get order (at + 1)
@@ -32,7 +31,6 @@ pub last_none : (order : List ℕ) (n : ℕ) → n ≤ length order → last_of 
 last_none order zero few none = refl
 last_none order (suc n) few none = absurd (omega (arith, few, get_none order n none))
 
--- the others before a position stay there, if a bucket at this position is taken out
 module _ (b : ℕ) where
   earlier_stays : (order : List ℕ) (at n : ℕ) → AllPairs ◌≢◌ order → slice_get order at ≡ Some b → n < at
       → slice_get (without_bucket b order) n ≡ slice_get order n

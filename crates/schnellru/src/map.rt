@@ -94,7 +94,6 @@ impl<K: Eq + Hash, V, L: Limiter<K, V>, S: KeyHasher<K>> Model for LruMap<K, V, 
     ghost invariant = { λ m. Holds K.eq S.hash_of m.entries (fields_of m (L.LinkType.number L.LinkType.MAX)) };
 }
 
-// Not derived, because each crate that drops a map would then prove the drop of each field again.
 impl<K: Eq + Hash + Drop, V: Drop, L: Limiter<K, V> + Drop, S: KeyHasher<K> + Drop> Drop
     for LruMap<K, V, L, S> {
     fn drop(self) {

@@ -1,6 +1,5 @@
-//! How often and in which order calls call their limiter and their sink. A contract says what each callback is given, and
-//! not what is called in between: each pair is passed to the sink right after the limiter was notified that it left, and
-//! before the limiter is called again.
+//! How often and in which order calls call their limiter and their sink. A contract says what each callback is given,
+//! and not what is called in between.
 ghost use Rattle.std.specs.Prelude.{◌≡◌, true, nat_lt, nat_le, nat_eq};
 ghost use Rattle.std.specs.Cmp.{nat_eq_equiv};
 ghost use Rattle.lru_limits.specs.Stores.{ReturnsPairIf, answers, given-names};
@@ -122,8 +121,7 @@ impl Insertion<u64, u64, u64> for Noting<'_> {
     } };
 }
 
-/// Inserts a pair into a map of the numbers from `first` to `last`, under limits that are then set, while only this
-/// number of requests for memory is met. Returns whether the calls are those of `expected`, or memory has no end.
+/// Returns whether the calls are those of `expected`, or memory has no end.
 fn is_traced(
     alloc: Global,
     [first, last, most, bytes, blocks, key, value, expected]: [u64; 8],

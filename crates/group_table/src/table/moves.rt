@@ -14,8 +14,7 @@ use crate::probe::first_free;
 use crate::table::Table;
 
 impl<T> Table<T> {
-    // Puts an entry into the first free bucket of a table with growth left and no deleted bucket. No insertion is
-    // counted.
+    // No insertion is counted.
     #[inline]
     pub(crate) fn place_fresh(&mut self, hash: u64, entry: T) -> usize
         requires room { entry_count self.old.slots < full_capacity (length self.old.slots) }
@@ -31,8 +30,7 @@ impl<T> Table<T> {
     }
 }
 
-// Moves entries, in rising order of their old buckets, into an empty table, and writes where each is now. The old
-// control bytes say which places hold one; afterwards none does.
+// The old control bytes say which places hold one; afterwards none does.
 pub(crate) fn move_entries<T, N: LinkType, H: Fn(&T) -> u64>(
     control: &Control,
     old: &mut Entries<T>,

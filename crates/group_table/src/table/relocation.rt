@@ -23,14 +23,14 @@ impl<T> Table<T> {
     /// A table without entries may move to no buckets, which gives its memory back.
     ///
     /// The result contains a link for each old bucket: the number of the bucket where its entry is now, or `MAX` if it
-    /// was free. It is empty for a table without entries. `hash_of` is called once for each entry. Of the
-    /// `insertions`, `moved` rises by the number of entries, and `placed` stays. No bucket is deleted afterwards. It
-    /// takes time O(old buckets + new buckets).
+    /// was free. It is empty for a table without entries. `hash_of` is called once for each entry. Of the `insertions`,
+    /// `moved` rises by the number of entries, and `placed` stays. No bucket is deleted afterwards. It takes time O(old
+    /// buckets + new buckets).
     ///
     /// # Errors
     ///
-    /// Out of memory, which changes nothing: all memory is taken before the first entry moves, in two requests for the
-    /// table and, if there is an entry, one for the links. No buckets take none, and never fail.
+    /// Out of memory, which changes nothing: all memory is taken before the first entry moves. No buckets take none,
+    /// and never fail.
     pub fn relocate<N: LinkType, H: Fn(&T) -> u64>(
         &mut self,
         buckets: usize,
@@ -89,9 +89,8 @@ impl<T> Table<T> {
     ///
     /// # Errors
     ///
-    /// Out of memory, which changes nothing: there are two requests, one for the links and one for fresh control bytes,
-    /// before the first entry moves. A table without entries makes none and never fails: its buckets are emptied in
-    /// place.
+    /// Out of memory, which changes nothing: all memory is taken before the first entry moves. A table without entries
+    /// makes none and never fails: its buckets are emptied in place.
     pub fn rehash<N: LinkType, H: Fn(&T) -> u64>(
         &mut self,
         hash_of: H,

@@ -51,7 +51,7 @@ pub fn put(alloc: Global, map: &mut BytesMap, key: &[u8], value: &[u8]) -> u32
     }
 }
 
-// Takes the memory that an insert of this key needs, unless the key is there. Returns whether there was enough.
+// Returns whether there was enough.
 fn get_ready_for(map: &mut BytesMap, key: &[u8]) -> bool
     ensures ready { result ≡ true → IsReady key.now map.old map.new }
     ensures finds { result ≡ true → FindsMemory key.now map.new }
@@ -83,7 +83,6 @@ fn read(value: &Vec<u8>, buffer: &mut [u8]) -> Value
     }
 }
 
-/// Copies the value of a key to the front of the buffer, if it fits, and makes its entry the newest.
 pub fn get(map: &mut BytesMap, key: &[u8], buffer: &mut [u8]) -> Value
     ensures value { Reads (lookup (names_bytes key.now) map.old.pairs) result buffer.old buffer.new }
     ensures promoted { map.new ≡ promoted (names_bytes key.now) map.old }
@@ -94,7 +93,7 @@ pub fn get(map: &mut BytesMap, key: &[u8], buffer: &mut [u8]) -> Value
     }
 }
 
-/// Copies the value of a key to the front of the buffer, if it fits. The order stays.
+/// The order stays.
 pub fn peek(map: &BytesMap, key: &[u8], buffer: &mut [u8]) -> Value
     ensures { Reads (lookup (names_bytes key.now) map.now.pairs) result buffer.old buffer.new }
 {
@@ -104,7 +103,6 @@ pub fn peek(map: &BytesMap, key: &[u8], buffer: &mut [u8]) -> Value
     }
 }
 
-/// Removes the oldest entry and copies it to the front of the buffers, if it fits.
 pub fn pop_oldest(map: &mut BytesMap, key: &mut [u8], value: &mut [u8]) -> Popped
     ensures { Pops map.old result key.old key.new value.old value.new map.new }
 {

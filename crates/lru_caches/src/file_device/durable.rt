@@ -3,7 +3,7 @@ use std::io;
 use std::io::Cursor;
 
 /// A file with a call that is to make its bytes outlast a crash. That it does is a premise of a file device, which
-/// calls it when it syncs, after it has flushed the writer, and not again after an error.
+/// calls it when it syncs, and not again after an error.
 ///
 /// ```
 /// assert!(rt; Cursor::new([0u8; 4]).make_durable().is_ok());

@@ -56,8 +56,8 @@ impl<K: Copy + Eq + Hash, V: Copy, E, F: Fn(K) -> Result<V, E>, L: Insertion<K, 
 > {
     /// Makes a loader by a function, with no values yet.
     ///
-    /// The limiter has to store values as they come, as all limiters of `schnellru` do. Everyone knows the seeds of the
-    /// default hasher: if strangers choose the keys, call `with_hasher`. Cost: `O(1)`, and no memory.
+    /// Everyone knows the seeds of the default hasher: if strangers choose the keys, call `with_hasher`. Cost: `O(1)`,
+    /// and no memory.
     ///
     /// ```
     /// let mut blocks = Loader::new(alloc, ByLength::new(9), |n: usize| disk.get(n).copied().ok_or(n));
@@ -115,8 +115,6 @@ impl<
     /// stored.
     ///
     /// If the loader runs out of memory or its limiter rejects the value, the value is returned without being stored.
-    ///
-    /// A caller proves the clauses `callable` and `known` from what `new`, or the call before, ensures.
     ///
     /// ```
     /// assert_eq!(rt; (blocks.load(1), blocks.len()), (Ok(11), 1));

@@ -27,8 +27,7 @@ pub trait Question<K, V> {
 
 /// A table of the newest answers to a question, up to a limit, for a function that calls itself.
 ///
-/// A recursion uses a table: it gets the answer at its key, or else computes and stores it. Whatever a `get` returns is
-/// an answer. A caller proves that what it stores is one.
+/// Whatever a `get` returns is an answer. A caller proves that what it stores is one.
 ///
 /// ```
 /// let mut squares = MemoTable::new(alloc, ByLength::new(9), Squares);
@@ -69,8 +68,8 @@ impl<K: Copy + Eq + Hash, V, Q: Question<K, V>, L: Insertion<K, V, K>> MemoTable
 > {
     /// Makes an empty table.
     ///
-    /// The limiter has to store values as they come, as all limiters of `schnellru` do. Everyone knows the seeds of the
-    /// default hasher: if strangers choose the keys, call `with_hasher`. Cost: `O(1)`, and no memory.
+    /// Everyone knows the seeds of the default hasher: if strangers choose the keys, call `with_hasher`. Cost: `O(1)`,
+    /// and no memory.
     ///
     /// ```
     /// let mut squares = MemoTable::new(alloc, ByLength::new(9), Squares);

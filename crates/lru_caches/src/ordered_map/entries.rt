@@ -76,7 +76,6 @@ impl<'a, K, V> ExactSizeIterator for Entries<'a, K, V> {
 
 impl<'a, K, V> FusedIterator for Entries<'a, K, V> {}
 
-/// `for (key, value) in &map` walks the entries, oldest first.
 impl<'a, K: Eq + Hash, V, S: KeyHasher<K>> IntoIterator for &'a OrderedMap<K, V, S> {
     type Item = (&'a K, &'a V);
 

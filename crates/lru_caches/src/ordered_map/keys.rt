@@ -49,7 +49,6 @@ impl<'a, K, V> Iterator for Keys<'a, K, V> {
         }
     }
 
-    /// Returns exactly how many keys are left, as `len` does.
     fn size_hint(&self) -> (usize, Option<usize>)
         ensures lower { IsWithinCount result.0 (at_most (length self.now)) }
         ensures upper { IfSome result.1 (UpTo (at_most (length self.now))) }
@@ -119,7 +118,6 @@ impl<'a, K, V> Iterator for Values<'a, K, V> {
         }
     }
 
-    /// Returns exactly how many values are left, as `len` does.
     fn size_hint(&self) -> (usize, Option<usize>)
         ensures lower { IsWithinCount result.0 (at_most (length self.now)) }
         ensures upper { IfSome result.1 (UpTo (at_most (length self.now))) }

@@ -38,6 +38,5 @@ pub trait Budgeted<K: Eq + Hash, V>: Summing<K, V, K> {
     fn has_room_for(&self, key: &K, value: &V) -> bool
         ensures { result ≡ accepts_new self.now key.now value.now };
 
-    /// The total decides when a map is over the limit, and callbacks leave the budget as it is.
     ghost laws: { IsBudgeted Self.rules Self.offers Self.account budget_of accepts_new made rebudgeted };
 }

@@ -7,8 +7,8 @@ ghost use Rattle.lru_limits.specs.Bytes.{in_word, block_bytes};
 
 use std::mem::size_of;
 
-/// A value that can say how many bytes it owns outside of itself: the blocks that it allocated, whole, whatever part of
-/// them is in use, and what is owned in them.
+/// A value that can say how many bytes it owns outside of itself: the blocks that it allocated, whole, and what is
+/// owned in them.
 ///
 /// A block counts as its bytes rounded up to a multiple of 16, and 16 more for the allocator. This is what the
 /// allocator of GNU takes at most, unless a block is so large that it is mapped page by page.

@@ -138,7 +138,6 @@ module _ {N : Type 0} {number : N → ℕ} {link : ℕ → N} {none : N}
     oldest_leads = rw chain.oldest_last
         (leads_to_full laws slots chain.reached (last_bucket order) (λ y e. chain.only y (last_in order y e)))
 
-  -- a bucket with the links of an oldest one becomes the oldest, of a chain with buckets
   module _ {s0 s1 : List (Slot (Entry K V N))} {newest oldest : N} (b : ℕ) {order : List ℕ}
       (chain : IsChain number link none s0 newest oldest order) (absent : Contains order b → ⊥) (full : IsFull s0 b)
       (newer : newer_at s0 b ≡ Some oldest) (older : older_at s0 b ≡ Some none)

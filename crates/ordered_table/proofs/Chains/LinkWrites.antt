@@ -155,7 +155,6 @@ module _ {N : Type 0} {number : N → ℕ} {link : ℕ → N} {none : N}
       newest_leads = rw chain.newest_first
           (leads_to_full slots chain.reached (first_bucket order) (λ y e. chain.only y (first_in order y e)))
 
-    -- a bucket is to leave the chain
     module _ {s0 : List (Slot (Entry K V N))} {newest oldest newer older : N} {b : ℕ} {order : List ℕ}
         (gap : IsGap number link none s0 newest oldest order b newer older) where
       newer_to : newer ≡ link_to link none (bucket_before b order)
@@ -178,7 +177,6 @@ module _ {N : Type 0} {number : N → ℕ} {link : ℕ → N} {none : N}
       gap_older_leads = rw older_to (leads_to_full s0 gap_reached (bucket_after b order) (λ y e.
           others_full y (after_in b y order e) (after_other b y order gap.chain.distinct e)))
 
-    -- a bucket leaves the chain: its neighbours get each other's links
     module _ {s0 s1 s2 : List (Slot (Entry K V N))} {newest oldest newest' oldest' newer older : N} (b : ℕ)
         {order : List ℕ} (gap : IsGap number link none s0 newest oldest order b newer older)
         (first : SetsOlder number s0 s1 newer older) (newest_is : SetsEnd none newest newest' newer older)
@@ -276,7 +274,6 @@ module _ {N : Type 0} {number : N → ℕ} {link : ℕ → N} {none : N}
       older = λ x w. ap (option_map (λ y. y.older)) (sets.others x (other_than b order absent x w)) ∙ chain.older x w;
     }
 
-    -- a bucket that already has the links of a newest one becomes the newest
     module _ {s0 s1 : List (Slot (Entry K V N))} {newest oldest oldest' : N} (b : ℕ) {order : List ℕ}
         (chain : IsChain number link none s0 newest oldest order) (absent : Contains order b → ⊥) (full : IsFull s0 b)
         (newer : newer_at s0 b ≡ Some none) (older : older_at s0 b ≡ Some newest)

@@ -63,7 +63,6 @@ by_entry : {T : Type 0} (before : List (Slot T)) (b : ℕ) (o : Option T) → en
 by_entry before b None e some = absurd (some refl)
 by_entry before b (Some entry) e some = full_by_entry (bucket_at before b) entry e
 
--- what a renumbering says, also of no entries
 module _ {N : Type 0} {number : N → ℕ} {none : N} {T : Type 0} {before after : List (Slot T)} {links : List N} where
   pub fewer_links : Renumbers number none before after links → length links ≤ length before
   fewer_links (inl w) = omega (arith, ap length w.1)
@@ -177,7 +176,6 @@ module _ {N : Type 0} {number : N → ℕ} {link : ℕ → N} {none : N}
   pub oldest_place : HasPlace number none links oldest
   oldest_place = rw whole.chain.oldest_last (has_place (last_bucket order) full_last)
 
-  -- the links of an entry that moved are those to its neighbours before
   module _ (b : ℕ) (there : IsFull before b) where
     pub moved_newer : newer_at start (m b) ≡ Some (link_to link none (bucket_before b order))
     moved_newer = ap (option_map (λ x. x.newer)) (moved_entry renumbers b there)

@@ -180,7 +180,6 @@ module _ (b : ℕ) where
         ≡ last_bucket order
     last-left_stays y e = last_is (without_bucket b order) ∙ last_from-stays None b y order d e ∙ sym (last_is order)
 
--- b comes, as the newest
 module _ (b : ℕ) (order : List ℕ) (absent : Contains order b → ⊥) (d : AllPairs ◌≢◌ order) where
   pub before-itself : bucket_before b (b ∷ order) ≡ None
   before-itself = before_is b (b ∷ order) (distinct_cons b order absent d) ∙ rw (eq-eqb b b refl) refl
@@ -203,7 +202,6 @@ module _ (b : ℕ) (order : List ℕ) (absent : Contains order b → ⊥) (d : A
     pub after-later : bucket_after x (b ∷ order) ≡ bucket_after x order
     after-later = rw (ne_eqb b x apart) refl
 
--- all buckets move, no two to one
 module _ (m : ℕ → ℕ) where
   pub first-moved : (order : List ℕ) → first_bucket (map m order) ≡ option_map m (first_bucket order)
   first-moved [] = refl

@@ -126,7 +126,6 @@ module _ {N : Type 0} {number : N → ℕ} {link : ℕ → N} {none : N}
       );
     }
 
-    -- an entry left the table, and then its bucket the chain
     module _ {s1 : List (Slot (Entry K V N))} (there : IsFull s0 b) (removes : Removes s0 s1 b)
         (same : pair_slots s2 ≡ pair_slots s1)
         (chain : IsChain number link none s2 newest' oldest' (without_bucket b order)) where
@@ -151,7 +150,6 @@ module _ {N : Type 0} {number : N → ℕ} {link : ℕ → N} {none : N}
             );
       }
 
-  -- an entry went into the table, and then its bucket into the chain
   module _ {old new : Table (Entry K V N)} {newest oldest : N} {order : List ℕ}
       (whole : IsWhole number link none old.slots newest oldest order)
       {hash b : ℕ} {entry : Entry K V N} (places : Places old new hash entry b) (within : b < length old.slots) where
@@ -183,7 +181,6 @@ module _ {N : Type 0} {number : N → ℕ} {link : ℕ → N} {none : N}
       );
     }
 
-  -- a pair was written
   module _ {slots : List (Slot (Entry K V N))} {newest oldest : N} {order : List ℕ}
       (whole : IsWhole number link none slots newest oldest order)
       (b : ℕ) (entry : Entry K V N) (is : entry_at slots b ≡ Some entry) (pair : Pair K V) where

@@ -40,7 +40,6 @@ module _ {T : Type 0} where
   all_full slots (b ∷ bs) h =
       (h b (0, omega arith, refl), all_full slots bs (λ c k. h c (suc k.0, omega (arith, k.1), k.2)))
 
--- the places of pairs, cut at the named one
 module _ {K V : Type 0} (slots : List (Slot (K × V))) (names : K → Bool) (p : K × V) (named : names p.0 ≡ true) (b : ℕ)
     (after : List ℕ) where
   place_cut : (before : List ℕ) → AreFull slots before → NoneNamed names (entries_in slots before)
@@ -61,7 +60,6 @@ module _ {K V : Type 0} (slots : List (Slot (K × V))) (names : K → Bool) (p :
       rw e.1 (rw first.0 (ap (λ l. c ∷ l) (places_cut cs full.1 first.1)))
 
 module _ {K V : Type 0} (t : OrderedTable K V) (linked : IsLinked t) where
-  -- the pair of the bucket b, the order cut there
   module _ (b : ℕ) (p : K × V) (there : entry_at t.slots b ≡ Some p) where
     pub cut_here : Cut b t.order
     cut_here = cut_at b t.order linked.distinct (linked.all b (full_by_entry (bucket_at t.slots b) p there))
@@ -114,7 +112,6 @@ module _ {K V : Type 0} (t : OrderedTable K V) (linked : IsLinked t) where
       go (b ∷ bs) f = let e = entry_by_full (bucket_at t.slots b) f.0 in
           subst (λ o. NoneNamed names (option_to_list o ++ entries_in t.slots bs)) (sym e.1) (h b e.0 e.1, go bs f.1)
 
-  -- the first bucket holds the newest pair
   module _ (b : ℕ) (is_first : first_bucket t.order ≡ Some b) where
     first_cut : (cut : Cut b t.order) × (cut.before ≡ [])
     first_cut = cut_first b t.order linked.distinct is_first
@@ -138,7 +135,6 @@ module _ {K V : Type 0} (t : OrderedTable K V) (linked : IsLinked t) where
   pub none_first : first_bucket t.order ≡ None → pairs_of t ≡ []
   none_first e = ap (entries_in t.slots) (no_first t.order e)
 
-  -- the last bucket holds the oldest pair
   module _ (b : ℕ) (is_last : last_bucket t.order ≡ Some b) where
     last_cut : (cut : Cut b t.order) × (cut.after ≡ [])
     last_cut = cut_last b t.order linked.distinct is_last
@@ -160,7 +156,6 @@ module _ {K V : Type 0} (t : OrderedTable K V) (linked : IsLinked t) where
           ∙ ap (λ l. entries_in t.slots last_cut.0.before ++ entries_in t.slots l) last_cut.1
           ∙ append-nil (entries_in t.slots last_cut.0.before))
 
--- a bucket was emptied
 module _ {T : Type 0} (old new : List (Slot T)) (b : ℕ) where
   pub removed-entries : Removes old new b → (order : List ℕ) → entries_in new (without_bucket b order)
       ≡ entries_in old (without_bucket b order)

@@ -25,7 +25,6 @@ use Rattle.ordered_table.proofs.Tables.OrderCuts.{entries-append}
 use Rattle.ordered_table.proofs.Tables.BucketPairs.{others_are}
 use Rattle.ordered_table.proofs.Tables.KeyHashes.{hash_in-entry}
 
--- the entries of buckets are those that stand in them
 module _ {T : Type 0} (slots : List (Slot T)) where
   pub entry_in : (bs : List ℕ) (b : ℕ) (x : T) → Contains bs b → entry_at slots b ≡ Some x
       → Contains (entries_in slots bs) x

@@ -23,7 +23,6 @@ module _ {K V N F : Type 0} (same_key : K → K → Type 0) (same_value : V → 
     (closure : Shared F (Bor (Entry K V N) × Unit {0}) (Result (Entry K V N) AllocError)) (f : F)
     (makes : (x made : Entry K V N) → FnReturnsAt closure f x (Ok made) → IsEntryCopy same_key same_value x made)
     (old new : List (Slot (Entry K V N))) (copies : Copies closure f old new) where
-  -- an entry and its copy, or neither
   abbrev IsCopied : Option (Entry K V N) → Option (Entry K V N) → Type 0
   IsCopied None p = p ≡ None
   IsCopied (Some x) p = (made : Entry K V N) × (p ≡ Some made) × IsEntryCopy same_key same_value x made

@@ -72,7 +72,6 @@ module _ {K V N : Type 0} where
       → pair_slots (set slots b s) ≡ set (pair_slots slots) b (pair_slot s)
   pair_slots-set slots b s = map-set pair_slot slots b s
 
-  -- with the same pairs, the same buckets are full, and there are as many
   module _ (old new : List (Slot (Entry K V N))) (same : pair_slots new ≡ pair_slots old) where
     pub same_length : length new ≡ length old
     same_length = sym (length-pair_slots new) ∙ ap length same ∙ length-pair_slots old

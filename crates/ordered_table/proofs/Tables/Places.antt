@@ -106,7 +106,6 @@ place_holds slots names (c ∷ cs) b full e =
     go p is true named rest h = (p, subst (λ d. entry_at slots d ≡ Some p) (same_Some c b h) is, named)
     go p is false named rest h = rest h
 
--- a value is written at the place of the key
 module _ {K V : Type 0} {eq : K → K → Bool} (laws : IsEquivalence eq) (p : K × V) (w : V) where
   pub at_set : (xs : List (K × V)) (i : ℕ) → AreDistinct eq xs → slice_get xs i ≡ Some p → set_value (eq p.0) xs w
       ≡ set_value_at xs i w

@@ -167,7 +167,6 @@ module _ (order : List ℕ) (d : AllPairs ◌≢◌ order) (f : ℕ) (there : Co
           same_Some f c (sym (before-first f rest absent distinct b (in_rest h) (first_stays not_first ∙ first)) ∙ e)
     ]
 
-    -- and else the one before it by the links, passing over f
     module _ (later : first_bucket order ≡ Some b → ⊥) (next : ℕ)
         (is : (c : ℕ) → bucket_before b order ≡ Some c → next ≡ c) where
       precedes : bucket_before b order ≡ Some next

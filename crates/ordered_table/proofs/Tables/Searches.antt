@@ -25,7 +25,6 @@ module _ {K V : Type 0} (t : OrderedTable K V) (linked : IsLinked t) (names : K 
       go b p there true e = none b p there (sym (hashes p.0 e))
       go b p there false e = e
 
--- what a search of the table finds, as the map has it
 module _ {K V : Type 0} (t : OrderedTable K V) (linked : IsLinked t) (names : K → Bool) {eq : K → K → Bool}
     (laws : IsEquivalence eq) (one : (x y : K) → names x ≡ true → names y ≡ eq x y)
     (distinct : AreDistinct eq (pairs_of t)) where

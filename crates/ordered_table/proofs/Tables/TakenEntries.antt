@@ -12,7 +12,6 @@ use Rattle.ordered_table.proofs.Tables.PairSlots.{Fits-pair_slots, Fits-entries}
 use Rattle.ordered_table.proofs.Tables.KeyHashes.{KeysFit-removed}
 use Rattle.ordered_table.proofs.Chains.WholeChains.{whole_order, IsWhole-shown, IsWhole-taken}
 
--- the table before, without the entry, and with the neighbours linked to each other
 module _ {K V N : Type 0} (s0 s1 s2 : List (Slot (Entry K V N))) (b : ℕ) (removes : Removes s0 s1 b)
     (same : pair_slots s2 ≡ pair_slots s1) where
   pub taken_removes : Removes (pair_slots s0) (pair_slots s2) b

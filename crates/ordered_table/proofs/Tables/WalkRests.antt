@@ -128,7 +128,6 @@ module _ {K V : Type 0} (t : OrderedTable K V) where
     pub front-full : IsFull t.slots front
     front-full = (subst (AreFull t.slots) cut_front.1 (middle_full front back left rest)).0
 
-    -- the next one is the bucket after it, if there is one
     module _ (next : ℕ) (is : (c : ℕ) → bucket_after front t.order ≡ Some c → next ≡ c) where
       pub front-next : IsRest t next back (left - 1)
       front-next = record {
@@ -175,7 +174,6 @@ module _ {K V : Type 0} (t : OrderedTable K V) where
     back-full = (all_behind (λ c. IsFull t.slots c) cut_back.0 (back ∷ [])
         (subst (AreFull t.slots) cut_back.1 (middle_full front back left rest))).0
 
-    -- the next one from the back is the bucket before it, if there is one
     module _ (next : ℕ) (is : (c : ℕ) → bucket_before back t.order ≡ Some c → next ≡ c) where
       pub back-next : IsRest t front next (left - 1)
       back-next = record {

@@ -35,8 +35,7 @@ impl<K, V, N: LinkType> Chain<K, V, N> {
         self.close_gap(newer, older, false);
     }
 
-    // Its entry may be gone from the table already. If the bucket is known to be the oldest (`last`), its older link is
-    // not read.
+    // Its entry may be gone from the table already.
     #[inline]
     pub(crate) fn close_gap(&mut self, newer: N, older: N, last: bool)
         requires gap { (order : List ℕ) × (b : ℕ) × HasGap N.number N.link N.MAX self.old order b newer older }

@@ -87,7 +87,6 @@ pub(crate) fn newer_unless_first<K, V, N: LinkType>(
     match promoted {
         None => table.newer_unless_first(b),
         Some(p) => {
-            // The links show no bucket before the first, and the promoted one is in front of it.
             if table.newest() == b {
                 return p;
             }

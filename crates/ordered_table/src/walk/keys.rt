@@ -45,7 +45,6 @@ impl<'a, K, V, N: LinkType> Iterator for Keys<'a, K, V, N> {
         }
     }
 
-    /// Returns exactly how many keys are left, as `len` does.
     fn size_hint(&self) -> (usize, Option<usize>)
         ensures lower { IsWithinCount result.0 (at_most (length self.now)) }
         ensures upper { IfSome result.1 (UpTo (at_most (length self.now))) }

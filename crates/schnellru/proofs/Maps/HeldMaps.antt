@@ -36,7 +36,6 @@ room_at-most marks b = go (is_used (bucket_at marks b))
     go true = omega arith
     go false = omega arith
 
--- one bucket was emptied
 module _ {K V : Type 0} (old new : OrderedTable K V) (b : ℕ) (first : IsLinked old) (last : IsLinked new)
     (table : length new.slots ≡ length old.slots) (one : suc (length new.order) ≡ length old.order)
     (freed : room (marks_of new.slots) ≡ room (marks_of old.slots) + room_at (marks_of new.slots) b) where
@@ -97,7 +96,6 @@ module _ {K V S H : Type 0} (fields : Fields S H) where
     };
   }
 
--- what holds of a map holds with pairs of distinct keys that fit in the same buckets, under another limiter and hasher
 module _ {K V S H : Type 0} (eq : K → K → Bool) (hash_of : H → K → ℕ) (fields : Fields S H) (t u : OrderedTable K V)
     (counted : u.insertions ≡ t.insertions) where
   pub copied_holds : (limiter : S) (hasher : H) → Holds eq hash_of t fields → IsLinked u

@@ -13,8 +13,6 @@ pub record IsKept {K V : Type 0} (old new : MutBor (Vec (K × V) Global)) (pair 
   pub items : vec_len old.now < vec_capacity old.now → new.now.items ≡ old.now.items ++ pair ∷ []
   pub len : vec_len old.now < vec_capacity old.now → vec_len new.now ≡ vec_len old.now + 1
 
---     kept     where the callback f keeps them
---     room     how many there is space for
 module _ {K V F : Type 0} (closure : Mut F (K × (V × Unit {0})) (Unit {0})) (kept : F → MutBor (Vec (K × V) Global))
     (keeps : (f : F) (pair : K × V) (g : F) → Called closure f (pair.0, (pair.1, tt)) tt g
     → IsKept (kept f) (kept g) pair) (first : F) (room : ℕ) where

@@ -13,7 +13,6 @@ use Rattle.ordered_table.proofs.Tables.BucketPairs.{pair_found, others_are, plac
 use Rattle.ordered_table.proofs.Tables.OrderCuts.{entries-append}
 use Rattle.schnellru.proofs.Maps.HeldMaps.{alike_holds}
 
--- the pair in the bucket b of t comes last, in v
 module _ {K V : Type 0} (t v : OrderedTable K V) (linked : IsLinked t) (b : ℕ) (p : K × V) (there : entry_at t.slots b
     ≡ Some p)
     (slots : v.slots ≡ t.slots) (order : v.order ≡ without_bucket b t.order ++ b ∷ [])

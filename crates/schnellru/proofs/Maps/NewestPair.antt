@@ -30,7 +30,6 @@ pub none_newest : {K V : Type 0} (pairs : List (K × V)) → is_empty pairs ≡ 
 none_newest [] h = record { first = refl; value = refl; set = λ w. refl }
 none_newest (p ∷ ps) h = absurd cc
 
--- the pair in the bucket b of t comes first, in v
 module _ {K V : Type 0} (t v : OrderedTable K V) (linked : IsLinked t) (b : ℕ) (p : K × V) (there : entry_at t.slots b
     ≡ Some p)
     (slots : v.slots ≡ t.slots) (order : v.order ≡ b ∷ without_bucket b t.order) (counted : v.insertions ≡ t.insertions)
@@ -62,7 +61,6 @@ module _ {K V : Type 0} (t v : OrderedTable K V) (linked : IsLinked t) (b : ℕ)
         (ap marks_of slots) (subst (AreDistinct eq) (sym promoted_pairs)
         (distinct_first eq names one (pairs_of t) distinct))
 
--- the newest pair of t is that in the bucket b
 module _ {K V : Type 0} (t : OrderedTable K V) (linked : IsLinked t) (b : ℕ) (p : K × V) (there : entry_at t.slots b
     ≡ Some p) (first : first_bucket t.order ≡ Some b) where
   pub newest_order : t.order ≡ b ∷ without_bucket b t.order

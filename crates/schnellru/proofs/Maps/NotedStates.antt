@@ -99,7 +99,6 @@ noted_unstored {K} {V} {S} {H} rules before old new pair left s is notified e =
     ∙ ap {A = S × List (K × V)} {B = State K V (S × List (K × V)) H} (λ t. record (noted before old) { limiter = t })
     (noted_notified rules before old.limiter left (Some pair) e)
 
--- what the limiter was offered
 module _ {K V S H I F : Type 0} (closure : Mut F (K × (V × Unit {0})) (Unit {0})) (rules : Rules K V S)
     (offers : Offers K V S I) (names : I → K → Bool) (i : I) (v : V) (old new : State K V S H) (result : Bool × V)
     (f g : F)

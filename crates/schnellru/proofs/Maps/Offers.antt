@@ -68,7 +68,6 @@ module _ {K V S H I : Type 0} {rules : Rules K V S} {offers : Offers K V S I} {n
     offered_place b at = (λ j. place_of (names i) ((offer.accepted accepted).is j).pairs (offer.place accepted j))
         ∙ place-set_entry (names i) _ named old.pairs old.table.places ∙ at
 
-    -- and may come to the front
     module _ (next : State K V S H) (is : next ≡ promoted (names i) new) where
       pub offered_front : Leaves old (with_replaced rules offers names offer.pair i v (contents old)) next
       offered_front = subst (Leaves old _) (sym is)
@@ -82,7 +81,6 @@ module _ {K V S H I : Type 0} {rules : Rules K V S} {offers : Offers K V S I} {n
       pub offered_some : 0 < length next.pairs
       offered_some = omega (arith, ap (λ st. length st.pairs) offered_front.is)
 
--- An insert of a key that is there: the limiter accepted the new value, and the pair came to the front.
 module _ {K V S H I : Type 0} (rules : Rules K V S) (offers : Offers K V S I) {names : I → K → Bool}
     {eq : K → K → Bool} {query_input : I → List (List ℕ)} {key_input : K → List (List ℕ)}
     (looks_up : IsLookup names eq query_input key_input) (laws : IsInsertion names eq offers) {i : I} {v : V}

@@ -74,7 +74,6 @@ module _ {K V S H : Type 0} (by : Replaced K V S) (old new : OrderedTable K V) (
   fewer : suc (length (without_bucket b old.order)) ≡ length old.order
   fewer = shorter old first b (full_by_entry (bucket_at old.slots b) was there)
 
-  -- the pair as it was left is at its place
   module _ (step : IsReplaced by b old new l) where
     replaced_pairs : pairs_of new ≡ set_entry names (by.key, by.new_value) (pairs_of old)
     replaced_pairs = (λ i. entries_in (step.slots i) (step.order i))
@@ -109,7 +108,6 @@ module _ {K V S H : Type 0} (by : Replaced K V S) (old new : OrderedTable K V) (
         (subst (AreDistinct eq) (sym replaced_pairs)
         (distinct_set eq names one laws (by.key, by.new_value) kept (pairs_of old) distinct))
 
-  -- the pair left, and the others are as they were
   module _ (rules : Rules K V S) (step : IsRemoved rules by b old new l) where
     pub removed_pairs : pairs_of new ≡ without names (pairs_of old)
     removed_pairs = ap (entries_in new.slots) step.order
@@ -140,7 +138,6 @@ module _ {K V S H : Type 0} (by : Replaced K V S) (old new : OrderedTable K V) (
         removed_leaves
         (subst (AreDistinct eq) (sym removed_pairs) (distinct_without eq names (pairs_of old) distinct))
 
-  -- one or the other
   module _ (rules : Rules K V S) (accepts : Bool) (replaced : accepts ≡ true → IsReplaced by b old new l)
       (removed : accepts ≡ false → IsRemoved rules by b old new l) where
     pub offered_holds : (hash_of : H → K → ℕ) → names by.key ≡ true → Holds eq hash_of old fields

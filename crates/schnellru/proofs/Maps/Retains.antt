@@ -20,7 +20,6 @@ use Rattle.ordered_table.proofs.Tables.Places.{got_in}
 use Rattle.schnellru.proofs.Maps.NotedStates.{takes_more, noted_taken}
 
 module _ {X : Type 0} where
-  -- the last of a list, and what comes before it
   record HasEnd (xs : List X) : Type 0 where
     front : List X
     end : X
@@ -46,7 +45,6 @@ module _ {X : Type 0} where
 
 module _ {K V S H F G : Type 0} (rules : Rules K V S) (closure : Mut F (Bor K × (Bor V × Unit {0})) Bool)
     (sinks : Mut G (K × (V × Unit {0})) (Unit {0})) (old : State K V S H) (keep : F) (sink : G) where
-  -- what is left of the pairs that were asked
   abbrev after_asked : List ((K × V) × Bool) → Contents K V (S × List (K × V))
   after_asked asked = retained (noting rules) asked (old.limiter, [])
 
@@ -81,7 +79,6 @@ module _ {K V S H F G : Type 0} (rules : Rules K V S) (closure : Mut F (Bor K ×
     leaves = leaves_self (noted [] old);
   }
 
-  -- one pair more is asked: the oldest of those that are to be asked
   module _ (left : ℕ) (some : 0 < left) (st : State K V S H) (f : F) (g : G) (i : IsRetainedTo left st f g)
       (pair : K × V) (asks : slice_get st.pairs (left - 1) ≡ Some pair) where
     abbrev its_end : HasEnd i.rest
@@ -125,7 +122,6 @@ module _ {K V S H F G : Type 0} (rules : Rules K V S) (closure : Mut F (Bor K ×
       leaves = i.leaves;
     }
 
-    -- it is removed, and passed on
     module _ (u : State K V S H) (removed : K × V)
         (takes : (newer older : List (K × V)) (p : K × V) → st.pairs ≡ newer ++ p ∷ older → length newer ≡ left - 1
         → TakesOut rules (Some p) (newer ++ older) st (Some removed) u) where

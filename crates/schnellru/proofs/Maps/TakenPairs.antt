@@ -20,7 +20,6 @@ module _ {K V S : Type 0} (rules : Rules K V S) (t u : OrderedTable K V) (b : �
   pub taken_pairs : pairs_of u ≡ entries_in t.slots (without_bucket b t.order)
   taken_pairs = ap (entries_in u.slots) out.takes.order ∙ removed-entries t.slots u.slots b out.takes.removed t.order
 
-  -- if that is the pair that was to leave, the answer and the limiter are those that it leaves
   module _ (pair : Option (K × V)) (is : pair ≡ Some out.pair) where
     pub taken_left : Some result ≡ left_of rules limiter pair
     taken_left = out.left ∙ ap (left_of rules limiter) (sym is)

@@ -80,7 +80,6 @@ module _ {K V : Type 0} (names : K → Bool) where
           ∙ ap (λ l. p ∷ l) (later rest)
           ∙ sym (ap (λ y. cond y ((p.0, w) ∷ ps) (p ∷ set_value names ps w)) is)
 
--- the pair of the named key is in the bucket b of t, and stays at its place
 module _ {K V : Type 0} (t : OrderedTable K V) (linked : IsLinked t) (b : ℕ) (p : K × V)
     (there : entry_at t.slots b ≡ Some p)
     (names : K → Bool) {eq : K → K → Bool} (laws : IsEquivalence eq) (one : (x y : K) → names x ≡ true → names y

@@ -20,8 +20,6 @@ pub(crate) enum NotLent<E> {
     Failed(E),
 }
 
-// They are two functions because their callers are proved by hand: a call whose type argument is `AllocError`, and no
-// type parameter, would need a longer proof.
 fn kept_or_error<V, E>(
     lent: Result<&mut V, NotLent<GetOrInsertError<E>>>,
 ) -> Result<Option<&mut V>, GetOrInsertError<E>>

@@ -24,9 +24,9 @@ impl<K: Eq + Hash + Drop, V: Drop, L: Limiter<K, V>, S: KeyHasher<K>> LruMap<K, 
     ///
     /// If no bucket takes the entry then, a table with fewer than half of the entries that it may hold is rehashed, and
     /// any other grows. If there is no larger table, or the limiter refuses it, the oldest entries are evicted until a
-    /// bucket is free, or until fewer than half are left and the table is rehashed. If there is no entry to evict, the
-    /// new one is not stored, and the result is false. At the end, if the key is in the map, the oldest entries are
-    /// evicted while the limiter is over its limit. A replaced value is dropped before anything is evicted.
+    /// bucket is free, or until fewer than half are left. If there is no entry to evict, the new one is not stored, and
+    /// the result is false. At the end, if the key is in the map, the oldest entries are evicted while the limiter is
+    /// over its limit. A replaced value is dropped before anything is evicted.
     ///
     /// ```
     /// assert!(rt; map.insert(1, 10)?);
@@ -41,8 +41,8 @@ impl<K: Eq + Hash + Drop, V: Drop, L: Limiter<K, V>, S: KeyHasher<K>> LruMap<K, 
     ///
     /// An `Err` says that the map ran out of memory for a new key, which is not there then. Either `on_insert` ran out
     /// of memory; then nothing has changed. Or the table had no growth left, and the allocation for a rehash or a
-    /// larger table failed. Then the entries that are left are the newest of the old ones: some of the oldest may have
-    /// been evicted to make room. The limiter was notified of each, and of the new entry.
+    /// larger table failed. Then the newest of the old entries are left: some of the oldest may have been evicted to
+    /// make room. The limiter was notified of each, and of the new entry.
     ///
     /// While there is growth left, only `on_insert` takes memory.
     ///
@@ -69,9 +69,8 @@ impl<K: Eq + Hash, V: Drop, L: Limiter<K, V>, S: KeyHasher<K>> LruMap<K, V, L, S
     /// the evicted entries, oldest first, the entry that is removed because its new value is rejected, and an entry
     /// that `on_insert` returned but the map could not store.
     ///
-    /// Each is passed on once, even if the result is an `Err`, and before the limiter is called again, which is only
-    /// tested. A replaced value is not passed on, but dropped before anything is evicted. A new entry that `on_insert`
-    /// rejects is not passed on either: the limiter drops it.
+    /// Each is passed on once, even if the result is an `Err`; that this is before the limiter is called again is only
+    /// tested. A replaced value is not passed on, but dropped before anything is evicted.
     ///
     /// ```
     /// let mut left = None;
@@ -150,9 +149,8 @@ impl<K: Eq + Hash, V, L: Limiter<K, V>, S: KeyHasher<K>> LruMap<K, V, L, S> {
     /// As `insert_with`, and returns the value that the map does not keep, if the key is there: the old one, or the new
     /// one if the limiter rejects it, with what `on_replace` wrote to it.
     ///
-    /// The map drops nothing: an entry that is evicted, removed or not stored is passed to the callback, and a value
-    /// that is replaced or rejected is returned. The limiter drops the offered key if the key is there, and the key and
-    /// the value if `on_insert` rejects them or runs out of memory.
+    /// The limiter drops the offered key if the key is there, and the key and the value if `on_insert` rejects them or
+    /// runs out of memory.
     ///
     /// ```
     /// let inserted = map.insert_full(1, 11, &mut |_, _| {})?;

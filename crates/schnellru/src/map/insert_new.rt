@@ -92,8 +92,7 @@ impl<K: Eq + Hash, V, L: Limiter<K, V>, S: KeyHasher<K>> LruMap<K, V, L, S> {
         }
     }
 
-    // Evicts the oldest pair, if the limiter would be over its limit with one more, and stores a pair that the limiter
-    // returned. Then evicts the oldest pairs while the limiter is over its limit.
+    // Then evicts the oldest pairs while the limiter is over its limit.
     fn insert_pair<F: FnMut(K, V)>(
         &mut self,
         hash: u64,
@@ -135,7 +134,6 @@ impl<K: Eq + Hash, V, L: Limiter<K, V>, S: KeyHasher<K>> LruMap<K, V, L, S> {
         ensures passed { Passes F.FnMut sink.old sink.new (λ before after. PlacesAndTrims (noting L.rules)
             S.hash_of (key, value) (noted before self.old) result (noted after self.new)) }
     {
-        // An empty map is rehashed, which takes no memory, even if a deleted bucket could take the pair.
         if self.is_empty() {
             return self.insert_without_bucket(hash, (key, value), sink);
         }
@@ -145,8 +143,7 @@ impl<K: Eq + Hash, V, L: Limiter<K, V>, S: KeyHasher<K>> LruMap<K, V, L, S> {
         }
     }
 
-    // Stores a pair that no bucket takes, and evicts what is over the limit then. Under `ByMemoryUsage` each new pair
-    // may come here. Out of line, so that the code of other inserts stays short.
+    // Under `ByMemoryUsage` each new pair may come here. Out of line, so that the code of other inserts stays short.
     #[inline(never)]
     fn insert_without_bucket<F: FnMut(K, V)>(
         &mut self,

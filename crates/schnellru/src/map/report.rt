@@ -10,8 +10,7 @@ impl<K: Eq + Hash, V, L: Limiter<K, V>, S: KeyHasher<K>> LruMap<K, V, L, S> {
     /// Returns how many entries inserts have moved and stored since the map was made, and how many `shrink_to_fit` has
     /// rehashed. A count that reaches `u64::MAX` stays there.
     ///
-    /// `moved` is at most twice `placed`, plus `shrunk`. So in a map that was never shrunk an insert moves at most two
-    /// entries on average. Cost: `O(1)`.
+    /// `moved` is at most twice `placed`, plus `shrunk`. Cost: `O(1)`.
     ///
     /// ```
     /// let mut map: LruMap<u64, u64> = LruMap::with_limiter(alloc, ByLength::new(3));

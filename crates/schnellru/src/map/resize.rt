@@ -29,7 +29,6 @@ impl<K: Eq + Hash, V, L: Limiter<K, V>, S: KeyHasher<K>> LruMap<K, V, L, S> {
         larger_table(max, self.entry_bytes, self.bucket_count(), pairs)
     }
 
-    // Moves all pairs into a table of `count` buckets, which is at most half full then.
     pub(super) fn move_to(&mut self, count: usize) -> Result<(), AllocError>
         requires count { IsPowerFromFour count }
         requires reached { count < L.LinkType.number L.LinkType.MAX }

@@ -23,8 +23,7 @@ impl<K: Eq + Hash + Drop, V: Drop, L: Limiter<K, V>, S: KeyHasher<K>> LruMap<K, 
     /// assert!(rt; map.len() == 2 && !map.contains(&1));
     /// ```
     ///
-    /// Cost: `O(n)` for n entries. Links are written only next to an entry that is removed, or to show the last
-    /// promotion.
+    /// Cost: `O(n)` for n entries.
     ///
     /// After std's `HashMap::retain`, whose closure may write the value.
     pub fn retain<F: FnMut(&K, &V) -> bool>(&mut self, keep: F)

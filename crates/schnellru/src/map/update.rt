@@ -17,7 +17,7 @@ impl<K: Eq + Hash + Drop, V: Drop, L: Limiter<K, V>, S: KeyHasher<K>> LruMap<K, 
     ///
     /// If the limiter accepts the value, the oldest entries are evicted then while it is over its limit; the updated
     /// entry is one of these if it is old enough. If the limiter rejects the value, the entry is removed. If the key is
-    /// not there, nothing changes. Returns which of these it was, with the value that is not in the map then.
+    /// not there, nothing changes.
     ///
     /// ```
     /// assert_eq!(rt; map.update(1, 11), Updated::Replaced(10));

@@ -97,7 +97,7 @@ impl<K: Eq + Hash, V, L: Limiter<K, V>, S: KeyHasher<K>> LruMap<K, V, L, S> {
     /// assert!(rt; map.is_empty());
     /// ```
     ///
-    /// Cost: `O(1)` for each entry that is taken, and `O(buckets)` for the drop of the iterator.
+    /// Cost:
     ///
     /// After schnellru's `LruMap::drain`.
     pub fn drain(&mut self) -> Drain<'_, K, V, L, S>

@@ -1,4 +1,4 @@
-//! Memory that is given back. All other memory is taken, so calls that lose a block run out of memory before long.
+//! Memory that is given back.
 use schnellru::{ByMemoryUsage, LruMap, UnlimitedCompact};
 use std::alloc::{AllocError, Global};
 use test_helpers::{Hog, LastByte, OF_HASH_28, check};
@@ -62,7 +62,6 @@ fn dropped(alloc: Global) -> bool {
     rehashed(&mut map) & refused(&mut small) & insert(&mut none, 1).is_ok()
 }
 
-/// How many of the cycles do not run out of memory, if only this much is left.
 fn cycles_made(alloc: Global, (cycles, spare): (u32, usize), n: u64) -> Result<u32, AllocError> {
     let mut hog = Hog::new(alloc, &[spare])?;
     let mut map = map_of(alloc, UnlimitedCompact);
@@ -81,7 +80,6 @@ fn calls_give_their_memory_back(rt: HostRuntime) {
     check!(rt; cycles_made(rt.alloc(), (LARGE_CYCLES, LARGE_SPARE), 400) == Ok(LARGE_CYCLES));
 }
 
-/// Makes new maps, and returns whether the only block of memory that is left is still there.
 fn leave_the_block(alloc: Global) -> bool {
     let _limited = Compact::with_limiter(alloc, UnlimitedCompact);
     let _seeded = Compact::with_seed(alloc, UnlimitedCompact, [1, 2, 3, 4], 16);

@@ -1,11 +1,9 @@
-//! Numbers that are counted while they live, to show what is dropped and what is not.
 ghost use Rattle.std.specs.Prelude.{◌≡◌};
 
 use schnellru::{Both, ByCost, ByMemoryUsage, Costed, LruMap};
 use std::alloc::{AllocError, Global};
 use std::cell::Cell;
 
-/// How many keys and how many values live, and how many more may be cloned.
 #[derive(Drop)]
 pub struct Lives {
     pub keys: Cell<u64>,

@@ -8,7 +8,6 @@ use Rattle.group_table.specs.declared.probe.Probe.{Probe}
 use Rattle.group_table.proofs.ProbeLemmas.{probed-lane, up_to_lane, up_to_end}
 use Rattle.group_table.proofs.probe.first_free.Goals as goal
 
--- the buckets that the groups before this one have are full
 module _ (control : List ℕ) (hash : ℕ) (probe : Probe) (at : IsProbe (buckets_of control) hash probe)
     (full_before : (before : ℕ) → before < passed_by probe
     → IsTrue (full_at control (probed (buckets_of control) hash before))) where

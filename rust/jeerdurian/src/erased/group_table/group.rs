@@ -89,7 +89,6 @@ pub(crate) fn without_lowest(mask: u16) -> u16 {
     mask & (mask - 1)
 }
 
-// Returns the lanes before the lowest of a mask: all 32 bits if it is empty, and so more than any mask.
 #[inline]
 pub(crate) fn lanes_below(mask: u16) -> u32 {
     let mask = mask as u32;

@@ -17,16 +17,14 @@ fn empty_from(control: &Control, b: usize) -> u16 {
     control.group(b).match_empty()
 }
 
-// Returns all ones if the first number is less than the second, and 0 otherwise.
 #[inline]
 fn ones_if_less(low: u32, high: u16) -> usize {
     let difference = low as i64 - high as i64;
     (difference >> 32).cast_unsigned() as usize
 }
 
-// Returns all ones if every 16 neighbouring buckets around this one contain an empty one, and 0 otherwise. The caller
-// makes a count and a byte of it, for which a `bool` would take more instructions. The neighbouring buckets lie between
-// the last empty bucket before this one and the first one after it, so the used buckets between these decide.
+// Returns all ones if every 16 neighbouring buckets around this one contain an empty one, and 0 otherwise. The
+// neighbouring buckets lie between the last empty bucket before this one and the first one after it.
 #[inline]
 pub(crate) fn ones_if_empty_neighbours(control: &Control, b: usize) -> usize {
     // `used` has a bit for each used bucket from this one up to the next empty one. The mask of the empty buckets

@@ -12,8 +12,7 @@ pub fn full_capacity(buckets: usize) -> usize {
     if buckets <= 8 { buckets.saturating_sub(1) } else { buckets / 8 * 7 }
 }
 
-/// Returns the number of buckets for `capacity` entries: 0 for none, else a power of two. Returns `None` if it is not
-/// below `max`, the number of the link type's `MAX`, or if eight times the capacity overflows.
+/// Returns the number of buckets for `capacity` entries: 0 for none, else a power of two.
 
 pub fn buckets_for_capacity(capacity: usize, max: usize) -> Option<usize> {
     if capacity == 0 {

@@ -20,13 +20,13 @@ mod relocation;
 
 /// A hash table of numbered buckets, each of which is empty, deleted or full.
 ///
-/// It sees no key and stores no hash: the caller gives the hash when it inserts an entry, and a search calls the
-/// caller's closure with each entry that may be the one. An entry keeps its bucket until it is taken out, or all
-/// entries are moved. `docs/TABLE.md` explains its rules, which hashbrown's raw table has, too.
+/// It sees no key and stores no hash: the caller gives the hash, and a search calls the caller's closure with each
+/// entry that may be the one. An entry keeps its bucket until it is taken out, or all entries are moved.
+/// `docs/TABLE.md` explains its rules, which hashbrown's raw table has, too.
 ///
 /// A table of B buckets has B + 16 control bytes and B places for entries. Only `with_buckets`, `relocate`, `rehash`
-/// and `clone_with` ask for memory. `get`, `get_mut`, `take` and the figures take O(1). `find`, `place` and
-/// `try_place` take O(1) if the hashes are spread, and at worst O(B). All other calls take O(B).
+/// and `clone_with` ask for memory. `get`, `get_mut`, `take` and the figures take O(1). `find`, `place` and `try_place`
+/// take O(1) if the hashes are spread, and at worst O(B). All other calls take O(B).
 ///
 /// ```text
 /// let mut table = Table::with_buckets(alloc, 8)?;
@@ -34,8 +34,7 @@ mod relocation;
 /// assert_eq!(rt; table.find(7, |entry| *entry == "a"), Some(b));
 /// ```
 pub struct Table<T> {
-    // Not next to `len`: each insertion and each removal changes both, and the compiler would join the two into one
-    // load and one store, which is slower.
+    // Not next to `len`: the compiler would join the changes of both into one load and one store, which is slower.
     room: usize,
     control: Control,
     entries: Entries<T>,
@@ -77,8 +76,8 @@ impl<T> Table<T> {
 
     /// Returns the bucket of the first entry that `f` accepts, of those with the tag of the hash, its top 7 bits.
     ///
-    /// `f` is called with one entry after another in the order of the search, with each at most once, and no more after
-    /// it accepted one, which is only tested. `None` says that it rejected each entry of that hash.
+    /// `f` is called with one entry after another in the order of the search; that it is called with each at most once
+    /// is only tested. `None` says that it rejected each entry of that hash.
     ///
     /// It reads 16 control bytes at once, usually of one group or two, and an entry for each call. At worst it reads
     /// all control bytes, and calls `f` with each entry with the tag.
@@ -110,8 +109,6 @@ impl<T> Table<T> {
     /// The bucket is then empty, which gives growth left back, if every 16 neighbouring buckets around it contain an
     /// empty one. Otherwise it is deleted, so that no search that went past it ends there. Up to 16 buckets it is
     /// always empty.
-    ///
-    /// It reads 32 control bytes and writes one and its repetition, whatever the table's size.
     #[inline(always)]
     pub fn take(&mut self, b: usize) -> T {
         full!(self.control.byte(b));
@@ -220,8 +217,7 @@ impl<T> Table<T> {
 impl<T> Table<T> {
     /// Drops all entries. Every bucket is empty then; their number and the counts of insertions stay.
     ///
-    /// It writes all control bytes, and goes through the entries' places only if there is an entry. It does nothing if
-    /// all growth is left, because then no bucket is full or deleted.
+    /// It does nothing if all growth is left, because then no bucket is full or deleted.
     pub fn clear(&mut self) {
         let most = full_capacity(self.control.buckets());
         if self.room == most {
@@ -240,7 +236,6 @@ fn is_without_buckets(control: &Control, room: usize) -> bool {
     room == 0 && control.is_empty()
 }
 
-// Subtracts 1 from a count of `u64::MAX`, so that the addition of 1 that follows ends there.
 #[inline]
 fn make_count_room(count: &mut u64) {
     if *count == u64::MAX {

@@ -29,8 +29,8 @@ pub struct Memo<K: Copy + Eq + Hash, V, F, L: Insertion<K, V, K>, S: KeyHasher<K
 impl<K: Copy + Eq + Hash, V, F: Fn(K) -> V, L: Insertion<K, V, K>> Memo<K, V, F, L, RandomState> {
     /// Makes a memo of a function, with no results yet.
     ///
-    /// The limiter has to store values as they come, as all limiters of `schnellru` do. Everyone knows the seeds of the
-    /// default hasher: if strangers choose the keys, call `with_hasher`. Cost: `O(1)`, and no memory.
+    /// Everyone knows the seeds of the default hasher: if strangers choose the keys, call `with_hasher`. Cost: `O(1)`,
+    /// and no memory.
     ///
     /// ```text
     /// let mut squares = Memo::new(alloc, ByLength::new(9), |n: u64| n.wrapping_mul(n));
@@ -85,8 +85,6 @@ impl<K: Copy + Eq + Hash, V: Copy, F: Fn(K) -> V, L: Insertion<K, V, K>, S: KeyH
     ///
     /// If the memo runs out of memory or its limiter rejects the result, the result is returned without being stored.
     /// If the function returns different results at equal keys, each key may get the result of another.
-    ///
-    /// A caller proves the clauses `callable` and `known` from what `new`, or the call before, ensures.
     ///
     /// ```text
     /// assert_eq!(rt; (squares.answer(3), squares.len()), (9, 1));

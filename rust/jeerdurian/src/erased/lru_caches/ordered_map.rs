@@ -39,7 +39,7 @@ pub struct OrderedMap<K, V, S = RandomState> {
 impl<K: Eq + Hash, V> OrderedMap<K, V, RandomState> {
     /// Makes an empty map with the default hasher.
     ///
-    /// Everyone knows its seeds: if strangers choose the keys, call `with_hasher`. Cost: `O(1)`, and no memory.
+    /// Cost: `O(1)`, and no memory.
     ///
     /// ```text
     /// let mut map: OrderedMap<u64, u64> = OrderedMap::new(alloc);

@@ -98,8 +98,7 @@ impl<T> Costed for Vec<T> {
 /// evicted or removed since.
 ///
 /// The total is the sum over the entries of the map after each call, unless somebody writes to the values or to the
-/// limiter through a reference: each callback changes the total as the laws say. The two laws that subtract a cost hold
-/// only if the total is at least that cost.
+/// limiter through a reference.
 ///
 /// ```text
 /// let limiter = ByCost::new(3);

@@ -34,8 +34,7 @@ pub use shrinks::{shrinks_keep_the_list, shrinks_leave_a_tight_table, shrinks_pa
 pub fn inserts_evict_the_oldest<K: Eq + Hash, V, I: LookupKey<K>, L: Insertion<K, V, I>, S: KeyHasher<K>>() {}
 
 /// The entries that an insert passes to its callback, together with those that are left, are at most one more than
-/// there were. So a callback that keeps them needs space for one entry more than the map contains. An insert with such
-/// a callback is an insert like any other (`step`).
+/// there were.
 pub fn inserts_pass_few<K: Eq + Hash, V, I: LookupKey<K>, L: Insertion<K, V, I>, S: KeyHasher<K>>() {}
 
 /// An insert into a table of up to 16 buckets has one possible result for each outcome of its allocations: what it
@@ -70,7 +69,7 @@ pub fn deleted_buckets_serve<K: Eq + Hash, V, I: LookupKey<K>, L: Insertion<K, V
 
 /// An insert pays for the entries that it moves: the count of moved entries and the potential together rise by at most
 /// 2 for the entry that it stores. So inserts move at most twice as many entries as they store, plus those that shrinks
-/// rehashed. Each entry that an insert moves or stores is counted.
+/// rehashed.
 pub fn inserts_pay_for_moves<K: Eq + Hash, V, I: LookupKey<K>, L: Insertion<K, V, I>, S: KeyHasher<K>>() {}
 
 /// If a full table cannot grow, because the limiter refuses or there is no larger table, the map keeps at least half of

@@ -15,8 +15,7 @@ use crate::rattle_std::fmt::Display;
 /// - The key was there, and the limiter rejected the new value: `unkept` is the new value, and `kept` is false. The
 ///   entry was removed.
 ///
-/// So a `kept` of false with a value has two causes. In both the callback got the entry of the key: with the new value
-/// if it was evicted, and with the old value if the new one was rejected.
+/// So a `kept` of false with a value has two causes; in both the callback got the entry of the key.
 ///
 /// ```text
 /// let inserted = map.insert_full(1, 11, &mut |_, _| {})?;

@@ -1,6 +1,6 @@
 // Erased from crates/lru_model/src/sizes.rt: do not edit.
 //! What the table of a map takes in bytes, by the bytes of an entry that the map counts, and the table that it grows
-//! into. Each function costs `O(1)`; the map's own calls show what they return.
+//! into.
 
 #[allow(unused_imports)]
 use crate::rattle_std::prelude::*;

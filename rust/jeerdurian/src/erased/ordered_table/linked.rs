@@ -18,7 +18,7 @@ mod moves;
 mod place;
 
 // A pair with its neighbours in the order; `MAX` at the ends. The key and the value are side by side, and so are the
-// value and the links: a look at a pair and a step of a walk each usually read one line of memory.
+// value and the links, so that a look or a step reads one line of memory.
 
 pub(crate) struct Entry<K, V, N> {
     pair: Pair<K, V>,

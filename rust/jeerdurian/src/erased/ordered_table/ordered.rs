@@ -1,5 +1,5 @@
 // Erased from crates/ordered_table/src/ordered.rt: do not edit.
-//! `OrderedTable`: a table whose entries are in an order. Its links may show the last promotion one call later.
+//! `OrderedTable`: a table whose entries are in an order.
 
 #[allow(unused_imports)]
 use crate::rattle_std::prelude::*;
@@ -42,8 +42,7 @@ pub struct Pair<K, V> {
 pub struct OrderedTable<K, V, N: LinkType> {
     linked: LinkedTable<K, V, N>,
     // The bucket of the last promotion, as long as its links show where it was before. The next call that changes the
-    // order changes them. A promotion writes to the neighbours of the bucket, and some processors let no read pass a
-    // write whose address is still to come from memory. By the next call the address is there.
+    // order changes them.
     promoted: Option<usize>,
 }
 

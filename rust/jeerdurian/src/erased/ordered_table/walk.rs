@@ -19,8 +19,7 @@ pub(crate) mod keys;
 
 pub struct Walk<'a, K, V, N: LinkType> {
     entries: &'a OrderedTable<K, V, N>,
-    // The buckets of the first and of the last pair that is left, and how many are left. If none is, the buckets say
-    // nothing: a step then tests the number alone.
+    // The buckets of the first and of the last pair that is left, and how many are left.
     front: usize,
     back: usize,
     left: usize,

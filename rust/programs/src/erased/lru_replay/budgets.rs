@@ -1,6 +1,5 @@
 // Erased from crates/lru_replay/src/budgets.rt: do not edit.
-//! What a larger limit of cost is worth: a theorem on lists of calls that make references, from an empty map. The function
-//! does nothing: its contract is the theorem.
+//! What a larger limit of cost is worth: a theorem on lists of calls that make references, from an empty map.
 
 #[allow(unused_imports)]
 use crate::rattle_std::prelude::*;

@@ -19,24 +19,16 @@ use crate::rattle_std::alloc::AllocError;
 /// ```
 #[derive(Debug)]
 pub enum Call<K, V, L> {
-    /// `insert`: makes the pair of this key and value the newest.
     Insert(K, V),
-    /// `insert_with`: the same as `Insert`, and returns the pairs that the map loses.
+    /// As `insert`, and returns the pairs that the map loses.
     InsertWith(K, V),
     /// `get_or_insert`: returns the value of the key, which is inserted with this value if it is not there.
     GetOrInsert(K, V),
-    /// `update`: offers a key that is there this value. Its pair keeps its place, or is removed if the limiter rejects
-    /// the value.
     Update(K, V),
-    /// `get`: returns the value of the key, and makes its pair the newest.
     Get(K),
-    /// `peek`: returns the value of the key.
     Peek(K),
-    /// `contains`: returns whether the key is there.
     Contains(K),
-    /// `promote`: returns whether the key is there, and makes its pair the newest.
     Promote(K),
-    /// `demote`: returns whether the key is there, and makes its pair the oldest.
     Demote(K),
     /// `get_by_hash`, with a closure that accepts this key alone.
     GetByHash(u64, K),
@@ -44,36 +36,22 @@ pub enum Call<K, V, L> {
     PeekByHash(u64, K),
     /// Writes the value through `peek_mut` of the key.
     Write(K, V),
-    /// `remove`: removes the key, and returns its value.
     Remove(K),
-    /// `remove_entry`: removes the key, and returns its pair.
     RemoveEntry(K),
-    /// `pop_oldest`: removes and returns the oldest pair.
     PopOldest,
-    /// `pop_newest`: removes and returns the newest pair.
     PopNewest,
-    /// `peek_oldest`: returns the oldest pair.
     PeekOldest,
-    /// `peek_newest`: returns the newest pair.
     PeekNewest,
-    /// `try_reserve`: reserves growth for n more pairs.
     Reserve(usize),
-    /// `shrink_to_fit`: shrinks the table to as few buckets as hold the pairs.
     Shrink,
-    /// `trim`: evicts the oldest pairs while the limiter is over its limit.
     Trim,
-    /// `clear`: drops all pairs.
     Clear,
     /// `drain`: returns `front` pairs from the newest end, then `back` pairs from the oldest, and drops the others.
     Drain {
-        /// How many from the newest end.
         front: usize,
-        /// How many from the oldest end.
         back: usize,
     },
-    /// Returns all pairs, newest first.
     List,
-    /// Returns the figures of the map.
     Stats,
     /// Writes another limiter through `limiter_mut`, and evicts nothing.
     SetLimiter(L),
@@ -103,7 +81,6 @@ pub enum Answer<K, V> {
     Pair(Option<(K, V)>),
     /// To `List` and `Drain`: the pairs.
     Pairs(Vec<(K, V)>),
-    /// To `Trim`, `Clear` and `SetLimiter`: it is done.
     Done,
     /// To `Reserve`: that there is growth left, or why not.
     Reserved(Result<(), ReserveError>),
@@ -111,13 +88,9 @@ pub enum Answer<K, V> {
     Shrunk(Result<bool, AllocError>),
     /// To `Stats`: the figures of the map.
     Stats {
-        /// The number of pairs.
         len: usize,
-        /// How many pairs the table holds for sure without growing.
         capacity: usize,
-        /// The bytes of the table, as `memory_usage` counts them.
         memory: usize,
-        /// How many entries inserts moved and stored, and how many shrinks rehashed.
         report: MoveReport,
     },
     /// To `Insert` and `GetOrInsert`: out of memory. To `InsertWith`, `List` and `Drain`: out of memory for the pairs

@@ -46,8 +46,6 @@ fn moves_hash_once(map: &mut Map) -> bool {
     (moved > 500) & (map.hasher().0.get() == moved.wrapping_add(4000))
 }
 
-/// Searches by the hash 1 with a closure that accepts when it is called for this time, and returns how often it is
-/// called.
 fn questions(map: &mut Map, number: u64, gets: bool) -> u64 {
     let asked = Cell::new(0u64);
     let accepts = |_: &u64, _: &u64| {

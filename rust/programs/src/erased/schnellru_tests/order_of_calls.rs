@@ -1,7 +1,6 @@
 // Erased from crates/schnellru_tests/src/order_of_calls.rt: do not edit.
-//! How often and in which order calls call their limiter and their sink. A contract says what each callback is given, and
-//! not what is called in between: each pair is passed to the sink right after the limiter was notified that it left, and
-//! before the limiter is called again.
+//! How often and in which order calls call their limiter and their sink. A contract says what each callback is given,
+//! and not what is called in between.
 
 #[allow(unused_imports)]
 use crate::rattle_std::prelude::*;
@@ -95,8 +94,7 @@ impl Insertion<u64, u64, u64> for Noting<'_> {
     }
 }
 
-/// Inserts a pair into a map of the numbers from `first` to `last`, under limits that are then set, while only this
-/// number of requests for memory is met. Returns whether the calls are those of `expected`, or memory has no end.
+/// Returns whether the calls are those of `expected`, or memory has no end.
 fn is_traced(alloc: Global, [first, last, most, bytes, blocks, key, value, expected]: [u64; 8]) -> bool {
     let trace = Cell::new(0u64);
     let mut map = map_of(alloc, Noting::new(99, 1000, &trace));

@@ -55,7 +55,6 @@ module _ (R : RattleType) {M : Type 1} {𝓤 : Ura M} (𝓛 : Logic 𝓤) (c : (
   abbrev mark_lies : Fml
   mark_lies = cell_at full_share Owner.mir vs rb ro
 
-  -- all that the owner has but the entry
   abbrev Rest : SProp 𝓤
   Rest = sep 𝓤 (all 𝓤 (Back R 𝓛 c.start c.places b at)) (sep 𝓤 (sem 𝓛 mark_owned) (sem 𝓛 mark_lies))
 

@@ -11,7 +11,6 @@ use Rattle.lru_c.proofs.bytes.calls.pop_oldest.Goals as goal
 abbrev lengths : Bytes × Bytes → ℕ × ℕ
 lengths pair = (length pair.0.items, length pair.1.items)
 
--- a pair of these lengths
 record HasLengths (pair : Bytes × Bytes) (k v : ℕ) : Type 0 where
   pub key : k ≡ length pair.0.items
   pub value : v ≡ length pair.1.items

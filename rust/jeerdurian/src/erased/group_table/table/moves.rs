@@ -10,8 +10,7 @@ use crate::erased::group_table::probe::first_free;
 use crate::erased::group_table::table::Table;
 
 impl<T> Table<T> {
-    // Puts an entry into the first free bucket of a table with growth left and no deleted bucket. No insertion is
-    // counted.
+    // No insertion is counted.
     #[inline]
     pub(crate) fn place_fresh(&mut self, hash: u64, entry: T) -> usize {
         let b = first_free(&self.control, hash);
@@ -22,8 +21,7 @@ impl<T> Table<T> {
     }
 }
 
-// Moves entries, in rising order of their old buckets, into an empty table, and writes where each is now. The old
-// control bytes say which places hold one; afterwards none does.
+// The old control bytes say which places hold one; afterwards none does.
 pub(crate) fn move_entries<T, N: LinkType, H: Fn(&T) -> u64>(
     control: &Control,
     old: &mut Entries<T>,

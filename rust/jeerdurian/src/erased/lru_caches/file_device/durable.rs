@@ -7,7 +7,7 @@ use crate::rattle_std::io;
 use crate::rattle_std::io::Cursor;
 
 /// A file with a call that is to make its bytes outlast a crash. That it does is a premise of a file device, which
-/// calls it when it syncs, after it has flushed the writer, and not again after an error.
+/// calls it when it syncs, and not again after an error.
 ///
 /// ```text
 /// assert!(rt; Cursor::new([0u8; 4]).make_durable().is_ok());

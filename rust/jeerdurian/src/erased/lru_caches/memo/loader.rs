@@ -30,8 +30,8 @@ pub struct Loader<K: Copy + Eq + Hash, V: Copy, F, L: Insertion<K, V, K>, S: Key
 impl<K: Copy + Eq + Hash, V: Copy, E, F: Fn(K) -> Result<V, E>, L: Insertion<K, V, K>> Loader<K, V, F, L, RandomState> {
     /// Makes a loader by a function, with no values yet.
     ///
-    /// The limiter has to store values as they come, as all limiters of `schnellru` do. Everyone knows the seeds of the
-    /// default hasher: if strangers choose the keys, call `with_hasher`. Cost: `O(1)`, and no memory.
+    /// Everyone knows the seeds of the default hasher: if strangers choose the keys, call `with_hasher`. Cost: `O(1)`,
+    /// and no memory.
     ///
     /// ```text
     /// let mut blocks = Loader::new(alloc, ByLength::new(9), |n: usize| disk.get(n).copied().ok_or(n));
@@ -62,8 +62,6 @@ impl<K: Copy + Eq + Hash, V: Copy, E, F: Fn(K) -> Result<V, E>, L: Insertion<K, 
     /// stored.
     ///
     /// If the loader runs out of memory or its limiter rejects the value, the value is returned without being stored.
-    ///
-    /// A caller proves the clauses `callable` and `known` from what `new`, or the call before, ensures.
     ///
     /// ```text
     /// assert_eq!(rt; (blocks.load(1), blocks.len()), (Ok(11), 1));

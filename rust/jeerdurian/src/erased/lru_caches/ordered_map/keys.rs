@@ -31,7 +31,6 @@ impl<'a, K, V> Iterator for Keys<'a, K, V> {
         }
     }
 
-    /// Returns exactly how many keys are left, as `len` does.
     fn size_hint(&self) -> (usize, Option<usize>) {
         self.entries.size_hint()
     }
@@ -80,7 +79,6 @@ impl<'a, K, V> Iterator for Values<'a, K, V> {
         }
     }
 
-    /// Returns exactly how many values are left, as `len` does.
     fn size_hint(&self) -> (usize, Option<usize>) {
         self.entries.size_hint()
     }

@@ -52,9 +52,7 @@ impl ByBytes {
 
     /// Returns the same limiter with another limit.
     ///
-    /// `map.set_limiter(map.limiter().with_limit(n))` sets the limit of a map, and evicts the oldest entries until what
-    /// the others own fits beside the table. If the table alone is over the limit, it stays so, and no entry that owns
-    /// memory is left.
+    /// `map.set_limiter(map.limiter().with_limit(n))` sets the limit of a map, and evicts what is over it.
     ///
     /// ```text
     /// assert_eq!(rt; limiter.with_limit(300).limit(), 300);

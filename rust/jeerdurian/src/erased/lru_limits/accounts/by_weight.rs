@@ -14,8 +14,7 @@ use crate::rattle_std::hash::Hash;
 /// Limits the sum of the costs of the entries: of each key, of its value, and `OVERHEAD` for the entry itself. A
 /// contract sees it as its limit and that sum.
 ///
-/// It rejects what [`crate::ByCost`] rejects: an entry or a replacement that costs more than the limit alone, or that
-/// would take the sum past `u64::MAX`. An entry costs at most `u64::MAX`.
+/// It rejects what [`crate::ByCost`] rejects. An entry costs at most `u64::MAX`.
 ///
 /// ```text
 /// let mut limiter: ByWeight<16> = ByWeight::new(100);

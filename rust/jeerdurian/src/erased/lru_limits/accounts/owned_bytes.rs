@@ -6,8 +6,8 @@ use crate::rattle_std::prelude::*;
 
 use crate::rattle_std::mem::size_of;
 
-/// A value that can say how many bytes it owns outside of itself: the blocks that it allocated, whole, whatever part of
-/// them is in use, and what is owned in them.
+/// A value that can say how many bytes it owns outside of itself: the blocks that it allocated, whole, and what is
+/// owned in them.
 ///
 /// A block counts as its bytes rounded up to a multiple of 16, and 16 more for the allocator. This is what the
 /// allocator of GNU takes at most, unless a block is so large that it is mapped page by page.

@@ -23,8 +23,7 @@ pub fn calls_keep_sums<K: Eq + Hash, V, I: LookupKey<K>, L: Summing<K, V, I>, S:
 pub fn calls_pay_for_moves<K: Eq + Hash, V, I: LookupKey<K>, L: Insertion<K, V, I>, S: KeyHasher<K>>() {}
 
 /// With a limiter that limits the length to `most` entries (`LimitsLength`), as `ByLength` does, each call leaves that
-/// limit as it is, and at most `most` entries, if there were no more before. `length-limits`, `storing-length` and
-/// `both-first_length` of `lru_limits` say which limiters do.
+/// limit as it is, and at most `most` entries, if there were no more before.
 pub fn calls_keep_the_length<K: Eq + Hash, V, L: Insertion<K, V, K>, S: KeyHasher<K>>() {}
 
 /// With a limiter that permits tables of at most `most` bytes (`LimitsMemory`), as `ByMemoryUsage` does, alone, in

@@ -11,8 +11,7 @@ use crate::rattle_std::hash::Hash;
 /// An insert loses nothing, if the limiter changes no entry that is evicted or removed. The entries that are left,
 /// followed by the entries that the callback got, last one first, are the new entry and the old ones, newest first
 /// (`all`, with a case for each result). If the result is true, the stored entry comes first (`stored`). Whatever it
-/// is, each old entry of another key is left or was passed to the callback (`others`). These two follow from `all`, and
-/// spare a caller its cases.
+/// is, each old entry of another key is left or was passed to the callback (`others`).
 pub fn nothing_is_lost<K: Eq + Hash, V, I: LookupKey<K>, L: Insertion<K, V, I>, S: KeyHasher<K>>() {}
 
 /// If growth is left, an insert does what it would do to a plain list without a table (`list`), whatever `on_grow`

@@ -1,5 +1,5 @@
 // Erased from crates/lru_model/src/laws/runs.rt: do not edit.
-//! What is proved of runs, which are calls one after another. Each law is the law of one call (`calls`), by induction.
+//! What is proved of runs, which are calls one after another.
 
 #[allow(unused_imports)]
 use crate::rattle_std::prelude::*;

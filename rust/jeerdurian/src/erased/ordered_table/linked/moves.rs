@@ -11,14 +11,11 @@ use crate::rattle_std::alloc::AllocError;
 use crate::rattle_std::hash::{BuildHasher, Hash};
 
 impl<K: Eq + Hash, V, N: LinkType> LinkedTable<K, V, N> {
-    // If the table has that many buckets already, the pairs are rehashed in place.
-    //
     // `O(buckets)` of both tables, and a hash for each pair.
     //
     // # Errors
     //
-    // Out of memory; never for no buckets, nor for a table without pairs that keeps its number of buckets. Nothing has
-    // changed then.
+    // Nothing has changed then.
     pub(crate) fn move_to<S: KeyHasher<K>>(&mut self, buckets: usize, hasher: &S) -> Result<(), AllocError> {
         let links = renumber_entries(&mut self.chain.table, buckets, hasher)?;
         self.chain.rewrite(links.as_slice());

@@ -33,7 +33,7 @@ impl<K, V, N: LinkType> OrderedTable<K, V, N> {
 
     /// Makes the pair in a full bucket the newest.
     ///
-    /// Cost: `O(1)`.
+    /// `O(1)`.
     #[inline]
     pub fn promote(&mut self, b: usize) {
         match &mut self.promoted {

@@ -28,7 +28,6 @@ impl<'a, K, V, N: LinkType> Iterator for Keys<'a, K, V, N> {
         }
     }
 
-    /// Returns exactly how many keys are left, as `len` does.
     fn size_hint(&self) -> (usize, Option<usize>) {
         self.walk.size_hint()
     }

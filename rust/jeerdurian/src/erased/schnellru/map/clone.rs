@@ -18,9 +18,9 @@ impl<K: TryClone, V: TryClone, L: Limiter<K, V> + TryClone, S: TryClone> LruMap<
     /// assert_eq!(rt; (copy.len(), map.len()), (2, 3));
     /// ```
     ///
-    /// A clone of a key has to equal the key, and a clone of the hasher has to hash alike. So this is a method and no
-    /// impl of `Clone`, and a struct that contains a map derives no `Clone`. Cost: `O(buckets)`, with two
-    /// requests for memory and the requests of the clones; a map without buckets does not make the two.
+    /// A clone of a key has to equal the key, and a clone of the hasher has to hash alike: so this is a method and no
+    /// impl of `Clone`. Cost: `O(buckets)`, with two requests for memory and the requests of the clones; a map without
+    /// buckets does not make the two.
     ///
     /// # Errors
     ///

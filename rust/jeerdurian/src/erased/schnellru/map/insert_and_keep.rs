@@ -11,8 +11,8 @@ use crate::rattle_std::alloc::AllocError;
 use crate::rattle_std::hash::Hash;
 
 impl<K: Eq + Hash, V, L: Limiter<K, V>, S: KeyHasher<K>> LruMap<K, V, L, S> {
-    /// Inserts as `insert` does. Returns its result, and the entries that `insert_with` would pass to its callback, in
-    /// order. Memory for these is taken before the map changes.
+    /// Inserts as `insert` does. Returns its result, and the entries that `insert_with` would pass to its callback.
+    /// Memory for these is taken before the map changes.
     ///
     /// ```text
     /// let (done, left) = map.insert_and_keep(4, 40)?;
@@ -24,8 +24,7 @@ impl<K: Eq + Hash, V, L: Limiter<K, V>, S: KeyHasher<K>> LruMap<K, V, L, S> {
     ///
     /// # Errors
     ///
-    /// Out of memory for the returned entries: nothing has changed, and the key and the value are dropped. An insert
-    /// that runs out of memory itself returns its error as the first of the two results.
+    /// Out of memory for the returned entries: nothing has changed, and the key and the value are dropped.
     pub fn insert_and_keep<I: LookupKey<K>>(
         &mut self,
         key: I,

@@ -67,8 +67,7 @@ impl<K: Eq + Hash, V, L: Limiter<K, V>, S: KeyHasher<K>> LruMap<K, V, L, S> {
         }
     }
 
-    // Evicts the oldest pair, if the limiter would be over its limit with one more, and stores a pair that the limiter
-    // returned. Then evicts the oldest pairs while the limiter is over its limit.
+    // Then evicts the oldest pairs while the limiter is over its limit.
     fn insert_pair<F: FnMut(K, V)>(&mut self, hash: u64, pair: (K, V), sink: &mut F) -> Result<bool, AllocError> {
         self.make_room(sink);
         // `insert_without_growth` takes the key and the value apart, because a pair would lie in memory that each
@@ -92,7 +91,6 @@ impl<K: Eq + Hash, V, L: Limiter<K, V>, S: KeyHasher<K>> LruMap<K, V, L, S> {
         value: V,
         sink: &mut F,
     ) -> Result<bool, AllocError> {
-        // An empty map is rehashed, which takes no memory, even if a deleted bucket could take the pair.
         if self.is_empty() {
             return self.insert_without_bucket(hash, (key, value), sink);
         }
@@ -102,8 +100,7 @@ impl<K: Eq + Hash, V, L: Limiter<K, V>, S: KeyHasher<K>> LruMap<K, V, L, S> {
         }
     }
 
-    // Stores a pair that no bucket takes, and evicts what is over the limit then. Under `ByMemoryUsage` each new pair
-    // may come here. Out of line, so that the code of other inserts stays short.
+    // Under `ByMemoryUsage` each new pair may come here. Out of line, so that the code of other inserts stays short.
     #[inline(never)]
     fn insert_without_bucket<F: FnMut(K, V)>(
         &mut self,

@@ -13,8 +13,7 @@ use crate::rattle_std::mem;
 impl<K: Eq + Hash, V, L: Limiter<K, V>, S: KeyHasher<K>> LruMap<K, V, L, S> {
     /// Evicts the oldest entries while the limiter is over its limit.
     ///
-    /// So a limit of length or cost that was lowered through `limiter_mut` takes effect now. `ByMemoryUsage` is never
-    /// over its limit.
+    /// `ByMemoryUsage` is never over its limit.
     ///
     /// ```text
     /// *map.limiter_mut() = ByLength::new(1);

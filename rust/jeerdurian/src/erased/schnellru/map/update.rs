@@ -15,7 +15,7 @@ impl<K: Eq + Hash, V, L: Limiter<K, V>, S: KeyHasher<K>> LruMap<K, V, L, S> {
     ///
     /// If the limiter accepts the value, the oldest entries are evicted then while it is over its limit; the updated
     /// entry is one of these if it is old enough. If the limiter rejects the value, the entry is removed. If the key is
-    /// not there, nothing changes. Returns which of these it was, with the value that is not in the map then.
+    /// not there, nothing changes.
     ///
     /// ```text
     /// assert_eq!(rt; map.update(1, 11), Updated::Replaced(10));

@@ -9,7 +9,6 @@ use crate::programs::lru_replay::Answer;
 use crate::rattle_std::alloc::Global;
 use crate::rattle_std::hash::Hash;
 
-/// Returns all pairs, newest first.
 pub fn list<K: Copy + Eq + Hash, V: Copy, L: Insertion<K, V, K>, S: KeyHasher<K>>(
     alloc: Global,
     map: &LruMap<K, V, L, S>,
@@ -23,7 +22,6 @@ pub fn list<K: Copy + Eq + Hash, V: Copy, L: Insertion<K, V, K>, S: KeyHasher<K>
     Answer::Pairs(pairs)
 }
 
-/// Returns the answer to an insert, with the pairs that the map loses.
 pub fn insert_with<K: Eq + Hash, V, L: Insertion<K, V, K>, S: KeyHasher<K>>(
     map: &mut LruMap<K, V, L, S>,
     key: K,
@@ -53,7 +51,6 @@ pub fn drain_pairs<K: Eq + Hash, V, L: Insertion<K, V, K>, S: KeyHasher<K>>(
     Answer::Pairs(pairs)
 }
 
-/// Takes out the `count` newest pairs, one after another.
 fn take_newest<K: Eq + Hash, V, L: Limiter<K, V>, S: KeyHasher<K>>(
     map: &mut LruMap<K, V, L, S>,
     count: usize,
@@ -64,7 +61,6 @@ fn take_newest<K: Eq + Hash, V, L: Limiter<K, V>, S: KeyHasher<K>>(
     }
 }
 
-/// Takes out the `count` oldest pairs, one after another.
 fn take_oldest<K: Eq + Hash, V, L: Limiter<K, V>, S: KeyHasher<K>>(
     map: &mut LruMap<K, V, L, S>,
     count: usize,
@@ -75,7 +71,6 @@ fn take_oldest<K: Eq + Hash, V, L: Limiter<K, V>, S: KeyHasher<K>>(
     }
 }
 
-/// Adds the pair, if there is one.
 fn add<K, V>(pairs: &mut Vec<(K, V)>, pair: Option<(K, V)>) {
     if let Some(pair) = pair {
         pairs.push_reserved(pair);

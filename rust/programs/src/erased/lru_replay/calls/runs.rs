@@ -43,7 +43,6 @@ pub fn run_calls<K: Copy + Eq + Hash, V: Copy, L: Insertion<K, V, K>, S: KeyHash
     Ok(answers)
 }
 
-/// Carries out a call.
 pub(crate) fn make_call<K, V, L, S>(alloc: Global, map: &mut LruMap<K, V, L, S>, call: Call<K, V, L>) -> Answer<K, V>
 where
     K: Copy + Eq + Hash,
@@ -56,7 +55,6 @@ where
     answer
 }
 
-/// Returns the answer to a call.
 fn answer_to<K, V, L, S>(alloc: Global, map: &mut LruMap<K, V, L, S>, call: Call<K, V, L>) -> Answer<K, V>
 where
     K: Copy + Eq + Hash,

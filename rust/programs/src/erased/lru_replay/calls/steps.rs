@@ -8,7 +8,6 @@ use crate::erased::schnellru::{Insertion, KeyHasher, Limiter, LruMap};
 use crate::programs::lru_replay::Answer;
 use crate::rattle_std::hash::Hash;
 
-/// Returns the answer to an insert.
 pub fn insert<K: Eq + Hash, V, L: Insertion<K, V, K>, S: KeyHasher<K>>(
     map: &mut LruMap<K, V, L, S>,
     key: K,
@@ -20,7 +19,6 @@ pub fn insert<K: Eq + Hash, V, L: Insertion<K, V, K>, S: KeyHasher<K>>(
     }
 }
 
-/// Returns the answer to a get that inserts.
 pub fn get_or_insert<K: Eq + Hash, V: Copy, L: Insertion<K, V, K>, S: KeyHasher<K>>(
     map: &mut LruMap<K, V, L, S>,
     key: K,
@@ -33,7 +31,6 @@ pub fn get_or_insert<K: Eq + Hash, V: Copy, L: Insertion<K, V, K>, S: KeyHasher<
     }
 }
 
-/// Returns the value of the newest pair, if there is one.
 fn newest_value<K: Eq + Hash, V: Copy, L: Limiter<K, V>, S: KeyHasher<K>>(map: &LruMap<K, V, L, S>) -> Option<V> {
     match map.peek_newest() {
         Some((_, value)) => Some(*value),
@@ -41,7 +38,6 @@ fn newest_value<K: Eq + Hash, V: Copy, L: Limiter<K, V>, S: KeyHasher<K>>(map: &
     }
 }
 
-/// Returns the value of the key, and makes its pair the newest.
 pub fn get<K: Eq + Hash, V: Copy, L: Limiter<K, V>, S: KeyHasher<K>>(
     map: &mut LruMap<K, V, L, S>,
     key: &K,
@@ -52,7 +48,6 @@ pub fn get<K: Eq + Hash, V: Copy, L: Limiter<K, V>, S: KeyHasher<K>>(
     }
 }
 
-/// Writes the value of the key. Returns whether the key is there.
 pub fn write<K: Eq + Hash, V, L: Limiter<K, V>, S: KeyHasher<K>>(
     map: &mut LruMap<K, V, L, S>,
     key: &K,
@@ -67,7 +62,6 @@ pub fn write<K: Eq + Hash, V, L: Limiter<K, V>, S: KeyHasher<K>>(
     }
 }
 
-/// Returns the value of the key, if a search by the hash finds it, and makes its pair the newest.
 pub fn get_by_hash<K: Eq + Hash, V: Copy, L: Limiter<K, V>, S: KeyHasher<K>>(
     map: &mut LruMap<K, V, L, S>,
     hash: u64,
@@ -80,7 +74,6 @@ pub fn get_by_hash<K: Eq + Hash, V: Copy, L: Limiter<K, V>, S: KeyHasher<K>>(
     }
 }
 
-/// The value of the key, if a search by the hash finds it.
 pub fn peek_by_hash<K: Eq + Hash, V: Copy, L: Limiter<K, V>, S: KeyHasher<K>>(
     map: &LruMap<K, V, L, S>,
     hash: u64,
@@ -93,7 +86,6 @@ pub fn peek_by_hash<K: Eq + Hash, V: Copy, L: Limiter<K, V>, S: KeyHasher<K>>(
     }
 }
 
-/// Returns the oldest pair, if there is one.
 pub fn peek_oldest<K: Copy + Eq + Hash, V: Copy, L: Limiter<K, V>, S: KeyHasher<K>>(
     map: &LruMap<K, V, L, S>,
 ) -> Option<(K, V)> {
@@ -103,7 +95,6 @@ pub fn peek_oldest<K: Copy + Eq + Hash, V: Copy, L: Limiter<K, V>, S: KeyHasher<
     }
 }
 
-/// Returns the newest pair, if there is one.
 pub fn peek_newest<K: Copy + Eq + Hash, V: Copy, L: Limiter<K, V>, S: KeyHasher<K>>(
     map: &LruMap<K, V, L, S>,
 ) -> Option<(K, V)> {
@@ -113,7 +104,6 @@ pub fn peek_newest<K: Copy + Eq + Hash, V: Copy, L: Limiter<K, V>, S: KeyHasher<
     }
 }
 
-/// Returns the answer to a call for the figures of the map.
 pub fn stats<K: Eq + Hash, V, L: Insertion<K, V, K>, S: KeyHasher<K>>(map: &LruMap<K, V, L, S>) -> Answer<K, V> {
     Answer::Stats {
         len: map.len(),

@@ -47,7 +47,6 @@ where
     Ok(answers)
 }
 
-/// Carries out a call, unless the total would be wrong after it.
 fn make_summing_call<K, V, L, S>(alloc: Global, map: &mut LruMap<K, V, L, S>, call: Call<K, V, L>) -> Answer<K, V>
 where
     K: Copy + Eq + Hash,
@@ -62,7 +61,6 @@ where
     make_call(alloc, map, call)
 }
 
-/// Returns whether the total is right after the call.
 fn keeps_cost<K, V, L, S>(map: &LruMap<K, V, L, S>, call: &Call<K, V, L>) -> bool
 where
     K: Eq + Hash,

@@ -4,7 +4,6 @@
 #[allow(unused_imports)]
 use crate::rattle_std::prelude::*;
 
-/// Returns the first position of the byte, or else the length.
 pub fn index_of(bytes: &[u8], byte: u8) -> usize {
     for (i, b) in bytes.iter().enumerate() {
         if *b == byte {

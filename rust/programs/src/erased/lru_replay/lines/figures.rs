@@ -39,16 +39,10 @@ impl ReportsCost for ByCost {
 /// The figures of a map.
 #[derive(Clone, Copy)]
 pub struct Figures {
-    /// The number of pairs.
     pub len: usize,
-    /// How many pairs the table holds for sure without growing.
     pub capacity: usize,
-    /// The bytes of the table, as `memory_usage` counts them.
     pub memory: usize,
-    /// How many entries inserts have moved.
     pub moved: u64,
-    /// How many new entries inserts have stored.
     pub placed: u64,
-    /// How many entries shrinks have rehashed.
     pub shrunk: u64,
 }

@@ -14,20 +14,16 @@ const LONGEST: usize = 48;
 /// How many bytes of a line are held: one more than the longest line with a meaning, so that longer lines are noticed.
 pub const HELD: usize = LONGEST + 1;
 
-/// The first `HELD` bytes of a line.
-
 pub struct Line {
     bytes: [u8; HELD],
     len: usize,
 }
 
 impl Line {
-    /// Returns an empty line.
     pub fn new() -> Line {
         Line { bytes: [0; HELD], len: 0 }
     }
 
-    /// Returns the bytes that are held.
     pub fn as_slice(&self) -> &[u8] {
         &(*at!(self.bytes, ..self.len))
     }
@@ -49,7 +45,6 @@ impl Line {
         self.len += 1;
     }
 
-    /// Adds the bytes that fit at the end.
     fn extend(&mut self, piece: &[u8]) {
         for byte in piece {
             if self.len() == HELD {
@@ -63,11 +58,8 @@ impl Line {
 /// What one look at the reader's buffer gave of a line.
 #[derive(Clone, Copy)]
 pub enum Piece {
-    /// A part of the line, and more may follow.
     Part,
-    /// The rest of the line, and its line feed.
     Last,
-    /// Nothing: the reader's end.
     End,
 }
 
@@ -97,11 +89,8 @@ fn take_piece<R: BufRead>(reader: &mut R, line: &mut Line) -> Result<Piece, Repl
 /// How a line ended.
 #[derive(Clone, Copy)]
 pub enum Ending {
-    /// By its line feed.
     Feed,
-    /// By the input's end, which came after at least one byte.
     InputEnd,
-    /// There was no line: nothing was left of the input.
     Nothing,
 }
 

@@ -1,5 +1,5 @@
 // Erased from crates/lru_replay/src/lines/output.rt: do not edit.
-//! The texts of replies, written piece by piece. Each function fails with `ReplayError::Write` if the writer fails.
+//! The texts of replies, written piece by piece.
 
 #[allow(unused_imports)]
 use crate::rattle_std::prelude::*;
@@ -11,7 +11,6 @@ use crate::programs::lru_replay::lines::outcome::ReplayError;
 use crate::rattle_std::alloc::AllocError;
 use crate::rattle_std::io::{ErrorKind, Write};
 
-/// Writes all the bytes. An interrupted write is repeated.
 pub fn write_bytes<W: Write>(writer: &mut W, bytes: &[u8]) -> Result<(), ReplayError> {
     let mut rest = bytes;
     for _ in 0..u64::MAX {
@@ -31,7 +30,6 @@ pub fn write_bytes<W: Write>(writer: &mut W, bytes: &[u8]) -> Result<(), ReplayE
     Err(ReplayError::Write)
 }
 
-/// Writes the text of an answer. The running total follows the figures, if the limiter keeps one.
 pub fn write_answer<W: Write>(writer: &mut W, answer: Answer<u64, u64>, cost: Option<u64>) -> Result<(), ReplayError> {
     match answer {
         Answer::Flag(flag) => write_flag(writer, flag),
@@ -54,12 +52,10 @@ pub fn write_answer<W: Write>(writer: &mut W, answer: Answer<u64, u64>, cost: Op
     }
 }
 
-/// Writes `true` or `false`.
 fn write_flag<W: Write>(writer: &mut W, flag: bool) -> Result<(), ReplayError> {
     if flag { write_bytes(writer, b"true") } else { write_bytes(writer, b"false") }
 }
 
-/// Writes what an insert returned, and after it the pairs that the map lost.
 fn write_given<W: Write>(
     writer: &mut W,
     done: Result<bool, AllocError>,
@@ -69,7 +65,6 @@ fn write_given<W: Write>(
     write_passed(writer, out)
 }
 
-/// Writes whether the key is there, or `no memory`.
 fn write_insert<W: Write>(writer: &mut W, done: Result<bool, AllocError>) -> Result<(), ReplayError> {
     match done {
         Ok(there) => write_flag(writer, there),
@@ -77,7 +72,6 @@ fn write_insert<W: Write>(writer: &mut W, done: Result<bool, AllocError>) -> Res
     }
 }
 
-/// Writes each pair with a space before it.
 fn write_passed<W: Write>(writer: &mut W, pairs: &[(u64, u64)]) -> Result<(), ReplayError> {
     for pair in pairs {
         write_bytes(writer, b" ")?;
@@ -86,7 +80,6 @@ fn write_passed<W: Write>(writer: &mut W, pairs: &[(u64, u64)]) -> Result<(), Re
     Ok(())
 }
 
-/// Writes the pairs with one space between them, or `-` for none.
 fn write_listed<W: Write>(writer: &mut W, pairs: &[(u64, u64)]) -> Result<(), ReplayError> {
     let Some((first, rest)) = pairs.split_first() else {
         return write_bytes(writer, b"-");
@@ -95,7 +88,6 @@ fn write_listed<W: Write>(writer: &mut W, pairs: &[(u64, u64)]) -> Result<(), Re
     write_passed(writer, rest)
 }
 
-/// Writes the value, or `none`.
 fn write_value<W: Write>(writer: &mut W, value: Option<u64>) -> Result<(), ReplayError> {
     match value {
         Some(value) => write_number(writer, value),
@@ -103,7 +95,6 @@ fn write_value<W: Write>(writer: &mut W, value: Option<u64>) -> Result<(), Repla
     }
 }
 
-/// Writes the pair, or `none`.
 fn write_left<W: Write>(writer: &mut W, left: Option<(u64, u64)>) -> Result<(), ReplayError> {
     match left {
         Some((key, value)) => write_pair(writer, key, value),
@@ -111,7 +102,6 @@ fn write_left<W: Write>(writer: &mut W, left: Option<(u64, u64)>) -> Result<(), 
     }
 }
 
-/// Writes that there is room, or why not.
 fn write_reservation<W: Write>(writer: &mut W, reserved: Result<(), ReserveError>) -> Result<(), ReplayError> {
     match reserved {
         Ok(()) => write_bytes(writer, b"ok"),
@@ -121,7 +111,6 @@ fn write_reservation<W: Write>(writer: &mut W, reserved: Result<(), ReserveError
     }
 }
 
-/// Writes whether the table has fewer buckets now, as `ok` or `kept`, or `no memory`.
 fn write_shrink<W: Write>(writer: &mut W, shrunk: Result<bool, AllocError>) -> Result<(), ReplayError> {
     match shrunk {
         Ok(true) => write_bytes(writer, b"ok"),
@@ -130,7 +119,6 @@ fn write_shrink<W: Write>(writer: &mut W, shrunk: Result<bool, AllocError>) -> R
     }
 }
 
-/// Writes what an update did, and the value that the map does not have then.
 fn write_updated<W: Write>(writer: &mut W, updated: Updated<u64>) -> Result<(), ReplayError> {
     match updated {
         Updated::Replaced(old) => write_named(writer, b"replaced ", old),
@@ -139,7 +127,6 @@ fn write_updated<W: Write>(writer: &mut W, updated: Updated<u64>) -> Result<(), 
     }
 }
 
-/// Writes the figures by their names.
 fn write_figures<W: Write>(writer: &mut W, figures: Figures) -> Result<(), ReplayError> {
     write_named(writer, b"len ", figures.len as u64)?;
     write_named(writer, b" capacity ", figures.capacity as u64)?;
@@ -148,13 +135,11 @@ fn write_figures<W: Write>(writer: &mut W, figures: Figures) -> Result<(), Repla
     write_placed(writer, figures.placed, figures.shrunk)
 }
 
-/// Writes how many entries inserts stored, and after it how many shrinks rehashed, if any.
 fn write_placed<W: Write>(writer: &mut W, placed: u64, shrunk: u64) -> Result<(), ReplayError> {
     write_named(writer, b" placed ", placed)?;
     if shrunk == 0 { write_bytes(writer, b"") } else { write_named(writer, b" shrunk ", shrunk) }
 }
 
-/// Writes the cost after the figures, if there is one.
 fn write_cost<W: Write>(writer: &mut W, cost: Option<u64>) -> Result<(), ReplayError> {
     match cost {
         Some(cost) => write_named(writer, b" cost ", cost),
@@ -162,13 +147,11 @@ fn write_cost<W: Write>(writer: &mut W, cost: Option<u64>) -> Result<(), ReplayE
     }
 }
 
-/// Writes a name and its number.
 fn write_named<W: Write>(writer: &mut W, name: &[u8], number: u64) -> Result<(), ReplayError> {
     write_bytes(writer, name)?;
     write_number(writer, number)
 }
 
-/// Writes the pair, with a space before it if others were written, or nothing for none.
 pub fn write_next<W: Write>(writer: &mut W, any: bool, next: Option<(u64, u64)>) -> Result<(), ReplayError> {
     let Some((key, value)) = next else {
         return write_bytes(writer, b"");
@@ -180,14 +163,12 @@ pub fn write_next<W: Write>(writer: &mut W, any: bool, next: Option<(u64, u64)>)
     write_pair(writer, key, value)
 }
 
-/// Writes the key and the value, with a colon between them.
 pub fn write_pair<W: Write>(writer: &mut W, key: u64, value: u64) -> Result<(), ReplayError> {
     write_number(writer, key)?;
     write_bytes(writer, b":")?;
     write_number(writer, value)
 }
 
-/// Writes a number in decimal digits, which are made from the last to the first.
 fn write_number<W: Write>(writer: &mut W, number: u64) -> Result<(), ReplayError> {
     let mut digits = [0u8; 20];
     let mut at = 20;

@@ -1,6 +1,4 @@
 // Erased from crates/lru_replay/src/lines/pairs.rt: do not edit.
-//! The line `list`: the pairs of a map, written one after another.
-
 #[allow(unused_imports)]
 use crate::rattle_std::prelude::*;
 
@@ -9,7 +7,6 @@ use crate::programs::lru_replay::ReplayError;
 use crate::programs::lru_replay::lines::output::{write_bytes, write_pair};
 use crate::rattle_std::io::Write;
 
-/// Writes the pairs with one space between them, or `-` for none.
 pub fn write_pairs<N: LinkType, W: Write>(writer: &mut W, pairs: Walk<'_, u64, u64, N>) -> Result<(), ReplayError> {
     let mut pairs = pairs;
     let Some((key, value)) = pairs.next() else {

@@ -16,10 +16,8 @@ use crate::programs::lru_replay::{Call, ReplayEnd, ReplayError};
 use crate::rattle_std::alloc::Global;
 use crate::rattle_std::io::{BufRead, Write};
 
-/// The bytes that the map counts for an entry, unless the first line says otherwise.
 const ENTRY_BYTES: usize = 32;
 
-/// Carries out what a line says, and writes the answer. The lines `list` and `drain` take no memory for it.
 fn answer_call<L: Insertion<u64, u64, u64> + ReportsCost, W: Write>(
     alloc: Global,
     map: &mut LruMap<u64, u64, L>,
@@ -40,7 +38,6 @@ fn answer_call<L: Insertion<u64, u64, u64> + ReportsCost, W: Write>(
     write_answer(writer, answer, cost)
 }
 
-/// Carries out what a line says, and writes the answer line.
 fn answer_line<L: Insertion<u64, u64, u64> + ReportsCost, W: Write>(
     alloc: Global,
     map: &mut LruMap<u64, u64, L>,
@@ -53,12 +50,10 @@ fn answer_line<L: Insertion<u64, u64, u64> + ReportsCost, W: Write>(
     write_bytes(writer, b"\n")
 }
 
-/// Does nothing at run time: it shows the proof that the table is sound, as the table of every map is.
 fn learn<L: Insertion<u64, u64, u64>>(map: &LruMap<u64, u64, L>) {
     let _len = map.len();
 }
 
-/// Answers the lines up to the reader's end.
 fn answer_lines<L: Insertion<u64, u64, u64> + ReportsCost, R: BufRead, W: Write>(
     alloc: Global,
     map: &mut LruMap<u64, u64, L>,
@@ -76,7 +71,6 @@ fn answer_lines<L: Insertion<u64, u64, u64> + ReportsCost, R: BufRead, W: Write>
     Err(ReplayError::Read)
 }
 
-/// Answers the lines on an empty map with this limiter and `entry_bytes` bytes an entry.
 fn answer_with<L: Insertion<u64, u64, u64> + ReportsCost, R: BufRead, W: Write>(
     alloc: Global,
     limiter: L,
@@ -88,7 +82,6 @@ fn answer_with<L: Insertion<u64, u64, u64> + ReportsCost, R: BufRead, W: Write>(
     answer_lines(alloc, &mut map, reader, writer)
 }
 
-/// Answers the lines on an empty map under the limit.
 fn answer_under<R: BufRead, W: Write>(
     alloc: Global,
     limit: Limit,
@@ -106,7 +99,6 @@ fn answer_under<R: BufRead, W: Write>(
     }
 }
 
-/// Reads the first line, and answers the others if it names a limit.
 fn answer_all<R: BufRead, W: Write>(alloc: Global, reader: &mut R, writer: &mut W) -> Result<ReplayEnd, ReplayError> {
     let mut line = Line::new();
     let ending = read_line(reader, &mut line)?;

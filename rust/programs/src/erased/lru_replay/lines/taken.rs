@@ -1,6 +1,5 @@
 // Erased from crates/lru_replay/src/lines/taken.rt: do not edit.
-//! The pairs that the line `drain` takes out, written as they go. Each function fails with `ReplayError::Write` if the
-//! writer fails.
+//! The pairs that the line `drain` takes out, written as they go.
 
 #[allow(unused_imports)]
 use crate::rattle_std::prelude::*;
@@ -9,7 +8,6 @@ use crate::programs::lru_replay::lines::outcome::ReplayError;
 use crate::programs::lru_replay::lines::output::{write_bytes, write_next};
 use crate::rattle_std::io::Write;
 
-/// Writes a pair after others, if there is one, unless a write has failed.
 pub fn write_taken<W: Write>(
     writer: &mut W,
     before: Result<(), ReplayError>,
@@ -20,7 +18,6 @@ pub fn write_taken<W: Write>(
     write_next(writer, any, taken)
 }
 
-/// Writes `-` if there were no pairs.
 pub fn end_of_pairs<W: Write>(writer: &mut W, before: Result<(), ReplayError>, any: bool) -> Result<(), ReplayError> {
     before?;
     if any {

@@ -8,14 +8,10 @@ use crate::rattle_std::prelude::*;
 use crate::programs::lru_replay::calls::Call;
 use crate::programs::lru_replay::lines::bytes::index_of;
 
-/// The numbers after the word of a line.
 #[derive(Clone, Copy)]
 pub enum Numbers {
-    /// There is none.
     Zero,
-    /// One number.
     One(u64),
-    /// Two numbers.
     Two(u64, u64),
 }
 
@@ -32,7 +28,6 @@ pub enum Limit {
     Compact,
 }
 
-/// Returns the call that the line spells.
 pub fn call_of<L>(line: &[u8]) -> Option<Call<u64, u64, L>> {
     let (word, given) = split(line)?;
     match given {
@@ -42,13 +37,11 @@ pub fn call_of<L>(line: &[u8]) -> Option<Call<u64, u64, L>> {
     }
 }
 
-/// Returns the limit that the line names.
 pub fn limit_of(line: &[u8]) -> Option<Limit> {
     let (word, given) = split(line)?;
     limit_with(word, given)
 }
 
-/// Splits a line into its word and the numbers after it.
 fn split(line: &[u8]) -> Option<(&[u8], Numbers)> {
     let at = index_of(line, b' ');
     let word = &(*at!(line, ..at));
@@ -63,7 +56,6 @@ fn split(line: &[u8]) -> Option<(&[u8], Numbers)> {
     Some((word, Numbers::One(n)))
 }
 
-/// Reads two numbers with one space between them.
 fn number_pair(words: &[u8]) -> Option<(u64, u64)> {
     let at = index_of(words, b' ');
     if at == words.len() {
@@ -74,7 +66,6 @@ fn number_pair(words: &[u8]) -> Option<(u64, u64)> {
     Some((first, second))
 }
 
-/// Reads a number in decimal digits, with no zero in front of another digit.
 fn number(word: &[u8]) -> Option<u64> {
     if !starts_as_number(word) {
         return None;
@@ -92,7 +83,6 @@ fn starts_as_number(word: &[u8]) -> bool {
     word[0] != b'0' || word.len() == 1
 }
 
-/// Returns the call of a word alone.
 fn plain_call<L>(word: &[u8]) -> Option<Call<u64, u64, L>> {
     if word == b"list".as_slice() {
         return Some(Call::List);
@@ -115,7 +105,6 @@ fn plain_call<L>(word: &[u8]) -> Option<Call<u64, u64, L>> {
     None
 }
 
-/// Returns the call of a word and a number.
 fn call_with_number<L>(word: &[u8], n: u64) -> Option<Call<u64, u64, L>> {
     if word == b"get".as_slice() {
         return Some(Call::Get(n));
@@ -148,7 +137,6 @@ fn call_with_number<L>(word: &[u8], n: u64) -> Option<Call<u64, u64, L>> {
     None
 }
 
-/// Returns the call of a word and two numbers.
 fn call_with_pair<L>(word: &[u8], key: u64, value: u64) -> Option<Call<u64, u64, L>> {
     if word == b"insert".as_slice() {
         return Some(Call::Insert(key, value));
@@ -162,7 +150,6 @@ fn call_with_pair<L>(word: &[u8], key: u64, value: u64) -> Option<Call<u64, u64,
     None
 }
 
-/// Returns the limit of a word and its numbers.
 fn limit_with(word: &[u8], given: Numbers) -> Option<Limit> {
     match given {
         Numbers::Zero => {

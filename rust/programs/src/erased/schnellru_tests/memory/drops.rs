@@ -90,8 +90,6 @@ const MAX: u64 = u64::MAX;
 
 const ANY: usize = usize::MAX;
 
-/// Limits by the sum of the values, by the bytes of the table, by both and by none, and such that no pair is stored.
-/// The last maps have 10,000 pairs and more, until a random call takes all out.
 #[test]
 fn keys_and_values_are_dropped_once() {
     let run = |rt: HostRuntime| -> () {
@@ -115,8 +113,6 @@ fn keys_and_values_are_dropped_once() {
     run(HostRuntime).passes();
 }
 
-/// Extends a map of three pairs, which has no growth left, by two pairs. Returns whether it runs out of memory and drops
-/// both, or memory has no end.
 fn is_refused<'a>(alloc: Global, map: &mut Map<'a>, lives: &'a Lives) -> bool {
     let entries = [(lives.key(7), lives.value(7)), (lives.key(8), lives.value(8))];
     match Hog::new(alloc, &[]) {
@@ -129,7 +125,6 @@ fn with_most(map: &Map, most: u64) -> Limit {
     Both(map.limiter().0.with_limit(most), map.limiter().1)
 }
 
-/// Makes calls on a map of the numbers below 20,000, and returns whether what they take out is dropped.
 fn what_they_evict_is_dropped<'a>(map: &mut Map<'a>, lives: &'a Lives) -> bool {
     *map.limiter_mut() = with_most(map, 16_000);
     drop(map.update(lives.key(19_999), lives.value(1)));
@@ -146,8 +141,6 @@ fn what_they_evict_is_dropped<'a>(map: &mut Map<'a>, lives: &'a Lives) -> bool {
     held & lives.are(1250)
 }
 
-/// What an extend without memory does not insert is dropped, with what its iterator has left. What an update, a trim,
-/// another limiter and a retain take out is dropped, and so is what a walk by value has left.
 #[test]
 fn what_trims_evict_is_dropped() {
     let run = |rt: HostRuntime| -> () {
@@ -162,7 +155,6 @@ fn what_trims_evict_is_dropped() {
     run(HostRuntime).passes();
 }
 
-/// Inserts a value for a key that is there, and returns the most values that live while an evicted entry is passed on.
 fn most_values_at_an_eviction<'a>(map: &mut Map<'a>, key: Live<'a>, value: Live<'a>, lives: &'a Lives) -> u64 {
     let mut most = 0;
     let inserted = map.insert_with(key, value, &mut |key, value| {

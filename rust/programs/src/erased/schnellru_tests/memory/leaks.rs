@@ -1,5 +1,5 @@
 // Erased from crates/schnellru_tests/src/memory/leaks.rt: do not edit.
-//! Memory that is given back. All other memory is taken, so calls that lose a block run out of memory before long.
+//! Memory that is given back.
 #[allow(unused_imports)]
 use crate::rattle_std::prelude::*;
 
@@ -66,7 +66,6 @@ fn dropped(alloc: Global) -> bool {
     rehashed(&mut map) & refused(&mut small) & insert(&mut none, 1).is_ok()
 }
 
-/// How many of the cycles do not run out of memory, if only this much is left.
 fn cycles_made(alloc: Global, (cycles, spare): (u32, usize), n: u64) -> Result<u32, AllocError> {
     let mut hog = Hog::new(alloc, &[spare])?;
     let mut map = map_of(alloc, UnlimitedCompact);
@@ -88,7 +87,6 @@ fn calls_give_their_memory_back() {
     run(HostRuntime).passes();
 }
 
-/// Makes new maps, and returns whether the only block of memory that is left is still there.
 fn leave_the_block(alloc: Global) -> bool {
     let _limited = Compact::with_limiter(alloc, UnlimitedCompact);
     let _seeded = Compact::with_seed(alloc, UnlimitedCompact, [1, 2, 3, 4], 16);

@@ -1,14 +1,10 @@
 // Erased from crates/schnellru_tests/src/memory/live.rt: do not edit.
-//! Numbers that are counted while they live, to show what is dropped and what is not.
-
 #[allow(unused_imports)]
 use crate::rattle_std::prelude::*;
 
 use crate::erased::schnellru::{Both, ByCost, ByMemoryUsage, Costed, LruMap};
 use crate::rattle_std::alloc::{AllocError, Global};
 use crate::rattle_std::cell::Cell;
-
-/// How many keys and how many values live, and how many more may be cloned.
 
 pub struct Lives {
     pub keys: Cell<u64>,

@@ -9,7 +9,6 @@ use crate::programs::test_maps::{insert_all, map_of, remove_all};
 use crate::rattle_std::alloc::Global;
 use crate::rattle_std::hash::BuildHasher;
 
-/// The bytes of a first table of 4 buckets with entries of 24 bytes: its entries, and its control bytes with 16 more.
 const FIRST_TABLE: [usize; 2] = [96, 20];
 
 /// Of a table of 16 buckets, and of the links of the 8 before.
@@ -42,7 +41,6 @@ fn is_refused<S: BuildHasher>(map: &mut LruMap<u64, u64, ByMemoryUsage, S>, call
     }
 }
 
-/// Makes the call while each request in turn is refused, and then once with memory.
 fn ends_as_expected(
     alloc: Global,
     map: &mut LruMap<u64, u64, ByMemoryUsage, LastByte>,
