@@ -1,9 +1,10 @@
 #!/usr/bin/env python3
 """Tries the edits of this folder: `edits/try.py [CRATE ..]`. The prover must refuse each.
 
-These edits take too long for the gate, so whoever changes a contract or a body that one of them names tries them by
-hand. The script puts the edits of a crate into its folder `must-fail`, runs `rt must-fail CRATE` at the top, and takes
-them out again. It begins with what `rt check` kept, so run that first. Without words it tries the edits of each crate."""
+These edits take too long for the gate, so whoever changes a contract or a body tries them by hand: `edits/try.py
+--changed COMMIT` tries the edits of the crates whose sources, specs or proofs changed since that commit. The script puts
+the edits of a crate into its folder `must-fail`, runs `rt must-fail CRATE` at the top, and takes them out again. It
+begins with what `rt check` kept, so run that first. Without words it tries the edits of each crate."""
 import pathlib
 import shutil
 import subprocess
@@ -30,8 +31,24 @@ def status_of(crate):
             folder.rmdir()
 
 
+def changed_since(commit):
+    """The crates that changed since a commit, by what git has and by what is not committed yet."""
+    named = subprocess.run(["git", "diff", "--name-only", commit, "--", "crates"], cwd=TOP, check=True,
+                           capture_output=True, text=True).stdout.split()
+    return {it.split("/")[1] for it in named if it.split("/")[2] in {"src", "specs", "proofs"}}
+
+
 def main():
-    crates = sys.argv[1:] or sorted(it.name for it in HERE.iterdir() if it.is_dir())
+    words = sys.argv[1:]
+    crates = sorted(it.name for it in HERE.iterdir() if it.is_dir())
+    if words[:1] == ["--changed"]:
+        if len(words) != 2:
+            sys.exit("edits/try.py --changed COMMIT")
+        changed = changed_since(words[1])
+        crates = [it for it in crates if it in changed]
+    elif words:
+        crates = words
+    print(f"edits of: {' '.join(crates) or 'no crate'}", flush=True)
     sys.exit(max([status_of(crate) for crate in crates], default=0))
 
 
