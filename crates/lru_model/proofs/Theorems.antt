@@ -14,7 +14,6 @@ pub mod PassedPairs
 pub mod NothingLost
 pub mod OutOfMemory
 pub mod Exactness
-pub mod AskedInserts
 pub mod GrantedGrowth
 pub mod RoomyInserts
 pub mod Sums

@@ -1,155 +1,140 @@
--- When the pairs and the limiter determine what an insert does, unless it runs out of memory: in a table of up to 16
--- buckets, under a limiter that permits every growth, and, given whether it was queried for growth, where none is
--- refused.
+-- What an insert makes of a list of pairs and a limiter. They determine it, with what the table reports, unless memory
+-- runs out. In a table of up to 16 buckets the growth left determines the report.
 use Rattle.std.specs.Prelude.{◌≡◌, ◌≢◌, ℕ, ◌+◌, ◌-◌, ◌/◌, ◌<◌, ◌≤◌, nat_lt, nat_le, Bool, true, false, not}
-use Rattle.std.specs.Prelude.{if◌then◌else◌, ◌∷◌, length, Option, Some, None, IfSome, Result, Ok, IsErr}
+use Rattle.std.specs.Prelude.{if◌then◌else◌, ◌∷◌, length, Option, Some, None, MatchOption, Result, Ok, IsErr}
 use Rattle.std.specs.declared.alloc.AllocError.{AllocError}
 use Rattle.lru_limits.specs.Rules.{Rules, Offers}
 use Rattle.group_table.specs.Sizes.{IsPowerFromFour, full_capacity}
 use Rattle.lru_model.specs.Sizes.{usage, Target, target, no_table, same_table, new_table}
 use Rattle.lru_model.specs.Lists.{is_empty, lookup_entry}
-use Rattle.lru_model.specs.State.{State, buckets, room, Contents, contents, Leaves, pops, trim}
-use Rattle.lru_model.specs.Place.{table_for, IsOutgrown, CannotGrow}
+use Rattle.lru_model.specs.State.{State, buckets, room, Contents, contents, Leaves, after_removal, pops, trim}
+use Rattle.lru_model.specs.Place.{table_for, IsOutgrown}
 use Rattle.lru_model.specs.Inserts.{make_room, replacement, with_replaced, with_removed, MayGive}
 
--- how an insert ends, or its insertion into the table: whether the pair is in the map, and the pairs and the limiter
--- that are left
-pub record Ending (K V S : Type 0) : Type 0 where
-  pub there : Bool
-  pub left : Contents K V S
+-- what the table reports when a pair is inserted into it
+pub record Report : Type 0 where
+  -- for a table of how many bytes the limiter was queried, if it was
+  pub asked : Option ℕ
+  -- how many of the oldest pairs were evicted then, because growth was refused
+  pub evicted : ℕ
+  -- whether there is a bucket for the pair
+  pub has_bucket : Bool
 
-module _ {K V S : Type 0} (rules : Rules K V S) (pair : K × V) where
-  abbrev pub lands : Contents K V S → Ending K V S
-  lands c = record { there = true; left = record { pairs = pair ∷ c.pairs; limiter = c.limiter } }
-
-  abbrev pub not_landed : Contents K V S → Ending K V S
-  not_landed c = let s = (rules.on_removed c.limiter pair.0 pair.1).limiter in
-      record { there = false; left = record { pairs = c.pairs; limiter = s } }
-
-  -- The oldest pair is evicted, and the new pair is stored. If there is no pair to evict, the new pair is not stored.
-  abbrev pub evicts : Contents K V S → Ending K V S
-  evicts c = if is_empty c.pairs then not_landed c else lands (pops rules 1 c)
-
-  abbrev pub asks : ℕ → Contents K V S → Contents K V S
-  asks bytes c = record { pairs = c.pairs; limiter = (rules.on_grow c.limiter bytes).limiter }
-
-  -- The limiter is queried for a larger table, if there is one. If it permits the table, the pair is stored. If it
-  -- refuses the table, or there is none, the oldest pair is evicted for the new one.
-  abbrev pub grows : Target → Contents K V S → Ending K V S
-  grows no_table c = evicts c
-  grows same_table c = evicts c
-  grows (new_table count bytes) c =
-      if (rules.on_grow c.limiter bytes).allowed then lands (asks bytes c) else evicts (asks bytes c)
-
-  -- what an insertion of the pair does, unless it runs out of memory, in a table of `count` buckets, up to 16, with
-  -- `spare` growth left
-  abbrev pub landing : ℕ → ℕ → ℕ → ℕ → Contents K V S → Ending K V S
-  landing count spare entry_bytes max c =
-      if nat_lt 0 spare then lands c
-      else (if nat_le (length c.pairs + 1) (full_capacity count / 2) then lands c
-      else grows (target max entry_bytes count (length c.pairs + 1)) c)
+-- there is a bucket at once
+abbrev pub at_once : Report
+at_once = record { asked = None; evicted = 0; has_bucket = true }
 
 module _ {K V S : Type 0} (rules : Rules K V S) where
-  -- The same in the table of the map `st`, whose contents are c after some pairs were evicted or removed. Each of these
-  -- has given back one of the growth left, as it does up to 16 buckets.
-  abbrev pub lands_in : {H : Type 0} → State K V S H → K × V → Contents K V S → Ending K V S
-  lands_in st pair c =
-      landing rules pair (buckets st) (room st + length st.pairs - length c.pairs) st.entry_bytes st.max c
+  -- growth is refused, after a query if `asked` names one, and n of these pairs are evicted; without pairs there is no
+  -- bucket
+  abbrev pub refusal : Option ℕ → ℕ → Contents K V S → Report
+  refusal asked n c = record { asked = asked; evicted = n; has_bucket = not (is_empty c.pairs) }
 
-  -- how an insert ends that evicts the oldest pairs while the limiter is over its limit, and returns whether a pair is
-  -- left
-  abbrev pub trimmed : Contents K V S → Ending K V S
-  trimmed c = record { there = not (is_empty (trim rules c).pairs); left = trim rules c }
+  -- what a table that is too small reports, if growth leads into this one
+  abbrev pub report_of : Target → ℕ → Contents K V S → Report
+  report_of no_table n c = refusal None n c
+  report_of same_table n c = at_once
+  report_of (new_table count bytes) n c =
+      if (rules.on_grow c.limiter bytes).allowed then record { asked = Some bytes; evicted = 0; has_bucket = true }
+      else refusal (Some bytes) n c
 
-  abbrev pub settled : Ending K V S → Ending K V S
-  settled l = if l.there then trimmed l.left else l
+  -- what the table of a map may report for a pair of this hash
+  pub data MayReport {H : Type 0} (hash : ℕ) (st : State K V S H) (report : Report) : Type 0 where
+    -- There is growth left, or a rehash is enough, or, only above 16 buckets, a deleted bucket takes the pair.
+    fits : (room st ≡ 0 → full_capacity (buckets st) / 2 < length st.pairs + 1 → 16 < buckets st) →
+        report ≡ at_once →
+        MayReport hash st report
+    -- Or the table is too small. If growth is refused, one pair is evicted, and more only above 16 buckets.
+    too_small : IsOutgrown hash st → (n : ℕ) → 0 < n → (buckets st ≤ 16 → n ≡ 1) →
+        full_capacity (buckets st) / 2 + n ≤ length st.pairs + 1 →
+        report ≡ report_of (table_for 1 st) n (contents st) →
+        MayReport hash st report
 
-abbrev pub IsEnding : {K V S : Type 0} → Ending K V S → Result Bool AllocError → Contents K V S → Type 0
-IsEnding e result new = (result ≡ Ok e.there) × (new ≡ e.left)
+  -- what the table of a map reports if it has up to 16 buckets: each pair that is not in c any more has given back one
+  -- of the growth left
+  abbrev pub small_report : {H : Type 0} → State K V S H → Contents K V S → Report
+  small_report st c =
+      if nat_lt 0 (room st + length st.pairs - length c.pairs) then at_once
+      else (if nat_le (length c.pairs + 1) (full_capacity (buckets st) / 2) then at_once
+      else report_of (target st.max st.entry_bytes (buckets st) (length c.pairs + 1)) 1 c)
 
--- How an insert ends if a pair that the limiter returned is stored as `land` says.
+  -- the limiter after a query, if there was one
+  abbrev pub queried : Option ℕ → S → S
+  queried None s = s
+  queried (Some bytes) s = (rules.on_grow s bytes).limiter
+
+  -- the pairs and the limiter that a new pair meets
+  abbrev pub met : Report → Contents K V S → Contents K V S
+  met report c = pops rules report.evicted (record { pairs = c.pairs; limiter = queried report.asked c.limiter })
+
+  -- the oldest pairs are evicted while the limiter is over its limit; the result is whether a pair is left
+  abbrev pub trimmed : Contents K V S → Result Bool AllocError × Contents K V S
+  trimmed c = (Ok (not (is_empty (trim rules c).pairs)), trim rules c)
+
+  -- the pair meets c and is not stored, and the limiter is notified of it
+  abbrev pub turned_away : Report → K × V → Contents K V S → Contents K V S
+  turned_away report pair c = let d = met report c in after_removal rules (Some pair) d.pairs d.limiter
+
+  -- the pair is stored as the newest, if there is a bucket for it
+  abbrev pub stored : Report → K × V → Contents K V S → Result Bool AllocError × Contents K V S
+  stored report pair c = let d = met report c in
+      if report.has_bucket then trimmed (record { pairs = pair ∷ d.pairs; limiter = d.limiter })
+      else (Ok false, turned_away report pair c)
+
+-- the pair gets the value and is the newest, or is removed, as the limiter says
+abbrev pub exchanged : {K V S I : Type 0} (rules : Rules K V S) (offers : Offers K V S I) (names : I → K → Bool) (i : I)
+    (v : V) → Contents K V S → K × V → Result Bool AllocError × Contents K V S
+exchanged rules offers names i v c pair =
+    if (replacement rules offers names pair i v c).taken then trimmed rules (with_replaced rules offers names pair i v c)
+    else (Ok false, with_removed rules offers names pair i v c)
+
+-- What an insert into a list returns and leaves. `Tells s pair report`: the table may report this when the limiter, now
+-- s, has returned the pair.
 module _ {K V S I : Type 0} (rules : Rules K V S) (offers : Offers K V S I) (names : I → K → Bool)
-    (land : K × V → Contents K V S → Ending K V S) (i : I) (v : V) (old : Contents K V S) where
-  -- if the key is there, in this pair
-  abbrev pub ending_there : K × V → Ending K V S
-  ending_there pair = if (replacement rules offers names pair i v old).taken
-      then trimmed rules (with_replaced rules offers names pair i v old)
-      else record { there = false; left = with_removed rules offers names pair i v old }
+    (Tells : S → K × V → Report → Type 0) (i : I) (v : V) (old : Contents K V S) (result : Result Bool AllocError)
+    (new : Contents K V S) where
+  -- the key is new
+  pub data InsertsNew : Type 0 where
+    -- The limiter runs out of memory, or returns no pair to store,
+    not_offered : offers.may_run_out old.limiter (length old.pairs) i v → IsErr result → new ≡ old → InsertsNew
+    not_admitted : (s : S) → MayGive rules offers names i v old s None →
+        result ≡ Ok false → new ≡ record { pairs = old.pairs; limiter = s } → InsertsNew
+    -- or it returns a pair, which is stored as the table reports, or runs out of memory.
+    admitted : (s : S) (pair : K × V) → MayGive rules offers names i v old s (Some pair) →
+        (report : Report) → Tells s pair report →
+        stored rules report pair (make_room rules (record { pairs = old.pairs; limiter = s })) ≡ (result, new) →
+        InsertsNew
+    not_placed : (s : S) (pair : K × V) → MayGive rules offers names i v old s (Some pair) →
+        (report : Report) → Tells s pair report → IsErr result →
+        new ≡ turned_away rules report pair (make_room rules (record { pairs = old.pairs; limiter = s })) →
+        InsertsNew
 
-  abbrev pub ending_new : S → Option (K × V) → Ending K V S
-  ending_new s None = record { there = false; left = record { pairs = old.pairs; limiter = s } }
-  ending_new s (Some pair) =
-      settled rules (land pair (make_room rules (record { pairs = old.pairs; limiter = s })))
+  -- the key is new, or in this pair
+  abbrev pub InsertsBy : Type 0
+  InsertsBy = MatchOption (lookup_entry (names i) old.pairs) InsertsNew
+      (λ pair. exchanged rules offers names i v old pair ≡ (result, new))
 
-  -- The insert ends so, for this pair of the key; without one, for some pair, or none, that the limiter may return.
-  abbrev pub EndsBy : Option (K × V) → Result Bool AllocError → Contents K V S → Type 0
-  EndsBy (Some pair) result new = IsEnding (ending_there pair) result new
-  EndsBy None result new = (s : S) × (given : Option (K × V)) × MayGive rules offers names i v old s given
-      × IsEnding (ending_new s given) result new
+module _ {K V S I : Type 0} (rules : Rules K V S) (offers : Offers K V S I) (names : I → K → Bool) where
+  -- the same if the limiter and the pair determine the report
+  abbrev pub InsertsGiven : (S → K × V → Report) → I → V → Contents K V S → Result Bool AllocError → Contents K V S →
+      Type 0
+  InsertsGiven reports = InsertsBy rules offers names (λ s pair report. report ≡ reports s pair)
 
-  -- the insert returns `Ok`, and ends so for the pair of the key in these contents, or for none
-  abbrev pub EndsIfLanded : Result Bool AllocError → Contents K V S → Type 0
-  EndsIfLanded result new = EndsBy (lookup_entry (names i) old.pairs) result new
+  -- the same without a table: a bucket is always there
+  abbrev pub InsertsInList : I → V → Contents K V S → Result Bool AllocError → Contents K V S → Type 0
+  InsertsInList = InsertsGiven (λ s pair. at_once)
 
-module _ {K V S I : Type 0} (rules : Rules K V S) (offers : Offers K V S I) (names : I → K → Bool)
-    (i : I) (v : V) where
-  -- The insert into a map with a table of up to 16 buckets returns `Ok`, and ends as the pairs, the limiter, the number
-  -- of buckets and the growth left determine.
-  abbrev pub EndsExactly : {H : Type 0} → State K V S H → Result Bool AllocError → State K V S H → Type 0
-  EndsExactly old result new = EndsIfLanded rules offers names (lands_in rules old) i v (contents old) result
-      (contents new)
+  module _ {H : Type 0} (old : State K V S H) where
+    -- the same into this map
+    abbrev pub InsertsAsReported : (H → K → ℕ) → I → V → Result Bool AllocError → Contents K V S → Type 0
+    InsertsAsReported hash_of i v = InsertsBy rules offers names (λ s pair report. (ready : State K V S H)
+        × Leaves (record old { limiter = s }) (make_room rules (record { pairs = old.pairs; limiter = s })) ready
+        × MayReport rules (hash_of ready.hasher pair.0) ready report) i v (contents old)
 
-  -- An insert into a list of pairs without a table. It returns `Ok`, and each pair that the limiter returns is stored,
-  pub data InsertsInList (old : Contents K V S) (result : Result Bool AllocError) (new : Contents K V S) : Type 0 where
-    ends : EndsIfLanded rules offers names (lands rules) i v old result new →
-        InsertsInList old result new
-    -- or the limiter runs out of memory, and nothing changes,
-    not_offered : lookup_entry (names i) old.pairs ≡ None →
-        offers.may_run_out old.limiter (length old.pairs) i v →
-        IsErr result → new ≡ old →
-        InsertsInList old result new
-    -- or the insertion runs out of memory after `make_room`, and the limiter is notified of the pair, which is not
-    -- stored.
-    not_placed : lookup_entry (names i) old.pairs ≡ None →
-        (s : S) (pair : K × V) → MayGive rules offers names i v old s (Some pair) →
-        IsErr result →
-        new ≡ (not_landed rules pair (make_room rules (record { pairs = old.pairs; limiter = s }))).left →
-        InsertsInList old result new
-
-module _ {K V S : Type 0} (rules : Rules K V S) where
-  -- The pair is stored as the newest, and the limiter was queried for a table of this number of bytes before, or not at
-  -- all.
-  abbrev pub lands_after : Option ℕ → K × V → Contents K V S → Ending K V S
-  lands_after None pair c = lands rules pair c
-  lands_after (Some bytes) pair c = lands rules pair (asks rules pair bytes c)
-
-module _ {K V S I : Type 0} (rules : Rules K V S) (offers : Offers K V S I) (names : I → K → Bool) (i : I) (v : V) where
-  -- The insert returns `Ok`, and the pairs, the limiter, and whether the limiter was queried for growth determine how it
-  -- ends.
-  pub record EndsAsAsked (old : Contents K V S) (result : Result Bool AllocError) (new : Contents K V S) : Type 0 where
-    pub asked : Option ℕ
-    pub ends : EndsIfLanded rules offers names (lands_after rules asked) i v old result new
-    -- it permitted that table, after it returned a pair and `make_room` followed
-    pub granted : IfSome asked (λ bytes. (s : S) × (pair : K × V) × MayGive rules offers names i v old s (Some pair)
-        × ((rules.on_grow (make_room rules (record { pairs = old.pairs; limiter = s })).limiter bytes).allowed ≡ true))
-
-  -- Growth is refused: the key is new, no bucket takes the pair that the limiter returned, a rehash is no remedy, and the
-  -- table cannot grow, because the limiter refuses or there is no larger table.
-  pub record WasRefused {H : Type 0} (hash_of : H → K → ℕ) (old : State K V S H) : Type 0 where
-    pub absent : lookup_entry (names i) old.pairs ≡ None
-    pub s : S
-    pub pair : K × V
-    pub given : MayGive rules offers names i v (contents old) s (Some pair)
-    pub ready : State K V S H
-    pub way : Leaves (record old { limiter = s }) (make_room rules (record { pairs = old.pairs; limiter = s })) ready
-    pub outgrown : IsOutgrown (hash_of ready.hasher pair.0) ready
-    pub mid : State K V S H
-    pub refused : CannotGrow rules ready mid
-
-pub record EndsAlike {K V S : Type 0} (result other : Result Bool AllocError)
-    (new others : Contents K V S) : Type 0 where
-  pub answers : result ≡ other
-  pub contents : new ≡ others
+    -- and if it has up to 16 buckets
+    abbrev pub InsertsInSmallTable : I → V → Result Bool AllocError → Contents K V S → Type 0
+    InsertsInSmallTable i v = InsertsGiven (λ s pair. small_report rules old
+        (make_room rules (record { pairs = old.pairs; limiter = s }))) i v (contents old)
 
 -- the limiter and the arguments determine what `on_insert` returns and leaves
 abbrev pub IsDetermined : {K V S I : Type 0} → Offers K V S I → Type 0
@@ -180,5 +165,6 @@ pub record HasTableFor {K V S H : Type 0} (n : ℕ) (st : State K V S H) : Type 
   pub usable : usage st.entry_bytes count ≡ Some bytes
   pub takes : n ≤ full_capacity count
 
+-- there is a table for the pairs, and for one pair more
 abbrev pub HasTables : {K V S H : Type 0} → State K V S H → Type 0
 HasTables st = (table_for 1 st ≢ no_table) × (table_for 0 st ≢ no_table)

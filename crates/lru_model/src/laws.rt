@@ -18,9 +18,8 @@ ghost use Rattle.lru_model.specs.Reservations.{Reserve};
 ghost use Rattle.lru_model.specs.declared.results.ReserveError.{ReserveError};
 ghost use Rattle.lru_model.specs.Callbacks.{InsertPasses};
 ghost use Rattle.lru_model.specs.Inserts.{Insert, replacement, IsOutOfMemory};
-ghost use Rattle.lru_model.specs.Exact.{IsDetermined, NeverRunsOut, EndsExactly, EndsIfLanded, InsertsInList};
-ghost use Rattle.lru_model.specs.Exact.{EndsAsAsked, WasRefused};
-ghost use Rattle.lru_model.specs.Exact.{Ending, EndsAlike, LookAlike, AlwaysGrants, HasTables};
+ghost use Rattle.lru_model.specs.Exact.{Report, InsertsAsReported, InsertsGiven, InsertsInSmallTable, InsertsInList};
+ghost use Rattle.lru_model.specs.Exact.{IsDetermined, NeverRunsOut, LookAlike, AlwaysGrants, HasTables};
 ghost use Rattle.lru_model.specs.Theorems.{PaysByStoring, CountsPlacings, Stores, KeepsValues, IsRefusedGrowth};
 ghost use Rattle.lru_model.specs.Theorems.{EvictsOldest};
 ghost use Rattle.lru_model.specs.Kept.{AcceptsNew, IsAdded};
@@ -81,9 +80,8 @@ pub fn inserts_pass_few<K: Eq + Hash, V, I: LookupKey<K>, L: Insertion<K, V, I>,
         Insert L.rules L.offers I.names S.hash_of key value old result new }
 {}
 
-/// An insert into a table of up to 16 buckets has one possible result for each outcome of its allocations: what it
-/// returns, the entries and the limiter follow from the entries and the limiter before. If the limiter's offers are
-/// determined too, two equal inserts end alike, wherever the limiter's entry is stored.
+/// In a table of up to 16 buckets the entries, the limiter, the number of buckets and the growth left determine what the
+/// table reports of an insert (`small_report`), and so how the insert ends, unless memory runs out.
 pub fn small_inserts_are_exact<
     K: Eq + Hash,
     V,
@@ -91,16 +89,10 @@ pub fn small_inserts_are_exact<
     L: Insertion<K, V, I>,
     S: KeyHasher<K>,
 >()
-    ensures exact { (key : I) (value : V) (old : State K V L S) (result : Result Bool AllocError)
-        (new : State K V L S) →
-        buckets old ≤ 16 → IsOk result →
+    ensures { (key : I) (value : V) (old : State K V L S) (result : Result Bool AllocError) (new : State K V L S) →
+        buckets old ≤ 16 →
         Insert L.rules L.offers I.names S.hash_of key value old result new →
-        EndsExactly L.rules L.offers I.names key value old result new }
-    ensures alike { (land : K × V → Contents K V L → Ending K V L) (key : I) (value : V) (old : Contents K V L)
-        (result other : Result Bool AllocError) (new others : Contents K V L) → IsDetermined L.offers →
-        EndsIfLanded L.rules L.offers I.names land key value old result new →
-        EndsIfLanded L.rules L.offers I.names land key value old other others →
-        EndsAlike result other new others }
+        InsertsInSmallTable L.rules L.offers I.names old key value result (contents new) }
 {}
 
 /// If two maps differ at most in which buckets are full, so do they after equal inserts, and both inserts return the
@@ -123,10 +115,10 @@ pub fn small_inserts_look_alike<
         (result ≡ answer) × LookAlike new last }
 {}
 
-/// An insert that returns `Ok` is one into a plain list, unless growth is refused: its entry is stored with all the
-/// others, after the limiter was queried for a table of some bytes, or not at all (`exact`). If the limiter's offers are
-/// determined, what an insert returns, the entries and the limiter follow from the entries and the limiter before, and
-/// from that query (`alike`).
+/// An insert is one into a list, as the table reports (`exact`). Unless growth is refused, its entry is stored with all
+/// the others, after the limiter was queried for a table of some bytes, or not at all. If growth is refused, the report
+/// also says how many entries were evicted. Given the report (`given`), and if the limiter's offers are determined, the
+/// entries and the limiter before an insert that returns `Ok` determine what it returns and leaves (`alike`).
 pub fn inserts_are_exact_unless_refused<
     K: Eq + Hash,
     V,
@@ -136,15 +128,19 @@ pub fn inserts_are_exact_unless_refused<
 >()
     ensures exact { (key : I) (value : V) (old : State K V L S) (result : Result Bool AllocError)
         (new : State K V L S) →
-        IsOk result →
         Insert L.rules L.offers I.names S.hash_of key value old result new →
-        EndsAsAsked L.rules L.offers I.names key value (contents old) result (contents new)
-        ⊎ WasRefused L.rules L.offers I.names key value S.hash_of old }
-    ensures alike { (key : I) (value : V) (old : Contents K V L) (result other : Result Bool AllocError)
-        (new others : Contents K V L) → IsDetermined L.offers →
-        (one : EndsAsAsked L.rules L.offers I.names key value old result new) →
-        (two : EndsAsAsked L.rules L.offers I.names key value old other others) → one.asked ≡ two.asked →
-        EndsAlike result other new others }
+        InsertsAsReported L.rules L.offers I.names old S.hash_of key value result (contents new) }
+    ensures given { (key : I) (value : V) (old : State K V L S) (result : Result Bool AllocError)
+        (new : State K V L S) →
+        Insert L.rules L.offers I.names S.hash_of key value old result new →
+        (report : Report) × InsertsGiven L.rules L.offers I.names (λ s pair. report) key value (contents old) result
+        (contents new) }
+    ensures alike { (reports : L → K × V → Report) (key : I) (value : V) (old : Contents K V L)
+        (result other : Result Bool AllocError) (new others : Contents K V L) →
+        IsDetermined L.offers → IsOk result → IsOk other →
+        InsertsGiven L.rules L.offers I.names reports key value old result new →
+        InsertsGiven L.rules L.offers I.names reports key value old other others →
+        (result ≡ other) × (new ≡ others) }
 {}
 
 /// If the limiter permits every growth, as `ByLength` and the unlimited ones do, and the tables that an insert may need

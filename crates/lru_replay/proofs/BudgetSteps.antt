@@ -11,7 +11,8 @@ use Rattle.std.proofs.lemmas.Bool.{lt-ltb, le-ltb, le-leb, cases_lt}
 use Rattle.lru_limits.specs.Budget.{Budget, by_cost, charges, can_add}
 use Rattle.lru_limits.specs.Stores.{ReturnsPairIf}
 use Rattle.lru_model.proofs.CallerLemmas.{found_named}
-use Rattle.lru_model.specs.Exact.{InsertsInList, ends, not_offered, not_placed, EndsBy, ending_there, ending_new, lands}
+use Rattle.lru_model.specs.Exact.{at_once, exchanged, stored, InsertsNew, not_offered, not_admitted, admitted}
+use Rattle.lru_model.specs.Exact.{not_placed, InsertsInList}
 use Rattle.lru_model.specs.Inserts.{make_room}
 use Rattle.lru_model.specs.Lists.{lookup, lookup_entry, without, without_last, after}
 use Rattle.lru_model.specs.State.{Contents, trim}
@@ -83,15 +84,14 @@ module _ {K V : Type 0} (cost : V → ℕ) (value_of : K → V) (n : ℕ) (fits 
         ∙ trimmed_is cost value_of n (key ∷ remove_key (eq key) keys)
 
     there_ends : (p : K × V) → lookup_entry (eq key) (map pair keys) ≡ Some p
-        → (ending_there (by_cost cost) (charges cost) eq (lands (by_cost cost)) key (value_of key) (held keys) p).left
-        ≡ held (left_by key keys)
+        → (exchanged (by_cost cost) (charges cost) eq key (value_of key) (held keys) p).1 ≡ held (left_by key keys)
     there_ends p found =
         let same : pair key ≡ p =
         ap pair (exact key p.0 (found_named (eq key) (map pair keys) p found))
         ∙ found_is cost value_of (eq key) keys p found in
         let all = spent_without cost value_of eq exact key keys p found in
-        subst (λ q. (ending_there (by_cost cost) (charges cost) eq (lands (by_cost cost)) key (value_of key)
-        (held keys) q).left ≡ held (left_by key keys)) same
+        subst (λ q. (exchanged (by_cost cost) (charges cost) eq key (value_of key) (held keys) q).1
+        ≡ held (left_by key keys)) same
         (rw (can (spent costs keys - costs key) (costs key) (omega (arith, few)) cheap)
         (in_front _ (spent costs keys - costs key + costs key)
         (λ i. record {
@@ -134,23 +134,31 @@ module _ {K V : Type 0} (cost : V → ℕ) (value_of : K → V) (n : ℕ) (fits 
   insert_holds : (key : K) (keys : List K) (flag : Bool) (new : Left) → costs key ≤ n → spent costs keys ≤ n
       → InsertsInList (by_cost cost) (charges cost) eq key (value_of key) (held keys) (Ok flag) new
       → new ≡ held (left_by key keys)
-  insert_holds key keys flag new cheap few (not_offered none never err same) = absurd never
-  insert_holds key keys flag new cheap few (not_placed none s pair gives err same) = clash err
-  insert_holds key keys flag new cheap few (ends h) =
-      go (lookup_entry (eq key) (map pair keys)) refl h
+  insert_holds key keys flag new cheap few h = go (lookup_entry (eq key) (map pair keys)) refl h
     where
-      go : (o : Option (K × V)) → lookup_entry (eq key) (map pair keys) ≡ o
-          → EndsBy (by_cost cost) (charges cost) eq (lands (by_cost cost)) key (value_of key) (held keys) o (Ok flag)
-          new
+      is_given : (s : Budget) (given : Option (K × V))
+          → ReturnsPairIf (can_add n (spent costs keys) (costs key)) (cond (can_add n (spent costs keys) (costs key))
+          (spending cost value_of n (spent costs keys + costs key)) (spending cost value_of n (spent costs keys))) key
+          (value_of key) s given
+          → (s ≡ spending cost value_of n (spent costs keys + costs key)) × (given ≡ Some (pair key))
+      is_given s given gives = accepted (can_add n (spent costs keys) (costs key))
+          (spending cost value_of n (spent costs keys)) (spending cost value_of n (spent costs keys + costs key)) key
+          (value_of key) s given (can (spent costs keys) (costs key) few cheap) gives
+
+      go : (o : Option (K × V)) → lookup_entry (eq key) (map pair keys) ≡ o → MatchOption o
+          (InsertsNew (by_cost cost) (charges cost) eq (λ s p report. report ≡ at_once) key (value_of key) (held keys)
+          (Ok flag) new)
+          (λ p. exchanged (by_cost cost) (charges cost) eq key (value_of key) (held keys) p ≡ (Ok flag, new))
           → new ≡ held (left_by key keys)
-      go (Some p) found h = h.1 ∙ there_ends key keys cheap few p found
-      go None none (s, given, gives, ending) =
-          let is = accepted (can_add n (spent costs keys) (costs key)) (spending cost value_of n (spent costs keys))
-          (spending cost value_of n (spent costs keys + costs key)) key (value_of key) s given
-          (can (spent costs keys) (costs key) few cheap) gives in
-          ending.1
-          ∙ (λ i. (ending_new (by_cost cost) (charges cost) eq (lands (by_cost cost)) key (value_of key) (held keys)
-          (is.0 i) (is.1 i)).left)
+      go (Some p) found h = sym (ap (λ x. x.1) h) ∙ there_ends key keys cheap few p found
+      go None none (not_offered never err same) = absurd never
+      go None none (not_placed s p gives report told err same) = clash err
+      go None none (not_admitted s gives r e) = nothing (is_given s None gives).1
+      go None none (admitted s p gives report told e) =
+          let is = is_given s (Some p) gives in
+          sym (ap (λ x. x.1) e)
+          ∙ (λ i. (stored (by_cost cost) (told i) (same_Some p (pair key) is.1 i)
+          (make_room (by_cost cost) (record { pairs = map pair keys; limiter = is.0 i }))).1)
           ∙ room_made key keys cheap
           ∙ ap (λ ks. held (affordable costs n (key ∷ ks))) (sym (none_removed cost value_of (eq key) keys none))
 

@@ -4,6 +4,7 @@ pub mod BestRuns
 pub mod Bounds
 pub mod EqualKeys
 pub mod Inclusions
+pub mod LateLoads
 pub mod Lists
 pub mod Nears
 pub mod Nexts

@@ -11,11 +11,12 @@ use Rattle.lru_theory.proofs.Affordable.{Front, none, both}
 use Rattle.lru_theory.proofs.Windows.{Within, Gains, in_either, in_named, in_less}
 
 module _ {K : Type 0} {eq : K → K → Bool} (laws : IsEquivalence eq) where
-  abbrev gained : List K → List K → List K
+  -- the keys of the new cache that were not in the old one
+  abbrev pub gained : List K → List K → List K
   gained old [] = []
   gained old (x ∷ xs) = cond (is_in eq x old) (gained old xs) (x ∷ gained old xs)
 
-  gained_length : (old xs : List K) → length (gained old xs) ≡ outside eq old xs
+  pub gained_length : (old xs : List K) → length (gained old xs) ≡ outside eq old xs
   gained_length old [] = refl
   gained_length old (x ∷ xs) = go (is_in eq x old) (gained_length old xs)
     where
@@ -24,7 +25,7 @@ module _ {K : Type 0} {eq : K → K → Bool} (laws : IsEquivalence eq) where
       go true ih = omega (arith, ih)
       go false ih = omega (arith, ih)
 
-  held_gained : (old xs : List K) → Within eq xs (gained old xs ++ old)
+  pub held_gained : (old xs : List K) → Within eq xs (gained old xs ++ old)
   held_gained old [] key e = absurd cc
   held_gained old (x ∷ xs) key e = go (held_gained old xs key) (is_in eq x old) refl (eq key x) refl e
     where
@@ -134,6 +135,7 @@ module _ {K : Type 0} {eq : K → K → Bool} (laws : IsEquivalence eq) where
           later true other e = refl
           later false other e = e
 
+  -- a demand policy loads the key that it misses
   nothing_outside : (old xs : List K) → Within eq xs old → outside eq old xs ≡ 0
   nothing_outside old [] within = refl
   nothing_outside old (x ∷ xs) within =

@@ -47,6 +47,14 @@ pub fn lru_is_competitive<K: Eq>()
         (k - h) * misses K.eq k past trace ≤ k * paid + (k - h) * length first }
 {}
 
+/// Loading keys ahead gains nothing: if a policy with h places that loads keys ahead pays `paid` times, some demand policy
+/// with h places, which begins with the same keys, misses at most `paid` times.
+pub fn loading_ahead_gains_nothing<K: Eq>()
+    ensures { (h : ℕ) (trace first left : List K) (paid : ℕ) → length first ≤ h →
+        Served (Loads K.eq h) left first trace paid →
+        (demanded : ℕ) × (other : List K) × Served (Demands K.eq h) other first trace demanded × (demanded ≤ paid) }
+{}
+
 /// After the same calls a smaller cache is included in a larger one, if it was before (`included`): its keys are keys
 /// of the larger cache, in the same order, and the larger cache contains at most m - n more. So what the smaller cache
 /// finds, the larger cache finds (`finds`), and it misses no more often at the references of a trace (`misses`). The

@@ -13,7 +13,7 @@ ghost use Rattle.lru_model.specs.Sizes.{usage, max_of_32_bits};
 ghost use Rattle.lru_model.specs.State.{buckets, contents, room, FirstFreeIs};
 ghost use Rattle.lru_model.specs.Calls.{promoted};
 ghost use Rattle.lru_model.specs.Callbacks.{CalledWith};
-ghost use Rattle.lru_model.specs.Exact.{EndsAsAsked, EndsExactly, WasRefused};
+ghost use Rattle.lru_model.specs.Exact.{InsertsAsReported, InsertsGiven, InsertsInSmallTable, Report};
 ghost use Rattle.lru_model.specs.Kept.{KeepsToLength};
 ghost use Rattle.lru_model.specs.Runs.{AnyStep, Run};
 ghost use Rattle.lru_model.specs.RunEvictions.{EachStep, InsertEvictsOldest};
@@ -232,19 +232,18 @@ fn put_and_keep_half(
     map.insert(key, value)
 }
 
-/// Puts a pair into a map. Unless it runs out of memory, either growth was refused, or the entries, the limiter and
-/// whether it was queried for growth determine how it ends (`listed`). In a table of up to 16 buckets the growth left
-/// decides how it ends (`small`).
+/// Puts a pair into a map. It ends as the table reports (`reported`), and the entries, the limiter and the report
+/// determine how it ends (`given`). In a table of up to 16 buckets the growth left determines the report (`small`).
 fn put_exactly<K: Eq + Hash + Drop, V: Drop, L: Insertion<K, V, K>, S: KeyHasher<K>>(
     map: &mut LruMap<K, V, L, S>,
     key: K,
     value: V,
 ) -> Result<bool, AllocError>
-    ensures listed { IsOk result →
-        EndsAsAsked L.rules L.offers K.eq key value (contents map.old) result (contents map.new)
-        ⊎ WasRefused L.rules L.offers K.eq key value S.hash_of map.old }
-    ensures small { IsOk result → buckets map.old ≤ 16 →
-        EndsExactly L.rules L.offers K.eq key value map.old result map.new }
+    ensures reported { InsertsAsReported L.rules L.offers K.eq map.old S.hash_of key value result (contents map.new) }
+    ensures given { (report : Report) × InsertsGiven L.rules L.offers K.eq (λ s pair. report) key value
+        (contents map.old) result (contents map.new) }
+    ensures small { buckets map.old ≤ 16 →
+        InsertsInSmallTable L.rules L.offers K.eq map.old key value result (contents map.new) }
 {
     laws::inserts_are_exact_unless_refused::<K, V, K, L, S>();
     laws::small_inserts_are_exact::<K, V, K, L, S>();
