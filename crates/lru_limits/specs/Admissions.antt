@@ -1,14 +1,11 @@
--- What a limiter says in advance of the pairs that it is offered.
---     Terms K V S                  which pairs it accepts, and what it is after it stored one
+-- What a limiter says of the pairs that it is offered, and stores as they come.
+--     Terms K V S                  which pairs it accepts, and what it is after that
 --     offers_of terms              its offers: a pair is stored as it came if the terms accept it
---     IsAdmission terms offers     the laws of `Admission`: an offer does what the terms say
 --     never_changes admits         the terms of a limiter that never changes
---     offers_if admits             its offers: a pair is stored if admits says so, a new value always
---     offers_of-terms, offers_if-terms        the laws of `Admission`
---     offers_of-lawful, offers_if-lawful      the laws of `Insertion`
-use Rattle.std.specs.Prelude.{◌≡◌, ℕ, Bool, true, Option, refl}
+--     offers_of-lawful             the laws of `Insertion`
+use Rattle.std.specs.Prelude.{ℕ, Bool, true}
 use Rattle.std.specs.Cmp.{IsEquivalence}
-use Rattle.lru_limits.specs.Rules.{Replaced, Offers}
+use Rattle.lru_limits.specs.Rules.{Offers}
 use Rattle.lru_limits.specs.Laws.{IsInsertion}
 use Rattle.lru_limits.specs.Stores.{ReturnsPairIf, given-names}
 
@@ -17,47 +14,24 @@ pub record Terms (K V S : Type 0) : Type 0 where
   -- whether a pair with a new key is accepted
   pub accepts : S → ℕ → K → V → Bool
   -- the limiter after such a pair was offered
-  pub on_stored : S → ℕ → K → V → S
+  pub admit : S → ℕ → K → V → S
   -- whether a value is accepted in the place of another, under a stored key
   pub accepts_in_place : S → ℕ → K → V → V → Bool
   -- the limiter after such a value was offered
-  pub on_replaced : S → ℕ → K → V → V → S
+  pub admit_in_place : S → ℕ → K → V → V → S
 
 module _ {K V S : Type 0} (terms : Terms K V S) where
-  abbrev pub replaced : S → ℕ → K → V → V → Replaced K V S
-  replaced s n k v w = record {
-    limiter = terms.on_replaced s n k v w;
-    taken = terms.accepts_in_place s n k v w;
-    key = k;
-    old_value = v;
-    new_value = w;
-  }
-
   abbrev pub offers_of : Offers K V S K
   offers_of = record {
-    on_insert = λ s n k v t given. ReturnsPairIf (terms.accepts s n k v) (terms.on_stored s n k v) k v t given;
+    on_insert = λ s n k v t given. ReturnsPairIf (terms.accepts s n k v) (terms.admit s n k v) k v t given;
     may_run_out = λ s n k v. ⊥;
-    on_replace = λ s n k i v w. replaced s n k v w;
-  }
-
-  pub record IsAdmission (offers : Offers K V S K) : Type 0 where
-    -- an offer does what the terms say
-    pub stores : (s : S) (n : ℕ) (k : K) (v : V) (t : S) (given : Option (K × V)) → offers.on_insert s n k v t given
-        → ReturnsPairIf (terms.accepts s n k v) (terms.on_stored s n k v) k v t given
-    -- and may do all that they say
-    pub may_store : (s : S) (n : ℕ) (k : K) (v : V) (t : S) (given : Option (K × V))
-        → ReturnsPairIf (terms.accepts s n k v) (terms.on_stored s n k v) k v t given → offers.on_insert s n k v t given
-    -- it never runs out of memory
-    pub never_runs_out : (s : S) (n : ℕ) (k : K) (v : V) → offers.may_run_out s n k v → ⊥
-    -- a replacement does what the terms say
-    pub replaces : (s : S) (n : ℕ) (k i : K) (v w : V) → offers.on_replace s n k i v w ≡ replaced s n k v w
-
-  pub offers_of-terms : IsAdmission offers_of
-  offers_of-terms = record {
-    stores = λ s n k v t given h. h;
-    may_store = λ s n k v t given h. h;
-    never_runs_out = λ s n k v h. h;
-    replaces = λ s n k i v w. refl;
+    on_replace = λ s n k i v w. record {
+      limiter = terms.admit_in_place s n k v w;
+      taken = terms.accepts_in_place s n k v w;
+      key = k;
+      old_value = v;
+      new_value = w;
+    };
   }
 
   pub offers_of-lawful : (eq : K → K → Bool) → IsEquivalence eq → IsInsertion eq eq offers_of
@@ -70,18 +44,7 @@ module _ {K V S : Type 0} (terms : Terms K V S) where
 abbrev pub never_changes : {K V S : Type 0} → (S → K → V → Bool) → Terms K V S
 never_changes admits = record {
   accepts = λ s n k v. admits s k v;
-  on_stored = λ s n k v. s;
+  admit = λ s n k v. s;
   accepts_in_place = λ s n k v w. true;
-  on_replaced = λ s n k v w. s;
+  admit_in_place = λ s n k v w. s;
 }
-
-module _ {K V S : Type 0} where
-  abbrev pub offers_if : (S → K → V → Bool) → Offers K V S K
-  offers_if admits = offers_of (never_changes admits)
-
-  pub offers_if-terms : (admits : S → K → V → Bool) → IsAdmission (never_changes admits) (offers_if admits)
-  offers_if-terms admits = offers_of-terms (never_changes admits)
-
-  pub offers_if-lawful : {admits : S → K → V → Bool} (eq : K → K → Bool) → IsEquivalence eq
-      → IsInsertion eq eq (offers_if admits)
-  offers_if-lawful {admits} = offers_of-lawful (never_changes admits)

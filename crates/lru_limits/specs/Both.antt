@@ -4,13 +4,13 @@
 --     both-sums           a running total of the first limiter is one of both
 use Rattle.std.specs.Prelude.{◌≡◌, ◌≤◌, ◌+◌, ◌-◌, ◌&&◌, ◌||◌, ℕ, Bool, true, false, Some, None, IsTrue}
 use Rattle.std.specs.Prelude.{if◌then◌else◌, refl}
-use Rattle.std.proofs.Common.{ap, sym, ◌∙◌, subst, arith}
+use Rattle.std.proofs.Common.{ap, sym, ◌∙◌, arith}
 use Rattle.lru_limits.specs.declared.limiters.both.Both.{Both}
-use Rattle.lru_limits.specs.Rules.{Rules, Offers}
+use Rattle.lru_limits.specs.Rules.{Rules}
 use Rattle.lru_limits.specs.Keys.{both_true}
-use Rattle.lru_limits.specs.Laws.{IsAccount, kept_value}
+use Rattle.lru_limits.specs.Laws.{IsAccount}
 use Rattle.lru_limits.specs.Stores.{ReturnsPairIf, given-adds, refused-keeps}
-use Rattle.lru_limits.specs.Admissions.{Terms, offers_of, IsAdmission}
+use Rattle.lru_limits.specs.Admissions.{Terms, offers_of}
 
 module _ {K V A B : Type 0} where
   -- the second limiter sees the pair that left as the first leaves it
@@ -39,13 +39,13 @@ module _ {K V A B : Type 0} where
   abbrev pub both_terms : Terms K V A → Terms K V B → Terms K V (Both A B)
   both_terms a b = record {
     accepts = λ s n k v. a.accepts s.0 n k v && b.accepts s.1 n k v;
-    on_stored = λ s n k v.
+    admit = λ s n k v.
         if a.accepts s.0 n k v && b.accepts s.1 n k v
-        then record { 0 = a.on_stored s.0 n k v; 1 = b.on_stored s.1 n k v } else s;
+        then record { 0 = a.admit s.0 n k v; 1 = b.admit s.1 n k v } else s;
     accepts_in_place = λ s n k v w. a.accepts_in_place s.0 n k v w && b.accepts_in_place s.1 n k v w;
-    on_replaced = λ s n k v w.
+    admit_in_place = λ s n k v w.
         if a.accepts_in_place s.0 n k v w && b.accepts_in_place s.1 n k v w
-        then record { 0 = a.on_replaced s.0 n k v w; 1 = b.on_replaced s.1 n k v w } else s;
+        then record { 0 = a.admit_in_place s.0 n k v w; 1 = b.admit_in_place s.1 n k v w } else s;
   }
 
 -- as `given-adds` and `replaced-exchanges`, of a change that is known only if the limiter accepts
@@ -62,21 +62,18 @@ module _ {K V S : Type 0} (cost : K → V → ℕ) (account : S → ℕ) where
   exchanges_if true s s' k v w changed enough = changed refl
   exchanges_if false s s' k v w changed enough = omega (arith, enough)
 
-module _ {K V A : Type 0} {rules : Rules K V A} {offers : Offers K V A K} {cost : K → V → ℕ} {account : A → ℕ}
-    {terms : Terms K V A} (sums : IsAccount rules offers cost account) (says : IsAdmission terms offers) where
+module _ {K V A : Type 0} {rules : Rules K V A} {terms : Terms K V A} {cost : K → V → ℕ} {account : A → ℕ}
+    (sums : IsAccount rules (offers_of terms) cost account) where
   stored : (s : A) (n : ℕ) (k : K) (v : V) → IsTrue (terms.accepts s n k v)
-      → account (terms.on_stored s n k v) ≡ account s + cost k v
+      → account (terms.admit s n k v) ≡ account s + cost k v
   stored s n k v accepted =
-      let t = terms.on_stored s n k v in
-      sums.adds s n k v t k v (says.may_store s n k v t (Some (k, v))
-      (record { limiter = refl; pair = ap (λ b. if b then Some (k, v) else None) (sym accepted) }))
+      let t = terms.admit s n k v in
+      sums.adds s n k v t k v (record { limiter = refl; pair = ap (λ b. if b then Some (k, v) else None) (sym accepted) })
 
   exchanged : (s : A) (n : ℕ) (k : K) (v w : V) → cost k v ≤ account s → IsTrue (terms.accepts_in_place s n k v w)
-      → account (terms.on_replaced s n k v w) ≡ account s - cost k v + cost k w
+      → account (terms.admit_in_place s n k v w) ≡ account s - cost k v + cost k w
   exchanged s n k v w enough accepted =
-      subst (λ r. account r.limiter ≡ account s - cost k v + cost r.key (kept_value r)) (says.replaces s n k k v w)
-      (sums.exchanges s n k k v w enough)
-      ∙ ap (λ b. account s - cost k v + cost k (if b then w else v)) accepted
+      sums.exchanges s n k k v w enough ∙ ap (λ b. account s - cost k v + cost k (if b then w else v)) accepted
 
   pub both-sums : {B : Type 0} (rules' : Rules K V B) (terms' : Terms K V B)
       → IsAccount (both_rules rules rules') (offers_of (both_terms terms terms')) cost (λ s. account s.0)
@@ -85,15 +82,15 @@ module _ {K V A : Type 0} {rules : Rules K V A} {offers : Offers K V A K} {cost 
         let a = terms.accepts s.0 n i v in
         let b = terms'.accepts s.1 n i v in
         adds_if cost (λ s. account s.0) (a && b) s
-        (record { 0 = terms.on_stored s.0 n i v; 1 = terms'.on_stored s.1 n i v }) i v t k w
+        (record { 0 = terms.admit s.0 n i v; 1 = terms'.admit s.1 n i v }) i v t k w
         (λ both. stored s.0 n i v (both_true a b both).0);
     refuses = λ s n i v t. refused-keeps (λ s. account s.0) (terms.accepts s.0 n i v && terms'.accepts s.1 n i v) s
-        (record { 0 = terms.on_stored s.0 n i v; 1 = terms'.on_stored s.1 n i v }) i v t;
+        (record { 0 = terms.admit s.0 n i v; 1 = terms'.admit s.1 n i v }) i v t;
     exchanges = λ s n k i v w enough.
         let a = terms.accepts_in_place s.0 n k v w in
         let b = terms'.accepts_in_place s.1 n k v w in
         exchanges_if cost (λ s. account s.0) (a && b) s
-        (record { 0 = terms.on_replaced s.0 n k v w; 1 = terms'.on_replaced s.1 n k v w }) k v w
+        (record { 0 = terms.admit_in_place s.0 n k v w; 1 = terms'.admit_in_place s.1 n k v w }) k v w
         (λ both. exchanged s.0 n k v w enough (both_true a b both).0) enough;
     takes_off = λ s k v. sums.takes_off s.0 k v;
     empties = λ s. sums.empties s.0;

@@ -8,13 +8,11 @@
 --     budget_terms           the terms of its offers
 --     by_cost, charges       those, if a value has this cost
 --     pair_cost o k v        the cost of a pair whose key costs k and whose value costs v, with the overhead o
---     weighs-terms                                                  the laws of `Admission`
---     weighs-lawful, weighs-sums, charges-lawful, charges-sums      the laws of `Insertion` and of `Summing`
+--     weighs-sums, charges-sums        the laws of `Summing`
 use Rattle.std.specs.Prelude.{◌+◌, ◌-◌, ◌^◌, ◌&&◌, ℕ, min, Bool, true, nat_lt, nat_le, if◌then◌else◌, refl}
-use Rattle.std.specs.Cmp.{IsEquivalence}
 use Rattle.lru_limits.specs.Rules.{Rules, Offers}
-use Rattle.lru_limits.specs.Laws.{IsInsertion, IsAccount}
-use Rattle.lru_limits.specs.Admissions.{Terms, IsAdmission, offers_of, offers_of-terms, offers_of-lawful}
+use Rattle.lru_limits.specs.Laws.{IsAccount}
+use Rattle.lru_limits.specs.Admissions.{Terms, offers_of}
 use Rattle.lru_limits.specs.Stores.{answers, given-adds, refused-keeps, replaced-exchanges}
 
 pub record Budget : Type 0 where
@@ -45,9 +43,9 @@ module _ {K V : Type 0} (weight : K → V → ℕ) where
   abbrev pub budget_terms : Terms K V Budget
   budget_terms = record {
     accepts = λ b n k v. can_add b.limit b.cost (weight k v);
-    on_stored = λ b n k v. charged b (weight k v);
+    admit = λ b n k v. charged b (weight k v);
     accepts_in_place = λ b n k v w. can_add b.limit (b.cost - weight k v) (weight k w);
-    on_replaced = λ b n k v w. exchanged b (weight k v) (weight k w);
+    admit_in_place = λ b n k v w. exchanged b (weight k v) (weight k w);
   }
 
   abbrev pub weighs : Offers K V Budget K
@@ -65,12 +63,6 @@ abbrev pub pair_cost : ℕ → ℕ → ℕ → ℕ
 pair_cost overhead k v = min (k + v + overhead) (2 ^ 64 - 1)
 
 module _ {K V : Type 0} (weight : K → V → ℕ) where
-  pub weighs-terms : IsAdmission (budget_terms weight) (weighs weight)
-  weighs-terms = offers_of-terms (budget_terms weight)
-
-  pub weighs-lawful : (eq : K → K → Bool) → IsEquivalence eq → IsInsertion eq eq (weighs weight)
-  weighs-lawful = offers_of-lawful (budget_terms weight)
-
   pub weighs-sums : IsAccount (by_weight weight) (weighs weight) weight (λ b. b.cost)
   weighs-sums = record {
     adds = λ b n i v t k w. given-adds weight (λ b. b.cost) (can_add b.limit b.cost (weight i v)) b
@@ -84,10 +76,6 @@ module _ {K V : Type 0} (weight : K → V → ℕ) where
     empties = λ b. refl;
     keeps = λ b n. refl;
   }
-
-pub charges-lawful : {K V : Type 0} (eq : K → K → Bool) → IsEquivalence eq → (cost : V → ℕ)
-    → IsInsertion eq eq (charges cost)
-charges-lawful eq e cost = weighs-lawful (λ k v. cost v) eq e
 
 pub charges-sums : {K V : Type 0} (cost : V → ℕ) → IsAccount (by_cost {K = K} cost) (charges cost) (λ k v. cost v)
     (λ b. b.cost)

@@ -54,10 +54,10 @@ module _ {K V : Type 0} (bytes_of : K → V → ℕ) where
   abbrev pub bytes_terms : Terms K V Bytes
   bytes_terms = record {
     accepts = λ b n k v. can_add (left_for_entries b) b.owned (bytes_of k v);
-    on_stored = λ b n k v.
+    admit = λ b n k v.
         if can_add (left_for_entries b) b.owned (bytes_of k v) then record b { owned = b.owned + bytes_of k v } else b;
     accepts_in_place = λ b n k v w. can_add (left_for_entries b) (b.owned - bytes_of k v) (bytes_of k w);
-    on_replaced = λ b n k v w. if can_add (left_for_entries b) (b.owned - bytes_of k v) (bytes_of k w)
+    admit_in_place = λ b n k v w. if can_add (left_for_entries b) (b.owned - bytes_of k v) (bytes_of k w)
         then record b { owned = b.owned - bytes_of k v + bytes_of k w } else b;
   }
 

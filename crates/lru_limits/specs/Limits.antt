@@ -6,13 +6,13 @@
 --     storing-length, storing-memory       as is `Storing` around one,
 --     both-first_length, ..                and `Both` whose first or second limiter is one
 use Rattle.std.specs.Prelude.{◌≡◌, ◌≤◌, ◌&&◌, ◌||◌, ℕ, Bool, true, false, Option, Some, None, if◌then◌else◌, refl}
-use Rattle.std.proofs.Common.{ap, sym, ◌∙◌, arith}
+use Rattle.std.proofs.Common.{ap, ◌∙◌, arith}
 use Rattle.std.proofs.lemmas.Bool.{true≢false}
 use Rattle.std.proofs.lemmas.Bool.Decides.{nat_tests}
 use Rattle.lru_limits.specs.declared.limiters.both.Both.{Both}
 use Rattle.lru_limits.specs.declared.limiters.storing.Storing.{Storing}
 use Rattle.lru_limits.specs.Rules.{Rules, Offers}
-use Rattle.lru_limits.specs.Admissions.{Terms, IsAdmission, offers_of, offers_if}
+use Rattle.lru_limits.specs.Admissions.{Terms, offers_of, never_changes}
 use Rattle.lru_limits.specs.Stores.{plain, rules_at}
 use Rattle.lru_limits.specs.Keys.{both_true}
 use Rattle.lru_limits.specs.Limiters.{length_rules, length_offers, memory_rules, all_offers}
@@ -39,7 +39,7 @@ module _ {K V S I : Type 0} (rules : Rules K V S) (offers : Offers K V S I) wher
 module _ {K V : Type 0} where
   -- a limiter that never changes
   pub plain-fixed : {S : Type 0} {over grants : S → ℕ → Bool} {admits : S → K → V → Bool} (number : S → ℕ)
-      → IsFixed (plain over grants) (offers_if admits) number
+      → IsFixed (plain over grants) (offers_of (never_changes admits)) number
   plain-fixed number = record {
     offered = λ s n i v t given offer. ap number offer.limiter;
     replaced = λ s n k i v w. refl;
@@ -73,17 +73,15 @@ module _ {K V S I : Type 0} {rules : Rules K V S} {offers : Offers K V S I} {mos
   pub storing-memory : LimitsMemory rules offers most → LimitsMemory (stored rules) all_offers (λ s. most s.0)
   storing-memory limits = record { fixed = storing-fixed limits.fixed; within = λ s bytes. limits.within s.0 bytes }
 
--- the terms change the number no more than the offers do
-module _ {K V S : Type 0} {rules : Rules K V S} {offers : Offers K V S K} {terms : Terms K V S} {number : S → ℕ}
-    (says : IsAdmission terms offers) (fixed : IsFixed rules offers number) where
-  on_stored : (s : S) (n : ℕ) (k : K) (v : V) → number (terms.on_stored s n k v) ≡ number s
-  on_stored s n k v =
-      let given = if terms.accepts s n k v then Some (k, v) else None in
-      let t = terms.on_stored s n k v in
-      fixed.offered s n k v t given (says.may_store s n k v t given (record { limiter = refl; pair = refl }))
+-- so the terms change the number neither
+module _ {K V S : Type 0} {rules : Rules K V S} {terms : Terms K V S} {number : S → ℕ}
+    (fixed : IsFixed rules (offers_of terms) number) where
+  admit : (s : S) (n : ℕ) (k : K) (v : V) → number (terms.admit s n k v) ≡ number s
+  admit s n k v = fixed.offered s n k v (terms.admit s n k v) (if terms.accepts s n k v then Some (k, v) else None)
+      (record { limiter = refl; pair = refl })
 
-  on_replaced : (s : S) (n : ℕ) (k : K) (v w : V) → number (terms.on_replaced s n k v w) ≡ number s
-  on_replaced s n k v w = ap (λ r. number r.limiter) (sym (says.replaces s n k k v w)) ∙ fixed.replaced s n k k v w
+  admit_in_place : (s : S) (n : ℕ) (k : K) (v w : V) → number (terms.admit_in_place s n k v w) ≡ number s
+  admit_in_place s n k v w = fixed.replaced s n k k v w
 
 neither : (a b : Bool) → (a || b) ≡ false → (a ≡ false) × (b ≡ false)
 neither false b e = (refl, e)
@@ -97,9 +95,9 @@ either number false s t same = refl
 module _ {K V A B : Type 0} (a : Rules K V A) (b : Rules K V B) (terms : Terms K V A) (terms' : Terms K V B) where
   both-fixed : (number : Both A B → ℕ)
       → ((s : Both A B) (n : ℕ) (k : K) (v : V)
-      → number (record { 0 = terms.on_stored s.0 n k v; 1 = terms'.on_stored s.1 n k v }) ≡ number s)
+      → number (record { 0 = terms.admit s.0 n k v; 1 = terms'.admit s.1 n k v }) ≡ number s)
       → ((s : Both A B) (n : ℕ) (k : K) (v w : V)
-      → number (record { 0 = terms.on_replaced s.0 n k v w; 1 = terms'.on_replaced s.1 n k v w }) ≡ number s)
+      → number (record { 0 = terms.admit_in_place s.0 n k v w; 1 = terms'.admit_in_place s.1 n k v w }) ≡ number s)
       → ((s : Both A B) (k : K) (v : V) → number ((both_rules a b).on_removed s k v).limiter ≡ number s)
       → ((s : Both A B) → number ((both_rules a b).on_cleared s) ≡ number s)
       → ((s : Both A B) (n : ℕ) → number ((both_rules a b).on_grow s n).limiter ≡ number s) → IsFixed (both_rules a b) (offers_of (both_terms terms terms')) number
@@ -114,38 +112,38 @@ module _ {K V A B : Type 0} (a : Rules K V A) (b : Rules K V B) (terms : Terms K
     grown = grown;
   }
 
-  module _ {offers : Offers K V A K} {most : A → ℕ} (says : IsAdmission terms offers) where
-    first : IsFixed a offers most → IsFixed (both_rules a b) (offers_of (both_terms terms terms')) (λ s. most s.0)
-    first fixed = both-fixed (λ s. most s.0) (λ s n k v. on_stored says fixed s.0 n k v)
-        (λ s n k v w. on_replaced says fixed s.0 n k v w) (λ s k v. fixed.removed s.0 k v) (λ s. fixed.cleared s.0)
+  module _ {most : A → ℕ} where
+    first : IsFixed a (offers_of terms) most → IsFixed (both_rules a b) (offers_of (both_terms terms terms')) (λ s. most s.0)
+    first fixed = both-fixed (λ s. most s.0) (λ s n k v. admit fixed s.0 n k v)
+        (λ s n k v w. admit_in_place fixed s.0 n k v w) (λ s k v. fixed.removed s.0 k v) (λ s. fixed.cleared s.0)
         (λ s n. fixed.grown s.0 n)
 
-    pub both-first_length : LimitsLength a offers most → LimitsLength (both_rules a b) (offers_of (both_terms terms terms')) (λ s. most s.0)
+    pub both-first_length : LimitsLength a (offers_of terms) most → LimitsLength (both_rules a b) (offers_of (both_terms terms terms')) (λ s. most s.0)
     both-first_length limits = record {
       fixed = first limits.fixed;
       within = λ s n e. limits.within s.0 n (neither (a.is_over_the_limit s.0 n) (b.is_over_the_limit s.1 n) e).0;
     }
 
-    pub both-first_memory : LimitsMemory a offers most → LimitsMemory (both_rules a b) (offers_of (both_terms terms terms')) (λ s. most s.0)
+    pub both-first_memory : LimitsMemory a (offers_of terms) most → LimitsMemory (both_rules a b) (offers_of (both_terms terms terms')) (λ s. most s.0)
     both-first_memory limits = record {
       fixed = first limits.fixed;
       within = λ s n e. limits.within s.0 n (both_true (a.on_grow s.0 n).allowed (b.on_grow s.1 n).allowed e).0;
     }
 
-  module _ {offers' : Offers K V B K} {most : B → ℕ} (says : IsAdmission terms' offers') where
-    second : IsFixed b offers' most → IsFixed (both_rules a b) (offers_of (both_terms terms terms')) (λ s. most s.1)
-    second fixed = both-fixed (λ s. most s.1) (λ s n k v. on_stored says fixed s.1 n k v)
-        (λ s n k v w. on_replaced says fixed s.1 n k v w)
+  module _ {most : B → ℕ} where
+    second : IsFixed b (offers_of terms') most → IsFixed (both_rules a b) (offers_of (both_terms terms terms')) (λ s. most s.1)
+    second fixed = both-fixed (λ s. most s.1) (λ s n k v. admit fixed s.1 n k v)
+        (λ s n k v w. admit_in_place fixed s.1 n k v w)
         (λ s k v. fixed.removed s.1 (a.on_removed s.0 k v).key (a.on_removed s.0 k v).value)
         (λ s. fixed.cleared s.1) (λ s n. fixed.grown s.1 n)
 
-    pub both-second_length : LimitsLength b offers' most → LimitsLength (both_rules a b) (offers_of (both_terms terms terms')) (λ s. most s.1)
+    pub both-second_length : LimitsLength b (offers_of terms') most → LimitsLength (both_rules a b) (offers_of (both_terms terms terms')) (λ s. most s.1)
     both-second_length limits = record {
       fixed = second limits.fixed;
       within = λ s n e. limits.within s.1 n (neither (a.is_over_the_limit s.0 n) (b.is_over_the_limit s.1 n) e).1;
     }
 
-    pub both-second_memory : LimitsMemory b offers' most → LimitsMemory (both_rules a b) (offers_of (both_terms terms terms')) (λ s. most s.1)
+    pub both-second_memory : LimitsMemory b (offers_of terms') most → LimitsMemory (both_rules a b) (offers_of (both_terms terms terms')) (λ s. most s.1)
     both-second_memory limits = record {
       fixed = second limits.fixed;
       within = λ s n e. limits.within s.1 n (both_true (a.on_grow s.0 n).allowed (b.on_grow s.1 n).allowed e).1;

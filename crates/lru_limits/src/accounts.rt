@@ -1,5 +1,6 @@
 //! Costs, limiters with a running total of them, two limiters by cost, and one by bytes.
 ghost use Rattle.std.specs.Prelude.{◌≡◌, ◌+◌, ℕ, Some, None, if◌then◌else◌, string_len, vec_len};
+ghost use Rattle.lru_limits.specs.Admissions.{offers_of};
 ghost use Rattle.lru_limits.specs.Budget.{can_add};
 ghost use Rattle.lru_limits.specs.Laws.{IsAccount};
 
@@ -9,14 +10,12 @@ mod by_cost;
 mod by_weight;
 mod owned_bytes;
 
-use crate::keys::LookupKey;
-use crate::limiter::Insertion;
+use crate::admission::Admission;
 pub use budgeted::Budgeted;
 pub use by_bytes::ByBytes;
 pub use by_cost::ByCost;
 pub use by_weight::ByWeight;
 pub use owned_bytes::OwnedBytes;
-use std::hash::Hash;
 
 /// A value with a cost. An unsigned number of up to 64 bits costs itself, a text its bytes, and a vector the number of
 /// its items.
@@ -110,17 +109,17 @@ impl<T> Costed for Vec<T> {
     }
 }
 
-/// A limiter with a running total: the sum of the costs of the entries that it returned for storage and that were not
-/// evicted or removed since.
+/// A limiter with a running total: the sum of the costs of the entries that it accepted and that were not evicted or
+/// removed since.
 ///
 /// The total is the sum over the entries of the map after each call, unless somebody writes to the values or to the
 /// limiter through a reference.
 ///
 /// ```
 /// let limiter = ByCost::new(3);
-/// assert_eq!(rt; Summing::<u64, u64, u64>::account(&limiter), 0);
+/// assert_eq!(rt; Summing::<u64, u64>::account(&limiter), 0);
 /// ```
-pub trait Summing<K: Eq + Hash, V, I: LookupKey<K>>: Insertion<K, V, I> {
+pub trait Summing<K, V>: Admission<K, V> {
     ghost cost_of: { K → V → ℕ };
 
     ghost account: { Self → ℕ };
@@ -132,7 +131,7 @@ pub trait Summing<K: Eq + Hash, V, I: LookupKey<K>>: Insertion<K, V, I> {
         ensures { result ≡ account self.now };
 
     /// What each callback does to the running total.
-    ghost laws: { IsAccount Self.rules Self.offers cost_of account };
+    ghost laws: { IsAccount Self.rules (offers_of Self.terms) cost_of account };
 }
 
 #[inline]

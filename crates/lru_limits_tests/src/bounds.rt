@@ -1,7 +1,7 @@
 //! Generic callers, which know a trait by its bound alone, and a call of each.
 ghost use Rattle.std.specs.Prelude.{◌≡◌, ◌+◌, ◌-◌, ◌^◌, IfOk, min};
 
-use lru_limits::{ByCost, Costed, LookupKey, RandomState, Summing};
+use lru_limits::{ByCost, Costed, Insertion, LookupKey, RandomState, Summing};
 use std::alloc::{AllocError, Global};
 use std::hash::{BuildHasher, Hash};
 use std::test::Fail;
@@ -18,10 +18,10 @@ fn names<K: Eq + Hash, Q: LookupKey<K>>(query: &Q, key: &K) -> bool {
     query.is_key(key) && state.hash_one(query) == state.hash_one(key)
 }
 
-fn offer_and_remove<K: Eq + Hash + Drop, V: Drop, I: LookupKey<K>, L: Summing<K, V, I>>(
+fn offer_and_remove<K: Eq + Hash + Drop, V: Drop, L: Summing<K, V>>(
     limiter: &mut L,
     alloc: Global,
-    key: I,
+    key: K,
     value: V,
 ) -> Result<u64, AllocError>
     ensures { IfOk result (λ total. total ≡ L.account limiter.old) }

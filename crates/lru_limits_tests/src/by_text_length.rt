@@ -1,13 +1,10 @@
 //! A limiter of your own with a running total: by the length of the texts that are the values of a map.
 //! `docs/LIMITERS.md` explains it.
-ghost use Rattle.std.specs.Prelude.{◌≡◌, ◌+◌, ◌-◌, true, Some, None, nat_lt, string_len, if◌then◌else◌, refl};
+ghost use Rattle.std.specs.Prelude.{◌≡◌, ◌+◌, ◌-◌, Some, None, nat_lt, string_len, if◌then◌else◌, refl};
 ghost use Rattle.lru_limits.specs.Budget.{can_add};
-ghost use Rattle.lru_limits.specs.Stores.{ReturnsPairIf, answers, given-names, given-adds, refused-keeps};
-ghost use Rattle.lru_limits.specs.Stores.{replaced-exchanges};
+ghost use Rattle.lru_limits.specs.Stores.{answers, given-adds, refused-keeps, replaced-exchanges};
 
-use lru_limits::{Insertion, Limiter, LookupKey, Summing};
-use std::alloc::{AllocError, Global};
-use std::hash::Hash;
+use lru_limits::{Admission, Limiter, Summing};
 
 /// Limits the bytes of all texts together. It rejects a text that is longer than the limit by itself.
 #[derive(Clone, Copy, Debug)]
@@ -56,49 +53,22 @@ impl<K> Limiter<K, String> for ByTextLength {
     }
 }
 
-impl<K: Eq + Hash + Drop> Insertion<K, String, K> for ByTextLength {
-    ghost offers = { record {
-      on_insert = λ s length i v t given.
-          let fits = can_add s.limit s.total (string_len v) in
-          ReturnsPairIf fits (if fits then record s { total = s.total + string_len v } else s) i v t given;
-      may_run_out = λ s length i v. ⊥;
-      on_replace = λ s length k i v w.
-          let fits = can_add s.limit (s.total - string_len v) (string_len w) in
-          record {
-            limiter = if fits then record s { total = s.total - string_len v + string_len w } else s;
-            taken = fits;
-            key = k;
-            old_value = v;
-            new_value = w;
-          };
+impl<K> Admission<K, String> for ByTextLength {
+    ghost terms = { record {
+      accepts = λ s length k v. can_add s.limit s.total (string_len v);
+      admit = λ s length k v.
+          if can_add s.limit s.total (string_len v) then record s { total = s.total + string_len v } else s;
+      accepts_in_place = λ s length k v w. can_add s.limit (s.total - string_len v) (string_len w);
+      admit_in_place = λ s length k v w. if can_add s.limit (s.total - string_len v) (string_len w)
+          then record s { total = s.total - string_len v + string_len w } else s;
     } };
 
-    fn on_insert(
-        &mut self,
-        _alloc: Global,
-        _length: usize,
-        key: K,
-        value: String,
-    ) -> Result<Option<(K, String)>, AllocError> {
-        match self.total_with(self.total, value.len() as u64) {
-            Some(total) => {
-                self.total = total;
-                Ok(Some((key, value)))
-            }
-            None => Ok(None),
-        }
+    fn accepts(&self, _length: usize, _key: &K, value: &String) -> bool {
+        self.total_with(self.total, value.len() as u64).is_some()
     }
 
-    fn on_replace(
-        &mut self,
-        _length: usize,
-        _old_key: &mut K,
-        _new_key: K,
-        old_value: &mut String,
-        new_value: &mut String,
-    ) -> bool {
-        let without_old = self.total.saturating_sub(old_value.len() as u64);
-        match self.total_with(without_old, new_value.len() as u64) {
+    fn admit(&mut self, _length: usize, _key: &K, value: &String) -> bool {
+        match self.total_with(self.total, value.len() as u64) {
             Some(total) => {
                 self.total = total;
                 true
@@ -107,13 +77,24 @@ impl<K: Eq + Hash + Drop> Insertion<K, String, K> for ByTextLength {
         }
     }
 
-    ghost laws = { record {
-      names_given = λ s length i v t k w given. given-names K.eq K.Eq.laws.refl given;
-      keeps_key = λ s length k i v w named. K.Eq.laws.refl k;
-    } };
+    fn accepts_in_place(&self, _length: usize, _key: &K, old: &String, new: &String) -> bool {
+        let without_old = self.total.saturating_sub(old.len() as u64);
+        self.total_with(without_old, new.len() as u64).is_some()
+    }
+
+    fn admit_in_place(&mut self, _length: usize, _key: &K, old: &String, new: &String) -> bool {
+        let without_old = self.total.saturating_sub(old.len() as u64);
+        match self.total_with(without_old, new.len() as u64) {
+            Some(total) => {
+                self.total = total;
+                true
+            }
+            None => false,
+        }
+    }
 }
 
-impl<K: Eq + Hash + Drop> Summing<K, String, K> for ByTextLength {
+impl<K> Summing<K, String> for ByTextLength {
     ghost cost_of = { λ k v. string_len v };
 
     ghost account = { λ s. s.total };

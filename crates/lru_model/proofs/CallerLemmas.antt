@@ -5,13 +5,11 @@
 --     written-absent       if nothing is found, a write changes nothing
 --     written-found        after a value was written through a get, a look-up finds it
 --     read-all             what holds of each pair holds of each after a get through which nothing is written
---     offers_if-keeps     a limiter that stores pairs as they come keeps their values
---     weighs-keeps, charges-keeps      so do the limiters by a cost
---     offers_if-determined, weighs-determined, charges-determined      these limiters are determined
---     offers_if-finds, weighs-finds, charges-finds                     and never run out of memory
+--     offers_of-keeps      a limiter that stores pairs as they come keeps their values,
+--     offers_of-determined, offers_of-finds      leaves nothing open, and never runs out of memory
+--     offers_of-accepts    when it accepts a pair of a new key
 --     plain-grants, by_weight-grants, by_cost-grants                    if a limiter permits every growth
 --     plain-changes_none, by_weight-changes_none, by_cost-changes_none  limiters that change no removed pair
---     offers_if-accepts, weighs-accepts, charges-accepts               when they accept a pair of a new key
 --     stored_key-same      a key that equals no other key is stored as it came
 --     stored-came          and so is the pair, by a limiter that stores pairs as they come
 --     inserted-found       under such a limiter, after an insert that returned true, a look-up finds the value
@@ -60,8 +58,8 @@ pub use Rattle.lru_model.proofs.Theorems.RunLimits.{nothing_written, no_cost_wri
 pub use Rattle.lru_model.proofs.Theorems.RunLimits.{step_stays_short}
 pub use Rattle.lru_model.proofs.Theorems.Runs.{any_step_same}
 pub use Rattle.lru_model.proofs.Theorems.StoringLimiters.{plain-changes_none, by_weight-changes_none}
-pub use Rattle.lru_model.proofs.Theorems.StoringLimiters.{by_cost-changes_none, offers_if-accepts, weighs-accepts}
-pub use Rattle.lru_model.proofs.Theorems.StoringLimiters.{charges-accepts, stored_key-same}
+pub use Rattle.lru_model.proofs.Theorems.StoringLimiters.{by_cost-changes_none, offers_of-keeps, offers_of-determined}
+pub use Rattle.lru_model.proofs.Theorems.StoringLimiters.{offers_of-finds, offers_of-accepts, stored_key-same}
 pub use Rattle.lru_model.proofs.Theorems.StoringLimiters.{stored-came}
 pub use Rattle.lru_model.proofs.Theorems.Sums.{sum-set}
 pub use Rattle.lru_model.proofs.Theorems.SmallTables.{Shape, shape, same_shape, look_alike, with_left, left_shape}
@@ -80,9 +78,8 @@ use Rattle.std.proofs.lemmas.Map.Steps.{set_value_same}
 use Rattle.std.proofs.lemmas.Option.{none-some}
 use Rattle.std.specs.declared.alloc.AllocError.{AllocError}
 use Rattle.lru_limits.specs.Rules.{Rules, Offers}
-use Rattle.lru_limits.specs.Budget.{by_weight, weighs, by_cost, charges, can_add}
-use Rattle.lru_limits.specs.Admissions.{offers_if}
-use Rattle.lru_limits.specs.Stores.{plain, given-is}
+use Rattle.lru_limits.specs.Budget.{by_weight, by_cost}
+use Rattle.lru_limits.specs.Stores.{plain}
 use Rattle.lru_model.specs.Lists.{first, without_first, lookup, lookup_entry, without, after, front, back}
 use Rattle.lru_model.specs.Lists.{place_of, other_places, front_places, back_places}
 use Rattle.lru_model.specs.State.{State}
@@ -218,44 +215,6 @@ module _ {K V : Type 0} (P : K × V → Type 0) (names : K → Bool) where
           All-cons P x xs (one x passes (rw passes refl)) (all-front P xs rest others)
   inserted-all old new (with_none absent (rest, e)) h one = all-front P new rest (subst (All P) e h)
   inserted-all old new (without_one pair found refused is) h one = subst (All P) (sym is) (all-without old h)
-
--- a limiter that stores pairs as they come keeps their values
-pub offers_if-keeps : {K V S : Type 0} (admits : S → K → V → Bool) → KeepsValues (offers_if admits)
-offers_if-keeps admits = record {
-  given = λ s n i v t k w h. ap (λ p. p.1) (given-is (admits s i v) s i v t (k, w) h);
-  replaced = λ s n k i v w. refl;
-}
-
--- it leaves nothing open, and does not run out of memory
-pub offers_if-determined : {K V S : Type 0} (admits : S → K → V → Bool) → IsDetermined (offers_if admits)
-offers_if-determined admits = λ s n i v t u given other h k. (h.limiter ∙ sym k.limiter, h.pair ∙ sym k.pair)
-
-pub offers_if-finds : {K V S : Type 0} (admits : S → K → V → Bool) → NeverRunsOut (offers_if admits)
-offers_if-finds admits = λ s n i v out_of_memory. out_of_memory
-
--- and so do the limiters by a cost
-module _ {K V : Type 0} (weight : K → V → ℕ) where
-  pub weighs-keeps : KeepsValues (weighs weight)
-  weighs-keeps = record {
-    given = λ b n i v t k w h. ap (λ p. p.1) (given-is (can_add b.limit b.cost (weight i v)) _ i v t (k, w) h);
-    replaced = λ b n k i v w. refl;
-  }
-
-  pub weighs-determined : IsDetermined (weighs weight)
-  weighs-determined = λ s n i v t u given other h k. (h.limiter ∙ sym k.limiter, h.pair ∙ sym k.pair)
-
-  pub weighs-finds : NeverRunsOut (weighs weight)
-  weighs-finds = λ s n i v out_of_memory. out_of_memory
-
-module _ {K V : Type 0} (cost : V → ℕ) where
-  pub charges-keeps : KeepsValues (charges {K = K} cost)
-  charges-keeps = weighs-keeps (λ k v. cost v)
-
-  pub charges-determined : IsDetermined (charges {K = K} cost)
-  charges-determined = weighs-determined (λ k v. cost v)
-
-  pub charges-finds : NeverRunsOut (charges {K = K} cost)
-  charges-finds = weighs-finds (λ k v. cost v)
 
 -- those permit every growth that answer true
 pub plain-grants : (K V : Type 0) {S : Type 0} (over : S → ℕ → Bool)

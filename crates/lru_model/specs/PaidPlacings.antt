@@ -1,7 +1,10 @@
 -- What all insertions into the table cost, those of a reservation for which no growth was left included.
+--     terms, rules        what the limiter accepts, and what it does (`Terms`, `Rules` of `lru_limits`)
+--     eq                  whether two keys are equal
+--     hash_of h k         the hash of the key k, by the hasher h
 use Rattle.std.specs.Prelude.{◌≡◌, ℕ, ◌+◌, ◌-◌, ◌*◌, ◌^◌, ◌≤◌, ◌<◌, Bool, Result}
-use Rattle.lru_limits.specs.Rules.{Rules, Offers}
-use Rattle.lru_limits.specs.Admissions.{Terms}
+use Rattle.lru_limits.specs.Rules.{Rules}
+use Rattle.lru_limits.specs.Admissions.{Terms, offers_of}
 use Rattle.lru_model.specs.State.{State, room, potential}
 use Rattle.lru_model.specs.TryInserts.{TryInsert}
 use Rattle.lru_model.specs.Runs.{AnyStep, calls, reserves}
@@ -15,15 +18,15 @@ pub record PaysForPlacings {K V S H : Type 0} (old new : State K V S H) : Type 0
       new.counts.placings + potential new + 3 * old.counts.placed + 2 * old.counts.shrunk
       ≤ old.counts.placings + potential old + 3 * new.counts.placed + 2 * new.counts.shrunk
 
-module _ {K V S H : Type 0} (rules : Rules K V S) (offers : Offers K V S K) (eq : K → K → Bool)
+module _ {K V S H : Type 0} (terms : Terms K V S) (rules : Rules K V S) (eq : K → K → Bool)
     (hash_of : H → K → ℕ) where
   -- if it is a reservation, no growth was left
-  abbrev pub ReservesIfFull : (old new : State K V S H) → AnyStep rules offers eq hash_of old new → Type 0
+  abbrev pub ReservesIfFull : (old new : State K V S H) → AnyStep rules (offers_of terms) eq hash_of old new → Type 0
   ReservesIfFull old new (calls (reserves n result h)) = room old ≡ 0
   ReservesIfFull old new step = Unit {0}
 
   -- a `try_insert`, or any other step, a reservation only if no growth was left
-  pub data PaidStep (terms : Terms K V S) (old new : State K V S H) : Type 0 where
+  pub data PaidStep (old new : State K V S H) : Type 0 where
     tries : (key : K) (value : V) (result : Result (Unit {0}) (K × V)) →
-        TryInsert terms rules key value old offers eq hash_of result new → PaidStep terms old new
-    others : (step : AnyStep rules offers eq hash_of old new) → ReservesIfFull old new step → PaidStep terms old new
+        TryInsert terms rules key value old eq hash_of result new → PaidStep old new
+    others : (step : AnyStep rules (offers_of terms) eq hash_of old new) → ReservesIfFull old new step → PaidStep old new

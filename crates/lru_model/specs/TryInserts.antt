@@ -1,8 +1,11 @@
 -- What `try_insert` does: it inserts a new pair only if nothing has to be evicted for it.
+--     terms, rules        what the limiter accepts, and what it does (`Terms`, `Rules` of `lru_limits`)
+--     eq                  whether two keys are equal
+--     hash_of h k         the hash of the key k, by the hasher h
 use Rattle.std.specs.Prelude.{◌≡◌, ℕ, ◌+◌, ◌<◌, Bool, true, false, not, if◌then◌else◌, length, Some, None}
 use Rattle.std.specs.Prelude.{Result, Ok, Err}
-use Rattle.lru_limits.specs.Rules.{Rules, Offers}
-use Rattle.lru_limits.specs.Admissions.{Terms}
+use Rattle.lru_limits.specs.Rules.{Rules}
+use Rattle.lru_limits.specs.Admissions.{Terms, offers_of}
 use Rattle.lru_model.specs.Lists.{lookup_entry}
 use Rattle.lru_model.specs.State.{State, Contents, contents, room, IsSized}
 use Rattle.lru_model.specs.Reservations.{Reserve}
@@ -17,9 +20,10 @@ pub data IsReady {K V S H : Type 0} (rules : Rules K V S) (old ready : State K V
       IsReady rules old ready
 
 module _ {K V S : Type 0} (terms : Terms K V S) (rules : Rules K V S) where
+  -- the limiter accepts the pair of a new key, and is not over its limit once it is stored
   abbrev pub can_store : K → V → Contents K V S → Bool
   can_store key value c = if terms.accepts c.limiter (length c.pairs) key value
-      then not (rules.is_over_the_limit (terms.on_stored c.limiter (length c.pairs) key value) (length c.pairs + 1))
+      then not (rules.is_over_the_limit (terms.admit c.limiter (length c.pairs) key value) (length c.pairs + 1))
       else false
 
   module _ {H : Type 0} (key : K) (value : V) (old : State K V S H) where
@@ -31,7 +35,8 @@ module _ {K V S : Type 0} (terms : Terms K V S) (rules : Rules K V S) where
           can_store key value (contents left) ≡ false →
           IsUnready left
 
-    module _ (offers : Offers K V S K) (eq : K → K → Bool) (hash_of : H → K → ℕ) where
+    module _ (eq : K → K → Bool) (hash_of : H → K → ℕ) where
+      -- what `try_insert` may return and leave
       pub data TryInsert (result : Result (Unit {0}) (K × V)) (new : State K V S H) : Type 0 where
         -- The key is there, or the limiter cannot store the pair, and nothing changes.
         there : (pair : K × V) → lookup_entry (eq key) old.pairs ≡ Some pair →
@@ -48,5 +53,5 @@ module _ {K V S : Type 0} (terms : Terms K V S) (rules : Rules K V S) where
         -- The limiter can store the pair, and it is inserted.
         inserted : lookup_entry (eq key) old.pairs ≡ None → can_store key value (contents old) ≡ true →
             (ready : State K V S H) → IsReady rules old ready → can_store key value (contents ready) ≡ true →
-            result ≡ Ok tt → Insert rules offers eq hash_of key value ready (Ok true) new →
+            result ≡ Ok tt → Insert rules (offers_of terms) eq hash_of key value ready (Ok true) new →
             TryInsert result new

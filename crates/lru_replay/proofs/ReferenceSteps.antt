@@ -12,7 +12,7 @@ use Rattle.std.specs.List.{list_any}
 use Rattle.std.specs.Set.{remove_key}
 use Rattle.std.specs.declared.alloc.AllocError.{AllocError}
 use Rattle.group_table.specs.Change.{count_up}
-use Rattle.lru_limits.specs.Limiters.{length_rules, length_offers}
+use Rattle.lru_limits.specs.Limiters.{length_rules, length_terms, length_offers}
 use Rattle.lru_model.proofs.CallerLemmas.{found_named, promoted_sized, read_back}
 use Rattle.lru_model.specs.Calls.{promoted, written}
 use Rattle.lru_model.specs.GetOrInserts.{MakesNewest, got, inserted}
@@ -21,7 +21,6 @@ use Rattle.lru_model.specs.Reservations.{Reserve, unchanged, rehashed, reserved,
 use Rattle.lru_model.specs.TryInserts.{TryInsert, there as was_there, cannot_store as cannot, unready}
 use Rattle.lru_model.specs.TryInserts.{inserted as placed_in, has_growth, reserved as made_room}
 use Rattle.lru_model.specs.declared.results.ReserveError.{ReserveError}
-use Rattle.lru_limits.specs.Admissions.{Terms}
 use Rattle.lru_model.specs.Inserts.{Insert}
 use Rattle.lru_model.specs.Kept.{LeavesTheNewest, KeepsToLength, stored_key}
 use Rattle.lru_model.specs.Lists.{keys_of, lookup, lookup_entry, without, after, front}
@@ -160,16 +159,15 @@ module _ {K V H : Type 0} {eq : K → K → Bool} {hash_of : H → K → ℕ} (l
         ∙ (λ i. count_up (placed i) (fault eq key (keys_of (pairs i))));
   }
 
-  pub tries_refers : (terms : Terms K V ℕ) (key : K) (v : V) (old new : State K V ℕ H) → KeepsToLength old
-      → IsSized new → TryInsert terms length_rules key v old length_offers eq hash_of (Ok tt) new
-      → Reference eq key old new
-  tries_refers terms key v old new keeps sized (was_there pair found is same) = absurd cc
-  tries_refers terms key v old new keeps sized (cannot lacks less is same) = absurd cc
-  tries_refers terms key v old new keeps sized (unready none can why is) = absurd cc
-  tries_refers terms key v old new keeps sized (placed_in none can ready (has_growth some same) still is h) =
+  pub tries_refers : (key : K) (v : V) (old new : State K V ℕ H) → KeepsToLength old → IsSized new
+      → TryInsert length_terms length_rules key v old eq hash_of (Ok tt) new → Reference eq key old new
+  tries_refers key v old new keeps sized (was_there pair found is same) = absurd cc
+  tries_refers key v old new keeps sized (cannot lacks less is same) = absurd cc
+  tries_refers key v old new keeps sized (unready none can why is) = absurd cc
+  tries_refers key v old new keeps sized (placed_in none can ready (has_growth some same) still is h) =
       insert_refers key v old true new keeps sized
       (subst (λ st. Insert length_rules length_offers eq hash_of key v st (Ok true) new) same h)
-  tries_refers terms key v old new keeps sized (placed_in none can ready (made_room spare h sound) still is placing) =
+  tries_refers key v old new keeps sized (placed_in none can ready (made_room spare h sound) still is placing) =
       let goes = known.goes_on old ready keeps sound (reserves 1 (Ok tt) h) in
       after_ready key old ready new goes (reserve_is 1 old (Ok tt) ready h)
       (insert_refers key v ready true new goes sized placing)

@@ -2,6 +2,7 @@
 //! nothing: their contracts are the theorems.
 ghost use Rattle.std.specs.Prelude.{◌≡◌, ℕ, ◌≤◌, ◌<◌, ◌+◌, ◌*◌, Bool, length, List, map, nat_eq, Option};
 ghost use Rattle.std.specs.List.{AllByRecursion, IsDistinct};
+ghost use Rattle.lru_limits.specs.Admissions.{offers_of};
 ghost use Rattle.lru_model.specs.Exact.{AlwaysGrants, HasTables, HasTableFor, IsDetermined, NeverRunsOut, LookAlike};
 ghost use Rattle.lru_model.specs.Lists.{keys_of, IsFront};
 ghost use Rattle.lru_model.specs.State.{State, contents, buckets, IsSized, IsMap};
@@ -81,12 +82,12 @@ pub fn lists_keep_the_memory_usage<K: Eq + Hash + Drop, V: Drop, S: KeyHasher<K>
 /// With any limiter that has a budget, as `ByCost` and `ByWeight` have, the running total is at most the budget after
 /// each of the calls, if that held before and the total was the sum of the costs of the pairs, and none sets another
 /// limiter.
-pub fn lists_keep_the_budget<K: Eq + Hash, V, L: Budgeted<K, V>, S: KeyHasher<K>>()
+pub fn lists_keep_the_budget<K: Eq + Hash + Drop, V: Drop, L: Budgeted<K, V>, S: KeyHasher<K>>()
     ensures total { (old new : State K V L S) (calls : List (Call K V L)) (replies : List (Reply K V)) →
-        IsRun (SummingStep L.rules L.offers K.eq S.hash_of L.cost_of L.account) (IsMap K.eq) old calls replies new →
+        IsRun (SummingStep L.rules (offers_of L.terms) K.eq S.hash_of L.cost_of L.account) (IsMap K.eq) old calls replies new →
         AllByRecursion SetsNoLimiter calls → IsSummed L.cost_of L.account old →
         L.account old.limiter ≤ L.budget_of old.limiter →
-        IsRun (SummingStep L.rules L.offers K.eq S.hash_of L.cost_of L.account)
+        IsRun (SummingStep L.rules (offers_of L.terms) K.eq S.hash_of L.cost_of L.account)
         (λ st. L.account st.limiter ≤ L.budget_of old.limiter) old calls replies new }
 {
     laws::runs_keep_the_budget::<K, V, L, S>();
@@ -116,17 +117,17 @@ pub fn granted_calls_are_exact<K: Eq + Hash, V, L: Insertion<K, V, K>, S: KeyHas
 
 /// So is a run under a limiter with a running total: a call that keeps the cost is one on the list, and any other
 /// changes nothing.
-pub fn granted_summing_is_exact<K: Eq + Hash, V, L: Summing<K, V, K>, S: KeyHasher<K>>()
+pub fn granted_summing_is_exact<K: Eq + Hash + Drop, V: Drop, L: Summing<K, V>, S: KeyHasher<K>>()
     ensures exact { (old new : State K V L S) (calls : List (Call K V L)) (replies : List (Reply K V)) →
         AlwaysGrants L.rules → HasTables old →
-        IsRun (SummingStep L.rules L.offers K.eq S.hash_of
+        IsRun (SummingStep L.rules (offers_of L.terms) K.eq S.hash_of
         L.cost_of L.account) (λ st. IsMap K.eq st × HasTables st) old calls replies new →
-        IsRun (ListSummingStep L.rules L.offers K.eq (S.hash_of old.hasher) L.cost_of L.account)
+        IsRun (ListSummingStep L.rules (offers_of L.terms) K.eq (S.hash_of old.hasher) L.cost_of L.account)
         (λ list. IsDistinct K.eq (keys_of list.pairs)) (contents old) calls replies (contents new) }
     ensures reached { (old new : State K V L S) (calls : List (Call K V L)) (replies : List (Reply K V)) →
         HasTableFor (8 * (length old.pairs + length calls + 1)) old → IsMap K.eq old →
-        IsRun (SummingStep L.rules L.offers K.eq S.hash_of L.cost_of L.account) (IsMap K.eq) old calls replies new →
-        HasTables old × IsRun (SummingStep L.rules L.offers K.eq S.hash_of L.cost_of L.account)
+        IsRun (SummingStep L.rules (offers_of L.terms) K.eq S.hash_of L.cost_of L.account) (IsMap K.eq) old calls replies new →
+        HasTables old × IsRun (SummingStep L.rules (offers_of L.terms) K.eq S.hash_of L.cost_of L.account)
         (λ st. IsMap K.eq st × HasTables st) old calls replies new }
 {
     laws::granted_inserts_are_exact::<K, V, K, L, S>();
@@ -188,14 +189,14 @@ pub fn small_lengths_are_alike<K: Eq + Hash + Drop, V: Drop, S: KeyHasher<K>>()
 
 /// Two runs of the same calls under a limiter with a running total are alike, too, if the maps before and the tables are
 /// as `small_calls_are_alike` demands.
-pub fn small_summing_is_alike<K: Eq + Hash, V, L: Summing<K, V, K>, S: KeyHasher<K>>()
+pub fn small_summing_is_alike<K: Eq + Hash + Drop, V: Drop, L: Summing<K, V>, S: KeyHasher<K>>()
     ensures alike { (old other new last : State K V L S) (calls : List (Call K V L))
         (replies answers : List (Reply K V)) →
-        IsDetermined L.offers → NeverRunsOut L.offers → LookAlike old other → buckets old ≤ 16 →
+        LookAlike old other → buckets old ≤ 16 →
         AllByRecursion (HasPlainSearch (S.hash_of old.hasher)) calls →
-        IsRun (SummingStep L.rules L.offers K.eq S.hash_of
+        IsRun (SummingStep L.rules (offers_of L.terms) K.eq S.hash_of
         L.cost_of L.account) (λ st. buckets st ≤ 16) old calls replies new →
-        IsRun (SummingStep L.rules L.offers K.eq S.hash_of
+        IsRun (SummingStep L.rules (offers_of L.terms) K.eq S.hash_of
         L.cost_of L.account) (λ st. buckets st ≤ 16) other calls answers last →
         map memory_report replies ≡ map memory_report answers →
         (replies ≡ answers) × LookAlike new last }
@@ -207,17 +208,17 @@ pub fn small_summing_is_alike<K: Eq + Hash, V, L: Summing<K, V, K>, S: KeyHasher
 /// ensures, if 14 pairs always cost more than the budget (a pair costs `least` or more), if the first map is within its
 /// budget, has the sum of the costs as its total, and has at most 16 buckets, and if no call sets another limiter or
 /// reserves growth.
-pub fn small_totals_are_alike<K: Eq + Hash, V, L: Budgeted<K, V>, S: KeyHasher<K>>()
+pub fn small_totals_are_alike<K: Eq + Hash + Drop, V: Drop, L: Budgeted<K, V>, S: KeyHasher<K>>()
     ensures alike { (least : ℕ) (old other new last : State K V L S) (calls : List (Call K V L))
         (replies answers : List (Reply K V)) →
-        IsDetermined L.offers → NeverRunsOut L.offers → ((key : K) (value : V) → least ≤ L.cost_of key value) →
+        ((key : K) (value : V) → least ≤ L.cost_of key value) →
         L.budget_of old.limiter < 14 * least → L.account old.limiter ≤ L.budget_of old.limiter →
         IsSummed L.cost_of L.account old → IsSized old → buckets old ≤ 16 → LookAlike old other →
         AllByRecursion SetsNoLimiter calls → AllByRecursion ReservesNothing calls →
         AllByRecursion (HasPlainSearch (S.hash_of old.hasher)) calls →
-        IsRun (SummingStep L.rules L.offers K.eq S.hash_of
+        IsRun (SummingStep L.rules (offers_of L.terms) K.eq S.hash_of
         L.cost_of L.account) (IsMap K.eq) old calls replies new →
-        IsRun (SummingStep L.rules L.offers K.eq S.hash_of
+        IsRun (SummingStep L.rules (offers_of L.terms) K.eq S.hash_of
         L.cost_of L.account) (IsMap K.eq) other calls answers last →
         map memory_report replies ≡ map memory_report answers →
         (replies ≡ answers) × LookAlike new last }
@@ -239,10 +240,10 @@ pub fn lines_keep_maps<L: Insertion<u64, u64, u64>>()
 
 /// In a run of lines under a limiter with a running total, as under `cost N`, the total is the sum of the costs after
 /// each line, if it was before: lines write nothing through a reference.
-pub fn lines_keep_sums<L: Summing<u64, u64, u64>>()
+pub fn lines_keep_sums<L: Summing<u64, u64>>()
     ensures sums { (reported : L → Option ℕ) (old new : Map L) (lines texts : List (List ℕ)) →
-        IsRun (LineStep L.rules L.offers reported) IsSized old lines texts new → IsSummed L.cost_of L.account old →
-        IsRun (LineStep L.rules L.offers reported) (IsSummed L.cost_of L.account) old lines texts new }
+        IsRun (LineStep L.rules (offers_of L.terms) reported) IsSized old lines texts new → IsSummed L.cost_of L.account old →
+        IsRun (LineStep L.rules (offers_of L.terms) reported) (IsSummed L.cost_of L.account) old lines texts new }
 {
     laws::calls_keep_sums::<u64, u64, u64, L, RandomState>();
 }

@@ -5,7 +5,6 @@ ghost use Rattle.std.specs.Prelude.{Some, None, Ok, Option, Result};
 ghost use Rattle.std.specs.declared.alloc.AllocError.{AllocError};
 ghost use Rattle.std.specs.List.{IsDistinct};
 ghost use Rattle.group_table.specs.Change.{count_up};
-ghost use Rattle.lru_limits.specs.Admissions.{Terms};
 ghost use Rattle.lru_model.specs.Calls.{promoted, written, Remove, cleared};
 ghost use Rattle.lru_model.specs.GetOrInserts.{MakesNewest};
 ghost use Rattle.lru_model.specs.IfMade.{MakesNewestIfMade};
@@ -22,7 +21,7 @@ ghost use Rattle.lru_theory.specs.Policies.{Loads, Demands, Bypasses, Served};
 ghost use Rattle.lru_theory.specs.Traces.{AreEqual, is_in, recency, misses, past_after};
 ghost use Rattle.lru_replay.specs.References.{Does, Reference, Referenced, Did};
 
-use lru_limits::{ByLength, Insertion, KeyHasher, Limiter};
+use lru_limits::{Admission, ByLength, Insertion, KeyHasher, Limiter};
 use lru_model::laws;
 use std::hash::Hash;
 
@@ -36,10 +35,10 @@ pub fn calls_make_references<K: Eq + Hash + Drop, V: Drop, S: KeyHasher<K>>()
         Insert ⟦<ByLength as Limiter<K, V>>⟧.rules ⟦<ByLength as Insertion<K, V, K>>⟧.offers K.eq S.hash_of key value
         old (Ok kept) new →
         Reference K.eq key old new }
-    ensures tries { (terms : Terms K V ByLength) (key : K) (value : V) (old new : State K V ByLength S) →
+    ensures tries { (key : K) (value : V) (old new : State K V ByLength S) →
         KeepsToLength old → IsSized new →
-        TryInsert terms ⟦<ByLength as Limiter<K, V>>⟧.rules key value old ⟦<ByLength as Insertion<K, V, K>>⟧.offers
-        K.eq S.hash_of (Ok tt) new →
+        TryInsert ⟦<ByLength as Admission<K, V>>⟧.terms ⟦<ByLength as Limiter<K, V>>⟧.rules key value old K.eq
+        S.hash_of (Ok tt) new →
         Reference K.eq key old new }
     ensures gets { (names : K → Bool) (key : K) (value left : V) (old : State K V ByLength S) →
         names ≡ K.eq key → length old.pairs ≤ old.limiter → IsSized old → lookup names old.pairs ≡ Some value →

@@ -4,6 +4,7 @@ ghost use Rattle.std.specs.Result.{OnErr};
 ghost use Rattle.std.specs.List.{IsDistinct};
 ghost use Rattle.std.specs.Map.{keys_of};
 ghost use Rattle.lru_limits.specs.Mixing.{seeded};
+ghost use Rattle.lru_limits.specs.Admissions.{offers_of};
 ghost use Rattle.lru_model.specs.Calls.{Remove, cleared};
 ghost use Rattle.lru_model.specs.Lists.{is_empty};
 ghost use Rattle.lru_tenants.specs.Cache.{budgets, budgets_with, is_over, fresh, IsTenant, AreTenants, On};
@@ -242,7 +243,7 @@ impl<
     /// `NotOpen`: nothing has changed. `Memory`: out of memory for the entry. The newest of the tenant's entries are
     /// left, as after an `Err` of `LruMap::insert`.
     pub fn put(&mut self, name: &N, key: K, value: V) -> Result<bool, TenantError>
-        ensures puts { On N.eq name.now (OfOpen (Puts L.rules L.offers L.budget_of K.eq S.hash_of key value))
+        ensures puts { On N.eq name.now (OfOpen (Puts L.rules (offers_of L.terms) L.budget_of K.eq S.hash_of key value))
             self.old result self.new }
         ensures total { budgets L.budget_of self.new ≡ budgets L.budget_of self.old }
         ensures tenants { AreTenants K.eq L.cost_of L.account L.budget_of self.new }

@@ -2,6 +2,7 @@
 ghost use Rattle.std.specs.Prelude.{◌≡◌, ◌≤◌, IfOk, IfSome, sum_by};
 ghost use Rattle.std.specs.Map.{values_of};
 ghost use Rattle.std.specs.Result.{OnErr};
+ghost use Rattle.lru_limits.specs.Admissions.{offers_of};
 ghost use Rattle.lru_tenants.specs.Cache.{tenant, fresh, AreTenants, On};
 ghost use Rattle.lru_tenants.specs.TenantRuns.{named, Gets, TenantStep, IsOwnRun};
 
@@ -44,7 +45,7 @@ pub fn run_tenants<
     calls: Vec<TenantCall<N, K, V>>,
 ) -> Result<Vec<TenantAnswer<V>>, AllocError>
     ensures own { IfOk result (λ answers. (name : N) →
-        IsOwnRun L.rules L.offers L.cost_of L.account L.budget_of K.eq S.hash_of
+        IsOwnRun L.rules (offers_of L.terms) L.cost_of L.account L.budget_of K.eq S.hash_of
         (fresh L.made (L.LinkType.number L.LinkType.MAX) cache.old) cache.old.total_limit (λ n. N.eq n name)
         (tenant (N.eq name) cache.old) calls.items answers.items (tenant (N.eq name) cache.new)) }
     ensures tenants { AreTenants K.eq L.cost_of L.account L.budget_of cache.new }
@@ -73,7 +74,7 @@ fn make_tenant_call<
     L: Budgeted<K, V> + Drop,
     S: KeyHasher<K> + Copy,
 >(cache: &mut TenantCache<N, K, V, L, S>, call: TenantCall<N, K, V>) -> TenantAnswer<V>
-    ensures step { On N.eq (named call) (TenantStep L.rules L.offers L.cost_of L.account L.budget_of K.eq S.hash_of
+    ensures step { On N.eq (named call) (TenantStep L.rules (offers_of L.terms) L.cost_of L.account L.budget_of K.eq S.hash_of
         (fresh L.made (L.LinkType.number L.LinkType.MAX) cache.old) cache.old.total_limit call)
         cache.old result cache.new }
     ensures tenants { AreTenants K.eq L.cost_of L.account L.budget_of cache.new }
@@ -90,7 +91,7 @@ fn answer_to<
     L: Budgeted<K, V> + Drop,
     S: KeyHasher<K> + Copy,
 >(cache: &mut TenantCache<N, K, V, L, S>, call: TenantCall<N, K, V>) -> TenantAnswer<V>
-    ensures { On N.eq (named call) (TenantStep L.rules L.offers L.cost_of L.account L.budget_of K.eq S.hash_of
+    ensures { On N.eq (named call) (TenantStep L.rules (offers_of L.terms) L.cost_of L.account L.budget_of K.eq S.hash_of
         (fresh L.made (L.LinkType.number L.LinkType.MAX) cache.old) cache.old.total_limit call)
         cache.old result cache.new }
 {

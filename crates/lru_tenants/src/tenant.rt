@@ -1,6 +1,7 @@
 //! What calls do to the map of a tenant. Each keeps the running total the sum of the costs, and within the budget.
 ghost use Rattle.std.specs.Prelude.{◌≡◌, true, false, List, length, reverse, Some, None, option_map, Ok, IfOk};
 ghost use Rattle.std.specs.Option.{option_copied};
+ghost use Rattle.lru_limits.specs.Admissions.{offers_of};
 ghost use Rattle.lru_model.specs.Calls.{Remove, cleared};
 ghost use Rattle.lru_model.specs.GetOrInserts.{MakesNewest};
 ghost use Rattle.lru_model.specs.Callbacks.{CalledWith, InsertPasses, TrimPasses};
@@ -25,10 +26,10 @@ pub(crate) fn insert<
 >(map: &mut LruMap<K, V, L, S>, key: K, value: V, sink: &mut F) -> Result<bool, AllocError>
     requires tenant { IsTenant K.eq L.cost_of L.account L.budget_of map.old }
     requires callable { F.IsAlwaysCallable sink.old }
-    ensures inserts { Insert L.rules L.offers K.eq S.hash_of key value
+    ensures inserts { Insert L.rules (offers_of L.terms) K.eq S.hash_of key value
         map.old result map.new }
     ensures passed { (passed : List (K × V)) × CalledWith F.FnMut sink.old passed sink.new
-        × InsertPasses L.rules L.offers K.eq S.hash_of key value map.old result passed
+        × InsertPasses L.rules (offers_of L.terms) K.eq S.hash_of key value map.old result passed
         map.new }
     ensures callable { F.IsAlwaysCallable sink.new }
     ensures budget { L.budget_of map.new.limiter ≡ L.budget_of map.old.limiter }
@@ -49,13 +50,13 @@ pub(crate) fn insert_full<
 >(map: &mut LruMap<K, V, L, S>, key: K, value: V, sink: &mut F) -> Result<Inserted<V>, AllocError>
     requires tenant { IsTenant K.eq L.cost_of L.account L.budget_of map.old }
     requires callable { F.IsAlwaysCallable sink.old }
-    ensures inserts { Insert L.rules L.offers K.eq S.hash_of key value map.old (kept_of result) map.new }
+    ensures inserts { Insert L.rules (offers_of L.terms) K.eq S.hash_of key value map.old (kept_of result) map.new }
     ensures unkept { IfOk result (λ inserted. inserted.unkept
-        ≡ comes_back L.accepts_new K.eq key value L.rules L.offers map.old) }
+        ≡ comes_back L.accepts_new K.eq key value L.rules (offers_of L.terms) map.old) }
     ensures rejects { rejects L.accepts_new K.eq key value map.old ≡ true →
         (result ≡ Ok (record { kept = false; unkept = Some value })) × (map.new ≡ map.old) }
     ensures passed { (passed : List (K × V)) × CalledWith F.FnMut sink.old passed sink.new
-        × InsertPasses L.rules L.offers K.eq S.hash_of key value map.old (kept_of result) passed map.new }
+        × InsertPasses L.rules (offers_of L.terms) K.eq S.hash_of key value map.old (kept_of result) passed map.new }
     ensures callable { F.IsAlwaysCallable sink.new }
     ensures budget { L.budget_of map.new.limiter ≡ L.budget_of map.old.limiter }
     ensures tenant { IsTenant K.eq L.cost_of L.account L.budget_of map.new }
@@ -90,7 +91,7 @@ pub(crate) fn get_or_insert<
 >(map: &mut LruMap<K, V, L, S>, key: K, make: F) -> Result<bool, AllocError>
     requires tenant { IsTenant K.eq L.cost_of L.account L.budget_of map.old }
     requires callable { lookup (K.eq key) map.old.pairs ≡ None → F.pre make }
-    ensures step { MakesNewest L.rules L.offers K.eq S.hash_of (F.post make) key map.old result map.new }
+    ensures step { MakesNewest L.rules (offers_of L.terms) K.eq S.hash_of (F.post make) key map.old result map.new }
     ensures budget { L.budget_of map.new.limiter ≡ L.budget_of map.old.limiter }
     ensures tenant { IsTenant K.eq L.cost_of L.account L.budget_of map.new }
 {

@@ -1,9 +1,9 @@
 //! Limiters with a running total and a budget that can be changed.
 ghost use Rattle.std.specs.Prelude.{◌≡◌, ℕ, Bool};
+ghost use Rattle.lru_limits.specs.Admissions.{offers_of};
 ghost use Rattle.lru_limits.specs.Budgeted.{IsBudgeted};
 
 use crate::accounts::Summing;
-use std::hash::Hash;
 
 /// A limiter with a running total that keeps within a budget: a map is over the limit if and only if the total is above
 /// the budget.
@@ -15,7 +15,7 @@ use std::hash::Hash;
 /// Budgeted::<u64, u64>::set_budget(&mut limiter, 5);
 /// assert_eq!(rt; Budgeted::<u64, u64>::budget(&limiter), 5);
 /// ```
-pub trait Budgeted<K: Eq + Hash, V>: Summing<K, V, K> {
+pub trait Budgeted<K, V>: Summing<K, V> {
     ghost budget_of: { Self → ℕ };
 
     ghost accepts_new: { Self → K → V → Bool };
@@ -38,5 +38,5 @@ pub trait Budgeted<K: Eq + Hash, V>: Summing<K, V, K> {
     fn has_room_for(&self, key: &K, value: &V) -> bool
         ensures { result ≡ accepts_new self.now key.now value.now };
 
-    ghost laws: { IsBudgeted Self.rules Self.offers Self.account budget_of accepts_new made rebudgeted };
+    ghost laws: { IsBudgeted Self.rules (offers_of Self.terms) Self.account budget_of accepts_new made rebudgeted };
 }

@@ -1,15 +1,11 @@
 //! The limiter by the bytes of the table and of what the entries own.
 ghost use Rattle.std.specs.Prelude.{◌≡◌, ◌+◌, Some, None, if◌then◌else◌};
-ghost use Rattle.lru_limits.specs.Admissions.{offers_of-terms, offers_of-lawful};
 ghost use Rattle.lru_limits.specs.Budget.{can_add};
-ghost use Rattle.lru_limits.specs.Bytes.{both_own, left_for_entries, by_bytes, bytes_offers, bytes_terms, bytes-sums};
+ghost use Rattle.lru_limits.specs.Bytes.{both_own, left_for_entries, by_bytes, bytes_terms, bytes-sums};
 
 use crate::accounts::{OwnedBytes, Summing, sum_with};
 use crate::admission::Admission;
-use crate::keys::LookupKey;
-use crate::limiter::{Insertion, Limiter};
-use std::alloc::{AllocError, Global};
-use std::hash::Hash;
+use crate::limiter::Limiter;
 use std::marker::Model;
 
 /// Limits the bytes of the table and of what the entries own, together: `ByBytes::new(200 << 20)` is 200 MiB. A contract
@@ -28,7 +24,7 @@ use std::marker::Model;
 /// let mut limiter = ByBytes::new(200);
 /// assert!(rt; Limiter::<u64, Vec<u8>>::on_grow(&mut limiter, 152));
 /// let block: Vec<u8> = Vec::with_capacity(alloc, 17)?;
-/// assert!(rt; limiter.on_insert(alloc, 0, 1u64, block)?.is_some());
+/// assert!(rt; limiter.admit(0, &1u64, &block));
 /// assert!(rt; !Limiter::<u64, Vec<u8>>::on_grow(&mut limiter, 153));
 /// assert_eq!(rt; (limiter.owned(), limiter.table()), (48, 152));
 /// ```
@@ -178,51 +174,7 @@ impl<K: OwnedBytes, V: OwnedBytes> Limiter<K, V> for ByBytes {
     }
 }
 
-impl<K: OwnedBytes + Eq + Hash + Drop, V: OwnedBytes + Drop> Insertion<K, V, K> for ByBytes {
-    ghost offers = { bytes_offers (both_own K.owned V.owned) };
-
-    #[inline]
-    fn on_insert(
-        &mut self,
-        _alloc: Global,
-        _length: usize,
-        key: K,
-        value: V,
-    ) -> Result<Option<(K, V)>, AllocError> {
-        match sum_with(self.left(), self.owned, bytes_of_pair(&key, &value)) {
-            Some(sum) => {
-                self.owned = sum;
-                Ok(Some((key, value)))
-            }
-            None => Ok(None),
-        }
-    }
-
-    #[inline]
-    fn on_replace(
-        &mut self,
-        _length: usize,
-        old_key: &mut K,
-        _new_key: K,
-        old_value: &mut V,
-        new_value: &mut V,
-    ) -> bool {
-        let others = self
-            .owned
-            .saturating_sub(bytes_of_pair(&*old_key, &*old_value));
-        match sum_with(self.left(), others, bytes_of_pair(&*old_key, &*new_value)) {
-            Some(sum) => {
-                self.owned = sum;
-                true
-            }
-            None => false,
-        }
-    }
-
-    ghost laws = { offers_of-lawful (bytes_terms (both_own K.owned V.owned)) K.eq K.Eq.laws };
-}
-
-impl<K: OwnedBytes + Eq + Hash + Drop, V: OwnedBytes + Drop> Summing<K, V, K> for ByBytes {
+impl<K: OwnedBytes, V: OwnedBytes> Summing<K, V> for ByBytes {
     ghost cost_of = { both_own K.owned V.owned };
 
     ghost account = { λ b. b.owned };
@@ -240,7 +192,7 @@ impl<K: OwnedBytes + Eq + Hash + Drop, V: OwnedBytes + Drop> Summing<K, V, K> fo
     ghost laws = { bytes-sums (both_own K.owned V.owned) };
 }
 
-impl<K: OwnedBytes + Eq + Hash + Drop, V: OwnedBytes + Drop> Admission<K, V> for ByBytes {
+impl<K: OwnedBytes, V: OwnedBytes> Admission<K, V> for ByBytes {
     ghost terms = { bytes_terms (both_own K.owned V.owned) };
 
     #[inline]
@@ -249,9 +201,13 @@ impl<K: OwnedBytes + Eq + Hash + Drop, V: OwnedBytes + Drop> Admission<K, V> for
     }
 
     #[inline]
-    fn on_stored(&mut self, _length: usize, key: &K, value: &V) {
-        if let Some(sum) = sum_with(self.left(), self.owned, bytes_of_pair(key, value)) {
-            self.owned = sum;
+    fn admit(&mut self, _length: usize, key: &K, value: &V) -> bool {
+        match sum_with(self.left(), self.owned, bytes_of_pair(key, value)) {
+            Some(sum) => {
+                self.owned = sum;
+                true
+            }
+            None => false,
         }
     }
 
@@ -262,12 +218,14 @@ impl<K: OwnedBytes + Eq + Hash + Drop, V: OwnedBytes + Drop> Admission<K, V> for
     }
 
     #[inline]
-    fn on_replaced(&mut self, _length: usize, key: &K, old_value: &V, new_value: &V) {
+    fn admit_in_place(&mut self, _length: usize, key: &K, old_value: &V, new_value: &V) -> bool {
         let others = self.owned.saturating_sub(bytes_of_pair(key, old_value));
-        if let Some(sum) = sum_with(self.left(), others, bytes_of_pair(key, new_value)) {
-            self.owned = sum;
+        match sum_with(self.left(), others, bytes_of_pair(key, new_value)) {
+            Some(sum) => {
+                self.owned = sum;
+                true
+            }
+            None => false,
         }
     }
-
-    ghost laws = { offers_of-terms (bytes_terms (both_own K.owned V.owned)) };
 }

@@ -1,15 +1,11 @@
 //! The limiter by the sum of the costs of the values.
 ghost use Rattle.std.specs.Prelude.{◌≡◌};
-ghost use Rattle.lru_limits.specs.Budget.{can_add, by_cost, charges, charges-lawful, charges-sums, budget_terms};
-ghost use Rattle.lru_limits.specs.Budget.{weighs-terms};
+ghost use Rattle.lru_limits.specs.Budget.{can_add, by_cost, charges-sums, budget_terms};
 ghost use Rattle.lru_limits.specs.Budgeted.{weighs-budgeted};
 
 use crate::accounts::{Budgeted, Costed, Summing, sum_with};
 use crate::admission::Admission;
-use crate::keys::LookupKey;
-use crate::limiter::{Insertion, Limiter};
-use std::alloc::{AllocError, Global};
-use std::hash::Hash;
+use crate::limiter::Limiter;
 use std::marker::Model;
 
 /// Limits the sum of the costs of the values. A contract sees it as its limit and that sum.
@@ -19,8 +15,7 @@ use std::marker::Model;
 ///
 /// ```
 /// let mut limiter = ByCost::new(3);
-/// assert!(rt; limiter.on_insert(alloc, 0, 1u64, 2u64)?.is_some());
-/// assert!(rt; limiter.on_insert(alloc, 1, 2u64, 4u64)?.is_none());
+/// assert!(rt; limiter.admit(0, &1u64, &2u64) && !limiter.admit(1, &2u64, &4u64));
 /// assert_eq!(rt; limiter.cost(), 2);
 /// ```
 ///
@@ -119,49 +114,7 @@ impl<K, V: Costed> Limiter<K, V> for ByCost {
     }
 }
 
-impl<K: Eq + Hash + Drop, V: Costed + Drop> Insertion<K, V, K> for ByCost {
-    ghost offers = { charges V.cost };
-
-    #[inline]
-    fn on_insert(
-        &mut self,
-        _alloc: Global,
-        _length: usize,
-        key: K,
-        value: V,
-    ) -> Result<Option<(K, V)>, AllocError> {
-        match sum_with(self.limit, self.cost, value.cost()) {
-            Some(sum) => {
-                self.cost = sum;
-                Ok(Some((key, value)))
-            }
-            None => Ok(None),
-        }
-    }
-
-    #[inline]
-    fn on_replace(
-        &mut self,
-        _length: usize,
-        _old_key: &mut K,
-        _new_key: K,
-        old_value: &mut V,
-        new_value: &mut V,
-    ) -> bool {
-        let without_old = self.cost.saturating_sub(old_value.cost());
-        match sum_with(self.limit, without_old, new_value.cost()) {
-            Some(sum) => {
-                self.cost = sum;
-                true
-            }
-            None => false,
-        }
-    }
-
-    ghost laws = { charges-lawful K.eq K.Eq.laws V.cost };
-}
-
-impl<K: Eq + Hash + Drop, V: Costed + Drop> Summing<K, V, K> for ByCost {
+impl<K, V: Costed> Summing<K, V> for ByCost {
     ghost cost_of = { λ _ v. V.cost v };
 
     ghost account = { λ b. b.cost };
@@ -179,7 +132,7 @@ impl<K: Eq + Hash + Drop, V: Costed + Drop> Summing<K, V, K> for ByCost {
     ghost laws = { charges-sums V.cost };
 }
 
-impl<K: Eq + Hash + Drop, V: Costed + Drop> Admission<K, V> for ByCost {
+impl<K, V: Costed> Admission<K, V> for ByCost {
     ghost terms = { budget_terms (λ _ v. V.cost v) };
 
     #[inline]
@@ -188,9 +141,13 @@ impl<K: Eq + Hash + Drop, V: Costed + Drop> Admission<K, V> for ByCost {
     }
 
     #[inline]
-    fn on_stored(&mut self, _length: usize, _key: &K, value: &V) {
-        if let Some(sum) = sum_with(self.limit, self.cost, value.cost()) {
-            self.cost = sum;
+    fn admit(&mut self, _length: usize, _key: &K, value: &V) -> bool {
+        match sum_with(self.limit, self.cost, value.cost()) {
+            Some(sum) => {
+                self.cost = sum;
+                true
+            }
+            None => false,
         }
     }
 
@@ -201,17 +158,19 @@ impl<K: Eq + Hash + Drop, V: Costed + Drop> Admission<K, V> for ByCost {
     }
 
     #[inline]
-    fn on_replaced(&mut self, _length: usize, _key: &K, old_value: &V, new_value: &V) {
+    fn admit_in_place(&mut self, _length: usize, _key: &K, old_value: &V, new_value: &V) -> bool {
         let without_old = self.cost.saturating_sub(old_value.cost());
-        if let Some(sum) = sum_with(self.limit, without_old, new_value.cost()) {
-            self.cost = sum;
+        match sum_with(self.limit, without_old, new_value.cost()) {
+            Some(sum) => {
+                self.cost = sum;
+                true
+            }
+            None => false,
         }
     }
-
-    ghost laws = { weighs-terms (λ _ v. V.cost v) };
 }
 
-impl<K: Eq + Hash + Drop, V: Costed + Drop> Budgeted<K, V> for ByCost {
+impl<K, V: Costed> Budgeted<K, V> for ByCost {
     ghost budget_of = { λ b. b.limit };
 
     ghost accepts_new = { λ b k v. can_add b.limit b.cost (V.cost v) };

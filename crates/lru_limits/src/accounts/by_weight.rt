@@ -1,15 +1,11 @@
 //! The limiter by the sum of the costs of keys, values and entries.
 ghost use Rattle.std.specs.Prelude.{◌≡◌};
-ghost use Rattle.lru_limits.specs.Budget.{can_add, pair_cost, by_weight, weighs, weighs-lawful, weighs-sums};
-ghost use Rattle.lru_limits.specs.Budget.{budget_terms, weighs-terms};
+ghost use Rattle.lru_limits.specs.Budget.{can_add, pair_cost, by_weight, weighs-sums, budget_terms};
 ghost use Rattle.lru_limits.specs.Budgeted.{weighs-budgeted};
 
 use crate::accounts::{Budgeted, Costed, Summing, sum_with};
 use crate::admission::Admission;
-use crate::keys::LookupKey;
-use crate::limiter::{Insertion, Limiter};
-use std::alloc::{AllocError, Global};
-use std::hash::Hash;
+use crate::limiter::Limiter;
 use std::marker::Model;
 
 /// Limits the sum of the costs of the entries: of each key, of its value, and `OVERHEAD` for the entry itself. A
@@ -19,8 +15,7 @@ use std::marker::Model;
 ///
 /// ```
 /// let mut limiter: ByWeight<16> = ByWeight::new(100);
-/// assert!(rt; limiter.on_insert(alloc, 0, 1u64, 2u64)?.is_some());
-/// assert!(rt; limiter.on_insert(alloc, 1, 80u64, 5u64)?.is_none());
+/// assert!(rt; limiter.admit(0, &1u64, &2u64) && !limiter.admit(1, &80u64, &5u64));
 /// assert_eq!(rt; limiter.cost(), 19);
 /// ```
 ///
@@ -129,53 +124,7 @@ impl<K: Costed, V: Costed, const OVERHEAD: u64> Limiter<K, V> for ByWeight<OVERH
     }
 }
 
-impl<K: Costed + Eq + Hash + Drop, V: Costed + Drop, const OVERHEAD: u64> Insertion<K, V, K>
-    for ByWeight<OVERHEAD> {
-    ghost offers = { weighs (λ k v. pair_cost OVERHEAD (K.cost k) (V.cost v)) };
-
-    #[inline]
-    fn on_insert(
-        &mut self,
-        _alloc: Global,
-        _length: usize,
-        key: K,
-        value: V,
-    ) -> Result<Option<(K, V)>, AllocError> {
-        let cost = cost_of_pair(OVERHEAD, &key, &value);
-        match sum_with(self.limit, self.cost, cost) {
-            Some(sum) => {
-                self.cost = sum;
-                Ok(Some((key, value)))
-            }
-            None => Ok(None),
-        }
-    }
-
-    #[inline]
-    fn on_replace(
-        &mut self,
-        _length: usize,
-        old_key: &mut K,
-        _new_key: K,
-        old_value: &mut V,
-        new_value: &mut V,
-    ) -> bool {
-        let old_cost = cost_of_pair(OVERHEAD, &*old_key, &*old_value);
-        let new_cost = cost_of_pair(OVERHEAD, &*old_key, &*new_value);
-        match sum_with(self.limit, self.cost.saturating_sub(old_cost), new_cost) {
-            Some(sum) => {
-                self.cost = sum;
-                true
-            }
-            None => false,
-        }
-    }
-
-    ghost laws = { weighs-lawful (λ k v. pair_cost OVERHEAD (K.cost k) (V.cost v)) K.eq K.Eq.laws };
-}
-
-impl<K: Costed + Eq + Hash + Drop, V: Costed + Drop, const OVERHEAD: u64> Summing<K, V, K>
-    for ByWeight<OVERHEAD> {
+impl<K: Costed, V: Costed, const OVERHEAD: u64> Summing<K, V> for ByWeight<OVERHEAD> {
     ghost cost_of = { λ k v. pair_cost OVERHEAD (K.cost k) (V.cost v) };
 
     ghost account = { λ b. b.cost };
@@ -193,8 +142,7 @@ impl<K: Costed + Eq + Hash + Drop, V: Costed + Drop, const OVERHEAD: u64> Summin
     ghost laws = { weighs-sums (λ k v. pair_cost OVERHEAD (K.cost k) (V.cost v)) };
 }
 
-impl<K: Costed + Eq + Hash + Drop, V: Costed + Drop, const OVERHEAD: u64> Admission<K, V>
-    for ByWeight<OVERHEAD> {
+impl<K: Costed, V: Costed, const OVERHEAD: u64> Admission<K, V> for ByWeight<OVERHEAD> {
     ghost terms = { budget_terms (λ k v. pair_cost OVERHEAD (K.cost k) (V.cost v)) };
 
     #[inline]
@@ -204,10 +152,13 @@ impl<K: Costed + Eq + Hash + Drop, V: Costed + Drop, const OVERHEAD: u64> Admiss
     }
 
     #[inline]
-    fn on_stored(&mut self, _length: usize, key: &K, value: &V) {
-        let cost = cost_of_pair(OVERHEAD, key, value);
-        if let Some(sum) = sum_with(self.limit, self.cost, cost) {
-            self.cost = sum;
+    fn admit(&mut self, _length: usize, key: &K, value: &V) -> bool {
+        match sum_with(self.limit, self.cost, cost_of_pair(OVERHEAD, key, value)) {
+            Some(sum) => {
+                self.cost = sum;
+                true
+            }
+            None => false,
         }
     }
 
@@ -219,19 +170,20 @@ impl<K: Costed + Eq + Hash + Drop, V: Costed + Drop, const OVERHEAD: u64> Admiss
     }
 
     #[inline]
-    fn on_replaced(&mut self, _length: usize, key: &K, old_value: &V, new_value: &V) {
+    fn admit_in_place(&mut self, _length: usize, key: &K, old_value: &V, new_value: &V) -> bool {
         let old_cost = cost_of_pair(OVERHEAD, key, old_value);
         let new_cost = cost_of_pair(OVERHEAD, key, new_value);
-        if let Some(sum) = sum_with(self.limit, self.cost.saturating_sub(old_cost), new_cost) {
-            self.cost = sum;
+        match sum_with(self.limit, self.cost.saturating_sub(old_cost), new_cost) {
+            Some(sum) => {
+                self.cost = sum;
+                true
+            }
+            None => false,
         }
     }
-
-    ghost laws = { weighs-terms (λ k v. pair_cost OVERHEAD (K.cost k) (V.cost v)) };
 }
 
-impl<K: Costed + Eq + Hash + Drop, V: Costed + Drop, const OVERHEAD: u64> Budgeted<K, V>
-    for ByWeight<OVERHEAD> {
+impl<K: Costed, V: Costed, const OVERHEAD: u64> Budgeted<K, V> for ByWeight<OVERHEAD> {
     ghost budget_of = { λ b. b.limit };
 
     ghost accepts_new = { λ b k v. can_add b.limit b.cost (pair_cost OVERHEAD (K.cost k) (V.cost v)) };

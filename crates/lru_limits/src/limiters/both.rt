@@ -1,13 +1,9 @@
 //! Two limiters for one map.
-ghost use Rattle.lru_limits.specs.Admissions.{offers_of, offers_of-terms, offers_of-lawful};
 ghost use Rattle.lru_limits.specs.Both.{both_rules, both_terms, both-sums};
 
 use crate::accounts::Summing;
 use crate::admission::Admission;
-use crate::keys::LookupKey;
-use crate::limiter::{Insertion, Limiter};
-use std::alloc::{AllocError, Global};
-use std::hash::Hash;
+use crate::limiter::Limiter;
 
 /// Limits a map by two limiters.
 ///
@@ -21,8 +17,8 @@ use std::hash::Hash;
 /// ```
 /// let mut limiter = Both(ByCost::new(9), ByLength::new(3));
 /// assert!(rt; Limiter::<u64, u64>::is_over_the_limit(&limiter, 4));
-/// assert!(rt; limiter.on_insert(alloc, 0, 1u64, 10u64)?.is_none() && limiter.0.cost() == 0);
-/// assert!(rt; limiter.on_insert(alloc, 0, 1u64, 8u64)?.is_some() && limiter.0.cost() == 8);
+/// assert!(rt; !limiter.admit(0, &1u64, &10u64) && limiter.0.cost() == 0);
+/// assert!(rt; limiter.admit(0, &1u64, &8u64) && limiter.0.cost() == 8);
 /// ```
 ///
 /// Cost: each callback calls at most two callbacks of each limiter, and takes no memory of its own.
@@ -59,56 +55,7 @@ impl<K, V, A: Limiter<K, V>, B: Limiter<K, V>> Limiter<K, V> for Both<A, B> {
     }
 }
 
-impl<K: Eq + Hash + Drop, V: Drop, A: Admission<K, V>, B: Admission<K, V>> Insertion<K, V, K>
-    for Both<A, B> {
-    ghost offers = { offers_of (both_terms A.terms B.terms) };
-
-    #[inline]
-    fn on_insert(
-        &mut self,
-        _alloc: Global,
-        length: usize,
-        key: K,
-        value: V,
-    ) -> Result<Option<(K, V)>, AllocError> {
-        if self.0.accepts(length, &key, &value) && self.1.accepts(length, &key, &value) {
-            self.0.on_stored(length, &key, &value);
-            self.1.on_stored(length, &key, &value);
-            Ok(Some((key, value)))
-        } else {
-            Ok(None)
-        }
-    }
-
-    #[inline]
-    fn on_replace(
-        &mut self,
-        length: usize,
-        old_key: &mut K,
-        _new_key: K,
-        old_value: &mut V,
-        new_value: &mut V,
-    ) -> bool {
-        let is_accepted = self
-            .0
-            .accepts_in_place(length, &*old_key, &*old_value, &*new_value)
-            && self
-                .1
-                .accepts_in_place(length, &*old_key, &*old_value, &*new_value);
-        if is_accepted {
-            self.0
-                .on_replaced(length, &*old_key, &*old_value, &*new_value);
-            self.1
-                .on_replaced(length, &*old_key, &*old_value, &*new_value);
-        }
-        is_accepted
-    }
-
-    ghost laws = { offers_of-lawful (both_terms A.terms B.terms) K.eq K.Eq.laws };
-}
-
-impl<K: Eq + Hash + Drop, V: Drop, A: Admission<K, V>, B: Admission<K, V>> Admission<K, V>
-    for Both<A, B> {
+impl<K, V, A: Admission<K, V>, B: Admission<K, V>> Admission<K, V> for Both<A, B> {
     ghost terms = { both_terms A.terms B.terms };
 
     #[inline]
@@ -117,11 +64,13 @@ impl<K: Eq + Hash + Drop, V: Drop, A: Admission<K, V>, B: Admission<K, V>> Admis
     }
 
     #[inline]
-    fn on_stored(&mut self, length: usize, key: &K, value: &V) {
-        if self.0.accepts(length, key, value) && self.1.accepts(length, key, value) {
-            self.0.on_stored(length, key, value);
-            self.1.on_stored(length, key, value);
+    fn admit(&mut self, length: usize, key: &K, value: &V) -> bool {
+        let is_accepted = self.accepts(length, key, value);
+        if is_accepted {
+            self.0.admit(length, key, value);
+            self.1.admit(length, key, value);
         }
+        is_accepted
     }
 
     #[inline]
@@ -131,24 +80,17 @@ impl<K: Eq + Hash + Drop, V: Drop, A: Admission<K, V>, B: Admission<K, V>> Admis
     }
 
     #[inline]
-    fn on_replaced(&mut self, length: usize, key: &K, old_value: &V, new_value: &V) {
-        if self.0.accepts_in_place(length, key, old_value, new_value)
-            && self.1.accepts_in_place(length, key, old_value, new_value)
-        {
-            self.0.on_replaced(length, key, old_value, new_value);
-            self.1.on_replaced(length, key, old_value, new_value);
+    fn admit_in_place(&mut self, length: usize, key: &K, old_value: &V, new_value: &V) -> bool {
+        let is_accepted = self.accepts_in_place(length, key, old_value, new_value);
+        if is_accepted {
+            self.0.admit_in_place(length, key, old_value, new_value);
+            self.1.admit_in_place(length, key, old_value, new_value);
         }
+        is_accepted
     }
-
-    ghost laws = { offers_of-terms (both_terms A.terms B.terms) };
 }
 
-impl<
-    K: Eq + Hash + Drop,
-    V: Drop,
-    A: Admission<K, V> + Summing<K, V, K>,
-    B: Admission<K, V>,
-> Summing<K, V, K> for Both<A, B> {
+impl<K, V, A: Summing<K, V>, B: Admission<K, V>> Summing<K, V> for Both<A, B> {
     ghost cost_of = { A.cost_of };
 
     ghost account = { λ s. A.account s.0 };
@@ -163,5 +105,5 @@ impl<
         self.0.account()
     }
 
-    ghost laws = { both-sums A.Summing.laws A.Admission.laws B.rules B.terms };
+    ghost laws = { both-sums A.Summing.laws B.rules B.terms };
 }

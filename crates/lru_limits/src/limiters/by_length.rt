@@ -1,13 +1,9 @@
 //! The limiter by the number of entries.
-ghost use Rattle.std.specs.Prelude.{◌≡◌, nat_lt};
-ghost use Rattle.lru_limits.specs.Admissions.{never_changes, offers_if-terms, offers_if-lawful};
-ghost use Rattle.lru_limits.specs.Limiters.{length_rules, length_offers};
+ghost use Rattle.std.specs.Prelude.{◌≡◌};
+ghost use Rattle.lru_limits.specs.Limiters.{length_rules, length_terms};
 
 use crate::admission::Admission;
-use crate::keys::LookupKey;
-use crate::limiter::{Insertion, Limiter};
-use std::alloc::{AllocError, Global};
-use std::hash::Hash;
+use crate::limiter::Limiter;
 use std::marker::Model;
 
 /// Limits the number of entries. A contract sees it as that number.
@@ -94,43 +90,8 @@ impl<K, V> Limiter<K, V> for ByLength {
     }
 }
 
-impl<K: Eq + Hash + Drop, V: Drop> Insertion<K, V, K> for ByLength {
-    ghost offers = { length_offers };
-
-    // Forced inline: the caller then branches, instead of selecting between `Some` and `None`, and takes the pair as it
-    // came.
-    #[inline(always)]
-    fn on_insert(
-        &mut self,
-        _alloc: Global,
-        _length: usize,
-        key: K,
-        value: V,
-    ) -> Result<Option<(K, V)>, AllocError> {
-        if self.max_length > 0 {
-            Ok(Some((key, value)))
-        } else {
-            Ok(None)
-        }
-    }
-
-    #[inline]
-    fn on_replace(
-        &mut self,
-        _length: usize,
-        _old_key: &mut K,
-        _new_key: K,
-        _old_value: &mut V,
-        _new_value: &mut V,
-    ) -> bool {
-        true
-    }
-
-    ghost laws = { offers_if-lawful K.eq K.Eq.laws };
-}
-
-impl<K: Eq + Hash + Drop, V: Drop> Admission<K, V> for ByLength {
-    ghost terms = { never_changes (λ most _ _. nat_lt 0 most) };
+impl<K, V> Admission<K, V> for ByLength {
+    ghost terms = { length_terms };
 
     #[inline]
     fn accepts(&self, _length: usize, _key: &K, _value: &V) -> bool {
@@ -138,7 +99,9 @@ impl<K: Eq + Hash + Drop, V: Drop> Admission<K, V> for ByLength {
     }
 
     #[inline]
-    fn on_stored(&mut self, _length: usize, _key: &K, _value: &V) {}
+    fn admit(&mut self, _length: usize, _key: &K, _value: &V) -> bool {
+        self.max_length > 0
+    }
 
     #[inline]
     fn accepts_in_place(&self, _length: usize, _key: &K, _old_value: &V, _new_value: &V) -> bool {
@@ -146,7 +109,7 @@ impl<K: Eq + Hash + Drop, V: Drop> Admission<K, V> for ByLength {
     }
 
     #[inline]
-    fn on_replaced(&mut self, _length: usize, _key: &K, _old_value: &V, _new_value: &V) {}
-
-    ghost laws = { offers_if-terms (λ most _ _. nat_lt 0 most) };
+    fn admit_in_place(&mut self, _length: usize, _key: &K, _old_value: &V, _new_value: &V) -> bool {
+        true
+    }
 }

@@ -1,13 +1,9 @@
 //! The limiter by the size of the table.
-ghost use Rattle.std.specs.Prelude.{◌≡◌, true};
-ghost use Rattle.lru_limits.specs.Admissions.{never_changes, offers_if-terms, offers_if-lawful};
-ghost use Rattle.lru_limits.specs.Limiters.{memory_rules, all_offers};
+ghost use Rattle.std.specs.Prelude.{◌≡◌};
+ghost use Rattle.lru_limits.specs.Limiters.{memory_rules, all_terms};
 
 use crate::admission::Admission;
-use crate::keys::LookupKey;
-use crate::limiter::{Insertion, Limiter};
-use std::alloc::{AllocError, Global};
-use std::hash::Hash;
+use crate::limiter::Limiter;
 use std::marker::Model;
 
 /// Limits the bytes of the table. A contract sees it as that number.
@@ -92,37 +88,8 @@ impl<K, V> Limiter<K, V> for ByMemoryUsage {
     }
 }
 
-impl<K: Eq + Hash + Drop, V> Insertion<K, V, K> for ByMemoryUsage {
-    ghost offers = { all_offers };
-
-    #[inline]
-    fn on_insert(
-        &mut self,
-        _alloc: Global,
-        _length: usize,
-        key: K,
-        value: V,
-    ) -> Result<Option<(K, V)>, AllocError> {
-        Ok(Some((key, value)))
-    }
-
-    #[inline]
-    fn on_replace(
-        &mut self,
-        _length: usize,
-        _old_key: &mut K,
-        _new_key: K,
-        _old_value: &mut V,
-        _new_value: &mut V,
-    ) -> bool {
-        true
-    }
-
-    ghost laws = { offers_if-lawful K.eq K.Eq.laws };
-}
-
-impl<K: Eq + Hash + Drop, V> Admission<K, V> for ByMemoryUsage {
-    ghost terms = { never_changes (λ _ _ _. true) };
+impl<K, V> Admission<K, V> for ByMemoryUsage {
+    ghost terms = { all_terms };
 
     #[inline]
     fn accepts(&self, _length: usize, _key: &K, _value: &V) -> bool {
@@ -130,7 +97,9 @@ impl<K: Eq + Hash + Drop, V> Admission<K, V> for ByMemoryUsage {
     }
 
     #[inline]
-    fn on_stored(&mut self, _length: usize, _key: &K, _value: &V) {}
+    fn admit(&mut self, _length: usize, _key: &K, _value: &V) -> bool {
+        true
+    }
 
     #[inline]
     fn accepts_in_place(&self, _length: usize, _key: &K, _old_value: &V, _new_value: &V) -> bool {
@@ -138,7 +107,7 @@ impl<K: Eq + Hash + Drop, V> Admission<K, V> for ByMemoryUsage {
     }
 
     #[inline]
-    fn on_replaced(&mut self, _length: usize, _key: &K, _old_value: &V, _new_value: &V) {}
-
-    ghost laws = { offers_if-terms (λ _ _ _. true) };
+    fn admit_in_place(&mut self, _length: usize, _key: &K, _old_value: &V, _new_value: &V) -> bool {
+        true
+    }
 }

@@ -1,19 +1,14 @@
 //! An adapter for limiters that store each entry as it comes.
-ghost use Rattle.std.specs.Prelude.{true};
-ghost use Rattle.lru_limits.specs.Admissions.{never_changes, offers_if-terms, offers_if-lawful};
-ghost use Rattle.lru_limits.specs.Limiters.{all_offers};
+ghost use Rattle.lru_limits.specs.Limiters.{all_terms};
 ghost use Rattle.lru_limits.specs.Stores.{rules_at};
 
 use crate::admission::Admission;
-use crate::keys::LookupKey;
-use crate::limiter::{Insertion, Limiter};
-use std::alloc::{AllocError, Global};
-use std::hash::Hash;
+use crate::limiter::Limiter;
 
 /// Turns a limiter into one that stores each entry as it comes, and accepts every new value of a stored key.
 ///
 /// Implement [`Limiter`] for your own type, and put it into a map as `Storing(limiter)`: `Storing` implements
-/// [`Insertion`] for it. `map.limiter().0` is your limiter.
+/// [`Admission`] for it. `map.limiter().0` is your limiter.
 ///
 /// ```
 /// let limiter = Storing(ByLength::new(3));
@@ -48,37 +43,8 @@ impl<K, V, L: Limiter<K, V>> Limiter<K, V> for Storing<L> {
     }
 }
 
-impl<K: Eq + Hash + Drop, V, L: Limiter<K, V>> Insertion<K, V, K> for Storing<L> {
-    ghost offers = { all_offers };
-
-    #[inline]
-    fn on_insert(
-        &mut self,
-        _alloc: Global,
-        _length: usize,
-        key: K,
-        value: V,
-    ) -> Result<Option<(K, V)>, AllocError> {
-        Ok(Some((key, value)))
-    }
-
-    #[inline]
-    fn on_replace(
-        &mut self,
-        _length: usize,
-        _old_key: &mut K,
-        _new_key: K,
-        _old_value: &mut V,
-        _new_value: &mut V,
-    ) -> bool {
-        true
-    }
-
-    ghost laws = { offers_if-lawful K.eq K.Eq.laws };
-}
-
-impl<K: Eq + Hash + Drop, V, L: Limiter<K, V>> Admission<K, V> for Storing<L> {
-    ghost terms = { never_changes (λ _ _ _. true) };
+impl<K, V, L: Limiter<K, V>> Admission<K, V> for Storing<L> {
+    ghost terms = { all_terms };
 
     #[inline]
     fn accepts(&self, _length: usize, _key: &K, _value: &V) -> bool {
@@ -86,7 +52,9 @@ impl<K: Eq + Hash + Drop, V, L: Limiter<K, V>> Admission<K, V> for Storing<L> {
     }
 
     #[inline]
-    fn on_stored(&mut self, _length: usize, _key: &K, _value: &V) {}
+    fn admit(&mut self, _length: usize, _key: &K, _value: &V) -> bool {
+        true
+    }
 
     #[inline]
     fn accepts_in_place(&self, _length: usize, _key: &K, _old_value: &V, _new_value: &V) -> bool {
@@ -94,7 +62,7 @@ impl<K: Eq + Hash + Drop, V, L: Limiter<K, V>> Admission<K, V> for Storing<L> {
     }
 
     #[inline]
-    fn on_replaced(&mut self, _length: usize, _key: &K, _old_value: &V, _new_value: &V) {}
-
-    ghost laws = { offers_if-terms (λ _ _ _. true) };
+    fn admit_in_place(&mut self, _length: usize, _key: &K, _old_value: &V, _new_value: &V) -> bool {
+        true
+    }
 }

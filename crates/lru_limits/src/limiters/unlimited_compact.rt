@@ -1,13 +1,8 @@
 //! The limiter that limits nothing, with links of 32 bits.
-ghost use Rattle.std.specs.Prelude.{true};
-ghost use Rattle.lru_limits.specs.Admissions.{never_changes, offers_if-terms, offers_if-lawful};
-ghost use Rattle.lru_limits.specs.Limiters.{no_rules, all_offers};
+ghost use Rattle.lru_limits.specs.Limiters.{no_rules, all_terms};
 
 use crate::admission::Admission;
-use crate::keys::LookupKey;
-use crate::limiter::{Insertion, Limiter};
-use std::alloc::{AllocError, Global};
-use std::hash::Hash;
+use crate::limiter::Limiter;
 
 /// Limits nothing except by its links of 32 bits: at most 1,879,048,192 entries. Its buckets are smaller than under
 /// `Unlimited`.
@@ -40,37 +35,8 @@ impl<K, V> Limiter<K, V> for UnlimitedCompact {
     }
 }
 
-impl<K: Eq + Hash + Drop, V> Insertion<K, V, K> for UnlimitedCompact {
-    ghost offers = { all_offers };
-
-    #[inline]
-    fn on_insert(
-        &mut self,
-        _alloc: Global,
-        _length: usize,
-        key: K,
-        value: V,
-    ) -> Result<Option<(K, V)>, AllocError> {
-        Ok(Some((key, value)))
-    }
-
-    #[inline]
-    fn on_replace(
-        &mut self,
-        _length: usize,
-        _old_key: &mut K,
-        _new_key: K,
-        _old_value: &mut V,
-        _new_value: &mut V,
-    ) -> bool {
-        true
-    }
-
-    ghost laws = { offers_if-lawful K.eq K.Eq.laws };
-}
-
-impl<K: Eq + Hash + Drop, V> Admission<K, V> for UnlimitedCompact {
-    ghost terms = { never_changes (λ _ _ _. true) };
+impl<K, V> Admission<K, V> for UnlimitedCompact {
+    ghost terms = { all_terms };
 
     #[inline]
     fn accepts(&self, _length: usize, _key: &K, _value: &V) -> bool {
@@ -78,7 +44,9 @@ impl<K: Eq + Hash + Drop, V> Admission<K, V> for UnlimitedCompact {
     }
 
     #[inline]
-    fn on_stored(&mut self, _length: usize, _key: &K, _value: &V) {}
+    fn admit(&mut self, _length: usize, _key: &K, _value: &V) -> bool {
+        true
+    }
 
     #[inline]
     fn accepts_in_place(&self, _length: usize, _key: &K, _old_value: &V, _new_value: &V) -> bool {
@@ -86,7 +54,7 @@ impl<K: Eq + Hash + Drop, V> Admission<K, V> for UnlimitedCompact {
     }
 
     #[inline]
-    fn on_replaced(&mut self, _length: usize, _key: &K, _old_value: &V, _new_value: &V) {}
-
-    ghost laws = { offers_if-terms (λ _ _ _. true) };
+    fn admit_in_place(&mut self, _length: usize, _key: &K, _old_value: &V, _new_value: &V) -> bool {
+        true
+    }
 }

@@ -7,8 +7,8 @@ use Rattle.std.proofs.Common.{ap, ◌∙◌, subst, arith}
 use Rattle.std.specs.Prelude.{not, if◌then◌else◌, OnOk, OnErr, IfErr}
 use Rattle.std.proofs.lemmas.Bool.{false≢true}
 use Rattle.std.specs.declared.alloc.AllocError.{AllocError}
-use Rattle.lru_limits.specs.Rules.{Rules, Offers}
-use Rattle.lru_limits.specs.Admissions.{Terms, IsAdmission}
+use Rattle.lru_limits.specs.Rules.{Rules}
+use Rattle.lru_limits.specs.Admissions.{Terms, offers_of}
 use Rattle.lru_model.specs.Lists.{lookup_entry}
 use Rattle.lru_model.specs.State.{State, Contents, contents, room, IsSized}
 use Rattle.lru_model.specs.Reservations.{Reserve, unchanged, rehashed, reserved as grown, asked_only}
@@ -20,47 +20,40 @@ use Rattle.lru_model.specs.TryInserts.{can_store, IsReady, has_growth, reserved,
 use Rattle.lru_model.specs.TryInserts.{TryInsert, there, cannot_store, unready, inserted}
 use Rattle.lru_model.proofs.Theorems.Reservations.{reserved_list, makes_room}
 use Rattle.lru_model.proofs.Theorems.RoomyInserts.{is_added}
+use Rattle.lru_model.proofs.Theorems.StoringLimiters.{offers_of-accepts}
 
 both : (b d : Bool) → (if b then not d else false) ≡ true → (b ≡ true) × (d ≡ false)
 both true false e = (refl, refl)
 both true true e = absurd (false≢true e)
 both false d e = absurd (false≢true e)
 
-module _ {K V S : Type 0} (terms : Terms K V S) (rules : Rules K V S) (offers : Offers K V S K) (eq : K → K → Bool)
-    (law : IsAdmission terms offers) (key : K) (value : V) where
+module _ {K V S : Type 0} (terms : Terms K V S) (rules : Rules K V S) (eq : K → K → Bool) (key : K) (value : V) where
   pub accepts_new : (c : Contents K V S) → can_store terms rules key value c ≡ true
-      → AcceptsNew rules offers eq key value c (key, value)
+      → AcceptsNew rules (offers_of terms) eq key value c (key, value)
   accepts_new c place =
       let n = length c.pairs in
       let yes = both (terms.accepts c.limiter n key value)
-      (rules.is_over_the_limit (terms.on_stored c.limiter n key value) (n + 1)) place in
-      record {
-        finds = law.never_runs_out c.limiter n key value;
-        gives = λ s given h. let stored = law.stores c.limiter n key value s given h in (
-          stored.pair ∙ ap (λ b. if b then Some (key, value) else None) yes.0,
-          ap (λ t. rules.is_over_the_limit t (n + 1)) stored.limiter ∙ yes.1,
-        );
-      }
+      (rules.is_over_the_limit (terms.admit c.limiter n key value) (n + 1)) place in
+      offers_of-accepts terms rules eq key value c yes.0 yes.1
 
   -- what an insert of the pair leaves
   pub record Adds {H : Type 0} (old : State K V S H) (result : Result Bool AllocError) (new : State K V S H)
       : Type 0 where
     pub answer : result ≡ Ok true
     pub pairs : new.pairs ≡ (key, value) ∷ old.pairs
-    pub limiter : new.limiter ≡ terms.on_stored old.limiter (length old.pairs) key value
+    pub limiter : new.limiter ≡ terms.admit old.limiter (length old.pairs) key value
 
   pub adds : {H : Type 0} {hash_of : H → K → ℕ} (old : State K V S H) (result : Result Bool AllocError)
       (new : State K V S H) → can_store terms rules key value (contents old) ≡ true
       → lookup_entry (eq key) old.pairs ≡ None → 0 < room old
-      → Insert rules offers eq hash_of key value old result new → Adds old result new
+      → Insert rules (offers_of terms) eq hash_of key value old result new → Adds old result new
   adds old result new place absent some step =
-      let added = is_added rules offers eq key value (key, value) old result new _ (accepts_new (contents old) place)
+      let added = is_added rules (offers_of terms) eq key value (key, value) old result new _ (accepts_new (contents old) place)
       absent some step in
       record {
         answer = added.answer;
         pairs = added.pairs;
-        limiter = (law.stores old.limiter (length old.pairs) key value new.limiter (Some (key, value))
-            added.limiter).limiter;
+        limiter = added.limiter.limiter;
       }
 
 module _ {K V S H : Type 0} (rules : Rules K V S) (old : State K V S H) where
@@ -83,12 +76,11 @@ module _ {K V S H : Type 0} (rules : Rules K V S) (old : State K V S H) where
   ready_room ready ok (has_growth some e) = rw e some
   ready_room ready ok (reserved none step sized) = makes_room rules 1 old ready ok step
 
-module _ {K V S H : Type 0} (terms : Terms K V S) (rules : Rules K V S) (offers : Offers K V S K) (eq : K → K → Bool)
-    (hash_of : H → K → ℕ) (law : IsAdmission terms offers) (key : K) (value : V) (old : State K V S H)
-    (ok : IsSized old) where
+module _ {K V S H : Type 0} (terms : Terms K V S) (rules : Rules K V S) (eq : K → K → Bool) (hash_of : H → K → ℕ)
+    (key : K) (value : V) (old : State K V S H) (ok : IsSized old) where
   -- what a caller learns of `try_insert`
   pub record Says (result : Result (Unit {0}) (K × V)) (new : State K V S H) : Type 0 where
-    pub calls : Run (Step rules offers eq hash_of) new old
+    pub calls : Run (Step rules (offers_of terms) eq hash_of) new old
     pub added : OnOk result (new.pairs ≡ (key, value) ∷ old.pairs)
     pub within : OnOk result (rules.is_over_the_limit new.limiter (length new.pairs) ≡ false)
     pub returned : IfErr result (λ back. back ≡ (key, value))
@@ -111,31 +103,31 @@ module _ {K V S H : Type 0} (terms : Terms K V S) (rules : Rules K V S) (offers 
 
   adds_after : (ready new : State K V S H) → IsReady rules old ready
       → can_store terms rules key value (contents ready) ≡ true → lookup_entry (eq key) old.pairs ≡ None
-      → Insert rules offers eq hash_of key value ready (Ok true) new → IsSized new → Says (Ok tt) new
+      → Insert rules (offers_of terms) eq hash_of key value ready (Ok true) new → IsSized new → Says (Ok tt) new
   adds_after ready new is place absent step sized =
       let same = ready_pairs rules old ready is in
-      let added = adds terms rules offers eq law key value ready (Ok true) new place
+      let added = adds terms rules eq key value ready (Ok true) new place
       (ap (lookup_entry (eq key)) same ∙ absent) (ready_room rules old ready ok is) step in
       let yes = both (terms.accepts ready.limiter (length ready.pairs) key value) (rules.is_over_the_limit
-      (terms.on_stored ready.limiter (length ready.pairs) key value) (length ready.pairs + 1)) place in
+      (terms.admit ready.limiter (length ready.pairs) key value) (length ready.pairs + 1)) place in
       let more : length new.pairs ≡ length ready.pairs + 1 = omega (arith, ap length added.pairs) in
       record {
         calls = before ready is (goes_on new (inserts key value (Ok true) step) sized ends);
         added = added.pairs ∙ ap (λ pairs. (key, value) ∷ pairs) same;
         within = ap (λ s. rules.is_over_the_limit s (length new.pairs)) added.limiter
-            ∙ ap (rules.is_over_the_limit (terms.on_stored ready.limiter (length ready.pairs) key value)) more ∙ yes.1;
+            ∙ ap (rules.is_over_the_limit (terms.admit ready.limiter (length ready.pairs) key value)) more ∙ yes.1;
         returned = tt;
         keeps = tt;
         unchanged = λ some. tt;
       }
     where
-      before : (ready : State K V S H) → IsReady rules old ready → Run (Step rules offers eq hash_of) new ready
-          → Run (Step rules offers eq hash_of) new old
-      before ready (has_growth some e) run = subst (Run (Step rules offers eq hash_of) new) e run
+      before : (ready : State K V S H) → IsReady rules old ready → Run (Step rules (offers_of terms) eq hash_of) new ready
+          → Run (Step rules (offers_of terms) eq hash_of) new old
+      before ready (has_growth some e) run = subst (Run (Step rules (offers_of terms) eq hash_of) new) e run
       before ready (reserved none step sized) run = goes_on ready (reserves 1 (Ok tt) step) sized run
 
   pub says : (result : Result (Unit {0}) (K × V)) (new : State K V S H) → IsSized new
-      → TryInsert terms rules key value old offers eq hash_of result new → Says result new
+      → TryInsert terms rules key value old eq hash_of result new → Says result new
   says result new sized (there pair found r e) = rw (r, e) stays
   says result new sized (cannot_store absent full r e) = rw (r, e) stays
   says result new sized (unready absent can (not_reserved none error step) r) = rw r

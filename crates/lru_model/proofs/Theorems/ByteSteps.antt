@@ -289,7 +289,7 @@ module _ {K V H : Type 0} (bytes_of : K → V → ℕ) where
 
     pub try_keeps_bytes : (key : K) (value : V) (old : State K V Bytes H) (result : Result (Unit {0}) (K × V))
         (new : State K V Bytes H) → IsSized old → TryInsert (bytes_terms bytes_of) (rules bytes_of) key value old
-        (bytes_offers bytes_of) names hash_of result new → KeepsBytes bytes_of old → KeepsBytes bytes_of new
+        names hash_of result new → KeepsBytes bytes_of old → KeepsBytes bytes_of new
     try_keeps_bytes key value old result new sized (there pair found r e) k = rw e k
     try_keeps_bytes key value old result new sized (cannot_store absent full r e) k = rw e k
     try_keeps_bytes key value old result new sized (unready absent may u r) k = go u

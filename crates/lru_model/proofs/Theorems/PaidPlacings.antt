@@ -4,7 +4,7 @@ use Rattle.std.proofs.lemmas.Map.{length-set_value}
 use Rattle.std.specs.declared.alloc.AllocError.{AllocError}
 use Rattle.group_table.specs.Sizes.{full_capacity}
 use Rattle.lru_limits.specs.Rules.{Rules, Offers}
-use Rattle.lru_limits.specs.Admissions.{Terms}
+use Rattle.lru_limits.specs.Admissions.{Terms, offers_of}
 use Rattle.lru_model.specs.State.{State, buckets, room, potential, IsSized}
 use Rattle.lru_model.specs.Place.{Place, Outcome, placed, refused, no_memory, unstored}
 use Rattle.lru_model.specs.Inserts.{Insert, replaced, not_replaced, no_memory_to_admit, not_admitted, admitted}
@@ -181,10 +181,9 @@ module _ {K V S H : Type 0} where
   }
   shrink_paid old new result ok (no_memory_to_shrink count l some r e) = rw e (paid_self old)
 
-module _ {K V S H : Type 0} {rules : Rules K V S} {offers : Offers K V S K} {eq : K → K → Bool}
-    {hash_of : H → K → ℕ} where
-  any_paid : (old new : State K V S H) → IsSized old → (step : AnyStep rules offers eq hash_of old new)
-      → ReservesIfFull rules offers eq hash_of old new step → PaysForPlacings old new
+module _ {K V S H : Type 0} {terms : Terms K V S} {rules : Rules K V S} {eq : K → K → Bool} {hash_of : H → K → ℕ} where
+  any_paid : (old new : State K V S H) → IsSized old → (step : AnyStep rules (offers_of terms) eq hash_of old new)
+      → ReservesIfFull terms rules eq hash_of old new step → PaysForPlacings old new
   any_paid old new ok (calls (inserts key value result h)) full = (insert_one (bounded_of old ok) h).pays
   any_paid old new ok (calls (makes_newest value key result (got w f r e))) full =
       none_paid (calm_none old new (rw e (pairs_calm rules old _ _ (length-front_pairs (eq key) old.pairs))))
@@ -212,10 +211,8 @@ module _ {K V S H : Type 0} {rules : Rules K V S} {offers : Offers K V S K} {eq 
       none_paid (calm_none old new (rw e (pairs_calm rules old _ _ (length-set_value test old.pairs value))))
   any_paid old new ok (sets_limiter s e) full = none_paid (calm_none old new (rw e (limiter_calm old s)))
 
-module _ {K V S H : Type 0} {terms : Terms K V S} {rules : Rules K V S} {offers : Offers K V S K} {eq : K → K → Bool}
-    {hash_of : H → K → ℕ} where
   pub try_insert_one : (key : K) (value : V) (old new : State K V S H) (result : Result (Unit {0}) (K × V))
-      → IsSized old → TryInsert terms rules key value old offers eq hash_of result new → StoresOne old new
+      → IsSized old → TryInsert terms rules key value old eq hash_of result new → StoresOne old new
   try_insert_one key value old new result ok (there pair found r e) = rw e (none_one (calm_none old old (self_calm old)))
   try_insert_one key value old new result ok (cannot_store a c r e) = rw e (none_one (calm_none old old (self_calm old)))
   try_insert_one key value old new result ok (unready a c (not_reserved full error h) r) =
@@ -223,16 +220,16 @@ module _ {K V S H : Type 0} {terms : Terms K V S} {rules : Rules K V S} {offers 
   try_insert_one key value old new result ok (unready a c (cannot_store_then full h _) r) =
       none_one (reserve_none rules 1 old ok full _ new h)
   try_insert_one key value old new result ok (inserted a c ready (has_growth some e) _ r h) =
-      insert_one (bounded_of old ok) (subst (λ st. Insert rules offers eq hash_of key value st (Ok true) new) e h)
+      insert_one (bounded_of old ok) (subst (λ st. Insert rules (offers_of terms) eq hash_of key value st (Ok true) new) e h)
   try_insert_one key value old new result ok (inserted a c ready (got_growth full h sized) _ r step) =
       none_then (reserve_none rules 1 old ok full _ ready h) (insert_one (bounded_of ready sized) step)
 
-  paid_step : (old new : State K V S H) → IsSized old → PaidStep rules offers eq hash_of terms old new
+  paid_step : (old new : State K V S H) → IsSized old → PaidStep terms rules eq hash_of old new
       → PaysForPlacings old new
   paid_step old new ok (tries key value result h) = (try_insert_one key value old new result ok h).pays
   paid_step old new ok (others step full) = any_paid old new ok step full
 
-  pub paid_run : (new old : State K V S H) → Run (PaidStep rules offers eq hash_of terms) new old → IsSized old
+  pub paid_run : (new old : State K V S H) → Run (PaidStep terms rules eq hash_of) new old → IsSized old
       → PaysForPlacings old new
   paid_run new old ends ok = paid_self new
   paid_run new old (goes_on mid step sized run) ok = paid_trans (paid_step old mid ok step) (paid_run new mid run sized)

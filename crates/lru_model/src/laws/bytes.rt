@@ -31,8 +31,8 @@ pub fn calls_keep_the_bytes<
         KeepsBytes (both_own K.owned V.owned) old → new.limiter.limit ≡ old.limiter.limit }
     ensures tried { (key : K) (value : V) (old : State K V ByBytes S) (result : Result (Unit {0}) (K × V))
         (new : State K V ByBytes S) → IsSized old →
-        TryInsert ⟦<ByBytes as Admission<K, V>>⟧.terms ⟦<ByBytes as Limiter<K, V>>⟧.rules key value old
-        ⟦<ByBytes as Insertion<K, V, K>>⟧.offers K.eq S.hash_of result new →
+        TryInsert ⟦<ByBytes as Admission<K, V>>⟧.terms ⟦<ByBytes as Limiter<K, V>>⟧.rules key value old K.eq
+        S.hash_of result new →
         KeepsBytes (both_own K.owned V.owned) old → KeepsBytes (both_own K.owned V.owned) new }
     ensures memory { (st : State K V ByBytes S) → KeepsBytes (both_own K.owned V.owned) st →
         TakesAtMost (both_own K.owned V.owned) st.limiter.limit st }
@@ -56,10 +56,10 @@ pub fn runs_keep_the_bytes<
 >()
     ensures kept { (old new : State K V ByBytes S) → IsSized old →
         Run (StepOrKeptWrite ⟦<ByBytes as Limiter<K, V>>⟧.rules ⟦<ByBytes as Insertion<K, V, K>>⟧.offers K.eq
-        S.hash_of ⟦<ByBytes as Summing<K, V, K>>⟧.cost_of) new old →
+        S.hash_of ⟦<ByBytes as Summing<K, V>>⟧.cost_of) new old →
         KeepsBytes (both_own K.owned V.owned) old → KeepsBytes (both_own K.owned V.owned) new }
     ensures limit { (old new : State K V ByBytes S) → IsSized old →
         Run (StepOrKeptWrite ⟦<ByBytes as Limiter<K, V>>⟧.rules ⟦<ByBytes as Insertion<K, V, K>>⟧.offers K.eq
-        S.hash_of ⟦<ByBytes as Summing<K, V, K>>⟧.cost_of) new old →
+        S.hash_of ⟦<ByBytes as Summing<K, V>>⟧.cost_of) new old →
         KeepsBytes (both_own K.owned V.owned) old → new.limiter.limit ≡ old.limiter.limit }
 {}

@@ -3,6 +3,8 @@
 
 ghost use Rattle.std.specs.Prelude.{◌≡◌, ℕ, ◌+◌, ◌≤◌, ◌⊎◌, Bool, true, length, Ok};
 ghost use Rattle.std.specs.List.{IsDistinct};
+ghost use Rattle.lru_limits.specs.Admissions.{offers_of};
+ghost use Rattle.lru_limits.specs.Laws.{IsAccount};
 ghost use Rattle.lru_limits.specs.Limits.{LimitsLength, LimitsMemory};
 ghost use Rattle.lru_model.specs.Lists.{keys_of, IsFront};
 ghost use Rattle.lru_model.specs.State.{State, IsSized, IsMap};
@@ -10,7 +12,7 @@ ghost use Rattle.lru_model.specs.Runs.{Step, AnyStep, StepAmong};
 ghost use Rattle.lru_model.specs.Shrinks.{Shrink};
 ghost use Rattle.lru_model.specs.Theorems.{PaysByStoring, PaysForMoves, UsesAtMost, IsSummed, others};
 
-use lru_limits::{Budgeted, Insertion, KeyHasher, LookupKey, Summing};
+use lru_limits::{Budgeted, Insertion, KeyHasher, LookupKey};
 use std::hash::Hash;
 
 /// After each call no two keys are equal (`keys`). If the table is sound after the call, as clause `map` of each call
@@ -24,12 +26,13 @@ pub fn calls_keep_maps<K: Eq + Hash, V, I: LookupKey<K>, L: Insertion<K, V, I>, 
         IsMap K.eq old → IsSized new → IsMap K.eq new }
 {}
 
-/// A limiter's running total that was the sum of the costs is their sum after each call that writes nothing through a
-/// reference.
-pub fn calls_keep_sums<K: Eq + Hash, V, I: LookupKey<K>, L: Summing<K, V, I>, S: KeyHasher<K>>()
-    ensures { (old new : State K V L S) →
+/// A limiter's running total (`IsAccount`), as each `Summing` has one, that was the sum of the costs is their sum after
+/// each call that writes nothing through a reference.
+pub fn calls_keep_sums<K: Eq + Hash, V, I: LookupKey<K>, L: Insertion<K, V, I>, S: KeyHasher<K>>()
+    ensures { (cost : K → V → ℕ) (account : L → ℕ) → IsAccount L.rules L.offers cost account →
+        (old new : State K V L S) →
         Step L.rules L.offers I.names S.hash_of old new →
-        IsSummed L.cost_of L.account old → IsSummed L.cost_of L.account new }
+        IsSummed cost account old → IsSummed cost account new }
 {}
 
 /// Each call pays for what it moves: the count of moved entries and the potential together rise by at most two for each
@@ -76,9 +79,9 @@ pub fn calls_keep_the_memory_usage<K: Eq + Hash, V, L: Insertion<K, V, K>, S: Ke
 /// running total of at most the budget, if that held before and the total was the sum of the costs of the entries.
 pub fn calls_keep_the_budget<K: Eq + Hash, V, L: Budgeted<K, V>, S: KeyHasher<K>>()
     ensures budget { (old new : State K V L S) →
-        Step L.rules L.offers K.eq S.hash_of old new → L.budget_of new.limiter ≡ L.budget_of old.limiter }
+        Step L.rules (offers_of L.terms) K.eq S.hash_of old new → L.budget_of new.limiter ≡ L.budget_of old.limiter }
     ensures total { (old new : State K V L S) →
-        Step L.rules L.offers K.eq S.hash_of old new →
+        Step L.rules (offers_of L.terms) K.eq S.hash_of old new →
         IsSummed L.cost_of L.account old → L.account old.limiter ≤ L.budget_of old.limiter →
         L.account new.limiter ≤ L.budget_of new.limiter }
 {}

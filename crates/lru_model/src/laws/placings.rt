@@ -20,13 +20,13 @@ pub fn try_inserts_pay_for_moves<K: Eq + Hash, V, L: Admission<K, V>, S: KeyHash
     ensures rise { (key : K) (value : V) (old : State K V L S) (result : Result (Unit {0}) (K × V))
         (new : State K V L S) →
         IsSized old →
-        TryInsert L.terms L.rules key value old L.offers K.eq S.hash_of result new →
+        TryInsert L.terms L.rules key value old K.eq S.hash_of result new →
         new.counts.placings + potential new ≤ old.counts.placings + potential old + 3 }
     ensures stored { (key : K) (value : V) (old : State K V L S) (result : Result (Unit {0}) (K × V))
         (new : State K V L S) →
         IsSized old →
-        TryInsert L.terms L.rules key value old L.offers K.eq S.hash_of result new → PaysForPlacings old new }
+        TryInsert L.terms L.rules key value old K.eq S.hash_of result new → PaysForPlacings old new }
     ensures runs { (old new : State K V L S) →
-        Run (PaidStep L.rules L.offers K.eq S.hash_of L.terms) new old →
+        Run (PaidStep L.terms L.rules K.eq S.hash_of) new old →
         IsSized old → PaysForPlacings old new }
 {}

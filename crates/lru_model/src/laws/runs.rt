@@ -1,6 +1,8 @@
 //! What is proved of runs, which are calls one after another.
 
 ghost use Rattle.std.specs.Prelude.{◌≡◌, ℕ, ◌≤◌, Bool, length};
+ghost use Rattle.lru_limits.specs.Admissions.{offers_of};
+ghost use Rattle.lru_limits.specs.Laws.{IsAccount};
 ghost use Rattle.lru_limits.specs.Limits.{LimitsLength, LimitsMemory};
 ghost use Rattle.lru_model.specs.Lists.{IsFront};
 ghost use Rattle.lru_model.specs.State.{State, IsSized, IsMap, empty_map};
@@ -8,7 +10,7 @@ ghost use Rattle.lru_model.specs.Runs.{StepOrWrite, StepOrKeptWrite, AnyStep, St
 ghost use Rattle.lru_model.specs.RunEvictions.{EachStep, InsertEvictsOldest};
 ghost use Rattle.lru_model.specs.Theorems.{PaysForMoves, UsesAtMost, IsSummed, others};
 
-use lru_limits::{Budgeted, Insertion, KeyHasher, Limiter, LookupKey, Summing};
+use lru_limits::{Budgeted, Insertion, KeyHasher, Limiter, LookupKey};
 use std::hash::Hash;
 
 /// After any calls, whatever is written through the references that they lend, no two keys are equal, and inserts moved
@@ -22,10 +24,11 @@ pub fn runs_keep_maps<K: Eq + Hash, V, I: LookupKey<K>, L: Insertion<K, V, I>, S
 
 /// A limiter's running total that was the sum of the costs is their sum after any calls, and any writes of values that
 /// cost what the values before them cost.
-pub fn runs_keep_sums<K: Eq + Hash, V, I: LookupKey<K>, L: Summing<K, V, I>, S: KeyHasher<K>>()
-    ensures sum { (old new : State K V L S) →
-        Run (StepOrKeptWrite L.rules L.offers I.names S.hash_of L.cost_of) new old →
-        IsSummed L.cost_of L.account old → IsSummed L.cost_of L.account new }
+pub fn runs_keep_sums<K: Eq + Hash, V, I: LookupKey<K>, L: Insertion<K, V, I>, S: KeyHasher<K>>()
+    ensures sum { (cost : K → V → ℕ) (account : L → ℕ) → IsAccount L.rules L.offers cost account →
+        (old new : State K V L S) →
+        Run (StepOrKeptWrite L.rules L.offers I.names S.hash_of cost) new old →
+        IsSummed cost account old → IsSummed cost account new }
 {}
 
 /// Over any calls the count of moved entries and the potential together rise by at most two for each entry that inserts
@@ -96,11 +99,11 @@ pub fn runs_keep_the_memory_usage<K: Eq + Hash, V, L: Insertion<K, V, K>, S: Key
 /// entries. The budget stays as it is, whatever is written.
 pub fn runs_keep_the_budget<K: Eq + Hash, V, L: Budgeted<K, V>, S: KeyHasher<K>>()
     ensures total { (old new : State K V L S) →
-        Run (StepOrKeptWrite L.rules L.offers K.eq S.hash_of L.cost_of) new old →
+        Run (StepOrKeptWrite L.rules (offers_of L.terms) K.eq S.hash_of L.cost_of) new old →
         IsSummed L.cost_of L.account old → L.account old.limiter ≤ L.budget_of old.limiter →
         L.account new.limiter ≤ L.budget_of new.limiter }
     ensures budget { (old new : State K V L S) →
-        Run (StepOrWrite L.rules L.offers K.eq S.hash_of) new old → L.budget_of new.limiter ≡ L.budget_of old.limiter }
+        Run (StepOrWrite L.rules (offers_of L.terms) K.eq S.hash_of) new old → L.budget_of new.limiter ≡ L.budget_of old.limiter }
 {}
 
 /// A new map, which contains no entries and no buckets, satisfies `IsMap`, the premise of `runs_keep_maps`.

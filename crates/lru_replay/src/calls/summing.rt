@@ -1,6 +1,7 @@
 //! Lists of calls under a limiter with a running total.
 ghost use Rattle.std.specs.Prelude.{◌≡◌, IfOk, true, false};
 ghost use Rattle.std.specs.Result.{OnErr};
+ghost use Rattle.lru_limits.specs.Admissions.{offers_of};
 ghost use Rattle.lru_model.specs.State.{contents, IsMap};
 ghost use Rattle.lru_model.specs.Theorems.{IsSummed};
 ghost use Rattle.lru_replay.specs.CallRuns.{IsRun, SummingStep, KeepsCost};
@@ -39,12 +40,12 @@ pub fn run_summing<K, V, L, S>(
 where
     K: Copy + Eq + Hash + Drop,
     V: Copy + Drop,
-    L: Summing<K, V, K> + Drop,
+    L: Summing<K, V> + Drop,
     S: KeyHasher<K>,
-    ensures run { IfOk result (λ answers. IsRun (SummingStep L.rules L.offers K.eq S.hash_of
+    ensures run { IfOk result (λ answers. IsRun (SummingStep L.rules (offers_of L.terms) K.eq S.hash_of
         L.cost_of L.account) (IsMap K.eq) map.old calls.items (all_said answers.items) map.new) }
     ensures sums { IsSummed L.cost_of L.account map.old → IfOk result (λ answers. IsRun
-        (SummingStep L.rules L.offers K.eq S.hash_of L.cost_of L.account)
+        (SummingStep L.rules (offers_of L.terms) K.eq S.hash_of L.cost_of L.account)
         (λ st. IsMap K.eq st × IsSummed L.cost_of L.account st)
         map.old calls.items (all_said answers.items) map.new) }
     ensures account { IsSummed L.cost_of L.account map.old → IsSummed L.cost_of L.account map.new }
@@ -65,9 +66,9 @@ fn make_summing_call<K, V, L, S>(
 where
     K: Copy + Eq + Hash + Drop,
     V: Copy + Drop,
-    L: Summing<K, V, K> + Drop,
+    L: Summing<K, V> + Drop,
     S: KeyHasher<K>,
-    ensures step { SummingStep L.rules L.offers K.eq S.hash_of
+    ensures step { SummingStep L.rules (offers_of L.terms) K.eq S.hash_of
         L.cost_of L.account map.old call (said result) map.new }
     ensures map { IsMap K.eq map.new }
     ensures account { IsSummed L.cost_of L.account map.old → IsSummed L.cost_of L.account map.new }
@@ -82,7 +83,7 @@ where
 fn keeps_cost<K, V, L, S>(map: &LruMap<K, V, L, S>, call: &Call<K, V, L>) -> bool
 where
     K: Eq + Hash,
-    L: Summing<K, V, K>,
+    L: Summing<K, V>,
     S: KeyHasher<K>,
     ensures map { IsMap K.eq map.now }
     ensures yes { result ≡ true → KeepsCost K.eq L.cost_of L.account (contents map.now) call.now }

@@ -1,6 +1,7 @@
 //! Getting a value, which is put if its key is not there.
 ghost use Rattle.std.specs.Prelude.{◌≡◌, None, Some, Ok, Err, IfSome};
 ghost use Rattle.std.specs.Borrow.{sem};
+ghost use Rattle.lru_limits.specs.Admissions.{offers_of};
 ghost use Rattle.lru_model.specs.Lists.{lookup};
 ghost use Rattle.lru_tenants.specs.Cache.{tenant, On};
 ghost use Rattle.lru_tenants.specs.GetOrPuts.{GetsOrPuts};
@@ -49,7 +50,7 @@ impl<
             lookup (K.eq key) map.pairs ≡ None → F.pre make) }
         ensures* leaves { sem 𝓛 (ends_so N.row K.row V.row L.row S.row L.LinkType.row S.Hasher.row N.Hash K.Hash
             L.Budgeted L.LinkType.LinkType S.KeyHasher S.Hasher.Hasher self.entry
-            (On N.eq name.now (OfOpen (GetsOrPuts L.rules L.offers L.budget_of K.eq S.hash_of (F.post make) key))
+            (On N.eq name.now (OfOpen (GetsOrPuts L.rules (offers_of L.terms) L.budget_of K.eq S.hash_of (F.post make) key))
             self.old (read result))) }
         ensures not_open { tenant (N.eq name.now) self.old ≡ None → read result ≡ Err NotOpen }
         ensures there { IfSome (tenant (N.eq name.now) self.old) (λ map.

@@ -1,6 +1,7 @@
 //! Calls that pass the entries that are evicted or removed to a callback.
 ghost use Rattle.std.specs.Prelude.{◌≡◌, List, Some, true, false, Ok, IfOk, IfSome};
 ghost use Rattle.std.specs.Result.{OnErr};
+ghost use Rattle.lru_limits.specs.Admissions.{offers_of};
 ghost use Rattle.lru_model.specs.Callbacks.{CalledWith};
 ghost use Rattle.lru_model.specs.Inserts.{kept_of};
 ghost use Rattle.lru_tenants.specs.Cache.{tenant, budgets, budgets_with, is_over, AreTenants, On};
@@ -45,10 +46,10 @@ impl<
         sink: &mut F,
     ) -> Result<bool, TenantError>
         requires callable { F.IsAlwaysCallable sink.old }
-        ensures puts { On N.eq name.now (OfOpen (Puts L.rules L.offers L.budget_of K.eq S.hash_of key value))
+        ensures puts { On N.eq name.now (OfOpen (Puts L.rules (offers_of L.terms) L.budget_of K.eq S.hash_of key value))
             self.old result self.new }
         ensures passed { (passed : List (K × V)) × CalledWith F.FnMut sink.old passed sink.new × On N.eq name.now
-            (PassesOn (PutPasses L.rules L.offers L.budget_of K.eq S.hash_of key value)) self.old passed self.new }
+            (PassesOn (PutPasses L.rules (offers_of L.terms) L.budget_of K.eq S.hash_of key value)) self.old passed self.new }
         ensures callable { F.IsAlwaysCallable sink.new }
         ensures total { budgets L.budget_of self.new ≡ budgets L.budget_of self.old }
         ensures tenants { AreTenants K.eq L.cost_of L.account L.budget_of self.new }
@@ -91,16 +92,16 @@ impl<
         sink: &mut F,
     ) -> Result<Inserted<V>, TenantError>
         requires callable { F.IsAlwaysCallable sink.old }
-        ensures puts { On N.eq name.now (OfOpen (Puts L.rules L.offers L.budget_of K.eq S.hash_of key value))
+        ensures puts { On N.eq name.now (OfOpen (Puts L.rules (offers_of L.terms) L.budget_of K.eq S.hash_of key value))
             self.old (kept_of result) self.new }
         ensures unkept { IfOk result (λ inserted. IfSome (tenant (N.eq name.now) self.old) (λ map. inserted.unkept
-            ≡ comes_back L.accepts_new K.eq key value L.rules L.offers map)) }
+            ≡ comes_back L.accepts_new K.eq key value L.rules (offers_of L.terms) map)) }
         ensures rejects { IfSome (tenant (N.eq name.now) self.old) (λ map.
             rejects L.accepts_new K.eq key value map ≡ true →
             (result ≡ Ok (record { kept = false; unkept = Some value }))
             × (tenant (N.eq name.now) self.new ≡ Some map)) }
         ensures passed { (passed : List (K × V)) × CalledWith F.FnMut sink.old passed sink.new × On N.eq name.now
-            (PassesOn (PutPasses L.rules L.offers L.budget_of K.eq S.hash_of key value)) self.old passed self.new }
+            (PassesOn (PutPasses L.rules (offers_of L.terms) L.budget_of K.eq S.hash_of key value)) self.old passed self.new }
         ensures callable { F.IsAlwaysCallable sink.new }
         ensures total { budgets L.budget_of self.new ≡ budgets L.budget_of self.old }
         ensures tenants { AreTenants K.eq L.cost_of L.account L.budget_of self.new }

@@ -1,5 +1,6 @@
 //! Inserting a new entry only if nothing has to be evicted for it.
 ghost use Rattle.std.specs.Prelude.{◌≡◌, ◌∷◌, ◌<◌, true, false, None, Ok, OnOk, OnErr, IfErr, IsTrue, length};
+ghost use Rattle.lru_limits.specs.Admissions.{offers_of};
 ghost use Rattle.lru_model.specs.Lists.{lookup_entry};
 ghost use Rattle.lru_model.specs.State.{IsMap, contents, room};
 ghost use Rattle.lru_model.specs.Inserts.{Insert};
@@ -43,8 +44,8 @@ impl<K: Eq + Hash + Drop, V: Drop, L: Admission<K, V> + Copy, S: KeyHasher<K>> L
     ///
     /// After std's `HashMap::try_insert`.
     pub fn try_insert(&mut self, key: K, value: V) -> Result<(), (K, V)>
-        ensures step { TryInsert L.terms L.rules key value self.old L.offers K.eq S.hash_of result self.new }
-        ensures calls { Run (Step L.rules L.offers K.eq S.hash_of) self.new self.old }
+        ensures step { TryInsert L.terms L.rules key value self.old K.eq S.hash_of result self.new }
+        ensures calls { Run (Step L.rules (offers_of L.terms) K.eq S.hash_of) self.new self.old }
         ensures added { OnOk result (self.new.pairs ≡ (key, value) ∷ self.old.pairs) }
         ensures within { OnOk result (L.rules.is_over_the_limit self.new.limiter (length self.new.pairs) ≡ false) }
         ensures returned { IfErr result (λ back. back ≡ (key, value)) }
@@ -60,7 +61,7 @@ impl<K: Eq + Hash + Drop, V: Drop, L: Admission<K, V> + Copy, S: KeyHasher<K>> L
 
     fn try_insert_hashed(&mut self, hash: u64, key: K, value: V) -> Result<(), (K, V)>
         requires hash { (k : K) → IsTrue (K.eq key k) → hash ≡ S.hash_of self.old.hasher k }
-        ensures { TryInsert L.terms L.rules key value self.old L.offers K.eq S.hash_of result self.new }
+        ensures { TryInsert L.terms L.rules key value self.old K.eq S.hash_of result self.new }
     {
         match self.find_hashed(hash, &key) {
             Some(_) => Err((key, value)),
@@ -71,7 +72,7 @@ impl<K: Eq + Hash + Drop, V: Drop, L: Admission<K, V> + Copy, S: KeyHasher<K>> L
     fn try_insert_new(&mut self, hash: u64, key: K, value: V) -> Result<(), (K, V)>
         requires hash { (k : K) → IsTrue (K.eq key k) → hash ≡ S.hash_of self.old.hasher k }
         requires absent { lookup_entry (K.eq key) self.old.pairs ≡ None }
-        ensures { TryInsert L.terms L.rules key value self.old L.offers K.eq S.hash_of result self.new }
+        ensures { TryInsert L.terms L.rules key value self.old K.eq S.hash_of result self.new }
     {
         if !self.can_store(&key, &value) {
             return Err((key, value));
@@ -105,12 +106,8 @@ impl<K: Eq + Hash + Drop, V: Drop, L: Admission<K, V> + Copy, S: KeyHasher<K>> L
         ensures map { IsMap K.eq self.now }
     {
         let length = self.entries.len();
-        if !self.limiter.accepts(length, key, value) {
-            return false;
-        }
         let mut limiter = self.limiter;
-        limiter.on_stored(length, key, value);
-        !limiter.is_over_the_limit(length + 1)
+        limiter.admit(length, key, value) && !limiter.is_over_the_limit(length + 1)
     }
 
     fn add(&mut self, hash: u64, key: K, value: V)
@@ -118,7 +115,7 @@ impl<K: Eq + Hash + Drop, V: Drop, L: Admission<K, V> + Copy, S: KeyHasher<K>> L
         requires absent { lookup_entry (K.eq key) self.old.pairs ≡ None }
         requires room { 0 < room self.old }
         requires storable { can_store L.terms L.rules key value (contents self.old) ≡ true }
-        ensures { Insert L.rules L.offers K.eq S.hash_of key value self.old (Ok true) self.new }
+        ensures { Insert L.rules (offers_of L.terms) K.eq S.hash_of key value self.old (Ok true) self.new }
     {
         let _ = self.insert_new(hash, key, value, &mut discard);
     }

@@ -1,4 +1,5 @@
 use Rattle.std.proofs.Common.{refl}
+use Rattle.lru_limits.specs.Admissions.{offers_of}
 use Rattle.lru_replay.specs.ListRuns.{ListSummingStep}
 use Rattle.lru_replay.proofs.CallLaws.{summing_moves}
 use Rattle.lru_replay.proofs.ListRuns.{summing_in_list, run_in_list, whole_reaches}
@@ -7,7 +8,7 @@ use Rattle.lru_replay.proofs.laws.granted_summing_is_exact.Goals as goal
 pub returns : goal.returns
 returns g c =
     let rules = g.L.Limiter.rules in
-    let offers = g.L.Insertion.offers in
+    let offers = offers_of g.L.Admission.terms in
     let eq = g.K.PartialEq.eq in
     let hash_of = g.S.KeyHasher.hash_of in
     let cost = g.L.Summing.cost_of in

@@ -7,5 +7,5 @@ returns g c = record {
   total = λ old new calls replies run none summed within. let law = c.runs_keep_the_budget.ensures in
       run-follows _ (λ st h. h.1.1) old calls replies new
       (run_keeps_total _ _ g.K.PartialEq.eq _ g.L.Summing.cost_of g.L.Summing.account g.L.Budgeted.budget_of
-      c.runs_keep_sums.ensures.sum law.total law.budget old calls replies new run none (summed, within));
+      (c.runs_keep_sums.ensures.sum _ _ g.met.L.Summing.laws) law.total law.budget old calls replies new run none (summed, within));
 }

@@ -17,7 +17,7 @@ returns g c =
     } in
     record {
       inserts = λ key value kept old new keeps sized h. insert_refers laws known key value old kept new keeps sized h;
-      tries = λ terms key value old new keeps sized h. tries_refers laws known terms key value old new keeps sized h;
+      tries = λ key value old new keeps sized h. tries_refers laws known key value old new keeps sized h;
       gets = λ names key value left old same within sized found.
           got_refers laws known names key value left old same within sized found;
       promotes = λ names key value old same within sized found.

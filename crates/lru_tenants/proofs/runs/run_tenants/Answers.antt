@@ -4,6 +4,7 @@ use Rattle.std.specs.Vec.Iter.{into_iter_items}
 use Rattle.std.specs.Prelude.{IfSome}
 use Rattle.std.proofs.lemmas.List.{append-nil, length-append}
 use Rattle.std.proofs.lemmas.Map.Views.{IfSome-lookup_from_All}
+use Rattle.lru_limits.specs.Admissions.{offers_of}
 use Rattle.lru_tenants.specs.Cache.{tenant, fresh, IsTenant, On}
 use Rattle.lru_tenants.specs.TenantRuns.{named, TenantStep, KeptStep}
 use Rattle.lru_tenants.proofs.OwnRuns.{AreSteps, run-push, steps-push, own-run, fresh-same}
@@ -33,11 +34,11 @@ loop-call-preserved g c =
     let new = c.make_tenant_call.new.cache in
     let (dids, runs, steps) = h.run in
     let step = subst (λ limit. On g.N.PartialEq.eq (named call)
-    (TenantStep g.L.Limiter.rules g.L.Insertion.offers g.L.Summing.cost_of g.L.Summing.account
+    (TenantStep g.L.Limiter.rules (offers_of g.L.Admission.terms) g.L.Summing.cost_of g.L.Summing.account
     g.L.Budgeted.budget_of g.K.PartialEq.eq g.S.KeyHasher.hash_of (fresh made max first) limit call)
     c.loop-call.cache answer new)
     h.total_limit (subst (λ f. On g.N.PartialEq.eq (named call)
-    (TenantStep g.L.Limiter.rules g.L.Insertion.offers g.L.Summing.cost_of g.L.Summing.account
+    (TenantStep g.L.Limiter.rules (offers_of g.L.Admission.terms) g.L.Summing.cost_of g.L.Summing.account
     g.L.Budgeted.budget_of g.K.PartialEq.eq g.S.KeyHasher.hash_of f c.loop-call.cache.total_limit call)
     c.loop-call.cache answer
     new) (fresh-same made max first c.loop-call.cache h.hasher h.entry_bytes) c.make_tenant_call.ensures.step) in
@@ -53,7 +54,7 @@ loop-call-preserved g c =
               step.0;
         } ∷ [],
         run-push g.N.PartialEq.eq dids first c.loop-call.cache new (named call) step.0 runs step.2,
-        steps-push named (KeptStep g.L.Limiter.rules g.L.Insertion.offers g.L.Summing.cost_of g.L.Summing.account
+        steps-push named (KeptStep g.L.Limiter.rules (offers_of g.L.Admission.terms) g.L.Summing.cost_of g.L.Summing.account
             g.L.Budgeted.budget_of g.K.PartialEq.eq g.S.KeyHasher.hash_of (fresh made max first) first.total_limit)
             c.loop-call.yielded c.loop-call.answers.items dids call answer _ step.0 steps (
               step.1,
@@ -83,7 +84,7 @@ returns-clause-own g c =
     ∙ ap (λ l. c.loop-call.yielded ++ l) (sym (nil_from_length (into_iter_items c.loop-call.call-iterator) none))
     ∙ h.items in
     let (dids, runs, steps) = h.run in
-    let Does = KeptStep g.L.Limiter.rules g.L.Insertion.offers g.L.Summing.cost_of g.L.Summing.account
+    let Does = KeptStep g.L.Limiter.rules (offers_of g.L.Admission.terms) g.L.Summing.cost_of g.L.Summing.account
     g.L.Budgeted.budget_of g.K.PartialEq.eq g.S.KeyHasher.hash_of
     (fresh g.L.Budgeted.made (g.L.LinkType.LinkType.number g.L.LinkType.LinkType.MAX) c.args.cache.now)
     c.args.cache.now.total_limit in

@@ -1,6 +1,7 @@
 -- The calls so far are a run of each tenant.
 use Rattle.std.proofs.Common.{List, ◌≡◌, ◌≤◌, ◌++◌, length, vec_len, vec_capacity}
 use Rattle.std.specs.Vec.Iter.{into_iter_items, into_iter_len}
+use Rattle.lru_limits.specs.Admissions.{offers_of}
 use Rattle.lru_tenants.specs.Cache.{fresh, AreTenants}
 use Rattle.lru_tenants.specs.Isolation.{Did, CacheRun}
 use Rattle.lru_tenants.proofs.OwnRuns.{AreSteps}
@@ -13,7 +14,7 @@ invariant-loop-call g l = record {
   left : into_iter_len l.call-iterator ≡ length (into_iter_items l.call-iterator);
   run : (dids : List (Did g.row.N.Denot g.row.K.Denot g.row.V.Denot g.row.L.Denot g.row.S.Denot)) × CacheRun
       g.N.PartialEq.eq l.fn.cache dids l.cache
-      × AreSteps named (KeptStep g.L.Limiter.rules g.L.Insertion.offers g.L.Summing.cost_of g.L.Summing.account
+      × AreSteps named (KeptStep g.L.Limiter.rules (offers_of g.L.Admission.terms) g.L.Summing.cost_of g.L.Summing.account
       g.L.Budgeted.budget_of g.K.PartialEq.eq g.S.KeyHasher.hash_of
       (fresh g.L.Budgeted.made (g.L.LinkType.LinkType.number g.L.LinkType.LinkType.MAX) l.fn.cache)
       l.fn.cache.total_limit)

@@ -14,7 +14,7 @@ returns-clause-tenant g c =
     let step = made-step c.args.key old new c.ensure_newest.result c.ensure_newest.ensures.step in
     record {
       map = c.ensure_newest.ensures.map;
-      sum = c.calls_keep_sums.ensures old new step c.requires.tenant.sum;
+      sum = c.calls_keep_sums.ensures _ _ g.met.L.Summing.laws old new step c.requires.tenant.sum;
       within = c.calls_keep_the_budget.ensures.total old new step c.requires.tenant.sum c.requires.tenant.within;
       small = omega (arith, c.calls_keep_the_budget.ensures.budget old new step, c.requires.tenant.small);
     }

@@ -33,7 +33,7 @@ returns-clause-tenant g c =
     let step = inserts c.args.key c.args.value _ c.insert_full.ensures.step in
     record {
       map = c.insert_full.ensures.map;
-      sum = c.calls_keep_sums.ensures old new step c.requires.tenant.sum;
+      sum = c.calls_keep_sums.ensures _ _ g.met.L.Summing.laws old new step c.requires.tenant.sum;
       within = c.calls_keep_the_budget.ensures.total old new step c.requires.tenant.sum c.requires.tenant.within;
       small = omega (arith, c.calls_keep_the_budget.ensures.budget old new step, c.requires.tenant.small);
     }

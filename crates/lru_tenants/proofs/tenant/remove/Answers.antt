@@ -8,7 +8,7 @@ returns-clause-tenant g c =
     let step = removes (g.Q.LookupKey.names c.args.key.now) c.remove-value.result c.remove-value.ensures.step in
     record {
       map = c.len-len.ensures.map;
-      sum = c.calls_keep_sums.ensures old new step c.requires.sum;
+      sum = c.calls_keep_sums.ensures _ _ g.met.L.Summing.laws old new step c.requires.sum;
       within = c.calls_keep_the_budget.ensures.total old new step c.requires.sum c.requires.within;
       small = omega (arith, c.calls_keep_the_budget.ensures.budget old new step, c.requires.small);
     }

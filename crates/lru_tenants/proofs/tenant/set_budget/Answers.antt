@@ -13,7 +13,7 @@ returns-clause-tenant g c =
     let limiter = c.set_budget.ensures ∙ ap (g.L.Budgeted.rebudgeted c.args.budget) c.limiter_mut.ensures.value in
     let step = subst (λ l. Trims g.L.Limiter.rules (with_limiter l c.args.map.now) new) limiter
     c.trim_with.ensures.step in
-    let sum = c.calls_keep_sums.ensures old new (trims step)
+    let sum = c.calls_keep_sums.ensures _ _ g.met.L.Summing.laws old new (trims step)
     (laws.set_keeps c.args.budget c.args.map.now.limiter ∙ c.requires.tenant.sum) in
     record {
       map = c.trim_with.ensures.map;

@@ -16,7 +16,7 @@ use Rattle.lru_model.specs.Inserts.{Insert, Settles, replaced, not_replaced, no_
 use Rattle.lru_model.specs.Theorems.{IsRefusedGrowth}
 use Rattle.lru_model.specs.Kept.{AcceptsNew}
 use Rattle.lru_model.proofs.States.LeavingPairs.{trim-within}
-use Rattle.lru_model.proofs.CallerLemmas.{offers_if-accepts}
+use Rattle.lru_model.proofs.CallerLemmas.{offers_of-accepts}
 use Rattle.schnellru_tests.proofs.callers.put_and_keep_half.Goals as goal
 
 module _ {K V H : Type 0} (offers : Offers K V ℕ K) (names : K → K → Bool) (hash_of : H → K → ℕ) (pair : K × V)
@@ -62,5 +62,5 @@ returns c = λ yes.
     let pair : String Global × ℕ = (c.args.key, c.args.value) in
     keeps _ string_eq _ pair c.args.map.now c.insert.new.self c.insert.result
     (c.growth_keeps_the_list.ensures.otherwise pair) (c.refused_growth_keeps_half.ensures.half pair) yes
-    (offers_if-accepts _ _ string_eq c.args.key c.args.value (contents c.args.map.now) refl refl) c.requires
+    (offers_of-accepts _ _ string_eq c.args.key c.args.value (contents c.args.map.now) refl refl) c.requires
     c.insert.ensures.step

@@ -1,7 +1,6 @@
-use Rattle.std.proofs.Common.{◌≤◌, length, nat_lt, true, sym, subst}
-use Rattle.lru_limits.specs.Admissions.{never_changes, offers_if-terms}
+use Rattle.std.proofs.Common.{◌≤◌, length, sym, subst}
 use Rattle.lru_limits.specs.Limits.{length-limits, memory-limits, both-first_length, both-second_memory}
-use Rattle.lru_limits.specs.Limiters.{length_rules, memory_rules}
+use Rattle.lru_limits.specs.Limiters.{length_rules, length_terms, memory_rules, all_terms}
 use Rattle.lru_model.specs.Runs.Step.{inserts}
 use Rattle.lru_model.specs.Theorems.{UsesAtMost}
 use Rattle.schnellru_tests.proofs.callers.put_within_both.Goals as goal
@@ -10,11 +9,8 @@ pub returns : goal.returns
 returns c =
     let old = c.args.map.now in let new = c.insert.new.self in
     let step = inserts c.args.key c.args.value c.insert.result c.insert.ensures.step in
-    let one = never_changes (λ most _ _. nat_lt 0 most) in
-    let two = never_changes (λ _ _ _. true) in
-    let short = both-first_length length_rules memory_rules one two (offers_if-terms (λ most _ _. nat_lt 0 most))
-    length-limits in
-    let small = both-second_memory length_rules memory_rules one two (offers_if-terms (λ _ _ _. true)) memory-limits in
+    let short = both-first_length length_rules memory_rules length_terms all_terms length-limits in
+    let small = both-second_memory length_rules memory_rules length_terms all_terms memory-limits in
     let length_law = c.calls_keep_the_length.ensures in
     let usage_law = c.calls_keep_the_memory_usage.ensures in
     record {

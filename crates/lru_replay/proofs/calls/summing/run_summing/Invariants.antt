@@ -1,6 +1,7 @@
 -- The calls so far are a run.
 use Rattle.std.proofs.Common.{◌≡◌, ◌≤◌, ◌++◌, length, vec_len, vec_capacity}
 use Rattle.std.specs.Vec.Iter.{into_iter_items, into_iter_len}
+use Rattle.lru_limits.specs.Admissions.{offers_of}
 use Rattle.lru_model.specs.State.{IsMap}
 use Rattle.lru_model.specs.Theorems.{IsSummed}
 use Rattle.lru_replay.specs.CallRuns.{IsRun, SummingStep}
@@ -11,11 +12,11 @@ abbrev pub invariant-loop-call : goal.invariant-loop-call
 invariant-loop-call g l = record {
   items : l.yielded ++ into_iter_items l.call-iterator ≡ l.fn.calls.items;
   left : into_iter_len l.call-iterator ≡ length (into_iter_items l.call-iterator);
-  run : IsRun (SummingStep g.L.Limiter.rules g.L.Insertion.offers g.K.PartialEq.eq
+  run : IsRun (SummingStep g.L.Limiter.rules (offers_of g.L.Admission.terms) g.K.PartialEq.eq
       g.S.KeyHasher.hash_of g.L.Summing.cost_of g.L.Summing.account) (IsMap g.K.PartialEq.eq)
       l.fn.map l.yielded (all_said l.answers.items) l.map;
   sums : IsSummed g.L.Summing.cost_of g.L.Summing.account l.fn.map
-      → IsRun (SummingStep g.L.Limiter.rules g.L.Insertion.offers g.K.PartialEq.eq
+      → IsRun (SummingStep g.L.Limiter.rules (offers_of g.L.Admission.terms) g.K.PartialEq.eq
       g.S.KeyHasher.hash_of g.L.Summing.cost_of g.L.Summing.account)
       (λ st. IsMap g.K.PartialEq.eq st × IsSummed g.L.Summing.cost_of g.L.Summing.account st)
       l.fn.map l.yielded (all_said l.answers.items) l.map;

@@ -1,4 +1,5 @@
 use Rattle.std.proofs.Common.{◌≡◌, true, false, None, Ok, Err, sym, refl, ◌∙◌, ap, arith}
+use Rattle.lru_limits.specs.Admissions.{offers_of}
 use Rattle.lru_tenants.specs.GetOrPuts.{GetsOrPuts, newest_answer}
 use Rattle.lru_tenants.specs.Lending.{read}
 use Rattle.lru_tenants.specs.TenantRuns.{OfOpen}
@@ -14,7 +15,7 @@ returns-in_default g c =
       (
         refl,
         λ _. tt,
-        on-same c.args.name.now (OfOpen (GetsOrPuts g.L.Limiter.rules g.L.Insertion.offers g.L.Budgeted.budget_of
+        on-same c.args.name.now (OfOpen (GetsOrPuts g.L.Limiter.rules (offers_of g.L.Admission.terms) g.L.Budgeted.budget_of
             g.K.PartialEq.eq g.S.KeyHasher.hash_of (g.F.FnOnce.post c.args.make tt) c.args.key)) (Err NotOpen)
             g.met.N.Eq.laws
             _ None
@@ -33,7 +34,7 @@ invariant_of-self-in_default-get_or_insert g c = let u = c.get_or_insert.new.map
 pub returns-in_default-get_or_insert : goal.returns-in_default-get_or_insert
 returns-in_default-get_or_insert g c = let u = c.get_or_insert.new.map in
     rw (← c.self.view_is) (
-    let ended = ends g.L.Limiter.rules g.L.Insertion.offers g.L.Budgeted.budget_of g.K.PartialEq.eq
+    let ended = ends g.L.Limiter.rules (offers_of g.L.Admission.terms) g.L.Budgeted.budget_of g.K.PartialEq.eq
     g.S.KeyHasher.hash_of (g.F.FnOnce.post c.args.make tt) c.args.key (Err Memory) g.N.PartialEq.eq
     c.args.name.now c.self.inside.tenants (c.get_mut.follows.lender u) c.in-Some.own.now u
     (sym c.in-Some.ensures.value) (c.get_mut.follows.holds u) (record {
@@ -58,7 +59,7 @@ pub returns-then-not-there : goal.returns-then-not-there
 returns-then-not-there g c = let u = c.get_or_insert.new.map in
     let e : c.in-Ok.there ≡ false = grind (arith, c.if-not-there.true) in
     rw (← c.self.view_is) (
-    let ended = ends g.L.Limiter.rules g.L.Insertion.offers g.L.Budgeted.budget_of g.K.PartialEq.eq
+    let ended = ends g.L.Limiter.rules (offers_of g.L.Admission.terms) g.L.Budgeted.budget_of g.K.PartialEq.eq
     g.S.KeyHasher.hash_of (g.F.FnOnce.post c.args.make tt) c.args.key (Ok None) g.N.PartialEq.eq
     c.args.name.now c.self.inside.tenants (c.get_mut.follows.lender u) c.in-Some.own.now u
     (sym c.in-Some.ensures.value) (c.get_mut.follows.holds u) (record {
@@ -83,7 +84,7 @@ pub returns : goal.returns
 returns g c = let u = c.get_or_insert.new.map in
     let e : c.in-Ok.there ≡ true = grind (arith, c.if-not-there.false) in
     rw (← c.self.view_is) (
-    let ended = ends g.L.Limiter.rules g.L.Insertion.offers g.L.Budgeted.budget_of g.K.PartialEq.eq
+    let ended = ends g.L.Limiter.rules (offers_of g.L.Admission.terms) g.L.Budgeted.budget_of g.K.PartialEq.eq
     g.S.KeyHasher.hash_of (g.F.FnOnce.post c.args.make tt) c.args.key (read (Ok c.newest.result))
     g.N.PartialEq.eq c.args.name.now c.self.inside.tenants (c.get_mut.follows.lender u) c.in-Some.own.now u
     (sym c.in-Some.ensures.value) (c.get_mut.follows.holds u) (record {

@@ -1,5 +1,6 @@
 use Rattle.std.proofs.Common.{◌≡◌, true, [], Some, None, Ok, false, sym, refl, ap, ◌∙◌, subst}
 use Rattle.std.specs.Prelude.{IfSome}
+use Rattle.lru_limits.specs.Admissions.{offers_of}
 use Rattle.lru_model.specs.Inserts.{kept_of}
 use Rattle.lru_tenants.specs.Cache.{tenant}
 use Rattle.lru_tenants.specs.PutFulls.{rejects}
@@ -30,7 +31,7 @@ returns-clause-puts g c = let u = c.insert_full.new.map in
     c.self.inside.tenants
     (c.get_mut.follows.lender u) c.in-Some.own.now u
     (sym c.in-Some.ensures.value) (c.get_mut.follows.holds u)
-    (OfOpen (Puts g.L.Limiter.rules g.L.Insertion.offers g.L.Budgeted.budget_of g.K.PartialEq.eq g.S.KeyHasher.hash_of
+    (OfOpen (Puts g.L.Limiter.rules (offers_of g.L.Admission.terms) g.L.Budgeted.budget_of g.K.PartialEq.eq g.S.KeyHasher.hash_of
     c.args.key c.args.value)) (kept_of c.put_answer.result) (record {
       left = u;
       result = kept_of c.insert_full.result;
@@ -50,7 +51,7 @@ returns-clause-passed g c = let u = c.insert_full.new.map in
           c.self.inside.tenants
           (c.get_mut.follows.lender u) c.in-Some.own.now u
           (sym c.in-Some.ensures.value) (c.get_mut.follows.holds u)
-          (PassesOn (PutPasses g.L.Limiter.rules g.L.Insertion.offers g.L.Budgeted.budget_of g.K.PartialEq.eq
+          (PassesOn (PutPasses g.L.Limiter.rules (offers_of g.L.Admission.terms) g.L.Budgeted.budget_of g.K.PartialEq.eq
           g.S.KeyHasher.hash_of c.args.key c.args.value)) passed
           (record { left = u; result = kept_of c.insert_full.result; inserts = passes; is = refl }),
     )
@@ -61,7 +62,7 @@ returns-in_default-clause-passed g c =
       [],
       refl,
       on-same c.args.name.now (PassesOn
-          (PutPasses g.L.Limiter.rules g.L.Insertion.offers g.L.Budgeted.budget_of g.K.PartialEq.eq
+          (PutPasses g.L.Limiter.rules (offers_of g.L.Admission.terms) g.L.Budgeted.budget_of g.K.PartialEq.eq
           g.S.KeyHasher.hash_of c.args.key c.args.value)) []
           g.met.N.Eq.laws _ None
           (sym c.in_default.ensures.value) (refl, refl),
@@ -84,6 +85,6 @@ returns-clause-rejects g c = let u = c.insert_full.new.map in
 pub returns-in_default-clause-puts : goal.returns-in_default-clause-puts
 returns-in_default-clause-puts g c =
     rw (c.get_mut.follows.holds-at-none, ← c.self.view_is) (on-same c.args.name.now
-    (OfOpen (Puts g.L.Limiter.rules g.L.Insertion.offers g.L.Budgeted.budget_of g.K.PartialEq.eq g.S.KeyHasher.hash_of
+    (OfOpen (Puts g.L.Limiter.rules (offers_of g.L.Admission.terms) g.L.Budgeted.budget_of g.K.PartialEq.eq g.S.KeyHasher.hash_of
     c.args.key c.args.value)) _ g.met.N.Eq.laws _ None
     (sym c.in_default.ensures.value) (refl, refl))

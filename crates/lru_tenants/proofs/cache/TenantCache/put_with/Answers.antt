@@ -1,4 +1,5 @@
 use Rattle.std.proofs.Common.{[], None, sym, refl}
+use Rattle.lru_limits.specs.Admissions.{offers_of}
 use Rattle.lru_tenants.specs.TenantRuns.{OfOpen, Puts, PutPasses, PassesOn}
 use Rattle.lru_tenants.proofs.Changes.{on-same, on-written}
 use Rattle.lru_tenants.proofs.Kept.{kept-written, same-sum}
@@ -25,7 +26,7 @@ returns-clause-puts g c = let u = c.insert.new.map in
     c.self.inside.tenants
     (c.get_mut.follows.lender u) c.in-Some.own.now u
     (sym c.in-Some.ensures.value) (c.get_mut.follows.holds u)
-    (OfOpen (Puts g.L.Limiter.rules g.L.Insertion.offers g.L.Budgeted.budget_of g.K.PartialEq.eq g.S.KeyHasher.hash_of
+    (OfOpen (Puts g.L.Limiter.rules (offers_of g.L.Admission.terms) g.L.Budgeted.budget_of g.K.PartialEq.eq g.S.KeyHasher.hash_of
     c.args.key c.args.value)) c.put_answer.result (record {
       left = u;
       result = c.insert.result;
@@ -45,7 +46,7 @@ returns-clause-passed g c = let u = c.insert.new.map in
           c.self.inside.tenants
           (c.get_mut.follows.lender u) c.in-Some.own.now u
           (sym c.in-Some.ensures.value) (c.get_mut.follows.holds u)
-          (PassesOn (PutPasses g.L.Limiter.rules g.L.Insertion.offers g.L.Budgeted.budget_of g.K.PartialEq.eq
+          (PassesOn (PutPasses g.L.Limiter.rules (offers_of g.L.Admission.terms) g.L.Budgeted.budget_of g.K.PartialEq.eq
           g.S.KeyHasher.hash_of c.args.key c.args.value)) passed
           (record { left = u; result = c.insert.result; inserts = passes; is = refl }),
     )
@@ -56,7 +57,7 @@ returns-in_default-clause-passed g c =
       [],
       refl,
       on-same c.args.name.now (PassesOn
-          (PutPasses g.L.Limiter.rules g.L.Insertion.offers g.L.Budgeted.budget_of g.K.PartialEq.eq
+          (PutPasses g.L.Limiter.rules (offers_of g.L.Admission.terms) g.L.Budgeted.budget_of g.K.PartialEq.eq
           g.S.KeyHasher.hash_of c.args.key c.args.value)) []
           g.met.N.Eq.laws _ None
           (sym c.in_default.ensures.value) (refl, refl),
@@ -65,6 +66,6 @@ returns-in_default-clause-passed g c =
 pub returns-in_default-clause-puts : goal.returns-in_default-clause-puts
 returns-in_default-clause-puts g c =
     rw (c.get_mut.follows.holds-at-none, ← c.self.view_is) (on-same c.args.name.now
-    (OfOpen (Puts g.L.Limiter.rules g.L.Insertion.offers g.L.Budgeted.budget_of g.K.PartialEq.eq g.S.KeyHasher.hash_of
+    (OfOpen (Puts g.L.Limiter.rules (offers_of g.L.Admission.terms) g.L.Budgeted.budget_of g.K.PartialEq.eq g.S.KeyHasher.hash_of
     c.args.key c.args.value)) _ g.met.N.Eq.laws _ None
     (sym c.in_default.ensures.value) (refl, refl))

@@ -10,8 +10,8 @@ returns g c =
     let new : IsMap g.K.PartialEq.eq c.try_insert_hashed-inserted.new.self = subst
     (IsMap g.K.PartialEq.eq) c.self-2.view_is c.self-2.invariant.map in
     let step = c.try_insert_hashed-inserted.ensures in
-    let said = says g.L.Admission.terms g.L.Limiter.rules g.L.Insertion.offers g.K.PartialEq.eq g.S.KeyHasher.hash_of
-    g.met.L.Admission.laws c.args.key c.args.value c.args.self.now old.sized _ _ new.sized step in record {
+    let said = says g.L.Admission.terms g.L.Limiter.rules g.K.PartialEq.eq g.S.KeyHasher.hash_of
+    c.args.key c.args.value c.args.self.now old.sized _ _ new.sized step in record {
       step = step;
       calls = said.calls;
       added = said.added;
