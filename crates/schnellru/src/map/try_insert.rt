@@ -112,7 +112,10 @@ impl<K: Eq + Hash + Drop, V: Drop, L: Admission<K, V> + Copy, S: KeyHasher<K>> L
     {
         let length = self.entries.len();
         let mut limiter = self.limiter;
-        limiter.admit(length, key, value) && !limiter.is_over_the_limit(length + 1)
+        if !limiter.admit(length, key, value) {
+            return false;
+        }
+        !limiter.is_over_the_limit(length + 1)
     }
 
     // Inserts a key that is new and has this hash, if there is growth left and the limiter can store the entry.

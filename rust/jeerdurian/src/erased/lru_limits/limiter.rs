@@ -66,9 +66,8 @@ pub trait Limiter<K, V> {
 ///
 /// `I` is the key itself, or something that names the key and becomes it only if it is stored, as a `&str` that becomes
 /// a `String`. The impl defines `offers`: what may be stored of an offered entry, when an offer may run out of memory,
-/// and what a replacement does to the key and the values. For a limiter that stores entries as they come, use
-/// [`crate::Storing`], or define the offers by `offers_if` of `specs/Admissions.antt` in one line, and the laws by
-/// `offers_if-lawful`.
+/// and what a replacement does to the key and the values. A limiter that stores entries as they come implements
+/// [`crate::Admission`], and has this trait by that.
 ///
 /// ```text
 /// assert!(rt; limiter.on_insert(alloc, 0, 1u64, 2u64)?.is_some());

@@ -4,8 +4,8 @@
 use crate::rattle_std::prelude::*;
 
 use crate::erased::lru_limits::{
-    Budgeted, ByBytes, ByCost, ByLength, ByMemoryUsage, ByWeight, Costed, Insertion, KeyHasher, Limiter, LookupKey,
-    OwnedBytes, RandomState, Storing, Summing, Unlimited, UnlimitedCompact,
+    Admission, Budgeted, ByBytes, ByCost, ByLength, ByMemoryUsage, ByWeight, Costed, Insertion, KeyHasher, Limiter,
+    LookupKey, OwnedBytes, RandomState, Storing, Summing, Unlimited, UnlimitedCompact,
 };
 use crate::programs::test_helpers::{all, check};
 use crate::rattle_std::hash::{BuildHasher, Hash, Hasher};
@@ -52,18 +52,16 @@ fn of_running_totals() {
         let mut limiter = ByCost::new(3);
         check!(rt; all!(
             limiter.limit() == 3,
-            limiter.on_insert(alloc, 0, 1u64, 2u64)?.is_some(),
-            limiter.on_insert(alloc, 1, 2u64, 4u64)?.is_none(),
+            limiter.admit(0, &1u64, &2u64) && !limiter.admit(1, &2u64, &4u64),
             limiter.cost() == 2,
-            Summing::<u64, u64, u64>::account(&limiter) == 2
+            Summing::<u64, u64>::account(&limiter) == 2
         ));
         let lower = limiter.with_limit(1);
         check!(rt; (lower.limit(), lower.cost()) == (1, 2));
         let mut limiter: ByWeight<16> = ByWeight::new(100);
         check!(rt; all!(
             limiter.limit() == 100,
-            limiter.on_insert(alloc, 0, 1u64, 2u64)?.is_some(),
-            limiter.on_insert(alloc, 1, 80u64, 5u64)?.is_none(),
+            limiter.admit(0, &1u64, &2u64) && !limiter.admit(1, &80u64, &5u64),
             limiter.cost() == 19
         ));
         let lower = limiter.with_limit(10);
@@ -71,6 +69,18 @@ fn of_running_totals() {
         let mut limiter = <ByCost as Budgeted<u64, u64>>::with_budget(3);
         Budgeted::<u64, u64>::set_budget(&mut limiter, 5);
         check!(rt; Budgeted::<u64, u64>::budget(&limiter) == 5);
+        Ok(())
+    };
+    run(HostRuntime).passes();
+}
+
+#[test]
+fn of_insertions() {
+    let run = |rt: HostRuntime| -> Result<(), Fail> {
+        let alloc = rt.alloc();
+        let mut limiter = ByCost::new(3);
+        check!(rt; limiter.on_insert(alloc, 0, 1u64, 2u64)?.is_some());
+        check!(rt; limiter.on_insert(alloc, 1, 2u64, 4u64)?.is_none());
         Ok(())
     };
     run(HostRuntime).passes();
@@ -85,7 +95,7 @@ fn of_bytes() {
         check!(rt; (block.owned_bytes(), 7u64.owned_bytes()) == (48, 0));
         check!(rt; all!(
             Limiter::<u64, Vec<u8>>::on_grow(&mut limiter, 152),
-            limiter.on_insert(alloc, 0, 1u64, block)?.is_some(),
+            limiter.admit(0, &1u64, &block),
             !Limiter::<u64, Vec<u8>>::on_grow(&mut limiter, 153),
             (limiter.owned(), limiter.table()) == (48, 152),
             limiter.owned() == 48,

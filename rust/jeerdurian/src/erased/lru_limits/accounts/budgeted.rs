@@ -5,7 +5,6 @@
 use crate::rattle_std::prelude::*;
 
 use crate::erased::lru_limits::accounts::Summing;
-use crate::rattle_std::hash::Hash;
 
 /// A limiter with a running total that keeps within a budget: a map is over the limit if and only if the total is above
 /// the budget. No callback changes the budget.
@@ -18,7 +17,7 @@ use crate::rattle_std::hash::Hash;
 /// Budgeted::<u64, u64>::set_budget(&mut limiter, 5);
 /// assert_eq!(rt; Budgeted::<u64, u64>::budget(&limiter), 5);
 /// ```
-pub trait Budgeted<K: Eq + Hash, V>: Summing<K, V, K> {
+pub trait Budgeted<K, V>: Summing<K, V> {
     /// Makes a limiter with a budget. Its running total is 0.
     fn with_budget(budget: u64) -> Self;
 
@@ -28,6 +27,6 @@ pub trait Budgeted<K: Eq + Hash, V>: Summing<K, V, K> {
     /// Sets the budget. The running total stays, so a map may be over the limit then.
     fn set_budget(&mut self, budget: u64);
 
-    /// Returns whether the limiter accepts the entry of a new key, as `on_insert` would.
+    /// Returns whether the limiter accepts the entry of a new key, as `admit` would.
     fn has_room_for(&self, key: &K, value: &V) -> bool;
 }

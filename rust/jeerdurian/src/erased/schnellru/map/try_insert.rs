@@ -83,12 +83,8 @@ impl<K: Eq + Hash, V, L: Admission<K, V> + Copy, S: KeyHasher<K>> LruMap<K, V, L
     // Returns whether the limiter accepts the entry of a new key, and is not over its limit with it.
     fn can_store(&self, key: &K, value: &V) -> bool {
         let length = self.entries.len();
-        if !self.limiter.accepts(length, key, value) {
-            return false;
-        }
         let mut limiter = self.limiter;
-        limiter.on_stored(length, key, value);
-        !limiter.is_over_the_limit(length + 1)
+        limiter.admit(length, key, value) && !limiter.is_over_the_limit(length + 1)
     }
 
     // Inserts a key that is new and has this hash, if there is growth left and the limiter can store the entry.
