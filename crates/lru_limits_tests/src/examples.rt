@@ -35,7 +35,7 @@ fn of_accounts_by_bytes(rt: HostRuntime) -> Result<(), Fail> {
     let block: Vec<u8> = Vec::with_capacity(alloc, 17)?;
     let held = held
         & all!(
-            limiter.on_insert(alloc, 0, 1u64, block)?.is_some(),
+            limiter.admit(0, &1u64, &block),
             !Limiter::<u64, Vec<u8>>::on_grow(&mut limiter, 153),
             (limiter.owned(), limiter.table()) == (48, 152),
             limiter.with_limit(300).limit() == 300,
@@ -49,12 +49,10 @@ fn of_accounts_by_bytes(rt: HostRuntime) -> Result<(), Fail> {
 }
 
 #[test]
-fn of_accounts_by_cost(rt: HostRuntime) -> Result<(), Fail> {
-    let alloc = rt.alloc();
+fn of_accounts_by_cost(rt: HostRuntime) {
     let mut limiter = ByCost::new(3);
     let held = all!(
-        limiter.on_insert(alloc, 0, 1u64, 2u64)?.is_some(),
-        limiter.on_insert(alloc, 1, 2u64, 4u64)?.is_none(),
+        limiter.admit(0, &1u64, &2u64) && !limiter.admit(1, &2u64, &4u64),
         limiter.cost() == 2
     );
     let lower = limiter.with_limit(1);
@@ -64,16 +62,13 @@ fn of_accounts_by_cost(rt: HostRuntime) -> Result<(), Fail> {
             limiter.limit() == 3
         );
     check!(rt; held);
-    Ok(())
 }
 
 #[test]
-fn of_accounts_by_weight(rt: HostRuntime) -> Result<(), Fail> {
-    let alloc = rt.alloc();
+fn of_accounts_by_weight(rt: HostRuntime) {
     let mut limiter: ByWeight<16> = ByWeight::new(100);
     let held = all!(
-        limiter.on_insert(alloc, 0, 1u64, 2u64)?.is_some(),
-        limiter.on_insert(alloc, 1, 80u64, 5u64)?.is_none(),
+        limiter.admit(0, &1u64, &2u64) && !limiter.admit(1, &80u64, &5u64),
         limiter.cost() == 19
     );
     let lower = limiter.with_limit(10);
@@ -83,7 +78,6 @@ fn of_accounts_by_weight(rt: HostRuntime) -> Result<(), Fail> {
             limiter.limit() == 100
         );
     check!(rt; held);
-    Ok(())
 }
 
 #[test]
@@ -98,14 +92,18 @@ fn of_accounts_owned_bytes(rt: HostRuntime) -> Result<(), Fail> {
 fn of_accounts(rt: HostRuntime) {
     let held = Page { bytes: 4096 }.cost() == 4096;
     let limiter = ByCost::new(3);
-    let held = held & all!(Summing::<u64, u64, u64>::account(&limiter) == 0);
+    let held = held & all!(Summing::<u64, u64>::account(&limiter) == 0);
     check!(rt; held);
 }
 
 #[test]
 fn of_admission(rt: HostRuntime) {
-    let limiter = ByLength::new(0);
-    check!(rt; !limiter.accepts(0, &1u64, &2u64) && limiter.accepts_in_place(1, &1u64, &2u64, &3u64));
+    let mut limiter = ByLength::new(0);
+    let held = all!(
+        !limiter.accepts(0, &1u64, &2u64) && !limiter.admit(0, &1u64, &2u64),
+        limiter.accepts_in_place(1, &1u64, &2u64, &3u64)
+    );
+    check!(rt; held);
 }
 
 #[test]
@@ -146,16 +144,26 @@ fn of_limiter(rt: HostRuntime) {
 }
 
 #[test]
-fn of_limiters_both(rt: HostRuntime) -> Result<(), Fail> {
+fn of_limiter_2(rt: HostRuntime) -> Result<(), Fail> {
     let alloc = rt.alloc();
-    let mut limiter = Both(ByCost::new(9), ByLength::new(3));
+    let mut limiter = ByCost::new(3);
     let held = all!(
-        Limiter::<u64, u64>::is_over_the_limit(&limiter, 4),
-        limiter.on_insert(alloc, 0, 1u64, 10u64)?.is_none() && limiter.0.cost() == 0,
-        limiter.on_insert(alloc, 0, 1u64, 8u64)?.is_some() && limiter.0.cost() == 8
+        limiter.on_insert(alloc, 0, 1u64, 2u64)?.is_some(),
+        limiter.on_insert(alloc, 1, 2u64, 4u64)?.is_none()
     );
     check!(rt; held);
     Ok(())
+}
+
+#[test]
+fn of_limiters_both(rt: HostRuntime) {
+    let mut limiter = Both(ByCost::new(9), ByLength::new(3));
+    let held = all!(
+        Limiter::<u64, u64>::is_over_the_limit(&limiter, 4),
+        !limiter.admit(0, &1u64, &10u64) && limiter.0.cost() == 0,
+        limiter.admit(0, &1u64, &8u64) && limiter.0.cost() == 8
+    );
+    check!(rt; held);
 }
 
 #[test]

@@ -93,18 +93,26 @@ pub trait Admission<K, V>: for<'a> Limiter<K, V, KeyToInsert<'a> = K> {
     fn on_stored(&mut self, length: usize, key: &K, value: &V);
 }
 
-// The callbacks of a proved limiter under schnellru's signatures, with the two that take a key to insert as they are given.
+// The callbacks of a proved limiter under schnellru's signatures.
 macro_rules! by_the_proved_limiter {
-    ([$($parameters:tt)*] $limiter:ty, $link:ty, { $($with_key:tt)* }) => {
+    ([$($parameters:tt)*] $limiter:ty, $link:ty) => {
         impl<$($parameters)*> Limiter<K, V> for $limiter {
             type KeyToInsert<'a> = K;
             type LinkType = $link;
 
-            $($with_key)*
-
             #[inline]
             fn is_over_the_limit(&self, length: usize) -> bool {
                 proved::Limiter::<K, V>::is_over_the_limit(self, length)
+            }
+
+            #[inline(always)]
+            fn on_insert(&mut self, length: usize, key: K, value: V) -> Option<(K, V)> {
+                if proved::Admission::admit(self, length, &key, &value) { Some((key, value)) } else { None }
+            }
+
+            #[inline]
+            fn on_replace(&mut self, length: usize, old_key: &mut K, _: K, old: &mut V, new: &mut V) -> bool {
+                proved::Admission::<K, V>::admit_in_place(self, length, old_key, old, new)
             }
 
             #[inline]
@@ -122,56 +130,6 @@ macro_rules! by_the_proved_limiter {
                 proved::Limiter::<K, V>::on_grow(self, new_memory_usage)
             }
         }
-    };
-}
-
-// The proved `on_insert` and `on_replace` have bounds on keys that schnellru's have not, so they are written again here.
-macro_rules! without_bounds {
-    ($limiter:ty, $link:ty, |$this:ident| $accepts:expr) => {
-        by_the_proved_limiter!([K, V] $limiter, $link, {
-            #[inline(always)]
-            fn on_insert(&mut self, _length: usize, key: K, value: V) -> Option<(K, V)> {
-                let $this = self;
-                if $accepts { Some((key, value)) } else { None }
-            }
-
-            #[inline]
-            fn on_replace(&mut self, _: usize, _: &mut K, _: K, _: &mut V, _: &mut V) -> bool {
-                true
-            }
-        });
-
-        impl<K, V> Admission<K, V> for $limiter {
-            #[inline]
-            fn accepts(&self, _length: usize, _key: &K, _value: &V) -> bool {
-                let $this = self;
-                $accepts
-            }
-
-            #[inline]
-            fn on_stored(&mut self, _length: usize, _key: &K, _value: &V) {}
-        }
-    };
-}
-
-without_bounds!(ByLength, u32, |limiter| limiter.max_length() > 0);
-without_bounds!(ByMemoryUsage, u32, |_limiter| true);
-without_bounds!(Unlimited, usize, |_limiter| true);
-without_bounds!(UnlimitedCompact, u32, |_limiter| true);
-
-macro_rules! with_bounds {
-    ([$($parameters:tt)*] $limiter:ty, $link:ty) => {
-        by_the_proved_limiter!([$($parameters)*] $limiter, $link, {
-            #[inline]
-            fn on_insert(&mut self, length: usize, key: K, value: V) -> Option<(K, V)> {
-                proved::Insertion::<K, V, K>::on_insert(self, Global, length, key, value).unwrap_or(None)
-            }
-
-            #[inline]
-            fn on_replace(&mut self, length: usize, old_key: &mut K, key: K, old: &mut V, new: &mut V) -> bool {
-                proved::Insertion::<K, V, K>::on_replace(self, length, old_key, key, old, new)
-            }
-        });
 
         impl<$($parameters)*> Admission<K, V> for $limiter {
             #[inline]
@@ -181,15 +139,19 @@ macro_rules! with_bounds {
 
             #[inline]
             fn on_stored(&mut self, length: usize, key: &K, value: &V) {
-                proved::Admission::<K, V>::on_stored(self, length, key, value);
+                proved::Admission::<K, V>::admit(self, length, key, value);
             }
         }
     };
 }
 
-with_bounds!([K: PartialEq + Hash + OwnedBytes, V: OwnedBytes] ByBytes, u32);
-with_bounds!([K: PartialEq + Hash, V: Costed] ByCost, usize);
-with_bounds!([K: PartialEq + Hash + Costed, V: Costed, const OVERHEAD: u64] ByWeight<OVERHEAD>, usize);
+by_the_proved_limiter!([K, V] ByLength, u32);
+by_the_proved_limiter!([K, V] ByMemoryUsage, u32);
+by_the_proved_limiter!([K, V] Unlimited, usize);
+by_the_proved_limiter!([K, V] UnlimitedCompact, u32);
+by_the_proved_limiter!([K: OwnedBytes, V: OwnedBytes] ByBytes, u32);
+by_the_proved_limiter!([K, V: Costed] ByCost, usize);
+by_the_proved_limiter!([K: Costed, V: Costed, const OVERHEAD: u64] ByWeight<OVERHEAD>, usize);
 
 /// A limiter as the proved map calls it.
 #[derive(Clone, Copy)]
@@ -249,27 +211,19 @@ where
     }
 }
 
-impl<K: PartialEq + Hash, V, L: Admission<K, V>> proved::Insertion<K, V, K> for Calls<L> {
-    #[inline]
-    fn on_insert(&mut self, _: Global, length: usize, key: K, value: V) -> Result<Option<(K, V)>, AllocError> {
-        Ok(self.0.on_insert(length, key, value))
-    }
-
-    #[inline]
-    fn on_replace(&mut self, length: usize, old_key: &mut K, key: K, old: &mut V, new: &mut V) -> bool {
-        self.0.on_replace(length, old_key, key, old, new)
-    }
-}
-
-impl<K: PartialEq + Hash, V, L: Admission<K, V>> proved::Admission<K, V> for Calls<L> {
+impl<K, V, L: Admission<K, V>> proved::Admission<K, V> for Calls<L> {
     #[inline]
     fn accepts(&self, length: usize, key: &K, value: &V) -> bool {
         self.0.accepts(length, key, value)
     }
 
     #[inline]
-    fn on_stored(&mut self, length: usize, key: &K, value: &V) {
-        self.0.on_stored(length, key, value);
+    fn admit(&mut self, length: usize, key: &K, value: &V) -> bool {
+        let is_accepted = self.0.accepts(length, key, value);
+        if is_accepted {
+            self.0.on_stored(length, key, value);
+        }
+        is_accepted
     }
 
     // A map of this crate never asks what it would replace in place.
@@ -277,7 +231,9 @@ impl<K: PartialEq + Hash, V, L: Admission<K, V>> proved::Admission<K, V> for Cal
         false
     }
 
-    fn on_replaced(&mut self, _: usize, _: &K, _: &V, _: &V) {}
+    fn admit_in_place(&mut self, _: usize, _: &K, _: &V, _: &V) -> bool {
+        false
+    }
 }
 
 impl<T> Costed for alloc::vec::Vec<T> {

@@ -107,7 +107,10 @@ impl<K: Eq + Hash + Drop, V: Drop, L: Admission<K, V> + Copy, S: KeyHasher<K>> L
     {
         let length = self.entries.len();
         let mut limiter = self.limiter;
-        limiter.admit(length, key, value) && !limiter.is_over_the_limit(length + 1)
+        if !limiter.admit(length, key, value) {
+            return false;
+        }
+        !limiter.is_over_the_limit(length + 1)
     }
 
     fn add(&mut self, hash: u64, key: K, value: V)

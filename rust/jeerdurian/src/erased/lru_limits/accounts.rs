@@ -10,9 +10,7 @@ mod by_cost;
 mod by_weight;
 mod owned_bytes;
 
-use crate::erased::lru_limits::keys::LookupKey;
-use crate::erased::lru_limits::limiter::Insertion;
-use crate::rattle_std::hash::Hash;
+use crate::erased::lru_limits::admission::Admission;
 pub use budgeted::Budgeted;
 pub use by_bytes::ByBytes;
 pub use by_cost::ByCost;
@@ -94,17 +92,17 @@ impl<T> Costed for Vec<T> {
     }
 }
 
-/// A limiter with a running total: the sum of the costs of the entries that it returned for storage and that were not
-/// evicted or removed since.
+/// A limiter with a running total: the sum of the costs of the entries that it accepted and that were not evicted or
+/// removed since.
 ///
 /// The total is the sum over the entries of the map after each call, unless somebody writes to the values or to the
 /// limiter through a reference.
 ///
 /// ```text
 /// let limiter = ByCost::new(3);
-/// assert_eq!(rt; Summing::<u64, u64, u64>::account(&limiter), 0);
+/// assert_eq!(rt; Summing::<u64, u64>::account(&limiter), 0);
 /// ```
-pub trait Summing<K: Eq + Hash, V, I: LookupKey<K>>: Insertion<K, V, I> {
+pub trait Summing<K, V>: Admission<K, V> {
     fn cost_of(key: &K, value: &V) -> u64;
 
     fn account(&self) -> u64;

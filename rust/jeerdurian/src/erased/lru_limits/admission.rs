@@ -1,29 +1,58 @@
 // Erased from crates/lru_limits/src/admission.rt: do not edit.
-//! Limiters that say in advance what they accept.
+//! Limiters that store each entry as it came, or reject it.
 
 #[allow(unused_imports)]
 use crate::rattle_std::prelude::*;
 
-use crate::erased::lru_limits::limiter::Insertion;
+use crate::erased::lru_limits::keys::LookupKey;
+use crate::erased::lru_limits::limiter::{Insertion, Limiter};
+use crate::rattle_std::alloc::{AllocError, Global};
 use crate::rattle_std::hash::Hash;
 
-/// A limiter that stores each entry as it came, and says in advance which it accepts.
+/// Accepts or rejects entries, and stores what it accepts as it came.
 ///
-/// [`crate::Both`] queries two limiters by this trait, before either of them changes. For a limiter that never changes,
-/// `never_changes` of `specs/Admissions.antt` defines the terms in one line.
+/// Every such limiter is an [`Insertion`], can be in [`crate::Both`], and permits `try_insert`. The impl defines
+/// `terms`: which entries it accepts, and the limiter after that. For a limiter that never changes, `never_changes` of
+/// `specs/Admissions.antt` defines the terms in one line.
 ///
 /// ```text
-/// let limiter = ByLength::new(0);
-/// assert!(rt; !limiter.accepts(0, &1u64, &2u64) && limiter.accepts_in_place(1, &1u64, &2u64, &3u64));
+/// let mut limiter = ByLength::new(0);
+/// assert!(rt; !limiter.accepts(0, &1u64, &2u64) && !limiter.admit(0, &1u64, &2u64));
+/// assert!(rt; limiter.accepts_in_place(1, &1u64, &2u64, &3u64));
 /// ```
-pub trait Admission<K: Eq + Hash, V>: Insertion<K, V, K> {
+pub trait Admission<K, V>: Limiter<K, V> {
+    /// Returns whether `admit` would accept this entry.
     fn accepts(&self, length: usize, key: &K, value: &V) -> bool;
 
-    /// Changes the limiter as `on_insert` does with this entry.
-    fn on_stored(&mut self, length: usize, key: &K, value: &V);
+    /// Called by an insert with a new key and its value, before anything is evicted for it from a map of `length`
+    /// entries. Returns whether the entry is accepted; if not, it is dropped, and the map does not change.
+    fn admit(&mut self, length: usize, key: &K, value: &V) -> bool;
 
+    /// Returns whether `admit_in_place` would accept this value.
     fn accepts_in_place(&self, length: usize, key: &K, old_value: &V, new_value: &V) -> bool;
 
-    /// Changes the limiter as `on_replace` does with the new value of a stored key.
-    fn on_replaced(&mut self, length: usize, key: &K, old_value: &V, new_value: &V);
+    /// Called by an insert or an update before `new_value` replaces `old_value` of a stored key, in a map of `length`
+    /// entries. Returns whether the new value is accepted; if not, the map removes the entry.
+    fn admit_in_place(&mut self, length: usize, key: &K, old_value: &V, new_value: &V) -> bool;
+}
+
+impl<K: Eq + Hash, V, L: Admission<K, V>> Insertion<K, V, K> for L {
+    // Forced inline: the caller then branches, instead of selecting between `Some` and `None`, and takes the pair as it
+    // came.
+    #[inline(always)]
+    fn on_insert(&mut self, _alloc: Global, length: usize, key: K, value: V) -> Result<Option<(K, V)>, AllocError> {
+        if self.admit(length, &key, &value) { Ok(Some((key, value))) } else { Ok(None) }
+    }
+
+    #[inline]
+    fn on_replace(
+        &mut self,
+        length: usize,
+        old_key: &mut K,
+        _new_key: K,
+        old_value: &mut V,
+        new_value: &mut V,
+    ) -> bool {
+        self.admit_in_place(length, &*old_key, &*old_value, &*new_value)
+    }
 }

@@ -3,21 +3,19 @@
 #[allow(unused_imports)]
 use crate::rattle_std::prelude::*;
 
-use crate::erased::lru_limits::{Admission, Both, ByCost, ByLength, Insertion, Limiter};
+use crate::erased::lru_limits::{Admission, Both, ByCost, ByLength, Limiter};
 use crate::programs::test_helpers::check;
-use crate::rattle_std::test::Fail;
 
 #[test]
 fn of_both() {
-    let run = |rt: HostRuntime| -> Result<(), Fail> {
-        let alloc = rt.alloc();
+    let run = |rt: HostRuntime| -> () {
         let mut limiter = Both(ByCost::new(9), ByLength::new(3));
         check!(rt; Limiter::<u64, u64>::is_over_the_limit(&limiter, 4));
-        check!(rt; limiter.on_insert(alloc, 0, 1u64, 10u64)?.is_none() && limiter.0.cost() == 0);
-        check!(rt; limiter.on_insert(alloc, 0, 1u64, 8u64)?.is_some() && limiter.0.cost() == 8);
-        let limiter = ByLength::new(0);
-        check!(rt; !limiter.accepts(0, &1u64, &2u64) && limiter.accepts_in_place(1, &1u64, &2u64, &3u64));
-        Ok(())
+        check!(rt; !limiter.admit(0, &1u64, &10u64) && limiter.0.cost() == 0);
+        check!(rt; limiter.admit(0, &1u64, &8u64) && limiter.0.cost() == 8);
+        let mut limiter = ByLength::new(0);
+        check!(rt; !limiter.accepts(0, &1u64, &2u64) && !limiter.admit(0, &1u64, &2u64));
+        check!(rt; limiter.accepts_in_place(1, &1u64, &2u64, &3u64));
     };
     run(HostRuntime).passes();
 }

@@ -4,7 +4,7 @@
 #[allow(unused_imports)]
 use crate::rattle_std::prelude::*;
 
-use crate::erased::lru_limits::{ByCost, Costed, LookupKey, RandomState, Summing};
+use crate::erased::lru_limits::{ByCost, Costed, Insertion, LookupKey, RandomState, Summing};
 use crate::programs::test_helpers::{all, check};
 use crate::rattle_std::alloc::{AllocError, Global};
 use crate::rattle_std::hash::{BuildHasher, Hash};
@@ -19,10 +19,10 @@ fn names<K: Eq + Hash, Q: LookupKey<K>>(query: &Q, key: &K) -> bool {
     query.is_key(key) && state.hash_by(query) == state.hash_by(key)
 }
 
-fn offer_and_remove<K: Eq + Hash, V, I: LookupKey<K>, L: Summing<K, V, I>>(
+fn offer_and_remove<K: Eq + Hash, V, L: Summing<K, V>>(
     limiter: &mut L,
     alloc: Global,
-    key: I,
+    key: K,
     value: V,
 ) -> Result<u64, AllocError> {
     if let Some((mut key, mut value)) = limiter.on_insert(alloc, 0, key, value)? {

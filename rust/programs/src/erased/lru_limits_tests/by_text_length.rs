@@ -5,9 +5,7 @@
 #[allow(unused_imports)]
 use crate::rattle_std::prelude::*;
 
-use crate::erased::lru_limits::{Insertion, Limiter, LookupKey, Summing};
-use crate::rattle_std::alloc::{AllocError, Global};
-use crate::rattle_std::hash::Hash;
+use crate::erased::lru_limits::{Admission, Limiter, Summing};
 
 /// Limits the bytes of all texts together. It rejects a text that is longer than the limit by itself.
 #[derive(Clone, Copy, Debug)]
@@ -43,33 +41,29 @@ impl<K> Limiter<K, String> for ByTextLength {
     }
 }
 
-impl<K: Eq + Hash> Insertion<K, String, K> for ByTextLength {
-    fn on_insert(
-        &mut self,
-        _alloc: Global,
-        _length: usize,
-        key: K,
-        value: String,
-    ) -> Result<Option<(K, String)>, AllocError> {
+impl<K> Admission<K, String> for ByTextLength {
+    fn accepts(&self, _length: usize, _key: &K, value: &String) -> bool {
+        self.total_with(self.total, value.len() as u64).is_some()
+    }
+
+    fn admit(&mut self, _length: usize, _key: &K, value: &String) -> bool {
         match self.total_with(self.total, value.len() as u64) {
             Some(total) => {
                 self.total = total;
-                Ok(Some((key, value)))
+                true
             }
-            None => Ok(None),
+            None => false,
         }
     }
 
-    fn on_replace(
-        &mut self,
-        _length: usize,
-        _old_key: &mut K,
-        _new_key: K,
-        old_value: &mut String,
-        new_value: &mut String,
-    ) -> bool {
-        let without_old = self.total.saturating_sub(old_value.len() as u64);
-        match self.total_with(without_old, new_value.len() as u64) {
+    fn accepts_in_place(&self, _length: usize, _key: &K, old: &String, new: &String) -> bool {
+        let without_old = self.total.saturating_sub(old.len() as u64);
+        self.total_with(without_old, new.len() as u64).is_some()
+    }
+
+    fn admit_in_place(&mut self, _length: usize, _key: &K, old: &String, new: &String) -> bool {
+        let without_old = self.total.saturating_sub(old.len() as u64);
+        match self.total_with(without_old, new.len() as u64) {
             Some(total) => {
                 self.total = total;
                 true
@@ -79,7 +73,7 @@ impl<K: Eq + Hash> Insertion<K, String, K> for ByTextLength {
     }
 }
 
-impl<K: Eq + Hash> Summing<K, String, K> for ByTextLength {
+impl<K> Summing<K, String> for ByTextLength {
     fn cost_of(_key: &K, value: &String) -> u64 {
         value.len() as u64
     }

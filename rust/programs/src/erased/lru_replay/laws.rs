@@ -56,7 +56,7 @@ pub fn granted_calls_are_exact<K: Eq + Hash, V, L: Insertion<K, V, K>, S: KeyHas
 
 /// So is a run under a limiter with a running total: a call that keeps the cost is one on the list, and any other
 /// changes nothing.
-pub fn granted_summing_is_exact<K: Eq + Hash, V, L: Summing<K, V, K>, S: KeyHasher<K>>() {
+pub fn granted_summing_is_exact<K: Eq + Hash, V, L: Summing<K, V>, S: KeyHasher<K>>() {
     laws::granted_inserts_are_exact::<K, V, K, L, S>();
     laws::calls_add_one_pair::<K, V, K, L, S>();
 }
@@ -84,7 +84,7 @@ pub fn small_lengths_are_alike<K: Eq + Hash, V, S: KeyHasher<K>>() {
 
 /// Two runs of the same calls under a limiter with a running total are alike, too, if the maps before and the tables are
 /// as `small_calls_are_alike` demands.
-pub fn small_summing_is_alike<K: Eq + Hash, V, L: Summing<K, V, K>, S: KeyHasher<K>>() {
+pub fn small_summing_is_alike<K: Eq + Hash, V, L: Summing<K, V>, S: KeyHasher<K>>() {
     laws::small_inserts_look_alike::<K, V, K, L, S>();
 }
 
@@ -106,6 +106,6 @@ pub fn lines_keep_maps<L: Insertion<u64, u64, u64>>() {
 
 /// In a run of lines under a limiter with a running total, as under `cost N`, the total is the sum of the costs after
 /// each line, if it was before: lines write nothing through a reference.
-pub fn lines_keep_sums<L: Summing<u64, u64, u64>>() {
+pub fn lines_keep_sums<L: Summing<u64, u64>>() {
     laws::calls_keep_sums::<u64, u64, u64, L, RandomState>();
 }

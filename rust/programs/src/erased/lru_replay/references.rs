@@ -5,7 +5,7 @@
 #[allow(unused_imports)]
 use crate::rattle_std::prelude::*;
 
-use crate::erased::lru_limits::{ByLength, Insertion, KeyHasher, Limiter};
+use crate::erased::lru_limits::{Admission, ByLength, Insertion, KeyHasher, Limiter};
 use crate::erased::lru_model::laws;
 use crate::rattle_std::hash::Hash;
 

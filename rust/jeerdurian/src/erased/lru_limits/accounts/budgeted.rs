@@ -5,7 +5,6 @@
 use crate::rattle_std::prelude::*;
 
 use crate::erased::lru_limits::accounts::Summing;
-use crate::rattle_std::hash::Hash;
 
 /// A limiter with a running total that keeps within a budget: a map is over the limit if and only if the total is above
 /// the budget.
@@ -17,7 +16,7 @@ use crate::rattle_std::hash::Hash;
 /// Budgeted::<u64, u64>::set_budget(&mut limiter, 5);
 /// assert_eq!(rt; Budgeted::<u64, u64>::budget(&limiter), 5);
 /// ```
-pub trait Budgeted<K: Eq + Hash, V>: Summing<K, V, K> {
+pub trait Budgeted<K, V>: Summing<K, V> {
     /// Makes a limiter with a budget, and a running total of 0.
     fn with_budget(budget: u64) -> Self;
 

@@ -6,10 +6,7 @@ use crate::rattle_std::prelude::*;
 
 use crate::erased::lru_limits::accounts::{OwnedBytes, Summing, sum_with};
 use crate::erased::lru_limits::admission::Admission;
-use crate::erased::lru_limits::keys::LookupKey;
-use crate::erased::lru_limits::limiter::{Insertion, Limiter};
-use crate::rattle_std::alloc::{AllocError, Global};
-use crate::rattle_std::hash::Hash;
+use crate::erased::lru_limits::limiter::Limiter;
 
 /// Limits the bytes of the table and of what the entries own, together: `ByBytes::new(200 << 20)` is 200 MiB. A contract
 /// sees it as its limit, the bytes that the entries own, and the bytes of the table.
@@ -27,7 +24,7 @@ use crate::rattle_std::hash::Hash;
 /// let mut limiter = ByBytes::new(200);
 /// assert!(rt; Limiter::<u64, Vec<u8>>::on_grow(&mut limiter, 152));
 /// let block: Vec<u8> = Vec::with_capacity(alloc, 17)?;
-/// assert!(rt; limiter.on_insert(alloc, 0, 1u64, block)?.is_some());
+/// assert!(rt; limiter.admit(0, &1u64, &block));
 /// assert!(rt; !Limiter::<u64, Vec<u8>>::on_grow(&mut limiter, 153));
 /// assert_eq!(rt; (limiter.owned(), limiter.table()), (48, 152));
 /// ```
@@ -137,39 +134,7 @@ impl<K: OwnedBytes, V: OwnedBytes> Limiter<K, V> for ByBytes {
     }
 }
 
-impl<K: OwnedBytes + Eq + Hash, V: OwnedBytes> Insertion<K, V, K> for ByBytes {
-    #[inline]
-    fn on_insert(&mut self, _alloc: Global, _length: usize, key: K, value: V) -> Result<Option<(K, V)>, AllocError> {
-        match sum_with(self.left(), self.owned, bytes_of_pair(&key, &value)) {
-            Some(sum) => {
-                self.owned = sum;
-                Ok(Some((key, value)))
-            }
-            None => Ok(None),
-        }
-    }
-
-    #[inline]
-    fn on_replace(
-        &mut self,
-        _length: usize,
-        old_key: &mut K,
-        _new_key: K,
-        old_value: &mut V,
-        new_value: &mut V,
-    ) -> bool {
-        let others = self.owned.saturating_sub(bytes_of_pair(&*old_key, &*old_value));
-        match sum_with(self.left(), others, bytes_of_pair(&*old_key, &*new_value)) {
-            Some(sum) => {
-                self.owned = sum;
-                true
-            }
-            None => false,
-        }
-    }
-}
-
-impl<K: OwnedBytes + Eq + Hash, V: OwnedBytes> Summing<K, V, K> for ByBytes {
+impl<K: OwnedBytes, V: OwnedBytes> Summing<K, V> for ByBytes {
     #[inline]
     fn cost_of(key: &K, value: &V) -> u64 {
         bytes_of_pair(key, value)
@@ -181,16 +146,20 @@ impl<K: OwnedBytes + Eq + Hash, V: OwnedBytes> Summing<K, V, K> for ByBytes {
     }
 }
 
-impl<K: OwnedBytes + Eq + Hash, V: OwnedBytes> Admission<K, V> for ByBytes {
+impl<K: OwnedBytes, V: OwnedBytes> Admission<K, V> for ByBytes {
     #[inline]
     fn accepts(&self, _length: usize, key: &K, value: &V) -> bool {
         sum_with(self.left(), self.owned, bytes_of_pair(key, value)).is_some()
     }
 
     #[inline]
-    fn on_stored(&mut self, _length: usize, key: &K, value: &V) {
-        if let Some(sum) = sum_with(self.left(), self.owned, bytes_of_pair(key, value)) {
-            self.owned = sum;
+    fn admit(&mut self, _length: usize, key: &K, value: &V) -> bool {
+        match sum_with(self.left(), self.owned, bytes_of_pair(key, value)) {
+            Some(sum) => {
+                self.owned = sum;
+                true
+            }
+            None => false,
         }
     }
 
@@ -201,10 +170,14 @@ impl<K: OwnedBytes + Eq + Hash, V: OwnedBytes> Admission<K, V> for ByBytes {
     }
 
     #[inline]
-    fn on_replaced(&mut self, _length: usize, key: &K, old_value: &V, new_value: &V) {
+    fn admit_in_place(&mut self, _length: usize, key: &K, old_value: &V, new_value: &V) -> bool {
         let others = self.owned.saturating_sub(bytes_of_pair(key, old_value));
-        if let Some(sum) = sum_with(self.left(), others, bytes_of_pair(key, new_value)) {
-            self.owned = sum;
+        match sum_with(self.left(), others, bytes_of_pair(key, new_value)) {
+            Some(sum) => {
+                self.owned = sum;
+                true
+            }
+            None => false,
         }
     }
 }

@@ -6,10 +6,7 @@ use crate::rattle_std::prelude::*;
 
 use crate::erased::lru_limits::accounts::{Budgeted, Costed, Summing, sum_with};
 use crate::erased::lru_limits::admission::Admission;
-use crate::erased::lru_limits::keys::LookupKey;
-use crate::erased::lru_limits::limiter::{Insertion, Limiter};
-use crate::rattle_std::alloc::{AllocError, Global};
-use crate::rattle_std::hash::Hash;
+use crate::erased::lru_limits::limiter::Limiter;
 
 /// Limits the sum of the costs of the values. A contract sees it as its limit and that sum.
 ///
@@ -18,8 +15,7 @@ use crate::rattle_std::hash::Hash;
 ///
 /// ```text
 /// let mut limiter = ByCost::new(3);
-/// assert!(rt; limiter.on_insert(alloc, 0, 1u64, 2u64)?.is_some());
-/// assert!(rt; limiter.on_insert(alloc, 1, 2u64, 4u64)?.is_none());
+/// assert!(rt; limiter.admit(0, &1u64, &2u64) && !limiter.admit(1, &2u64, &4u64));
 /// assert_eq!(rt; limiter.cost(), 2);
 /// ```
 ///
@@ -95,39 +91,7 @@ impl<K, V: Costed> Limiter<K, V> for ByCost {
     }
 }
 
-impl<K: Eq + Hash, V: Costed> Insertion<K, V, K> for ByCost {
-    #[inline]
-    fn on_insert(&mut self, _alloc: Global, _length: usize, key: K, value: V) -> Result<Option<(K, V)>, AllocError> {
-        match sum_with(self.limit, self.cost, value.cost()) {
-            Some(sum) => {
-                self.cost = sum;
-                Ok(Some((key, value)))
-            }
-            None => Ok(None),
-        }
-    }
-
-    #[inline]
-    fn on_replace(
-        &mut self,
-        _length: usize,
-        _old_key: &mut K,
-        _new_key: K,
-        old_value: &mut V,
-        new_value: &mut V,
-    ) -> bool {
-        let without_old = self.cost.saturating_sub(old_value.cost());
-        match sum_with(self.limit, without_old, new_value.cost()) {
-            Some(sum) => {
-                self.cost = sum;
-                true
-            }
-            None => false,
-        }
-    }
-}
-
-impl<K: Eq + Hash, V: Costed> Summing<K, V, K> for ByCost {
+impl<K, V: Costed> Summing<K, V> for ByCost {
     #[inline]
     fn cost_of(_key: &K, value: &V) -> u64 {
         value.cost()
@@ -139,16 +103,20 @@ impl<K: Eq + Hash, V: Costed> Summing<K, V, K> for ByCost {
     }
 }
 
-impl<K: Eq + Hash, V: Costed> Admission<K, V> for ByCost {
+impl<K, V: Costed> Admission<K, V> for ByCost {
     #[inline]
     fn accepts(&self, _length: usize, _key: &K, value: &V) -> bool {
         sum_with(self.limit, self.cost, value.cost()).is_some()
     }
 
     #[inline]
-    fn on_stored(&mut self, _length: usize, _key: &K, value: &V) {
-        if let Some(sum) = sum_with(self.limit, self.cost, value.cost()) {
-            self.cost = sum;
+    fn admit(&mut self, _length: usize, _key: &K, value: &V) -> bool {
+        match sum_with(self.limit, self.cost, value.cost()) {
+            Some(sum) => {
+                self.cost = sum;
+                true
+            }
+            None => false,
         }
     }
 
@@ -159,15 +127,19 @@ impl<K: Eq + Hash, V: Costed> Admission<K, V> for ByCost {
     }
 
     #[inline]
-    fn on_replaced(&mut self, _length: usize, _key: &K, old_value: &V, new_value: &V) {
+    fn admit_in_place(&mut self, _length: usize, _key: &K, old_value: &V, new_value: &V) -> bool {
         let without_old = self.cost.saturating_sub(old_value.cost());
-        if let Some(sum) = sum_with(self.limit, without_old, new_value.cost()) {
-            self.cost = sum;
+        match sum_with(self.limit, without_old, new_value.cost()) {
+            Some(sum) => {
+                self.cost = sum;
+                true
+            }
+            None => false,
         }
     }
 }
 
-impl<K: Eq + Hash, V: Costed> Budgeted<K, V> for ByCost {
+impl<K, V: Costed> Budgeted<K, V> for ByCost {
     #[inline]
     fn with_budget(budget: u64) -> ByCost {
         ByCost::new(budget)

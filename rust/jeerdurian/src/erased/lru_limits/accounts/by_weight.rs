@@ -6,10 +6,7 @@ use crate::rattle_std::prelude::*;
 
 use crate::erased::lru_limits::accounts::{Budgeted, Costed, Summing, sum_with};
 use crate::erased::lru_limits::admission::Admission;
-use crate::erased::lru_limits::keys::LookupKey;
-use crate::erased::lru_limits::limiter::{Insertion, Limiter};
-use crate::rattle_std::alloc::{AllocError, Global};
-use crate::rattle_std::hash::Hash;
+use crate::erased::lru_limits::limiter::Limiter;
 
 /// Limits the sum of the costs of the entries: of each key, of its value, and `OVERHEAD` for the entry itself. A
 /// contract sees it as its limit and that sum.
@@ -18,8 +15,7 @@ use crate::rattle_std::hash::Hash;
 ///
 /// ```text
 /// let mut limiter: ByWeight<16> = ByWeight::new(100);
-/// assert!(rt; limiter.on_insert(alloc, 0, 1u64, 2u64)?.is_some());
-/// assert!(rt; limiter.on_insert(alloc, 1, 80u64, 5u64)?.is_none());
+/// assert!(rt; limiter.admit(0, &1u64, &2u64) && !limiter.admit(1, &80u64, &5u64));
 /// assert_eq!(rt; limiter.cost(), 19);
 /// ```
 ///
@@ -101,41 +97,7 @@ impl<K: Costed, V: Costed, const OVERHEAD: u64> Limiter<K, V> for ByWeight<OVERH
     }
 }
 
-impl<K: Costed + Eq + Hash, V: Costed, const OVERHEAD: u64> Insertion<K, V, K> for ByWeight<OVERHEAD> {
-    #[inline]
-    fn on_insert(&mut self, _alloc: Global, _length: usize, key: K, value: V) -> Result<Option<(K, V)>, AllocError> {
-        let cost = cost_of_pair(OVERHEAD, &key, &value);
-        match sum_with(self.limit, self.cost, cost) {
-            Some(sum) => {
-                self.cost = sum;
-                Ok(Some((key, value)))
-            }
-            None => Ok(None),
-        }
-    }
-
-    #[inline]
-    fn on_replace(
-        &mut self,
-        _length: usize,
-        old_key: &mut K,
-        _new_key: K,
-        old_value: &mut V,
-        new_value: &mut V,
-    ) -> bool {
-        let old_cost = cost_of_pair(OVERHEAD, &*old_key, &*old_value);
-        let new_cost = cost_of_pair(OVERHEAD, &*old_key, &*new_value);
-        match sum_with(self.limit, self.cost.saturating_sub(old_cost), new_cost) {
-            Some(sum) => {
-                self.cost = sum;
-                true
-            }
-            None => false,
-        }
-    }
-}
-
-impl<K: Costed + Eq + Hash, V: Costed, const OVERHEAD: u64> Summing<K, V, K> for ByWeight<OVERHEAD> {
+impl<K: Costed, V: Costed, const OVERHEAD: u64> Summing<K, V> for ByWeight<OVERHEAD> {
     #[inline]
     fn cost_of(key: &K, value: &V) -> u64 {
         cost_of_pair(OVERHEAD, key, value)
@@ -147,7 +109,7 @@ impl<K: Costed + Eq + Hash, V: Costed, const OVERHEAD: u64> Summing<K, V, K> for
     }
 }
 
-impl<K: Costed + Eq + Hash, V: Costed, const OVERHEAD: u64> Admission<K, V> for ByWeight<OVERHEAD> {
+impl<K: Costed, V: Costed, const OVERHEAD: u64> Admission<K, V> for ByWeight<OVERHEAD> {
     #[inline]
     fn accepts(&self, _length: usize, key: &K, value: &V) -> bool {
         let cost = cost_of_pair(OVERHEAD, key, value);
@@ -155,10 +117,13 @@ impl<K: Costed + Eq + Hash, V: Costed, const OVERHEAD: u64> Admission<K, V> for 
     }
 
     #[inline]
-    fn on_stored(&mut self, _length: usize, key: &K, value: &V) {
-        let cost = cost_of_pair(OVERHEAD, key, value);
-        if let Some(sum) = sum_with(self.limit, self.cost, cost) {
-            self.cost = sum;
+    fn admit(&mut self, _length: usize, key: &K, value: &V) -> bool {
+        match sum_with(self.limit, self.cost, cost_of_pair(OVERHEAD, key, value)) {
+            Some(sum) => {
+                self.cost = sum;
+                true
+            }
+            None => false,
         }
     }
 
@@ -170,16 +135,20 @@ impl<K: Costed + Eq + Hash, V: Costed, const OVERHEAD: u64> Admission<K, V> for 
     }
 
     #[inline]
-    fn on_replaced(&mut self, _length: usize, key: &K, old_value: &V, new_value: &V) {
+    fn admit_in_place(&mut self, _length: usize, key: &K, old_value: &V, new_value: &V) -> bool {
         let old_cost = cost_of_pair(OVERHEAD, key, old_value);
         let new_cost = cost_of_pair(OVERHEAD, key, new_value);
-        if let Some(sum) = sum_with(self.limit, self.cost.saturating_sub(old_cost), new_cost) {
-            self.cost = sum;
+        match sum_with(self.limit, self.cost.saturating_sub(old_cost), new_cost) {
+            Some(sum) => {
+                self.cost = sum;
+                true
+            }
+            None => false,
         }
     }
 }
 
-impl<K: Costed + Eq + Hash, V: Costed, const OVERHEAD: u64> Budgeted<K, V> for ByWeight<OVERHEAD> {
+impl<K: Costed, V: Costed, const OVERHEAD: u64> Budgeted<K, V> for ByWeight<OVERHEAD> {
     #[inline]
     fn with_budget(budget: u64) -> ByWeight<OVERHEAD> {
         ByWeight::new(budget)

@@ -6,10 +6,7 @@ use crate::rattle_std::prelude::*;
 
 use crate::erased::lru_limits::accounts::Summing;
 use crate::erased::lru_limits::admission::Admission;
-use crate::erased::lru_limits::keys::LookupKey;
-use crate::erased::lru_limits::limiter::{Insertion, Limiter};
-use crate::rattle_std::alloc::{AllocError, Global};
-use crate::rattle_std::hash::Hash;
+use crate::erased::lru_limits::limiter::Limiter;
 
 /// Limits a map by two limiters.
 ///
@@ -23,8 +20,8 @@ use crate::rattle_std::hash::Hash;
 /// ```text
 /// let mut limiter = Both(ByCost::new(9), ByLength::new(3));
 /// assert!(rt; Limiter::<u64, u64>::is_over_the_limit(&limiter, 4));
-/// assert!(rt; limiter.on_insert(alloc, 0, 1u64, 10u64)?.is_none() && limiter.0.cost() == 0);
-/// assert!(rt; limiter.on_insert(alloc, 0, 1u64, 8u64)?.is_some() && limiter.0.cost() == 8);
+/// assert!(rt; !limiter.admit(0, &1u64, &10u64) && limiter.0.cost() == 0);
+/// assert!(rt; limiter.admit(0, &1u64, &8u64) && limiter.0.cost() == 8);
 /// ```
 ///
 /// Cost: each callback calls at most two callbacks of each limiter, and takes no memory of its own.
@@ -59,49 +56,20 @@ impl<K, V, A: Limiter<K, V>, B: Limiter<K, V>> Limiter<K, V> for Both<A, B> {
     }
 }
 
-impl<K: Eq + Hash, V, A: Admission<K, V>, B: Admission<K, V>> Insertion<K, V, K> for Both<A, B> {
-    #[inline]
-    fn on_insert(&mut self, _alloc: Global, length: usize, key: K, value: V) -> Result<Option<(K, V)>, AllocError> {
-        if self.0.accepts(length, &key, &value) && self.1.accepts(length, &key, &value) {
-            self.0.on_stored(length, &key, &value);
-            self.1.on_stored(length, &key, &value);
-            Ok(Some((key, value)))
-        } else {
-            Ok(None)
-        }
-    }
-
-    #[inline]
-    fn on_replace(
-        &mut self,
-        length: usize,
-        old_key: &mut K,
-        _new_key: K,
-        old_value: &mut V,
-        new_value: &mut V,
-    ) -> bool {
-        let is_accepted = self.0.accepts_in_place(length, &*old_key, &*old_value, &*new_value)
-            && self.1.accepts_in_place(length, &*old_key, &*old_value, &*new_value);
-        if is_accepted {
-            self.0.on_replaced(length, &*old_key, &*old_value, &*new_value);
-            self.1.on_replaced(length, &*old_key, &*old_value, &*new_value);
-        }
-        is_accepted
-    }
-}
-
-impl<K: Eq + Hash, V, A: Admission<K, V>, B: Admission<K, V>> Admission<K, V> for Both<A, B> {
+impl<K, V, A: Admission<K, V>, B: Admission<K, V>> Admission<K, V> for Both<A, B> {
     #[inline]
     fn accepts(&self, length: usize, key: &K, value: &V) -> bool {
         self.0.accepts(length, key, value) && self.1.accepts(length, key, value)
     }
 
     #[inline]
-    fn on_stored(&mut self, length: usize, key: &K, value: &V) {
-        if self.0.accepts(length, key, value) && self.1.accepts(length, key, value) {
-            self.0.on_stored(length, key, value);
-            self.1.on_stored(length, key, value);
+    fn admit(&mut self, length: usize, key: &K, value: &V) -> bool {
+        let is_accepted = self.accepts(length, key, value);
+        if is_accepted {
+            self.0.admit(length, key, value);
+            self.1.admit(length, key, value);
         }
+        is_accepted
     }
 
     #[inline]
@@ -111,17 +79,17 @@ impl<K: Eq + Hash, V, A: Admission<K, V>, B: Admission<K, V>> Admission<K, V> fo
     }
 
     #[inline]
-    fn on_replaced(&mut self, length: usize, key: &K, old_value: &V, new_value: &V) {
-        if self.0.accepts_in_place(length, key, old_value, new_value)
-            && self.1.accepts_in_place(length, key, old_value, new_value)
-        {
-            self.0.on_replaced(length, key, old_value, new_value);
-            self.1.on_replaced(length, key, old_value, new_value);
+    fn admit_in_place(&mut self, length: usize, key: &K, old_value: &V, new_value: &V) -> bool {
+        let is_accepted = self.accepts_in_place(length, key, old_value, new_value);
+        if is_accepted {
+            self.0.admit_in_place(length, key, old_value, new_value);
+            self.1.admit_in_place(length, key, old_value, new_value);
         }
+        is_accepted
     }
 }
 
-impl<K: Eq + Hash, V, A: Admission<K, V> + Summing<K, V, K>, B: Admission<K, V>> Summing<K, V, K> for Both<A, B> {
+impl<K, V, A: Summing<K, V>, B: Admission<K, V>> Summing<K, V> for Both<A, B> {
     #[inline]
     fn cost_of(key: &K, value: &V) -> u64 {
         A::cost_of(key, value)

@@ -5,10 +5,7 @@
 use crate::rattle_std::prelude::*;
 
 use crate::erased::lru_limits::admission::Admission;
-use crate::erased::lru_limits::keys::LookupKey;
-use crate::erased::lru_limits::limiter::{Insertion, Limiter};
-use crate::rattle_std::alloc::{AllocError, Global};
-use crate::rattle_std::hash::Hash;
+use crate::erased::lru_limits::limiter::Limiter;
 
 /// Limits the number of entries. A contract sees it as that number.
 ///
@@ -76,35 +73,16 @@ impl<K, V> Limiter<K, V> for ByLength {
     }
 }
 
-impl<K: Eq + Hash, V> Insertion<K, V, K> for ByLength {
-    // Forced inline: the caller then branches, instead of selecting between `Some` and `None`, and takes the pair as it
-    // came.
-    #[inline(always)]
-    fn on_insert(&mut self, _alloc: Global, _length: usize, key: K, value: V) -> Result<Option<(K, V)>, AllocError> {
-        if self.max_length > 0 { Ok(Some((key, value))) } else { Ok(None) }
-    }
-
-    #[inline]
-    fn on_replace(
-        &mut self,
-        _length: usize,
-        _old_key: &mut K,
-        _new_key: K,
-        _old_value: &mut V,
-        _new_value: &mut V,
-    ) -> bool {
-        true
-    }
-}
-
-impl<K: Eq + Hash, V> Admission<K, V> for ByLength {
+impl<K, V> Admission<K, V> for ByLength {
     #[inline]
     fn accepts(&self, _length: usize, _key: &K, _value: &V) -> bool {
         self.max_length > 0
     }
 
     #[inline]
-    fn on_stored(&mut self, _length: usize, _key: &K, _value: &V) {}
+    fn admit(&mut self, _length: usize, _key: &K, _value: &V) -> bool {
+        self.max_length > 0
+    }
 
     #[inline]
     fn accepts_in_place(&self, _length: usize, _key: &K, _old_value: &V, _new_value: &V) -> bool {
@@ -112,5 +90,7 @@ impl<K: Eq + Hash, V> Admission<K, V> for ByLength {
     }
 
     #[inline]
-    fn on_replaced(&mut self, _length: usize, _key: &K, _old_value: &V, _new_value: &V) {}
+    fn admit_in_place(&mut self, _length: usize, _key: &K, _old_value: &V, _new_value: &V) -> bool {
+        true
+    }
 }

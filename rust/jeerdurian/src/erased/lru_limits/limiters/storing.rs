@@ -5,15 +5,12 @@
 use crate::rattle_std::prelude::*;
 
 use crate::erased::lru_limits::admission::Admission;
-use crate::erased::lru_limits::keys::LookupKey;
-use crate::erased::lru_limits::limiter::{Insertion, Limiter};
-use crate::rattle_std::alloc::{AllocError, Global};
-use crate::rattle_std::hash::Hash;
+use crate::erased::lru_limits::limiter::Limiter;
 
 /// Turns a limiter into one that stores each entry as it comes, and accepts every new value of a stored key.
 ///
 /// Implement [`Limiter`] for your own type, and put it into a map as `Storing(limiter)`: `Storing` implements
-/// [`Insertion`] for it. `map.limiter().0` is your limiter.
+/// [`Admission`] for it. `map.limiter().0` is your limiter.
 ///
 /// ```text
 /// let limiter = Storing(ByLength::new(3));
@@ -46,33 +43,16 @@ impl<K, V, L: Limiter<K, V>> Limiter<K, V> for Storing<L> {
     }
 }
 
-impl<K: Eq + Hash, V, L: Limiter<K, V>> Insertion<K, V, K> for Storing<L> {
-    #[inline]
-    fn on_insert(&mut self, _alloc: Global, _length: usize, key: K, value: V) -> Result<Option<(K, V)>, AllocError> {
-        Ok(Some((key, value)))
-    }
-
-    #[inline]
-    fn on_replace(
-        &mut self,
-        _length: usize,
-        _old_key: &mut K,
-        _new_key: K,
-        _old_value: &mut V,
-        _new_value: &mut V,
-    ) -> bool {
-        true
-    }
-}
-
-impl<K: Eq + Hash, V, L: Limiter<K, V>> Admission<K, V> for Storing<L> {
+impl<K, V, L: Limiter<K, V>> Admission<K, V> for Storing<L> {
     #[inline]
     fn accepts(&self, _length: usize, _key: &K, _value: &V) -> bool {
         true
     }
 
     #[inline]
-    fn on_stored(&mut self, _length: usize, _key: &K, _value: &V) {}
+    fn admit(&mut self, _length: usize, _key: &K, _value: &V) -> bool {
+        true
+    }
 
     #[inline]
     fn accepts_in_place(&self, _length: usize, _key: &K, _old_value: &V, _new_value: &V) -> bool {
@@ -80,5 +60,7 @@ impl<K: Eq + Hash, V, L: Limiter<K, V>> Admission<K, V> for Storing<L> {
     }
 
     #[inline]
-    fn on_replaced(&mut self, _length: usize, _key: &K, _old_value: &V, _new_value: &V) {}
+    fn admit_in_place(&mut self, _length: usize, _key: &K, _old_value: &V, _new_value: &V) -> bool {
+        true
+    }
 }

@@ -5,10 +5,7 @@
 use crate::rattle_std::prelude::*;
 
 use crate::erased::lru_limits::admission::Admission;
-use crate::erased::lru_limits::keys::LookupKey;
-use crate::erased::lru_limits::limiter::{Insertion, Limiter};
-use crate::rattle_std::alloc::{AllocError, Global};
-use crate::rattle_std::hash::Hash;
+use crate::erased::lru_limits::limiter::Limiter;
 
 /// Limits nothing except by its links of 32 bits: at most 1,879,048,192 entries. Its buckets are smaller than under
 /// `Unlimited`.
@@ -39,33 +36,16 @@ impl<K, V> Limiter<K, V> for UnlimitedCompact {
     }
 }
 
-impl<K: Eq + Hash, V> Insertion<K, V, K> for UnlimitedCompact {
-    #[inline]
-    fn on_insert(&mut self, _alloc: Global, _length: usize, key: K, value: V) -> Result<Option<(K, V)>, AllocError> {
-        Ok(Some((key, value)))
-    }
-
-    #[inline]
-    fn on_replace(
-        &mut self,
-        _length: usize,
-        _old_key: &mut K,
-        _new_key: K,
-        _old_value: &mut V,
-        _new_value: &mut V,
-    ) -> bool {
-        true
-    }
-}
-
-impl<K: Eq + Hash, V> Admission<K, V> for UnlimitedCompact {
+impl<K, V> Admission<K, V> for UnlimitedCompact {
     #[inline]
     fn accepts(&self, _length: usize, _key: &K, _value: &V) -> bool {
         true
     }
 
     #[inline]
-    fn on_stored(&mut self, _length: usize, _key: &K, _value: &V) {}
+    fn admit(&mut self, _length: usize, _key: &K, _value: &V) -> bool {
+        true
+    }
 
     #[inline]
     fn accepts_in_place(&self, _length: usize, _key: &K, _old_value: &V, _new_value: &V) -> bool {
@@ -73,5 +53,7 @@ impl<K: Eq + Hash, V> Admission<K, V> for UnlimitedCompact {
     }
 
     #[inline]
-    fn on_replaced(&mut self, _length: usize, _key: &K, _old_value: &V, _new_value: &V) {}
+    fn admit_in_place(&mut self, _length: usize, _key: &K, _old_value: &V, _new_value: &V) -> bool {
+        true
+    }
 }

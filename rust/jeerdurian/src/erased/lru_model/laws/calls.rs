@@ -5,16 +5,16 @@
 #[allow(unused_imports)]
 use crate::rattle_std::prelude::*;
 
-use crate::erased::lru_limits::{Budgeted, Insertion, KeyHasher, LookupKey, Summing};
+use crate::erased::lru_limits::{Budgeted, Insertion, KeyHasher, LookupKey};
 use crate::rattle_std::hash::Hash;
 
 /// After each call no two keys are equal (`keys`). If the table is sound after the call, as clause `map` of each call
 /// says, inserts moved at most twice as many entries as they stored, plus those that shrinks rehashed (`map`).
 pub fn calls_keep_maps<K: Eq + Hash, V, I: LookupKey<K>, L: Insertion<K, V, I>, S: KeyHasher<K>>() {}
 
-/// A limiter's running total that was the sum of the costs is their sum after each call that writes nothing through a
-/// reference.
-pub fn calls_keep_sums<K: Eq + Hash, V, I: LookupKey<K>, L: Summing<K, V, I>, S: KeyHasher<K>>() {}
+/// A limiter's running total (`IsAccount`), as each `Summing` has one, that was the sum of the costs is their sum after
+/// each call that writes nothing through a reference.
+pub fn calls_keep_sums<K: Eq + Hash, V, I: LookupKey<K>, L: Insertion<K, V, I>, S: KeyHasher<K>>() {}
 
 /// Each call pays for what it moves: the count of moved entries and the potential together rise by at most two for each
 /// entry that it stores, and by one for each entry that a shrink rehashes, while neither the count of stored entries

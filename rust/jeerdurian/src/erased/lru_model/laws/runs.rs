@@ -4,7 +4,7 @@
 #[allow(unused_imports)]
 use crate::rattle_std::prelude::*;
 
-use crate::erased::lru_limits::{Budgeted, Insertion, KeyHasher, Limiter, LookupKey, Summing};
+use crate::erased::lru_limits::{Budgeted, Insertion, KeyHasher, Limiter, LookupKey};
 use crate::rattle_std::hash::Hash;
 
 /// After any calls, whatever is written through the references that they lend, no two keys are equal, and inserts moved
@@ -14,7 +14,7 @@ pub fn runs_keep_maps<K: Eq + Hash, V, I: LookupKey<K>, L: Insertion<K, V, I>, S
 
 /// A limiter's running total that was the sum of the costs is their sum after any calls, and any writes of values that
 /// cost what the values before them cost.
-pub fn runs_keep_sums<K: Eq + Hash, V, I: LookupKey<K>, L: Summing<K, V, I>, S: KeyHasher<K>>() {}
+pub fn runs_keep_sums<K: Eq + Hash, V, I: LookupKey<K>, L: Insertion<K, V, I>, S: KeyHasher<K>>() {}
 
 /// Over any calls the count of moved entries and the potential together rise by at most two for each entry that inserts
 /// store, and by one for each entry that shrinks rehash, while neither the count of stored entries nor the count of

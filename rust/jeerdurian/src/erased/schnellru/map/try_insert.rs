@@ -78,11 +78,10 @@ impl<K: Eq + Hash, V, L: Admission<K, V> + Copy, S: KeyHasher<K>> LruMap<K, V, L
 
     fn can_store(&self, key: &K, value: &V) -> bool {
         let length = self.entries.len();
-        if !self.limiter.accepts(length, key, value) {
+        let mut limiter = self.limiter;
+        if !limiter.admit(length, key, value) {
             return false;
         }
-        let mut limiter = self.limiter;
-        limiter.on_stored(length, key, value);
         !limiter.is_over_the_limit(length + 1)
     }
 

@@ -37,7 +37,7 @@ pub fn run_summing<K, V, L, S>(
 where
     K: Copy + Eq + Hash,
     V: Copy,
-    L: Summing<K, V, K>,
+    L: Summing<K, V>,
     S: KeyHasher<K>,
 {
     let mut answers = Vec::with_capacity(alloc, calls.len())?;
@@ -51,7 +51,7 @@ fn make_summing_call<K, V, L, S>(alloc: Global, map: &mut LruMap<K, V, L, S>, ca
 where
     K: Copy + Eq + Hash,
     V: Copy,
-    L: Summing<K, V, K>,
+    L: Summing<K, V>,
     S: KeyHasher<K>,
 {
     runs_keep_sums::<K, V, K, L, S>();
@@ -64,7 +64,7 @@ where
 fn keeps_cost<K, V, L, S>(map: &LruMap<K, V, L, S>, call: &Call<K, V, L>) -> bool
 where
     K: Eq + Hash,
-    L: Summing<K, V, K>,
+    L: Summing<K, V>,
     S: KeyHasher<K>,
 {
     let _len = map.len();
