@@ -323,7 +323,7 @@ impl<T: Drop> Drop for Table<T> {
 }
 
 impl<T: Drop> Table<T> {
-    /// Drops all entries. Every bucket is empty then; their number and the counts of insertions stay.
+    /// Drops all entries. Every bucket is empty afterwards; their number and the counts of insertions stay.
     ///
     /// It does nothing if all growth is left, because then no bucket is full or deleted.
     pub fn clear(&mut self)

@@ -12,8 +12,8 @@ pub record Memoized (K V S H F : Type 0) : Type 0 where
   pub map : State K V S H
   pub function : F
 
--- The call returned the answer that was stored at the key, whose entry is the newest then. Or none was stored, and it
--- returned the value, which was inserted.
+-- The call returned the answer that was stored at the key, whose entry is the newest afterwards. Or none was stored,
+-- and it returned the value, which was inserted.
 abbrev pub Remembers : {K V S H : Type 0} → Rules K V S → Offers K V S K → (K → K → Bool) → (H → K → ℕ) → K → V
     → State K V S H → State K V S H → Type 0
 Remembers rules offers eq hash_of key value old new = (kept : Result Bool AllocError)

@@ -50,8 +50,8 @@ module _ {K V S : Type 0} (rules : Rules K V S) (pair : K × V) where
       else grows (target max entry_bytes count (length c.pairs + 1)) c)
 
 module _ {K V S : Type 0} (rules : Rules K V S) where
-  -- The same in the table of the map `st`, whose contents are c after some pairs were evicted or removed. Each of these
-  -- has given back one of the growth left, as it does up to 16 buckets.
+  -- How it ends in the table of the map `st`, whose contents are c after some pairs were evicted or removed. Each of
+  -- these has given back one of the growth left, as it does up to 16 buckets.
   abbrev pub lands_in : {H : Type 0} → State K V S H → K × V → Contents K V S → Ending K V S
   lands_in st pair c =
       landing rules pair (buckets st) (room st + length st.pairs - length c.pairs) st.entry_bytes st.max c

@@ -21,7 +21,7 @@ offered (calls.GetOrInsert key v) = Some (key, v)
 offered call = None
 
 -- A run of calls that reference these keys, one after another, from an empty map with a limit of cost. Each key has one
--- value, which alone costs at most the limit. The running total begins at 0, and the limit is below 2 ^ 63. No call
+-- value, which by itself costs at most the limit. The running total begins at 0, and the limit is below 2 ^ 63. No call
 -- runs out of memory, and the tables are within reach.
 pub record BudgetReferences {K V H : Type 0} (cost : V → ℕ) (eq : K → K → Bool) (hash_of : H → K → ℕ) (value_of : K → V)
     (keys : List K) (old new : State K V Budget H) : Type 0 where

@@ -8,7 +8,7 @@ use Rattle.lru_limits.specs.Budget.{Budget, by_cost, charges}
 abbrev pub cost_rules : Rules ℕ ℕ Budget
 cost_rules = by_cost (λ value. value)
 
--- pairs are stored as they come, if their cost alone is within the limit and the sum has 64 bits
+-- pairs are stored as they come, if their cost by itself is within the limit and the sum has 64 bits
 abbrev pub cost_offers : Offers ℕ ℕ Budget ℕ
 cost_offers = charges (λ value. value)
 

@@ -59,7 +59,7 @@ module _ (from to old new : Option (List ℕ)) where
     pub replay : OfAll IsReplay from (Appends old new)
     pub at_end : OnSome from (IsAtEnd to)
 
-  -- The first line names no limit, or there is none. It alone was read, and that was written.
+  -- The first line names no limit, or there is none. Only it was read, and that was written.
   pub record HasNoLimit : Type 0 where
     pub unnamed : IfSome from (λ input. NamesNoLimit (lines_of input))
     pub reads : TakesFirst from to

@@ -10,8 +10,8 @@ module _ {K : Type 0} (cost : K → ℕ) where
   affordable n (key ∷ keys) = if nat_le (cost key) n then key ∷ affordable (n - cost key) keys else []
 
 module _ {K : Type 0} (eq : K → K → Bool) (cost : K → ℕ) where
-  -- The keys of an LRU cache whose keys cost at most n together after a reference, the newest first, if no key alone
-  -- costs more than n: the key is the newest, and the oldest are evicted while the keys cost more than n.
+  -- The keys of an LRU cache whose keys cost at most n together after a reference, the newest first, if no key by
+  -- itself costs more than n: the key is the newest, and the oldest are evicted while the keys cost more than n.
   abbrev pub refer_within : ℕ → K → List K → List K
   refer_within n key keys = affordable cost n (key ∷ remove_key (eq key) keys)
 

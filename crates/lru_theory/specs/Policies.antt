@@ -20,7 +20,7 @@ module _ {K : Type 0} (eq : K → K → Bool) (places : ℕ) where
         Demands key old 1 (key ∷ remove_key (eq evicted) old)
 
   -- What a policy may make of its cache at a reference if it loads any keys, also ahead of their references, and evicts
-  -- any. It pays for each key that it loads. The key of the reference is in its cache then.
+  -- any. It pays for each key that it loads. The key of the reference is in its cache afterwards.
   pub record Loads (key : K) (old : List K) (paid : ℕ) (new : List K) : Type 0 where
     pub fits : length new ≤ places
     pub stores : is_in eq key new ≡ true

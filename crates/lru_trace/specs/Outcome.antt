@@ -1,4 +1,4 @@
--- How a trace ends: what was read and written then.
+-- How a trace ends: what was read and written.
 use Rattle.std.specs.Prelude.{◌≡◌, ℕ, ◌≤◌, List, [], ◌∷◌, ◌++◌, length, Option, OnSome, Some, None, Result, Ok, Err}
 use Rattle.std.specs.Io.KnownBytes.{Consumes, IsAtEnd, Appends, Keeps}
 use Rattle.lru_trace.specs.declared.outcome.TraceEnd.{TraceEnd}

@@ -31,7 +31,7 @@ pub trait Budgeted<K: Eq + Hash, V>: Summing<K, V, K> {
     fn budget(&self) -> u64
         ensures { result ≡ budget_of self.now };
 
-    /// Sets the budget. The running total stays, so a map may be over the limit then.
+    /// Sets the budget. The running total stays, so a map may be over the new limit.
     fn set_budget(&mut self, budget: u64)
         ensures { self.new ≡ rebudgeted budget self.old };
 

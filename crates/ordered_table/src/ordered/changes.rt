@@ -36,7 +36,7 @@ impl<K, V, N: LinkType> OrderedTable<K, V, N> {
     ///
     /// # Errors
     ///
-    /// No bucket may take the pair, which is returned. Nothing has changed then.
+    /// No bucket may take the pair, which is returned. Nothing has changed.
     pub fn try_place(&mut self, hash: u64, pair: (K, V)) -> Result<(), (K, V)>
         ensures placed { OnOk result ((b : ℕ) × Lands self.old self.new hash pair b) }
         ensures fits { OnOk result ((hash_of : K → ℕ) → KeysFit hash_of self.old.slots → hash_of pair.0 ≡ hash
@@ -132,15 +132,15 @@ impl<K: Drop, V: Drop, N: LinkType> OrderedTable<K, V, N> {
 }
 
 impl<K: Eq + Hash, V, N: LinkType> OrderedTable<K, V, N> {
-    /// Moves all pairs into a table of `buckets` buckets, in the same order. If the table has that many buckets already,
-    /// the pairs are rehashed in place.
+    /// Moves all pairs into a table of `buckets` buckets, in the same order. If the table has that many buckets
+    /// already, the pairs are rehashed in place.
     ///
     /// Cost: `O(buckets)` of both tables, and a hash for each pair.
     ///
     /// # Errors
     ///
     /// Out of memory; never for no buckets, nor for a table without pairs that keeps its number of buckets. Nothing has
-    /// changed then.
+    /// changed.
     pub fn move_to<S: KeyHasher<K>>(&mut self, buckets: usize, hasher: &S) -> Result<(), AllocError>
         requires count { IsBucketCount buckets }
         requires addressable { buckets + 16 < 2 ^ 63 }

@@ -28,7 +28,7 @@ impl<K: Eq + Hash, V, L: Limiter<K, V>, S: KeyHasher<K>> LruMap<K, V, L, S> {
     ///
     /// # Errors
     ///
-    /// `Err` says that the map ran out of memory. Nothing has changed then.
+    /// `Err` says that the map ran out of memory. Nothing has changed.
     pub fn shrink_to_fit(&mut self) -> Result<bool, AllocError>
         ensures step { Shrink self.old result self.new }
         ensures map { IsMap K.eq self.new }

@@ -215,7 +215,7 @@ impl<T> Table<T> {
 }
 
 impl<T> Table<T> {
-    /// Drops all entries. Every bucket is empty then; their number and the counts of insertions stay.
+    /// Drops all entries. Every bucket is empty afterwards; their number and the counts of insertions stay.
     ///
     /// It does nothing if all growth is left, because then no bucket is full or deleted.
     pub fn clear(&mut self) {

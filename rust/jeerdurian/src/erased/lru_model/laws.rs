@@ -29,7 +29,7 @@ pub use runs::{
 };
 pub use shrinks::{shrinks_keep_the_list, shrinks_leave_a_tight_table, shrinks_pay_for_moves};
 
-/// An insert evicts from the old end alone. The one other entry that it may remove is the entry whose replacement is
+/// An insert evicts only from the old end. The one other entry that it may remove is the entry whose replacement is
 /// rejected.
 pub fn inserts_evict_the_oldest<K: Eq + Hash, V, I: LookupKey<K>, L: Insertion<K, V, I>, S: KeyHasher<K>>() {}
 

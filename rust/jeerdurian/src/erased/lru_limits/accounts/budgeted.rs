@@ -23,7 +23,7 @@ pub trait Budgeted<K: Eq + Hash, V>: Summing<K, V, K> {
 
     fn budget(&self) -> u64;
 
-    /// Sets the budget. The running total stays, so a map may be over the limit then.
+    /// Sets the budget. The running total stays, so a map may be over the new limit.
     fn set_budget(&mut self, budget: u64);
 
     fn has_room_for(&self, key: &K, value: &V) -> bool;

@@ -154,7 +154,7 @@ impl<K: Eq + Hash, V, L: Limiter<K, V>, S: KeyHasher<K>> LruMap<K, V, L, S> {
     }
 }
 
-/// Shows the number of entries alone, as `LruMap { len: 3, .. }`.
+/// Shows only the number of entries, as `LruMap { len: 3, .. }`.
 impl<K: Eq + Hash, V, L: Limiter<K, V>, S: KeyHasher<K>> fmt::Debug for LruMap<K, V, L, S> {
     fn fmt(&self, f: &mut fmt::Formatter<'_>) -> fmt::Result {
         let len = self.len();

@@ -30,7 +30,7 @@ impl<K: Eq + Hash, V, L: Limiter<K, V>, S: KeyHasher<K>> LruMap<K, V, L, S> {
     ///
     /// # Errors
     ///
-    /// `Err` says that the map ran out of memory. Nothing has changed then.
+    /// `Err` says that the map ran out of memory. Nothing has changed.
     pub fn shrink_to_fit(&mut self) -> Result<bool, AllocError> {
         let len = self.entries.len();
         let count = match buckets_for_capacity(len, L::LinkType::MAX.into_usize()) {
