@@ -14,13 +14,9 @@ use Rattle.lru_limits.specs.Stores.{ReturnsPairIf, given-names}
 
 -- Each is named after its callback. A map has n pairs.
 pub record Terms (K V S : Type 0) : Type 0 where
-  -- whether a pair with a new key is accepted
   pub accepts : S → ℕ → K → V → Bool
-  -- the limiter after such a pair was offered
   pub on_stored : S → ℕ → K → V → S
-  -- whether a value is accepted in the place of another, under a stored key
   pub accepts_in_place : S → ℕ → K → V → V → Bool
-  -- the limiter after such a value was offered
   pub on_replaced : S → ℕ → K → V → V → S
 
 module _ {K V S : Type 0} (terms : Terms K V S) where
@@ -47,7 +43,6 @@ module _ {K V S : Type 0} (terms : Terms K V S) where
     -- and may do all that they say
     pub may_store : (s : S) (n : ℕ) (k : K) (v : V) (t : S) (given : Option (K × V))
         → ReturnsPairIf (terms.accepts s n k v) (terms.on_stored s n k v) k v t given → offers.on_insert s n k v t given
-    -- it never runs out of memory
     pub never_runs_out : (s : S) (n : ℕ) (k : K) (v : V) → offers.may_run_out s n k v → ⊥
     -- a replacement does what the terms say
     pub replaces : (s : S) (n : ℕ) (k i : K) (v w : V) → offers.on_replace s n k i v w ≡ replaced s n k v w

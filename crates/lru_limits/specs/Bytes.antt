@@ -24,11 +24,8 @@ abbrev pub both_own : {K V : Type 0} → (K → ℕ) → (V → ℕ) → K → V
 both_own of_k of_v k v = in_word (of_k k + of_v v)
 
 pub record Bytes : Type 0 where
-  -- the table and what the entries own are to stay within the limit together
   pub limit : ℕ
-  -- the sum of the bytes that entries own
   pub owned : ℕ
-  -- the bytes of the greatest table that the map may have: the one that the limiter permitted last
   pub table : ℕ
 
 abbrev pub left_for_entries : Bytes → ℕ

@@ -8,19 +8,15 @@ use Rattle.lru_limits.specs.Rules.{Rules, Offers}
 use Rattle.lru_limits.specs.Admissions.{offers_if}
 use Rattle.lru_limits.specs.Stores.{plain}
 
--- more pairs than the length are over the limit, and any growth is permitted
 abbrev pub length_rules : {K V : Type 0} → Rules K V ℕ
 length_rules = plain (λ most length. nat_lt most length) (λ _ _. true)
 
--- pairs are stored as they come, unless the length is 0
 abbrev pub length_offers : {K V : Type 0} → Offers K V ℕ K
 length_offers = offers_if (λ most _ _. nat_lt 0 most)
 
--- nothing is over the limit, and a table of more bytes than it is refused
 abbrev pub memory_rules : {K V : Type 0} → Rules K V ℕ
 memory_rules = plain (λ _ _. false) (λ most bytes. nat_le bytes most)
 
--- nothing is over the limit, and any growth is permitted
 abbrev pub no_rules : {K V S : Type 0} → Rules K V S
 no_rules = plain (λ _ _. false) (λ _ _. true)
 

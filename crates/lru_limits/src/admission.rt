@@ -7,8 +7,7 @@ use std::hash::Hash;
 
 /// A limiter that stores each entry as it came, and says in advance which it accepts.
 ///
-/// [`crate::Both`] queries two limiters by this trait, before either of them changes. For a limiter that never changes,
-/// `never_changes` of `specs/Admissions.antt` defines the terms in one line.
+/// [`crate::Both`] queries two limiters by this trait, before either of them changes.
 ///
 /// ```
 /// let limiter = ByLength::new(0);

@@ -1,5 +1,5 @@
 -- Which pairs a call passes to its callback: each pair that is evicted or removed, or that the limiter returned and the
--- map could not store, as the limiter leaves it, in the order in which the limiter is notified.
+-- map could not store, in the order in which the limiter is notified.
 use Rattle.std.specs.Prelude.{◌≡◌, ℕ, Bool, List, [], ◌∷◌, ◌++◌, Result}
 use Rattle.std.specs.List.{FoldsTo}
 use Rattle.std.specs.Fn.{Mut, Called}
@@ -9,8 +9,7 @@ use Rattle.lru_model.specs.State.{State, Trims}
 use Rattle.lru_model.specs.Inserts.{Insert}
 
 module _ {K V S : Type 0} where
-  -- The limiter with a list as part of its state: `on_removed` appends the pair, as the limiter leaves it, and nothing
-  -- else changes.
+  -- The limiter with a list as part of its state: `on_removed` appends the pair, and nothing else changes.
   abbrev pub noting : Rules K V S → Rules K V (S × List (K × V))
   noting rules = record {
     is_over_the_limit = λ s n. rules.is_over_the_limit s.0 n;

@@ -49,8 +49,7 @@ module _ {K V S : Type 0} (rules : Rules K V S) where
   pop_first c = after_removal rules (first c.pairs) (without_first c.pairs) c.limiter
 
 module _ {K V S H : Type 0} (rules : Rules K V S) where
-  -- The pair `gone` is removed, if there is one, and the pairs `left` stay. The result is the removed pair, as the
-  -- limiter leaves it.
+  -- The pair `gone` is removed, if there is one, and the pairs `left` stay. The result is the removed pair.
   pub record TakesOut (gone : Option (K × V)) (left : List (K × V)) (old : State K V S H) (result : Option (K × V))
       (new : State K V S H) : Type 0 where
     pub pair : result ≡ left_of rules old.limiter gone
@@ -65,7 +64,7 @@ module _ {K V S H : Type 0} (rules : Rules K V S) where
   abbrev pub PopNewest : State K V S H → Option (K × V) → State K V S H → Type 0
   PopNewest old = TakesOut (first old.pairs) (without_first old.pairs) old
 
-  -- the pair of the named key is removed, and its value is returned, as the limiter leaves it
+  -- the pair of the named key is removed, and its value is returned
   pub record Remove (names : K → Bool) (old : State K V S H) (result : Option V) (new : State K V S H) : Type 0 where
     pub value : result ≡ option_map (λ p. p.1) (left_of rules old.limiter (lookup_entry names old.pairs))
     pub state : Leaves old (removal rules names (contents old)) new

@@ -34,8 +34,8 @@ impl<K: Eq + Hash, V, L: Limiter<K, V>, S: KeyHasher<K>> LruMap<K, V, L, S> {
 }
 
 impl<K: Eq + Hash, V, L: Limiter<K, V>, S: KeyHasher<K>> LruMap<K, V, L, S> {
-    /// As `update`, and passes each entry that is evicted or removed to the callback, as the limiter leaves it: the
-    /// evicted entries, oldest first, or the entry whose new value is rejected.
+    /// As `update`, and passes each entry that is evicted or removed to the callback: the evicted entries, oldest
+    /// first, or the entry whose new value is rejected.
     ///
     /// ```text
     /// let mut left = None;
