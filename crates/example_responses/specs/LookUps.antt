@@ -24,7 +24,7 @@ abbrev pub with_list : {K S : Type 0} → List (K × Response) → State K Respo
 with_list list left old =
     record old { pairs = list; limiter = record old.limiter { cost = left.limiter.cost }; table = left.table }
 
--- It returns the response that is there, if it is fresh. A stale one is not there any more.
+-- a look-up returns the response that is there, if it is fresh. A stale one is not there any more.
 abbrev pub LooksUp : {K S : Type 0} → (K → Bool) → ℕ → State K Response Budget S
     → Result (Option Response) TenantError → Option (State K Response Budget S) → Type 0
 LooksUp {K} {S} names now old answer new = (left : State K Response Budget S)

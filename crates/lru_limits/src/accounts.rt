@@ -42,6 +42,7 @@ use std::hash::Hash;
 pub trait Costed {
     ghost cost: { Self → ℕ };
 
+    /// Returns the cost of the value.
     fn cost(&self) -> u64
         ensures { result ≡ cost self.now };
 }
@@ -125,9 +126,11 @@ pub trait Summing<K: Eq + Hash, V, I: LookupKey<K>>: Insertion<K, V, I> {
 
     ghost account: { Self → ℕ };
 
+    /// Returns the cost of an entry.
     fn cost_of(key: &K, value: &V) -> u64
         ensures { result ≡ cost_of key.now value.now };
 
+    /// Returns the running total.
     fn account(&self) -> u64
         ensures { result ≡ account self.now };
 

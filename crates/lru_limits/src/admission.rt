@@ -17,6 +17,7 @@ pub trait Admission<K: Eq + Hash, V>: Insertion<K, V, K> {
     /// Which entries are accepted, and the limiter after it stored one.
     ghost terms: { Terms K V Self };
 
+    /// Returns whether `on_insert` accepts this entry.
     fn accepts(&self, length: usize, key: &K, value: &V) -> bool
         ensures { result ≡ terms.accepts self.now length key.now value.now };
 
@@ -24,6 +25,7 @@ pub trait Admission<K: Eq + Hash, V>: Insertion<K, V, K> {
     fn on_stored(&mut self, length: usize, key: &K, value: &V)
         ensures { self.new ≡ terms.on_stored self.old length key.now value.now };
 
+    /// Returns whether `on_replace` accepts the new value of a stored key.
     fn accepts_in_place(&self, length: usize, key: &K, old_value: &V, new_value: &V) -> bool
         ensures { result ≡ terms.accepts_in_place self.now length key.now old_value.now new_value.now };
 

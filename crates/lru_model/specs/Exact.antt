@@ -129,7 +129,7 @@ module _ {K V S I : Type 0} (rules : Rules K V S) (offers : Offers K V S I) (nam
   pub record EndsAsAsked (old : Contents K V S) (result : Result Bool AllocError) (new : Contents K V S) : Type 0 where
     pub asked : Option ℕ
     pub ends : EndsIfLanded rules offers names (lands_after rules asked) i v old result new
-    -- it permitted that table, after it returned a pair and `make_room` followed
+    -- the limiter permitted that table, after it returned a pair and `make_room` followed
     pub granted : IfSome asked (λ bytes. (s : S) × (pair : K × V) × MayGive rules offers names i v old s (Some pair)
         × ((rules.on_grow (make_room rules (record { pairs = old.pairs; limiter = s })).limiter bytes).allowed ≡ true))
 

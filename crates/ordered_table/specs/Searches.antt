@@ -24,7 +24,7 @@ module _ {K V F : Type 0} (closure : Mut F (Bor K × (Bor V × Unit {0})) Bool) 
     pub last : F
     pub accepted : AnswersPair between b true last
 
-  -- or f rejected all; for any hashes that fit the table, each bucket whose entry has the hash is among them
+  -- a search called f, which rejected all; for any hashes that fit the table, each bucket whose entry has the hash is among them
   pub record FindsNoPair (hash : ℕ) (f : F) : Type 0 where
     pub asked : List ℕ
     pub search : IsSearch slots hash asked

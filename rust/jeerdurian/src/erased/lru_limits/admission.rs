@@ -16,11 +16,13 @@ use crate::rattle_std::hash::Hash;
 /// assert!(rt; !limiter.accepts(0, &1u64, &2u64) && limiter.accepts_in_place(1, &1u64, &2u64, &3u64));
 /// ```
 pub trait Admission<K: Eq + Hash, V>: Insertion<K, V, K> {
+    /// Returns whether `on_insert` accepts this entry.
     fn accepts(&self, length: usize, key: &K, value: &V) -> bool;
 
     /// Changes the limiter as `on_insert` does with this entry.
     fn on_stored(&mut self, length: usize, key: &K, value: &V);
 
+    /// Returns whether `on_replace` accepts the new value of a stored key.
     fn accepts_in_place(&self, length: usize, key: &K, old_value: &V, new_value: &V) -> bool;
 
     /// Changes the limiter as `on_replace` does with the new value of a stored key.

@@ -58,7 +58,7 @@ fn refused(map: &mut Sized) -> bool {
     made
 }
 
-/// These calls on maps that are dropped afterwards, with and without pairs.
+/// Makes these calls on maps that are dropped afterwards, with and without pairs.
 fn dropped(alloc: Global) -> bool {
     let mut map = LruMap::with_hasher(alloc, ByMemoryUsage::new(560), LastByte(0), 16);
     let mut small = map_of(alloc, ByMemoryUsage::new(84));
