@@ -61,7 +61,7 @@ pub record Inserts (key value : ℕ) (old : Map) (answer : Inserted) (place left
   pub untouched : answer.evicted ≡ false → left ≡ place
   pub returned : answer ≡ inserted_of (put_code result) (lookup (nat_eq key) old.pairs) answer.evicted
 
--- A call on a handle. Without a map nothing changes, and the call returns nothing. A map makes this step.
+-- A call on a handle. Without a map nothing changes, and the call returns nothing. With a map, the map makes this step.
 pub data OnMap {M : Type 0} (returns_nothing : Type 0) (step : M → M → Type 0) (old new : Option M) : Type 0 where
   without : old ≡ None → new ≡ None → returns_nothing → OnMap returns_nothing step old new
   within : (before after : M) → old ≡ Some before → new ≡ Some after → step before after →

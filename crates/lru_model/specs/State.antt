@@ -62,7 +62,7 @@ abbrev pub IsAhead : ℕ → Counts → Type 0
 IsAhead n counts = counts.shrunk < 2 ^ 64 - 1 → counts.moved + n ≤ 2 * counts.placed + counts.shrunk
 
 -- Moves are paid for: inserts moved at most two entries for each entry that they stored, plus one for each entry that
--- shrinks rehashed. `potential` more moves are paid for, too.
+-- shrinks rehashed. Besides these, `potential` moves are paid for in advance.
 pub record IsPaid (potential : ℕ) (counts : Counts) : Type 0 where
   pub moved : counts.moved ≤ 2 * counts.placed + counts.shrunk
   pub ahead : IsAhead potential counts

@@ -21,7 +21,7 @@ module _ {K : Type 0} (eq : K → K → Bool) where
   min_refer zero key trace keys = []
   min_refer (suc n) key trace keys = put trace key (take n (remove_key (eq key) keys))
 
-  -- The keys of MIN with bypass: of the key and the others it contains the n whose next references come first.
+  -- The keys of MIN with bypass: the n keys whose next references come first, of the key and the keys before.
   abbrev pub bypass_refer : ℕ → K → List K → List K → List K
   bypass_refer n key trace keys = take n (put trace key (remove_key (eq key) keys))
 

@@ -25,7 +25,6 @@ abbrev pub lent_name : {K V : Type 0} → Option (Bor K × MutBor V) → maybe.O
 lent_name (Some pair) = maybe.some pair.1.ghost_name
 lent_name None = maybe.none
 
--- of a walk, over the members of the traits that an `IterMut` relies on
 module _ {K V L S N H : Type 0} {equal : equality.Ghosts K} {input : hashing.Ghosts K} {limits : limiter.Ghosts L K V N}
     {links : link_type.Ghosts N}
     {keyed : key_hasher.Ghosts S K H} {build : builder.Ghosts S H} {hash : hasher.Ghosts H}

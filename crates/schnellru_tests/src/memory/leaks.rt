@@ -20,8 +20,7 @@ type Sized = LruMap<u64, u64, ByMemoryUsage>;
 
 type HashedBy = LruMap<u64, u64, ByMemoryUsage, LastByte>;
 
-/// A table of `n` pairs that grows, is reserved, shrunk and copied, and is given back by a shrink of no pairs. Returns
-/// whether there was memory, as the functions below.
+/// A table of `n` pairs that grows, is reserved, shrunk and copied, and is given back by a shrink of no pairs.
 fn grown_and_shrunk(map: &mut Compact, n: u64) -> bool {
     let made = insert_all(map, 1..=n).is_ok() & reserve(map, n as usize).is_ok();
     remove_all(map, 6..=n);
