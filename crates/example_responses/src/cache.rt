@@ -128,8 +128,8 @@ impl ResponseCache {
         Ok(("budget set", evicted))
     }
 
-    /// Stores a response. Returns whether it is there then, in a word, and how many entries were evicted, or removed
-    /// because their new response was rejected.
+    /// Stores a response. Returns whether it is there afterwards, in a word, and how many entries were evicted, or
+    /// removed because their new response was rejected.
     pub fn put(
         &mut self,
         host: &str,

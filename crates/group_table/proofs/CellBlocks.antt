@@ -38,7 +38,6 @@ module _ (R : RattleType) where
       → vs ≡ block_val x.start ∷ []
   block_told x vs is = is.1.0 ∙ ap (λ (ws : List Val). vstruct (of_list (ws ++ [])) ∷ []) is.1.1.0
 
--- what has no bytes
 abbrev pub none_val : Val
 none_val = vstruct (vcons (vstruct vnil) vnil)
 

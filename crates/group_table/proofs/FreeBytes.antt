@@ -7,7 +7,6 @@ use Rattle.std.proofs.lemmas.List.Sums.{sum_by-set}
 use native.Mathlib.Decide.{dec_lt}
 use Rattle.group_table.specs.Layout.{written}
 
--- how many control bytes belong to free buckets
 abbrev pub free_bytes : List ℕ → ℕ
 free_bytes control = count_by (λ byte. nat_le 128 byte) control
 

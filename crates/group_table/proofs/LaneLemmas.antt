@@ -45,7 +45,6 @@ module _ (n start : ℕ) where
   pub all_real : 16 ≤ n → (lane : ℕ) → IsReal lane
   all_real p lane = elim (real_or_between lane) [ inl r ↦ r | inr w ↦ absurd (omega (arith, w.0, w.1)) ]
 
-  -- how many buckets the first lanes stand for
   abbrev pub passed : ℕ → ℕ
   passed lanes = min lanes (n - start) + (start + lanes - max 16 n)
 

@@ -48,7 +48,6 @@ module _ {T : Type 0} where
   has_tag-full s held tag e f = rw e (eq-eqb held.tag tag f)
 
 module _ {T : Type 0} (slots : List (Slot T)) (tag : ℕ) where
-  -- the bucket, if it has the tag
   abbrev pub if_tagged : ℕ → List ℕ
   if_tagged b = cond (has_tag tag (bucket_at slots b)) (b ∷ []) []
 

@@ -3,7 +3,7 @@ use Rattle.std.specs.Prelude.{◌≡◌, ℕ, ◌-◌, if◌then◌else◌, Bool
 use Rattle.std.specs.Prelude.{slice_index_or, nat_eq, Option, Some, None, IsTrue}
 use Rattle.group_table.specs.Sizes.{full_capacity}
 
--- A bucket is empty, deleted (a removal emptied it, and searches go on past it), or full.
+-- a bucket is empty, deleted (a removal emptied it, and searches go on past it), or full
 pub data Bucket (A : Type 0) : Type 0 where
   empty deleted : Bucket A
   full : A → Bucket A
@@ -13,9 +13,11 @@ pub record Tagged (T : Type 0) : Type 0 where
   pub tag : ℕ
   pub entry : T
 
+-- a bucket with what a full one holds
 abbrev pub Slot : Type 0 → Type 0
 Slot T = Bucket (Tagged T)
 
+-- a bucket without it
 abbrev pub Mark : Type 0
 Mark = Bucket (Unit {0})
 
@@ -30,17 +32,21 @@ module _ {A : Type 0} where
   is_deleted deleted = true
   is_deleted (full held) = false
 
+  -- full or deleted
   abbrev pub is_used : Bucket A → Bool
   is_used empty = false
   is_used deleted = true
   is_used (full held) = true
 
+  -- what is in a bucket
   abbrev pub bucket_at : List (Bucket A) → ℕ → Bucket A
   bucket_at buckets b = slice_index_or buckets b empty
 
+  -- the bucket is full
   abbrev pub IsFull : List (Bucket A) → ℕ → Type 0
   IsFull buckets b = IsTrue (is_full (bucket_at buckets b))
 
+  -- the bucket is empty
   abbrev pub IsEmpty : List (Bucket A) → ℕ → Type 0
   IsEmpty buckets b = bucket_at buckets b ≡ empty
 
@@ -53,6 +59,7 @@ module _ {A : Type 0} where
   mark_of deleted = deleted
   mark_of (full held) = full tt
 
+  -- the marks of a table's buckets
   abbrev pub marks_of : List (Bucket A) → List Mark
   marks_of buckets = map mark_of buckets
 
@@ -70,6 +77,7 @@ module _ {T : Type 0} where
   entry_of deleted = None
   entry_of (full held) = Some held.entry
 
+  -- the entry in a bucket
   abbrev pub entry_at : List (Slot T) → ℕ → Option T
   entry_at slots b = entry_of (bucket_at slots b)
 
@@ -78,6 +86,7 @@ module _ {T : Type 0} where
   has_tag tag deleted = false
   has_tag tag (full held) = nat_eq held.tag tag
 
+  -- the bucket as it is with another entry in it
   abbrev pub refilled : Slot T → T → Slot T
   refilled empty entry = empty
   refilled deleted entry = deleted

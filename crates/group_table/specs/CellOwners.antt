@@ -11,14 +11,17 @@ use denote.Sharing.{nothing, said, beside}
 use denote.RawPtr.{Ptr, block_ptr, null_ptr}
 
 module _ (R : RattleType) where
+  -- one place, n bytes into a block: an entry, or bare memory for one
   abbrev pub place : ℕ → ℕ → Option R.Denot → Fml
   place block o (Some entry) = part_at R full_share entry block o
   place block o None = froom (raw (lone R.mir)) block o
 
+  -- places one behind the other
   abbrev pub places : ℕ → ℕ → List (Option R.Denot) → Fml
   places block o [] = ftrue
   places block o (held ∷ more) = fsep (place block o held) (places block (o + type_size R) more)
 
+  -- what a `&` to one place reaches
   abbrev pub place_lent : ℕ → ℕ → Option R.Denot → Lft → Fml
   place_lent block o (Some entry) = shared_of R entry block o
   place_lent block o None = nothing
@@ -28,16 +31,20 @@ module _ (R : RattleType) where
   places_lent block o [] = nothing
   places_lent block o (held ∷ more) = beside (place_lent block o held) (places_lent block (o + type_size R) more)
 
+  -- they have fewer than 2 ^ 63 bytes
   abbrev pub addressable : List (Option R.Denot) → Fml
   addressable held = flt (length held * type_size R) (2 ^ 63)
 
+  -- all places of a block that begins there
   abbrev pub owns_cells : Ptr → List (Option R.Denot) → Fml
   owns_cells (block_ptr block o) held = fsep (addressable held) (places block o held)
   owns_cells null_ptr held = ffalse
 
+  -- what a `&` to them reaches
   abbrev pub lends_cells : Ptr → List (Option R.Denot) → Lft → Fml
   lends_cells (block_ptr block o) held = beside (said (addressable held)) (places_lent block o held)
   lends_cells null_ptr held = said ffalse
 
+  -- the allocator's token for a block of n places
   abbrev pub owns_block : (Ty → Ptr → Fml) → Ptr → ℕ → Fml
   owns_block token start count = token (raw (ty_array (lone R.mir) count)) start

@@ -1,4 +1,4 @@
--- What a walk over the full buckets has ahead.
+-- What a walk over the full buckets has ahead. No public clause cites this module.
 use Rattle.std.specs.Prelude.{ℕ, ◌+◌, ◌<◌, ◌≤◌, ◌↔◌, List, slice_index}
 use Rattle.group_table.specs.Bytes.{IsTag, IsFreeByte}
 use Rattle.group_table.specs.Control.{buckets_of, IsCircle}

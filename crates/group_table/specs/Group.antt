@@ -1,4 +1,4 @@
--- What the code reads in the group of buckets that begins at a place.
+-- What the code reads in the group of buckets that begins at a place. No public clause cites this module.
 use Rattle.std.specs.Prelude.{◌≡◌, ◌≢◌, ℕ, ◌+◌, ◌-◌, ◌%◌, ◌<◌, ◌≤◌, min, Bool, true, List, [], ◌∷◌, ◌++◌, length}
 use Rattle.std.specs.Prelude.{nat_lt, slice_index}
 use Rattle.std.specs.Borrow.{Bor}
@@ -22,18 +22,23 @@ pub record IsProbe (buckets hash : ℕ) (probe : Probe) : Type 0 where
   pub stride : 16 ≤ probe.stride
 
 module _ {T : Type 0} (slots : List (Slot T)) where
+  -- how many lanes of a group are buckets of their own
   abbrev pub width : ℕ
   width = min 16 (length slots)
 
+  -- the buckets with the tag among the first lanes
   abbrev pub tagged_lanes : ℕ → ℕ → ℕ → List ℕ
   tagged_lanes tag start lanes = tagged slots tag (λ lane. (start + lane) % length slots) lanes
 
+  -- the bucket at the lane is empty
   abbrev pub IsEmptyLane : ℕ → ℕ → Type 0
   IsEmptyLane start lane = bucket_at (marks_of slots) ((start + lane) % length slots) ≡ empty
 
+  -- some of the first lanes is empty
   abbrev pub HasEmptyLane : ℕ → ℕ → Type 0
   HasEmptyLane start lanes = (lane : ℕ) × (lane < lanes) × IsEmptyLane start lane
 
+  -- none of the first lanes is empty
   abbrev pub HasNoEmptyLane : ℕ → ℕ → Type 0
   HasNoEmptyLane start lanes = (lane : ℕ) → lane < lanes
       → bucket_at (marks_of slots) ((start + lane) % length slots) ≢ empty
@@ -59,12 +64,15 @@ module _ {T F : Type 0} (closure : Mut F (Bor T × Unit {0}) Bool) (slots : List
   SearchesGroup Ended g = RejectsGroup g × HasEmptyLane slots start (width slots)
   SearchesGroup GoesOn g = RejectsGroup g × HasNoEmptyLane slots start (width slots)
 
+-- the byte is a tag, which says that the bucket is full
 abbrev pub full_at : List ℕ → ℕ → Bool
 full_at control b = nat_lt (slice_index control b) deleted_byte
 
+-- the byte says that the bucket is empty
 abbrev pub IsEmptyAt : List ℕ → ℕ → Type 0
 IsEmptyAt control b = slice_index control b ≡ empty_byte
 
+-- the first bucket of the group that begins here that is empty or deleted
 pub record IsFreeLane (control : List ℕ) (buckets start b : ℕ) : Type 0 where
   pub first : IsFirst (full_at control) (λ lane. (start + lane) % buckets) b
   pub in_group : first.step < 16

@@ -1,4 +1,4 @@
--- How the fields of a `Table` lay out its buckets.
+-- How the fields of a `Table` lay out its buckets. No public clause cites this module.
 use Rattle.std.specs.Prelude.{◌≡◌, ℕ, ◌+◌, ◌-◌, ◌^◌, ◌<◌, ◌≤◌, ◌⊎◌, max, List, [], ◌∷◌, length, Option, Some, None}
 use Rattle.std.specs.Prelude.{if◌then◌else◌, nat_lt, nat_eq, slice_index, slice_index_or, slice_set, count_by}
 use Rattle.group_table.specs.Sizes.{IsPowerFromFour, full_capacity}
@@ -6,20 +6,24 @@ use Rattle.group_table.specs.Bytes.{empty_byte, deleted_byte, IsTag}
 use Rattle.group_table.specs.Bucket.{Slot, Mark, empty, deleted, full, bucket_at, is_used, marks_of}
 
 module _ {T : Type 0} where
+  -- the control byte of a bucket
   abbrev pub byte_of : Slot T → ℕ
   byte_of empty = empty_byte
   byte_of deleted = deleted_byte
   byte_of (full held) = held.tag
 
+  -- a bucket by its control byte and its entry
   abbrev pub slot_of : ℕ → Option T → Slot T
   slot_of byte (Some entry) = full (record { tag = byte; entry = entry })
   slot_of byte None = if nat_eq byte deleted_byte then deleted else empty
 
+  -- the buckets by their control bytes and entries
   abbrev pub slots_of : List ℕ → List (Option T) → List (Slot T)
   slots_of bytes [] = []
   slots_of [] (entry ∷ entries) = []
   slots_of (byte ∷ bytes) (entry ∷ entries) = slot_of byte entry ∷ slots_of bytes entries
 
+  -- the marks of the buckets
   abbrev pub marks_by : List ℕ → List (Option T) → List Mark
   marks_by bytes entries = marks_of (slots_of bytes entries)
 
@@ -36,6 +40,7 @@ module _ {T : Type 0} where
   Agrees byte (Some entry) = IsTag byte
   Agrees byte None = (byte ≡ deleted_byte) ⊎ (byte ≡ empty_byte)
 
+  -- the bytes after a write of one bucket and of its repetition
   abbrev pub written : List ℕ → List (Option T) → ℕ → ℕ → List ℕ
   written control entries b byte = slice_set (slice_set control b byte) (b + max 16 (length entries)) byte
 

@@ -1,4 +1,8 @@
 -- What a width of links promises.
+--     IsLinkType number link most         the laws of `LinkType`, if `MAX` is most
+--     link_below laws n below             the link of a number below the number of `MAX` is not `MAX`
+--     narrowest_most                      the number of `MAX` in the narrowest width
+--     numbers_are_links                   an unsigned number is a link that is its own number
 use Rattle.std.specs.Prelude.{◌≡◌, ◌≢◌, ◌≤◌, ◌<◌, ℕ, refl}
 use Rattle.std.proofs.Common.{ap, arith}
 

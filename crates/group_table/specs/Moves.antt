@@ -1,9 +1,10 @@
--- Entries move one by one into a fresh table.
+-- Entries move one by one into a fresh table. No public clause cites this module.
 use Rattle.std.specs.Prelude.{◌≡◌, ℕ, ◌<◌, List, length, slice_set, slice_index_or, Option, None}
 use Rattle.group_table.specs.Bucket.{Slot, empty, bucket_at, marks_of}
 use Rattle.group_table.specs.Probe.{filled, Reaches}
 
 module _ {T : Type 0} where
+  -- the entry in a place, if one is there
   abbrev pub place_at : List (Option T) → ℕ → Option T
   place_at places b = slice_index_or places b None
 

@@ -2,9 +2,11 @@
 use Rattle.std.specs.Prelude.{◌≡◌, ◌≢◌, ℕ, ◌+◌, ◌*◌, ◌/◌, ◌%◌, ◌^◌, ◌<◌, Bool, false, List, length, IsTrue}
 use Rattle.group_table.specs.Bucket.{Slot, Mark, empty, full, bucket_at, is_full}
 
+-- the top 7 bits of a hash
 abbrev pub hash_tag : ℕ → ℕ
 hash_tag hash = hash / 2 ^ 57
 
+-- a bucket that is filled by an entry of this hash: it has the tag of the hash
 abbrev pub filled : {T : Type 0} → ℕ → T → Slot T
 filled hash entry = full (record { tag = hash_tag hash; entry = entry })
 
@@ -21,6 +23,7 @@ pub record IsFirst (full_at : ℕ → Bool) (order : ℕ → ℕ) (b : ℕ) : Ty
   pub full_before : (before : ℕ) → before < step → IsTrue (full_at (order before))
 
 module _ (marks : List Mark) (hash : ℕ) where
+  -- what is in the bucket that a search visits at a step
   abbrev pub mark_probed : ℕ → Mark
   mark_probed step = bucket_at marks (probed (length marks) hash step)
 

@@ -10,6 +10,7 @@ module _ {N : Type 0} (number : N → ℕ) (none : N) where
   abbrev pub moved_to : List N → ℕ → ℕ
   moved_to links b = number (slice_index_or links b none)
 
+-- Below, `old b` is the entry that was in the old bucket b, if there was one.
 module _ {T N : Type 0} (number : N → ℕ) (none : N) (old : ℕ → Option T) (new : List (Slot T)) (links : List N) where
   -- each entry is where its link leads to, in a bucket of its own, and no other entry is there
   pub record Moves : Type 0 where
@@ -32,6 +33,7 @@ module _ {T N : Type 0} (number : N → ℕ) (none : N) where
     pub one_each : length links ≡ length old
     pub moves : Moves number none (entry_at old) new links
 
+  -- without entries there is nothing to renumber
   abbrev pub Renumbers : List (Slot T) → List (Slot T) → List N → Type 0
   Renumbers old new links = ((entry_count old ≡ 0) × (links ≡ [])) ⊎ IsRenumbering old new links
 

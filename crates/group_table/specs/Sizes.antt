@@ -1,10 +1,12 @@
--- How many entries a number of buckets takes, and how many buckets entries need.
+-- How many entries a number of buckets takes, and how many buckets entries need. Quotients are rounded down.
 use Rattle.std.specs.Prelude.{◌≡◌, ◌⊎◌, ℕ, zero, suc, ◌-◌, ◌*◌, ◌/◌, ◌^◌, ◌==◌, nat_lt, nat_le, if◌then◌else◌, Option}
 use Rattle.std.specs.Prelude.{Some, None}
 
+-- a power of two from 4 on
 abbrev pub IsPowerFromFour : ℕ → Type 0
 IsPowerFromFour buckets = (k : ℕ) × (buckets ≡ 4 * 2 ^ k)
 
+-- none, or a power of two from 4 on
 abbrev pub IsBucketCount : ℕ → Type 0
 IsBucketCount buckets = (buckets ≡ 0) ⊎ IsPowerFromFour buckets
 
@@ -12,6 +14,7 @@ IsBucketCount buckets = (buckets ≡ 0) ⊎ IsPowerFromFour buckets
 unfoldable pub full_capacity : ℕ → ℕ
 full_capacity buckets = if nat_le buckets 8 then buckets - 1 else buckets / 8 * 7
 
+-- the first of power, 2 * power, 4 * power, .. that is n or more, among the first `tries`
 abbrev pub first_power_from : ℕ → ℕ → ℕ → ℕ
 first_power_from zero n power = power
 first_power_from (suc tries) n power = if nat_le n power then power else first_power_from tries n (2 * power)
@@ -20,6 +23,7 @@ first_power_from (suc tries) n power = if nat_le n power then power else first_p
 unfoldable pub least_power : ℕ → ℕ
 least_power n = first_power_from 64 n 1
 
+-- n, if it is below the limit
 abbrev pub below : ℕ → ℕ → Option ℕ
 below limit n = if nat_lt n limit then Some n else None
 

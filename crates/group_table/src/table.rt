@@ -135,8 +135,7 @@ impl<T> Table<T> {
     /// `f` is called with one entry after another in the order of the search; that it is called with each at most once
     /// is only tested. `None` says that it rejected each entry of that hash.
     ///
-    /// It reads 16 control bytes at once, usually of one group or two, and an entry for each call. At worst it reads
-    /// all control bytes, and calls `f` with each entry with the tag.
+    /// It reads 16 control bytes at once, usually of one group or two, and an entry for each call.
     #[inline]
     pub fn find<F: FnMut(&T) -> bool>(&self, hash: u64, f: F) -> Option<usize>
         requires { F.IsAlwaysCallable f }
@@ -323,7 +322,7 @@ impl<T: Drop> Drop for Table<T> {
 }
 
 impl<T: Drop> Table<T> {
-    /// Drops all entries. Every bucket is empty then; their number and the counts of insertions stay.
+    /// Drops all entries. Every bucket is empty afterwards; their number and the counts of insertions stay.
     ///
     /// It does nothing if all growth is left, because then no bucket is full or deleted.
     pub fn clear(&mut self)

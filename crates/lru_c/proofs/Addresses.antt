@@ -36,7 +36,6 @@ ptr_good (block_ptr b o) = (tt, tt)
 ptr_good null_ptr = (tt, record { fits = lit< tt })
 
 module _ (name : Sym) where
-  -- the fields of a handle of this name
   abbrev pub Address : RattleType
   Address = Struct (record { name = name; args = []; types = []; fields = RawPtr ∷ [] })
 
@@ -53,7 +52,6 @@ module _ (name : Sym) where
       )
 
 module _ (R Z : RattleType) (g : Ghosts Z.Denot) where
-  -- the fields of a `RawBox`
   abbrev pub Marked : RattleType
   Marked = Struct (shape (raw_box.the_type R Z g))
 

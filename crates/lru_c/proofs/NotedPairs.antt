@@ -11,7 +11,6 @@ pub record Held : Type 0 where
   pub noted : MutBor Bool
   pub place : MutBor Entry
 
--- the pair that was noted, if there is one
 abbrev pub pair_of : Held → Option (ℕ × ℕ)
 pair_of h = noted_pair h.noted.now h.place.now
 

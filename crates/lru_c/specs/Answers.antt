@@ -1,3 +1,4 @@
+-- What the calls of C return.
 use Rattle.std.specs.Prelude.{◌≡◌, ℕ, suc, Bool, true, false, Option, None, Some, Result, Ok, Err, List, [], ◌∷◌}
 use Rattle.std.specs.Prelude.{if◌then◌else◌, nat_eq}
 use Rattle.std.specs.declared.alloc.AllocError.{AllocError}
@@ -10,10 +11,12 @@ use Rattle.lru_c.specs.declared.answers.Found.{Found}
 use Rattle.lru_c.specs.declared.answers.Inserted.{Inserted}
 use Rattle.lru_c.specs.declared.answers.Pair.{Pair}
 
+-- what is returned of a value, if there is one
 abbrev pub found_of : Option ℕ → Found
 found_of None = record { value = 0; found = false }
 found_of (Some value) = record { value = value; found = true }
 
+-- what is returned of a pair, if there is one
 abbrev pub pair_of : Option (ℕ × ℕ) → Pair
 pair_of None = record { key = 0; value = 0; found = false }
 pair_of (Some pair) = record { key = pair.0; value = pair.1; found = true }
@@ -24,14 +27,17 @@ inserted_of code None evicted = record { old_value = 0; code = code; replaced = 
 inserted_of code (Some old_value) evicted =
     record { old_value = old_value; code = code; replaced = true; evicted = evicted }
 
+-- the pair in this place, if one was noted there
 abbrev pub noted_pair : Bool → Entry → Option (ℕ × ℕ)
 noted_pair noted place = if noted then Some (place.key, place.value) else None
 
+-- the slots after the pairs were copied into them, as many as fit
 abbrev pub filled : List (ℕ × ℕ) → List Entry → List Entry
 filled [] slots = slots
 filled (pair ∷ pairs) [] = []
 filled (pair ∷ pairs) (slot ∷ slots) = record { key = pair.0; value = pair.1 } ∷ filled pairs slots
 
+-- how many pairs fit into the slots
 abbrev pub fitting : List (ℕ × ℕ) → List Entry → ℕ
 fitting [] slots = 0
 fitting (pair ∷ pairs) [] = 0
@@ -42,10 +48,12 @@ abbrev pub noting_other : ℕ → Option (ℕ × ℕ) → ℕ × ℕ → Option 
 noting_other key None pair = if nat_eq key pair.0 then None else Some pair
 noting_other key (Some noted) pair = Some noted
 
+-- the first pair of another key
 abbrev pub first_other : ℕ → List (ℕ × ℕ) → Option (ℕ × ℕ)
 first_other key [] = None
 first_other key (pair ∷ pairs) = if nat_eq key pair.0 then first_other key pairs else Some pair
 
+-- what a put returns: the key is there, or not, or there was no memory
 abbrev pub put_code : Result Bool AllocError → ℕ
 put_code (Ok true) = 0
 put_code (Ok false) = 1

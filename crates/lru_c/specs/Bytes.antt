@@ -1,4 +1,7 @@
 -- The map from byte strings to byte strings, and what its calls do.
+--     names_bytes bytes k        the key k has these bytes
+--     weight key value           what an entry weighs whose key and value have these lengths
+--     poured bytes buffer        the buffer, after the bytes were copied to its front, if they fit
 use Rattle.std.specs.Prelude.{◌≡◌, ◌++◌, ◌<◌, ◌≤◌, ◌&&◌, ℕ, Bool, true, false, List, length, drop, Option, Some, None}
 use Rattle.std.specs.Prelude.{nat_le, vec_len, is_some, if◌then◌else◌, map, Ok}
 use Rattle.std.proofs.Common.{ap}
@@ -25,6 +28,7 @@ use Rattle.lru_c.specs.declared.bytes.answers.Value.{Value}
 abbrev pub Bytes : Type 0
 Bytes = Vec ℕ Global
 
+-- a map of byte strings under a budget, as contracts see it
 abbrev pub BytesMap : Type 0
 BytesMap = State Bytes Bytes Budget Mixer
 
@@ -42,6 +46,7 @@ names_bytes-lawful bytes = record {
   one = λ q x y. nat_list_eq_equiv.congr (bytes q) x.items y.items;
 }
 
+-- what a key writes to a hasher, and its hash
 abbrev pub input_of_bytes : Bytes → List (List ℕ)
 input_of_bytes k = fed.slice fed.u8 k.items
 
@@ -52,6 +57,7 @@ hash_of_bytes = hash_by input_of_bytes random_builds.ghosts default_hashes.ghost
 abbrev pub weight : ℕ → ℕ → ℕ
 weight key value = pair_cost 64 key value
 
+-- what the limiter says
 abbrev pub bytes_rules : Rules Bytes Bytes Budget
 bytes_rules = by_weight (λ k v. weight (vec_len k) (vec_len v))
 
@@ -61,10 +67,12 @@ bytes_offers = weighs (λ k v. weight (vec_len k) (vec_len v))
 abbrev pub poured : List ℕ → List ℕ → List ℕ
 poured bytes buffer = if nat_le (length bytes) (length buffer) then bytes ++ drop (length bytes) buffer else buffer
 
+-- the buffer, after a value was copied, if there is one
 abbrev pub poured_from : Option Bytes → List ℕ → List ℕ
 poured_from None buffer = buffer
 poured_from (Some value) buffer = poured value.items buffer
 
+-- the length of a value, if there is one
 abbrev pub answer_of : Option Bytes → Value
 answer_of None = record { len = 0; found = false }
 answer_of (Some value) = record { len = length value.items; found = true }
@@ -73,9 +81,11 @@ answer_of (Some value) = record { len = length value.items; found = true }
 abbrev pub Reads : Option Bytes → Value → List ℕ → List ℕ → Type 0
 Reads value answer buffer left = (answer ≡ answer_of value) × (left ≡ poured_from value buffer)
 
+-- no entry
 abbrev pub no_entry : Popped
 no_entry = record { key_len = 0; value_len = 0; found = false; removed = false }
 
+-- the lengths of an entry, and whether it was removed
 abbrev pub lengths_of : Bytes × Bytes → Bool → Popped
 lengths_of pair removed =
     record { key_len = length pair.0.items; value_len = length pair.1.items; found = true; removed = removed }
@@ -91,6 +101,7 @@ Shows (Some pair) answer key key_left value value_left = (answer ≡ lengths_of 
     × (key_left ≡ (if fits pair key value then poured pair.0.items key else key))
     × (value_left ≡ (if fits pair key value then poured pair.1.items value else value))
 
+-- the bytes of each key and each value
 abbrev pub texts : List (Bytes × Bytes) → List (List ℕ × List ℕ)
 texts pairs = map (λ pair. (pair.0.items, pair.1.items)) pairs
 
@@ -111,6 +122,7 @@ pub data Pops (old : BytesMap) (answer : Popped) (key key_left value value_left 
       answer ≡ lengths_of pair true → key_left ≡ poured pair.0.items key → value_left ≡ poured pair.1.items value →
       PopOldest bytes_rules old (Some pair) new → Pops old answer key key_left value value_left new
 
+-- a key with these bytes is there
 abbrev pub has_bytes : List ℕ → BytesMap → Bool
 has_bytes key map = is_some (lookup (names_bytes key) map.pairs)
 
@@ -119,9 +131,11 @@ pub data IsReady (key : List ℕ) (old ready : BytesMap) : Type 0 where
   there : has_bytes key old ≡ true → ready ≡ old → IsReady key old ready
   reserved : has_bytes key old ≡ false → Reserve bytes_rules 1 old (Ok tt) ready → IsReady key old ready
 
+-- an insert of this key finds memory: the key is there, or there is growth left
 abbrev pub FindsMemory : List ℕ → BytesMap → Type 0
 FindsMemory key ready = has_bytes key ready ≡ false → 1 ≤ room ready
 
+-- A put, and what it returns.
 pub data Puts (key value : List ℕ) (old : BytesMap) (code : ℕ) (new : BytesMap) : Type 0 where
   -- The key alone is over the budget: nothing changes. (Such a key is not there, if the total is the sum of the weights
   -- and within the budget.)

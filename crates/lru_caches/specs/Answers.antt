@@ -8,7 +8,9 @@ use Rattle.lru_limits.specs.Rules.{Rules, Offers}
 use Rattle.lru_model.specs.GetOrInserts.{MakesNewest}
 use Rattle.lru_model.specs.State.{State}
 
+-- what a contract sees of a memo
 pub record Memoized (K V S H F : Type 0) : Type 0 where
+  -- the map of the stored answers
   pub map : State K V S H
   pub function : F
 
@@ -19,7 +21,9 @@ abbrev pub Remembers : {K V S H : Type 0} → Rules K V S → Offers K V S K →
 Remembers rules offers eq hash_of key value old new = (kept : Result Bool AllocError)
     × MakesNewest rules offers eq hash_of (λ made. made ≡ value) key old kept new
 
+-- what a contract sees of a loader
 pub record Remembered (K V F : Type 0) : Type 0 where
+  -- the stored answers, newest first
   pub known : List (K × V)
   pub function : F
 
@@ -28,8 +32,10 @@ module _ {K V : Type 0} (eq : K → K → Bool) (post : K → V → Type 0) wher
   abbrev pub IsAnswer : K → V → Type 0
   IsAnswer key value = (k : K) × (eq key k ≡ true) × post k value
 
+  -- so it is with each stored answer
   abbrev pub AreAnswers : List (K × V) → Type 0
   AreAnswers known = All (λ p. IsAnswer p.0 p.1) known
 
+-- the function may load the value at the key
 abbrev pub loads : {K V E : Type 0} → (K → Result V E → Type 0) → K → V → Type 0
 loads post key value = post key (Ok value)

@@ -4,9 +4,11 @@ use Rattle.std.specs.Int.{w64, to_le_bytes}
 use Rattle.lru_limits.specs.Mixing.{seeded, written, closed}
 use Rattle.lru_caches.specs.Files.{Event}
 
+-- the hash of bytes, by the hasher with the default seeds
 unfoldable pub hash_of : List ℕ → ℕ
 hash_of bytes = closed (written (seeded (1 ∷ 2 ∷ 3 ∷ 4 ∷ [])) bytes)
 
+-- the block with this number in its last 8 bytes
 abbrev pub with_tail : List ℕ → ℕ → List ℕ
 with_tail block number = take (length block - 8) block ++ to_le_bytes w64 number
 

@@ -24,9 +24,11 @@ unsynced = (4, 0, [])
 abbrev pub synced : Event
 synced = (5, 0, [])
 
+-- the event of these numbers and bytes
 abbrev pub event_of : List ℕ → List ℕ → Event
 event_of numbers bytes = (slice_index numbers 0, slice_index numbers 1, bytes)
 
+-- a block that is known stays, and else it becomes known
 abbrev pub or_else : Option (List ℕ) → List ℕ → Option (List ℕ)
 or_else None bytes = Some bytes
 or_else (Some known) bytes = Some known
@@ -40,6 +42,7 @@ known_after (suc (suc zero)) same bytes old = if same then None else old
 known_after (suc (suc (suc zero))) same bytes old = if same then Some bytes else old
 known_after (suc (suc (suc (suc more)))) same bytes old = old
 
+-- the block of each number after these events, of which the newest comes first, if it is known
 abbrev pub known : List Event → ℕ → Option (List ℕ)
 known [] n = None
 known (e ∷ earlier) n = known_after e.0 (nat_eq n e.1) e.2 (known earlier n)
@@ -53,6 +56,7 @@ left_after (suc (suc (suc zero))) same block old = if same then None else old
 left_after (suc (suc (suc (suc zero)))) same block old = old
 left_after (suc (suc (suc (suc (suc more))))) same block old = block
 
+-- what a crash leaves as block n, if that is determined
 abbrev pub left : List Event → ℕ → Option (List ℕ)
 left [] n = None
 left (e ∷ earlier) n = left_after e.0 (nat_eq n e.1) (known earlier n) (left earlier n)
@@ -62,6 +66,7 @@ abbrev pub IsLeft : (List ℕ → List ℕ) → Option (List ℕ) → List ℕ �
 IsLeft seen None block = Unit {0}
 IsLeft seen (Some only) block = block ≡ seen only
 
+-- how many of the calls failed
 abbrev pub failures_after : ℕ → ℕ → ℕ
 failures_after zero old = suc old
 failures_after (suc zero) old = old

@@ -41,6 +41,7 @@ pub use owned_bytes::OwnedBytes;
 pub trait Costed {
     ghost cost: { Self → ℕ };
 
+    /// Returns the cost of the value.
     fn cost(&self) -> u64
         ensures { result ≡ cost self.now };
 }
@@ -124,9 +125,11 @@ pub trait Summing<K, V>: Admission<K, V> {
 
     ghost account: { Self → ℕ };
 
+    /// Returns the cost of an entry.
     fn cost_of(key: &K, value: &V) -> u64
         ensures { result ≡ cost_of key.now value.now };
 
+    /// Returns the running total.
     fn account(&self) -> u64
         ensures { result ≡ account self.now };
 

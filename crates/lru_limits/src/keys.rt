@@ -60,6 +60,7 @@ impl LookupKey<String> for &str {
 pub trait KeyHasher<K: Eq + Hash>: BuildHasher {
     ghost hash_of: { Self → K → ℕ };
 
+    /// Returns the hash of the key that the value names.
     fn hash_named<Q: LookupKey<K>>(&self, key: &Q) -> u64
         ensures { (k : K) → IsTrue (Q.names key.now k) → result ≡ hash_of self.now k };
 

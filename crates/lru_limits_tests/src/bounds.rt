@@ -1,4 +1,4 @@
-//! Generic callers, which know a trait by its bound alone, and a call of each.
+//! Generic callers, which know a trait only by its bound, and a call of each.
 ghost use Rattle.std.specs.Prelude.{◌≡◌, ◌+◌, ◌-◌, ◌^◌, IfOk, min};
 
 use lru_limits::{ByCost, Costed, Insertion, LookupKey, RandomState, Summing};

@@ -24,8 +24,8 @@ fn pair_of(shared: &Rc<u64>) -> Result<(Share, Share), AllocError> {
     Ok((Share(shared.clone()?), Share(shared.clone()?)))
 }
 
-// Offers a pair, and offers it again in place of a stored one. Returns whether each is accepted, and how many owners
-// the number has left.
+// Offers a pair, and offers it again instead of a stored one. Returns whether each is accepted, and how many owners the
+// number has left.
 fn offered<L: Insertion<Share, Share, Share>>(
     shared: &Rc<u64>,
     alloc: Global,

@@ -1,4 +1,6 @@
 -- How a search by a hash calls its closure, with one pair after another, and what it returns.
+--     closure    how the closure may be called
+--     f, g       the closure before and after
 use Rattle.std.specs.Prelude.{◌≡◌, ℕ, Bool, true, false, List, [], ◌∷◌, ◌++◌, Contains}
 use Rattle.std.specs.List.{FoldsTo, IsDistinct}
 use Rattle.std.specs.Borrow.{Bor}
@@ -14,6 +16,7 @@ module _ {K V F : Type 0} (closure : Mut F (Bor K × (Bor V × Unit {0})) Bool) 
     pub shows : (key.now ≡ pair.0) × (value.now ≡ pair.1)
     pub called : Called closure f (key, (value, tt)) answer g
 
+  -- f was called with these pairs, one after another, rejected each, and is then g
   abbrev pub Refuses : F → List (K × V) → F → Type 0
   Refuses f pairs g = FoldsTo (λ p pair q. Asks p pair false q) f pairs g
 

@@ -1,4 +1,5 @@
 -- A map under a limit of bytes: its table and what its pairs own, together.
+--     bytes_of k v      how many bytes the pair of k and v owns
 use Rattle.std.specs.Prelude.{◌≡◌, ℕ, ◌+◌, ◌≤◌, Some, sum_by}
 use Rattle.lru_limits.specs.Bytes.{Bytes}
 use Rattle.lru_model.specs.Sizes.{usage}

@@ -1,5 +1,10 @@
 -- Which pairs a call passes to its callback: each pair that is evicted or removed, or that the limiter returned and the
 -- map could not store, as the limiter leaves it, in the order in which the limiter is notified.
+--     rules, offers       what the limiter does (`Rules`, `Offers` of `lru_limits`)
+--     names i k           the inserted key i names the key k
+--     hash_of h k         the hash of the key k, by the hasher h
+--     closure             how the callback may be called
+--     f, g                the callback before and after
 use Rattle.std.specs.Prelude.{◌≡◌, ℕ, Bool, List, [], ◌∷◌, ◌++◌, Result}
 use Rattle.std.specs.List.{FoldsTo}
 use Rattle.std.specs.Fn.{Mut, Called}
@@ -9,8 +14,8 @@ use Rattle.lru_model.specs.State.{State, Trims}
 use Rattle.lru_model.specs.Inserts.{Insert}
 
 module _ {K V S : Type 0} where
-  -- The limiter with a list as part of its state: `on_removed` appends the pair, as the limiter leaves it, and nothing
-  -- else changes.
+  -- The limiter with a list as part of its state. `on_removed` appends the pair to the list, as the limiter leaves it.
+  -- The list changes nothing else that the limiter does.
   abbrev pub noting : Rules K V S → Rules K V (S × List (K × V))
   noting rules = record {
     is_over_the_limit = λ s n. rules.is_over_the_limit s.0 n;
@@ -52,6 +57,7 @@ module _ {K V S : Type 0} where
     max = st.max;
   }
 
+-- f was called with these pairs, one after another, and is then g
 abbrev pub CalledWith : {K V F : Type 0} → Mut F (K × (V × Unit {0})) (Unit {0}) → F → List (K × V) → F → Type 0
 CalledWith closure f pairs g = FoldsTo (λ p pair q. Called closure p (pair.0, (pair.1, tt)) tt q) f pairs g
 
@@ -63,5 +69,6 @@ module _ {K V S H I : Type 0} (rules : Rules K V S) (offers : Offers K V S I) (n
   InsertPasses i v old result passed new = Insert (noting rules) (noting_offers offers) names hash_of i v (noted [] old)
       result (noted passed new)
 
+-- a trim that passes the pairs `passed` to its callback
 abbrev pub TrimPasses : {K V S H : Type 0} → Rules K V S → State K V S H → List (K × V) → State K V S H → Type 0
 TrimPasses rules old passed new = Trims (noting rules) (noted [] old) (noted passed new)

@@ -1,4 +1,6 @@
--- What gets, writes, removals, pops and a clear make of a map.
+-- What gets, writes, removals, pops and a clear make of a map. Each other kind of call has a file of its own.
+--     rules      what the limiter does (`Rules` of `lru_limits`)
+--     names      whether a key is the one that is looked up
 use Rattle.std.specs.Prelude.{◌≡◌, Bool, List, [], Option, Some, None, option_map, replicate}
 use Rattle.std.specs.Map.{set_value}
 use Rattle.group_table.specs.Bucket.{empty}
@@ -22,6 +24,7 @@ module _ {K V S H : Type 0} where
     table = record st.table { places = back_places names st.pairs st.table.places };
   }
 
+  -- the map with this value for the named key, if the key is there
   abbrev pub written : (K → Bool) → V → State K V S H → State K V S H
   written names value st = record st { pairs = set_value names st.pairs value }
 
@@ -56,12 +59,15 @@ module _ {K V S H : Type 0} (rules : Rules K V S) where
     pub pair : result ≡ left_of rules old.limiter gone
     pub state : Leaves old (after_removal rules gone left old.limiter) new
 
+  -- the pair of the named key is removed and returned
   abbrev pub RemoveEntry : (K → Bool) → State K V S H → Option (K × V) → State K V S H → Type 0
   RemoveEntry names old = TakesOut (lookup_entry names old.pairs) (without names old.pairs) old
 
+  -- the oldest pair is removed and returned
   abbrev pub PopOldest : State K V S H → Option (K × V) → State K V S H → Type 0
   PopOldest old = TakesOut (last old.pairs) (without_last old.pairs) old
 
+  -- the newest pair is removed and returned
   abbrev pub PopNewest : State K V S H → Option (K × V) → State K V S H → Type 0
   PopNewest old = TakesOut (first old.pairs) (without_first old.pairs) old
 

@@ -6,6 +6,7 @@ use Rattle.lru_model.specs.State.{State, Contents, contents, Leaves, pop, pops}
 use Rattle.lru_model.specs.Calls.{left_of, pop_first, cleared}
 
 module _ {K V S : Type 0} (rules : Rules K V S) where
+  -- the contents after n pops of the newest pair
   abbrev pub pops_first : ℕ → Contents K V S → Contents K V S
   pops_first zero c = c
   pops_first (suc n) c = pops_first n (pop_first rules c)

@@ -8,6 +8,7 @@ use Rattle.lru_model.specs.GetOrInserts.{MakesNewest, SaysNewest, IsOutOfMemoryF
 use Rattle.lru_model.specs.declared.results.GetOrInsertError.{GetOrInsertError}
 use Rattle.lru_model.specs.declared.results.GetOrInsertError.TheVariants.{Memory, Caller}
 
+-- the result of an insert, with `Memory` as its error
 abbrev pub or_memory : {E : Type 0} → Result Bool AllocError → Result Bool (GetOrInsertError E)
 or_memory (Ok kept) = Ok kept
 or_memory (Err e) = Err Memory
@@ -25,6 +26,7 @@ module _ {K V S H I E : Type 0} (rules : Rules K V S) (offers : Offers K V S I) 
         MakesNewest rules offers names hash_of (λ v. makes (Ok v)) i old flag new → result ≡ or_memory flag →
         MakesNewestIfMade makes i old result new
 
+  -- what such a call does (`step`), what its result says (`says`), and why it runs out of memory (`out_of_memory`)
   pub record GetsOrInsertsIfMade (makes : Result V E → Type 0) (i : I) (old : State K V S H)
       (result : Result Bool (GetOrInsertError E)) (new : State K V S H) : Type 0 where
     pub step : MakesNewestIfMade makes i old result new

@@ -1,4 +1,7 @@
 -- What an insert does.
+--     rules, offers       what the limiter does (`Rules`, `Offers` of `lru_limits`)
+--     names i k           the inserted key i names the key k
+--     hash_of h k         the hash of the key k, by the hasher h
 use Rattle.std.specs.Prelude.{◌≡◌, ℕ, ◌+◌, ◌⊎◌, ◌<◌, Bool, true, false, not, if◌then◌else◌, ◌∷◌, length, Option, Some}
 use Rattle.std.specs.Prelude.{None, option_map, Result, Ok, Err, IsErr}
 use Rattle.std.specs.declared.alloc.AllocError.{AllocError}
@@ -18,22 +21,25 @@ abbrev pub kept_of : {V E : Type 0} → Result (Inserted V) E → Result Bool E
 kept_of (Ok inserted) = Ok inserted.kept
 kept_of (Err e) = Err e
 
+-- the oldest pair is evicted, if the limiter would be over its limit with one more pair
 abbrev pub make_room : {K V S : Type 0} → Rules K V S → Contents K V S → Contents K V S
 make_room rules c = if rules.is_over_the_limit c.limiter (length c.pairs + 1) then pop rules c else c
 
 module _ {K V S H : Type 0} (rules : Rules K V S) where
-  -- What follows an insertion into the table: if the pair was stored, the oldest pairs are evicted while the limiter is
-  -- over its limit.
+  -- What follows an insertion into the table. If the pair was stored, the oldest pairs are evicted while the limiter is
+  -- over its limit, and the result is whether a pair is left. Otherwise nothing follows.
   abbrev pub Settles : Outcome → State K V S H → Result Bool AllocError → State K V S H → Type 0
   Settles placed landed result new =
       (result ≡ Ok (not (is_empty new.pairs))) × Leaves landed (trim rules (contents landed)) new
   Settles refused landed result new = (result ≡ Ok false) × (new ≡ landed)
   Settles no_memory landed result new = IsErr result × (new ≡ landed)
 
+  -- the pair of a new key is inserted into the table, with what follows
   abbrev pub PlacesAndTrims : (H → K → ℕ) → K × V → State K V S H → Result Bool AllocError → State K V S H → Type 0
   PlacesAndTrims hash_of pair old result new = (outcome : Outcome) × (landed : State K V S H)
       × Place rules hash_of pair old outcome landed × Settles outcome landed result new
 
+  -- the same, after the oldest pair was evicted if the limiter would be over its limit with one more (`make_room`)
   abbrev pub PlacesNew : (H → K → ℕ) → K × V → State K V S H → Result Bool AllocError → State K V S H → Type 0
   PlacesNew hash_of pair old result new = (ready : State K V S H) × Leaves old (make_room rules (contents old)) ready
       × PlacesAndTrims hash_of pair ready result new
@@ -43,9 +49,11 @@ module _ {K V S I : Type 0} (rules : Rules K V S) (offers : Offers K V S I) (nam
   abbrev pub replacement : K × V → I → V → Contents K V S → Replaced K V S
   replacement pair i v c = offers.on_replace c.limiter (length c.pairs) pair.0 i pair.1 v
 
+  -- the pair with the new value, as the limiter leaves both
   abbrev pub with_new_value : K × V → I → V → Contents K V S → K × V
   with_new_value pair i v c = let r = replacement pair i v c in (r.key, r.new_value)
 
+  -- the pair with the old value, as the limiter leaves both
   abbrev pub with_old_value : K × V → I → V → Contents K V S → K × V
   with_old_value pair i v c = let r = replacement pair i v c in (r.key, r.old_value)
 
@@ -62,6 +70,7 @@ module _ {K V S I : Type 0} (rules : Rules K V S) (offers : Offers K V S I) (nam
   with_removed pair i v c = let r = replacement pair i v c in
       record { pairs = without (names i) c.pairs; limiter = (rules.on_removed r.limiter r.key r.old_value).limiter }
 
+  -- the value that the map does not keep after an insert, if the key was there
   abbrev pub unkept_value : I → V → Contents K V S → Option V
   unkept_value i v c = option_map (λ pair. unkept_of (replacement pair i v c)) (lookup_entry (names i) c.pairs)
 
@@ -70,6 +79,7 @@ module _ {K V S I : Type 0} (rules : Rules K V S) (offers : Offers K V S I) (nam
   MayGive i v c s given = offers.on_insert c.limiter (length c.pairs) i v s given
 
   module _ {H : Type 0} (hash_of : H → K → ℕ) where
+    -- what an insert may return and leave
     pub data Insert (i : I) (v : V) (old : State K V S H) (result : Result Bool AllocError)
         (new : State K V S H) : Type 0 where
       -- The key is there, and the limiter accepts the new value: the pair becomes the newest with this value, and the
@@ -99,7 +109,7 @@ module _ {K V S I : Type 0} (rules : Rules K V S) (offers : Offers K V S I) (nam
           Insert i v old result new
 
     -- The table may need memory for the pair that the limiter returned: no growth is left, and either there are no
-    -- buckets, or the map contains a pair even after `make_room`.
+    -- buckets, or the map contains a pair even after `make_room`. (A rehash of a table without pairs needs no memory.)
     pub record NeedsMemory (i : I) (v : V) (old : State K V S H) : Type 0 where
       pub no_room : room old ≡ 0
       pub s : S

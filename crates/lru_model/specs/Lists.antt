@@ -4,32 +4,39 @@ use Rattle.std.specs.Prelude.{None, slice_get, option_map, option_to_list}
 pub use Rattle.std.specs.Map.{lookup, lookup_entry, remove_entry as without, keys_of}
 
 module _ {X : Type 0} where
+  -- whether the list is empty
   abbrev pub is_empty : List X → Bool
   is_empty [] = true
   is_empty (x ∷ xs) = false
 
+  -- the first, if there is one
   abbrev pub first : List X → Option X
   first [] = None
   first (x ∷ xs) = Some x
 
+  -- all but the first
   abbrev pub without_first : List X → List X
   without_first [] = []
   without_first (x ∷ xs) = xs
 
+  -- the last, if there is one
   abbrev pub last : List X → Option X
   last [] = None
   last (x ∷ []) = Some x
   last (x ∷ y ∷ ys) = last (y ∷ ys)
 
+  -- all but the last
   abbrev pub without_last : List X → List X
   without_last [] = []
   without_last (x ∷ []) = []
   without_last (x ∷ y ∷ ys) = x ∷ without_last (y ∷ ys)
 
+  -- the element at position n - 1, counted from 0, if there is one; none for n = 0
   abbrev pub last_of : ℕ → List X → Option X
   last_of zero xs = None
   last_of (suc n) xs = slice_get xs n
 
+  -- the list with x in front, if there is an x
   abbrev pub after : Option X → List X → List X
   after None xs = xs
   after (Some x) xs = x ∷ xs
@@ -39,9 +46,11 @@ module _ {X : Type 0} where
   IsFront xs ys = (rest : List X) × (ys ≡ xs ++ rest)
 
 module _ {K V : Type 0} where
+  -- the pair of the named key first, and then the others in their order
   abbrev pub front : (K → Bool) → List (K × V) → List (K × V)
   front names pairs = after (lookup_entry names pairs) (without names pairs)
 
+  -- the others in their order, and then the pair of the named key
   abbrev pub back : (K → Bool) → List (K × V) → List (K × V)
   back names pairs = without names pairs ++ option_to_list (lookup_entry names pairs)
 
@@ -51,28 +60,35 @@ module _ {K V : Type 0} where
   place_of names (pair ∷ pairs) [] = None
   place_of names (pair ∷ pairs) (b ∷ places) = if names pair.0 then Some b else place_of names pairs places
 
+  -- the places of the other pairs
   abbrev pub other_places : (K → Bool) → List (K × V) → List ℕ → List ℕ
   other_places names [] places = places
   other_places names (pair ∷ pairs) [] = []
   other_places names (pair ∷ pairs) (b ∷ places) = if names pair.0 then places else b ∷ other_places names pairs places
 
+  -- the place of the named key's pair first, and then the other places in their order
   abbrev pub front_places : (K → Bool) → List (K × V) → List ℕ → List ℕ
   front_places names pairs places = after (place_of names pairs places) (other_places names pairs places)
 
+  -- the other places in their order, and then the place of the named key's pair
   abbrev pub back_places : (K → Bool) → List (K × V) → List ℕ → List ℕ
   back_places names pairs places = other_places names pairs places ++ option_to_list (place_of names pairs places)
 
+  -- the list with `entry` in place of the pair of the named key
   abbrev pub set_entry : (K → Bool) → K × V → List (K × V) → List (K × V)
   set_entry names entry [] = []
   set_entry names entry (pair ∷ pairs) = if names pair.0 then entry ∷ pairs else pair ∷ set_entry names entry pairs
 
+  -- the value of the first pair
   abbrev pub newest_value : List (K × V) → Option V
   newest_value pairs = option_map (λ p. p.1) (first pairs)
 
+  -- the list with the value w in the pair at position i, counted from 0
   abbrev pub set_value_at : List (K × V) → ℕ → V → List (K × V)
   set_value_at [] i w = []
   set_value_at (pair ∷ pairs) zero w = (pair.0, w) ∷ pairs
   set_value_at (pair ∷ pairs) (suc i) w = pair ∷ set_value_at pairs i w
 
+  -- the list with the value w in the first pair
   abbrev pub set_newest : List (K × V) → V → List (K × V)
   set_newest pairs w = set_value_at pairs 0 w

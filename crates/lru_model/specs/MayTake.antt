@@ -1,5 +1,9 @@
 -- What a call requires of its callback: that it may be called n times, each time with any pair that may be evicted,
 -- removed or rejected, if there are n such pairs.
+--     rules, offers       what the limiter does (`Rules`, `Offers` of `lru_limits`)
+--     names i k           the inserted key i names the key k
+--     closure             how the callback may be called
+--     f                   the callback before the call
 use Rattle.std.specs.Prelude.{◌≡◌, ℕ, ◌<◌, Bool, true, false, List, [], ◌∷◌, length, None, Some, Contains, All}
 use Rattle.std.specs.Fn.{Mut, Takes as MayBeCalled}
 use Rattle.lru_limits.specs.Rules.{Rules, Offers, Replaced}
@@ -20,6 +24,7 @@ module _ {K V S : Type 0} (rules : Rules K V S) where
   IsLeftOf pairs left = (s : S) × (pair : K × V) × Contains pairs pair × (left_of rules s (Some pair) ≡ Some left)
 
   module _ {F : Type 0} (closure : Mut F (K × (V × Unit {0})) (Unit {0})) where
+    -- f may be called once for each of these pairs, each time with any of them, as the limiter leaves it
     abbrev pub MayTakeEach : List (K × V) → F → Type 0
     MayTakeEach pairs f = MayTake closure (IsLeftOf pairs) (length pairs) f
 

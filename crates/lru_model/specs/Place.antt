@@ -15,6 +15,7 @@ use Rattle.lru_model.specs.State.{State, TableState, buckets, room, FirstFreeIs,
 pub data Outcome : Type 0 where
   placed refused no_memory : Outcome
 
+-- the outcome that a result reports: whether the pair is stored, or out of memory
 abbrev pub outcome_of : {E : Type 0} → Result Bool E → Outcome
 outcome_of (Ok true) = placed
 outcome_of (Ok false) = refused
@@ -57,31 +58,40 @@ module _ {K V S H : Type 0} where
       counts = count_insert moves old.counts;
     }
 
+  -- the pair is in a bucket of the same table, and no entry moved for it
   abbrev pub IsPlacedInTable : K × V → State K V S H → State K V S H → Type 0
   IsPlacedInTable pair old new = IsPlaced pair (buckets old) (room new) 0 old new
 
+  -- no bucket takes a pair of this hash
   abbrev pub HasNoBucket : ℕ → State K V S H → Type 0
   HasNoBucket hash st = NoBucketTakes hash (length st.pairs) st.table.marks
 
+  -- no bucket takes a pair of this hash, and a rehash is no remedy
   abbrev pub IsOutgrown : ℕ → State K V S H → Type 0
   IsOutgrown hash st = IsTooSmallFor hash (length st.pairs) st.table.marks
 
+  -- into which table a map grows for n more pairs
   abbrev pub table_for : ℕ → State K V S H → Target
   table_for n st = target st.max st.entry_bytes (buckets st) (length st.pairs + n)
 
+  -- there are pairs, and no growth is left
   abbrev pub HasPairsButNoGrowth : State K V S H → Type 0
   HasPairsButNoGrowth st = (0 < length st.pairs) × (room st ≡ 0)
 
 module _ {K V S H : Type 0} (rules : Rules K V S) where
+  -- the map after its limiter was queried for a table of n bytes (`on_grow`)
   abbrev pub asked : ℕ → State K V S H → State K V S H
   asked bytes st = record st { limiter = (rules.on_grow st.limiter bytes).limiter }
 
+  -- the limiter permits a table of n bytes
   abbrev pub Grants : ℕ → State K V S H → Type 0
   Grants bytes st = (rules.on_grow st.limiter bytes).allowed ≡ true
 
+  -- the limiter refuses a table of n bytes
   abbrev pub Denies : ℕ → State K V S H → Type 0
   Denies bytes st = (rules.on_grow st.limiter bytes).allowed ≡ false
 
+  -- the map after its limiter was notified of a pair that was not stored
   abbrev pub unstored : K × V → State K V S H → State K V S H
   unstored pair st = record st { limiter = (rules.on_removed st.limiter pair.0 pair.1).limiter }
 
@@ -91,17 +101,19 @@ module _ {K V S H : Type 0} (rules : Rules K V S) where
   OldestEvicted hash (suc n) old new = (before : State K V S H) × OldestEvicted hash n old before
       × HasNoBucket hash before × Leaves before (pop rules (contents before)) new
 
+  -- the pair is stored as `IsPlaced` says, or the map ran out of memory, and the limiter was notified of the pair
   abbrev pub IsPlacedIfMemory : K × V → ℕ → ℕ → ℕ → State K V S H → Outcome → State K V S H → Type 0
   IsPlacedIfMemory pair count spare moves old placed new = IsPlaced pair count spare moves old new
   IsPlacedIfMemory pair count spare moves old no_memory new = new ≡ unstored pair old
   IsPlacedIfMemory pair count spare moves old refused new = ⊥
 
+  -- all entries moved into a table of `count` buckets, in which the pair was stored, unless the map ran out of memory
   abbrev pub IsPlacedByMove : K × V → ℕ → State K V S H → Outcome → State K V S H → Type 0
   IsPlacedByMove pair count old =
       IsPlacedIfMemory pair count (full_capacity count - length old.pairs - 1) (length old.pairs) old
 
-  -- The table cannot grow: there is no larger one, or the limiter, which was queried, refuses it. `mid` is the map
-  -- after that.
+  -- The table cannot grow: links or bytes do not reach a larger one, or the limiter, which was queried, refuses it.
+  -- `mid` is the map after that.
   pub data CannotGrow (old mid : State K V S H) : Type 0 where
     no_target : table_for 1 old ≡ no_table → mid ≡ old → CannotGrow old mid
     denied : (count bytes : ℕ) → table_for 1 old ≡ new_table count bytes → Denies bytes old →
@@ -127,13 +139,15 @@ module _ {K V S H : Type 0} (rules : Rules K V S) where
         Evicts hash pair old mid outcome new
 
 module _ {K V S H : Type 0} (rules : Rules K V S) (hash_of : H → K → ℕ) where
+  -- what may come of inserting the pair into the table
   pub data Place (pair : K × V) (old : State K V S H) (outcome : Outcome) (new : State K V S H) : Type 0 where
     -- A free bucket takes the pair. The limiter is not queried, and no memory is needed.
     in_bucket : length old.pairs < full_capacity (buckets old) → (0 < room old) ⊎ (0 < length old.pairs) →
         FillsBucket (hash_of old.hasher pair.0) old.table new.table →
         outcome ≡ placed → IsPlacedInTable pair old new →
         Place pair old outcome new
-    -- Or no bucket takes it, and with it the table is at most half full: the table is rehashed.
+    -- Or no bucket takes it, and with it the table is at most half full: the table is rehashed. Without pairs this
+    -- needs no memory.
     rehashed : HasNoBucket (hash_of old.hasher pair.0) old → length old.pairs + 1 ≤ full_capacity (buckets old) / 2 →
         (outcome ≡ no_memory → 0 < length old.pairs) →
         IsPlacedByMove rules pair (buckets old) old outcome new →
@@ -143,7 +157,7 @@ module _ {K V S H : Type 0} (rules : Rules K V S) (hash_of : H → K → ℕ) wh
         (count bytes : ℕ) → table_for 1 old ≡ new_table count bytes → Grants rules bytes old →
         IsPlacedByMove rules pair count (asked rules bytes old) outcome new →
         Place pair old outcome new
-    -- Otherwise the oldest pairs are evicted, at least one; if there is none, the new pair is rejected.
+    -- Otherwise the oldest pairs are evicted, at least one. If there is none, the new pair is rejected.
     not_grown : IsOutgrown (hash_of old.hasher pair.0) old →
         (mid : State K V S H) → CannotGrow rules old mid →
         Evicts rules (hash_of old.hasher pair.0) pair old mid outcome new →

@@ -14,6 +14,7 @@ module _ {K V S H : Type 0} (n : ℕ) (st : State K V S H) where
 
   -- why a reservation changes nothing
   pub data ReservesNothing (result : Result (Unit {0}) ReserveError) : Type 0 where
+    -- there is enough growth left,
     enough_room : n ≤ room st → length st.pairs + n < 2 ^ 64 → result ≡ Ok tt → ReservesNothing result
     -- or the number of pairs would pass 64 bits, or no table holds them,
     too_many : 2 ^ 64 ≤ length st.pairs + n → result ≡ Err TooLarge → ReservesNothing result

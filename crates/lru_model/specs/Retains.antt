@@ -1,4 +1,6 @@
 -- What `retain` does: it removes the pairs that its closure rejects.
+--     rules      what the limiter does (`Rules` of `lru_limits`)
+--     closure    how the closure may be called
 use Rattle.std.specs.Prelude.{◌≡◌, Bool, true, false, List, [], ◌∷◌, Some, map}
 use Rattle.std.specs.Borrow.{Bor}
 use Rattle.std.specs.Fn.{Mut}
@@ -34,6 +36,7 @@ module _ {K V F : Type 0} (closure : Mut F (Bor K × (Bor V × Unit {0})) Bool) 
     pub answers : Answers f asked last
     pub state : Leaves old (retained rules asked old.limiter) new
 
+-- a retain that passes the pairs `passed` to its callback, as the limiter leaves them
 abbrev pub RetainPasses : {K V S H F : Type 0} → Rules K V S → Mut F (Bor K × (Bor V × Unit {0})) Bool → F
     → State K V S H → List (K × V) → State K V S H → Type 0
 RetainPasses rules closure f old passed new = Retains closure (noting rules) f (noted [] old) (noted passed new)

@@ -1,4 +1,7 @@
 -- What one call makes of a map (`Step`), and what calls one after another make of it (`Run`).
+--     rules, offers       what the limiter does (`Rules`, `Offers` of `lru_limits`)
+--     names i k           the key i, as a call gets it, names the key k
+--     hash_of h k         the hash of the key k, by the hasher h
 use Rattle.std.specs.Prelude.{◌≡◌, ◌⊎◌, ℕ, Bool, true, false, List, Option, IfSome, Result, Contains, map}
 use Rattle.std.specs.declared.alloc.AllocError.{AllocError}
 use Rattle.lru_limits.specs.Rules.{Rules, Offers}
@@ -15,6 +18,7 @@ use Rattle.lru_model.specs.Updates.{Update}
 use Rattle.lru_model.specs.declared.results.Updated.{Updated}
 use Rattle.lru_model.specs.declared.results.ReserveError.{ReserveError}
 
+-- each key that is named passes the test
 abbrev pub AreAmong : {K : Type 0} → (K → Bool) → (K → Bool) → Type 0
 AreAmong {K} named test = (key : K) → named key ≡ true → test key ≡ true
 
@@ -74,12 +78,15 @@ module _ {K V S H I : Type 0} (rules : Rules K V S) (offers : Offers K V S I) (n
   NamesOnly test old new (writes named value e) = AreAmong named test
   NamesOnly test old new step = Unit {0}
 
+  -- such a step that names only keys that pass the test
   abbrev pub StepAmong : (K → Bool) → State K V S H → State K V S H → Type 0
   StepAmong test old new = (step : AnyStep old new) × NamesOnly test old new step
 
+-- the keys by which a call that inserts nothing inserts, of which there are none
 abbrev pub no_keys : {K : Type 0} → ⊥ → K → Bool
 no_keys key k = false
 
+-- what a limiter does with no offers
 abbrev pub no_offers : {K V S : Type 0} → Offers K V S ⊥
 no_offers = record {
   on_insert = λ limiter n key value left pair. ⊥;

@@ -6,12 +6,15 @@ use Rattle.group_table.specs.Change.{count_up}
 use Rattle.lru_model.specs.State.{State, buckets, MovesTo}
 
 module _ {K V S H : Type 0} where
+  -- the table has no more buckets than its pairs need
   abbrev pub IsTight : State K V S H → Type 0
   IsTight st = IfSome (buckets_for st.max (length st.pairs)) (λ count. buckets st ≤ count)
 
+  -- the pairs need `count` buckets, and the table has more
   abbrev pub IsLooseFor : ℕ → State K V S H → Type 0
   IsLooseFor count st = (buckets_for st.max (length st.pairs) ≡ Some count) × (count < buckets st)
 
+  -- the map with all its pairs counted as rehashed by a shrink
   abbrev pub shrink_counted : State K V S H → State K V S H
   shrink_counted st = record st { counts = record st.counts { shrunk = count_up st.counts.shrunk (length st.pairs) } }
 

@@ -35,10 +35,12 @@ pub data Target : Type 0 where
   no_table same_table : Target
   new_table : ℕ → ℕ → Target
 
+-- the table of this number of buckets and of bytes, or none without a number of bytes
 abbrev pub table_of : ℕ → Option ℕ → Target
 table_of buckets None = no_table
 table_of buckets (Some bytes) = new_table buckets bytes
 
+-- the table of this number of buckets, or none without a number
 abbrev pub table_with : ℕ → Option ℕ → Target
 table_with entry_bytes None = no_table
 table_with entry_bytes (Some buckets) = table_of buckets (usage entry_bytes buckets)
@@ -53,9 +55,11 @@ target_from max entry_bytes buckets pairs (Some need) =
     else (if nat_le pairs (full_capacity buckets / 2) then same_table
     else table_with entry_bytes (buckets_for max (full_capacity (2 * buckets))))
 
+-- into which table a table of `buckets` buckets grows for `pairs` pairs
 unfoldable pub target : ℕ → ℕ → ℕ → ℕ → Target
 target max entry_bytes buckets pairs = target_from max entry_bytes buckets pairs (buckets_for max pairs)
 
+-- the larger table, by its buckets and bytes, if there is one
 abbrev pub larger : Option (ℕ × ℕ) → Target
 larger None = no_table
 larger (Some table) = new_table table.0 table.1

@@ -23,22 +23,30 @@ pub record TableState : Type 0 where
   -- the bucket of each pair, newest first
   pub places : List ℕ
 
+-- a table without buckets
 abbrev pub empty_table : TableState
 empty_table = record { marks = []; places = [] }
 
+-- what a map counts
 pub record Counts : Type 0 where
   -- how many insertions the table has made
   pub placings : ℕ
+  -- how many entries inserts moved, and how many new ones they stored
   pub moved : ℕ
   pub placed : ℕ
+  -- how many entries shrinks rehashed
   pub shrunk : ℕ
 
+-- what a contract sees of a map
 pub record State (K V S H : Type 0) : Type 0 where
+  -- newest first
   pub pairs : List (K × V)
   pub limiter : S
+  -- what builds the hashers of keys
   pub hasher : H
   pub table : TableState
   pub counts : Counts
+  -- how many bytes of the table an entry takes, as passed to the constructor
   pub entry_bytes : ℕ
   -- the number of the link `MAX`, above the number of each bucket
   pub max : ℕ
@@ -74,6 +82,7 @@ pub record GivesBack (was n : ℕ) (old new : List Mark) : Type 0 where
   pub keeps : room_of old ≤ room_of new
   pub at_most : n + room_of new ≤ was + room_of old
   pub exact : length old ≤ 16 → n + room_of new ≡ was + room_of old
+  -- if no pair was removed, no bucket has changed its state
   pub untouched : n ≡ was → new ≡ old
 
 -- the first bucket that a search for the hash finds empty or deleted is in this state
@@ -88,9 +97,11 @@ pub record Frees (place : Option ℕ) (old new : TableState) : Type 0 where
   pub freed : Removes old.marks new.marks bucket
   pub others : new.places ≡ filter (λ b. not (nat_eq b bucket)) old.places
 
+-- the counts of a map that was just made
 abbrev pub no_counts : Counts
 no_counts = record { placings = 0; moved = 0; placed = 0; shrunk = 0 }
 
+-- the counts after an insertion of an entry for which n others moved
 abbrev pub count_insert : ℕ → Counts → Counts
 count_insert moves c = record c {
   placings = count_up c.placings (moves + 1);
@@ -99,6 +110,7 @@ count_insert moves c = record c {
 }
 
 module _ {K V S H : Type 0} where
+  -- a map without pairs and without buckets
   abbrev pub empty_map : S → H → ℕ → ℕ → State K V S H
   empty_map limiter hasher entry_bytes max = record {
     pairs = [];
@@ -110,15 +122,19 @@ module _ {K V S H : Type 0} where
     max = max;
   }
 
+  -- the pairs and the limiter of a map
   abbrev pub contents : State K V S H → Contents K V S
   contents st = record { pairs = st.pairs; limiter = st.limiter }
 
+  -- how many buckets its table has
   abbrev pub buckets : State K V S H → ℕ
   buckets st = length st.table.marks
 
+  -- the growth left: how many more pairs the table holds for sure
   abbrev pub room : State K V S H → ℕ
   room st = room_of st.table.marks
 
+  -- the bucket of the pair of the named key
   abbrev pub place_in : (K → Bool) → State K V S H → Option ℕ
   place_in names st = place_of names st.pairs st.table.places
 
@@ -137,9 +153,11 @@ module _ {K V S H : Type 0} where
     pub sized : IsSized st
     pub paid : IsPaid (potential st) st.counts
 
+  -- the pairs that were removed, if any, gave back growth
   abbrev pub FreesRoom : State K V S H → State K V S H → Type 0
   FreesRoom old new = GivesBack (length old.pairs) (length new.pairs) old.table.marks new.table.marks
 
+  -- all pairs moved into a table of `count` buckets, none of which is deleted
   pub record MovesTo (count : ℕ) (old new : State K V S H) : Type 0 where
     pub table : buckets new ≡ count
     pub exact : length old.pairs + room new ≡ full_capacity count
@@ -155,20 +173,25 @@ module _ {K V S H : Type 0} where
     pub room : FreesRoom old new
 
 module _ {K V S : Type 0} (rules : Rules K V S) where
+  -- the limiter after it was notified of a removed pair, if there is one
   abbrev pub notified_of : Option (K × V) → S → S
   notified_of None s = s
   notified_of (Some pair) s = (rules.on_removed s pair.0 pair.1).limiter
 
+  -- the pairs `left`, and the limiter after it was notified of the removed pair `gone`, if there is one
   abbrev pub after_removal : Option (K × V) → List (K × V) → S → Contents K V S
   after_removal gone left s = record { pairs = left; limiter = notified_of gone s }
 
+  -- the contents without the oldest pair, after the limiter was notified of its removal
   abbrev pub pop : Contents K V S → Contents K V S
   pop c = after_removal (last c.pairs) (without_last c.pairs) c.limiter
 
+  -- the contents after n pops of the oldest pair
   abbrev pub pops : ℕ → Contents K V S → Contents K V S
   pops zero c = c
   pops (suc n) c = pops n (pop c)
 
+  -- the oldest of n pairs are evicted while the limiter is over its limit
   abbrev pub trim_from : ℕ → Contents K V S → Contents K V S
   trim_from zero c = c
   trim_from (suc n) c = if rules.is_over_the_limit c.limiter (suc n) then trim_from n (pop c) else c

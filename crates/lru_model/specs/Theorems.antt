@@ -37,6 +37,7 @@ module _ {K V S H : Type 0} where
         new.counts.moved + potential new + 2 * old.counts.placed + old.counts.shrunk
         ≤ old.counts.moved + potential old + 2 * new.counts.placed + new.counts.shrunk
 
+  -- the table uses at most n bytes
   abbrev pub UsesAtMost : ℕ → State K V S H → Type 0
   UsesAtMost most st = (bytes : ℕ) × (usage st.entry_bytes (buckets st) ≡ Some bytes) × (bytes ≤ most)
 
@@ -44,6 +45,7 @@ module _ {K V S H : Type 0} where
   abbrev pub IsSummed : (K → V → ℕ) → (S → ℕ) → State K V S H → Type 0
   IsSummed cost account st = account st.limiter ≡ sum_by (λ p. cost p.0 p.1) st.pairs
 
+-- the pairs whose keys do not pass the test
 abbrev pub others : {K V : Type 0} → (K → Bool) → List (K × V) → List (K × V)
 others test pairs = filter (λ pair. not (test pair.0)) pairs
 
@@ -72,6 +74,7 @@ module _ {K V S H : Type 0} (rules : Rules K V S) where
   pub record IsRefusedGrowth (st : State K V S H) : Type 0 where
     pub is_full : HasPairsButNoGrowth st
     pub above_half : full_capacity (buckets st) / 2 < length st.pairs + 1
+    -- the map after its limiter was queried
     pub mid : State K V S H
     pub refused : CannotGrow rules st mid
 

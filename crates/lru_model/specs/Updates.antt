@@ -1,4 +1,6 @@
 -- What `update` does: it offers the limiter a new value for a key that is there.
+--     rules, offers       what the limiter does (`Rules`, `Offers` of `lru_limits`)
+--     names i k           the given key i names the key k
 use Rattle.std.specs.Prelude.{◌≡◌, Bool, true, false, List, [], Some, None}
 use Rattle.lru_limits.specs.Rules.{Rules, Offers}
 use Rattle.lru_model.specs.Lists.{lookup_entry, set_entry}
@@ -16,6 +18,7 @@ module _ {K V S I : Type 0} (rules : Rules K V S) (offers : Offers K V S I) (nam
     limiter = (replacement rules offers names pair i v c).limiter;
   }
 
+  -- what an update returns and leaves
   pub data Update {H : Type 0} (i : I) (v : V) (old : State K V S H) (result : Updated V) (new : State K V S H)
       : Type 0 where
     -- The limiter accepts the new value. The oldest pairs are evicted while it is over its limit.
@@ -24,11 +27,13 @@ module _ {K V S I : Type 0} (rules : Rules K V S) (offers : Offers K V S I) (nam
         result ≡ Replaced (replacement rules offers names pair i v (contents old)).old_value →
         Leaves old (trim rules (with_updated pair i v (contents old))) new →
         Update i v old result new
+    -- It rejects the new value, and the pair is removed.
     rejected : (pair : K × V) → lookup_entry (names i) old.pairs ≡ Some pair →
         (replacement rules offers names pair i v (contents old)).taken ≡ false →
         result ≡ Rejected (replacement rules offers names pair i v (contents old)).new_value →
         Leaves old (with_removed rules offers names pair i v (contents old)) new →
         Update i v old result new
+    -- The key is not there, and nothing has changed.
     not_there : lookup_entry (names i) old.pairs ≡ None →
         result ≡ Absent v → new ≡ old →
         Update i v old result new

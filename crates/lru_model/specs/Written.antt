@@ -1,10 +1,13 @@
 -- What `for_each_mut` does: it calls a closure with each pair, which may write the value.
+--     closure    how the closure may be called
+--     f, g       the closure before and after
 use Rattle.std.specs.Prelude.{◌≡◌, List, [], ◌∷◌}
 use Rattle.std.specs.Borrow.{Bor, MutBor}
 use Rattle.std.specs.Fn.{Mut, Called}
 use Rattle.lru_model.specs.State.{State}
 
 module _ {K V F : Type 0} (closure : Mut F (Bor K × (MutBor V × Unit {0})) (Unit {0} × (MutBor V × Unit {0}))) where
+  -- a call of f with the pair may write w in place of its value, and leave f as g
   pub record Writes (f : F) (pair : K × V) (w : V) (g : F) : Type 0 where
     pub key : Bor K
     pub value : MutBor V
@@ -13,6 +16,7 @@ module _ {K V F : Type 0} (closure : Mut F (Bor K × (MutBor V × Unit {0})) (Un
     pub called : Called closure f (key, (value, tt)) (tt, (left, tt)) g
     pub writes : left.now ≡ w
 
+  -- f was called with these pairs, one after another, and wrote the values of the new pairs
   abbrev pub WritesEach : F → List (K × V) → List (K × V) → F → Type 0
   WritesEach f [] new g = (new ≡ []) × (g ≡ f)
   WritesEach f (pair ∷ pairs) new g = (w : V) × (between : F) × (rest : List (K × V)) × Writes f pair w between

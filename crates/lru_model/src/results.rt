@@ -8,7 +8,7 @@ use thiserror::Error;
 /// - The key was not there: `unkept` is `None`. `kept` is false if the limiter rejected the entry, if the map could not
 ///   store it, or if it was stored and then evicted.
 /// - The key was there, and the limiter accepted the new value: `unkept` is the old value. `kept` is false if the entry
-///   was evicted then, because the limiter was still over its limit.
+///   was evicted afterwards, because the limiter was still over its limit.
 /// - The key was there, and the limiter rejected the new value: `unkept` is the new value, and `kept` is false. The
 ///   entry was removed.
 ///
@@ -34,7 +34,7 @@ pub struct Inserted<V> {
 /// ```
 #[derive(Clone, Copy, Debug, Drop, PartialEq, Eq)]
 pub enum Updated<V> {
-    /// The limiter accepted the new value in place of this one. If it was over its limit then, the entry may have been
+    /// The limiter accepted the new value instead of this one. If it was still over its limit, the entry may have been
     /// evicted.
     Replaced(V),
     /// The limiter rejected this new value, and the entry was removed.

@@ -1,5 +1,4 @@
-//! What the table of a map takes in bytes, by the bytes of an entry that the map counts, and the table that it grows
-//! into.
+//! How many bytes a table takes, and into which table a map grows.
 ghost use Rattle.std.specs.Prelude.{◌≡◌, ◌-◌, ◌/◌, ◌^◌, ◌<◌, ◌≤◌};
 ghost use Rattle.group_table.specs.Sizes.{IsBucketCount, full_capacity};
 ghost use Rattle.lru_model.specs.Sizes.{bytes_of, usage, IsGreatestUsage, target, larger};

@@ -89,7 +89,6 @@ figures_alike old other a b alike f g =
 
 module _ {K V S H : Type 0} (rules : Rules K V S) (offers : Offers K V S K) (eq : K → K → Bool)
     (hash_of : H → K → ℕ) where
-  -- what is proved of two inserts of the same
   abbrev pub InsertsAlike : Type 0
   InsertsAlike = (key : K) (v : V) (old : State K V S H) (result : Result Bool AllocError) (new other : State K V S H)
       (answer : Result Bool AllocError) (last : State K V S H) → IsDetermined offers → NeverRunsOut offers

@@ -84,7 +84,6 @@ module _ {K V : Type 0} (cost : V → ℕ) (value_of : K → V) where
     abbrev pub spending : ℕ → Budget
     spending sum = record { limit = n; cost = sum }
 
-    -- these keys with their values, and what they cost
     abbrev pub holding : List K → Contents K V Budget
     holding keys = record { pairs = map pair_of keys; limiter = spending (spent key_cost keys) }
 

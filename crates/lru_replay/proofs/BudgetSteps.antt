@@ -62,7 +62,6 @@ module _ {K V : Type 0} (cost : V → ℕ) (value_of : K → V) (n : ℕ) (fits 
   abbrev held : List K → Left
   held = holding cost value_of n
 
-  -- a reference leaves the keys that are afforded
   abbrev pub left_by : K → List K → List K
   left_by key keys = affordable costs n (key ∷ remove_key (eq key) keys)
 

@@ -51,7 +51,6 @@ update_is (not_there none r e) = rw none (r, ap contents e)
 
 module _ {K V S H : Type 0} (rules : Rules K V S) (offers : Offers K V S K) (eq : K → K → Bool)
     (hash_of : H → K → ℕ) where
-  -- what is proved of each insert
   abbrev pub InsertsAsInList : Type 0
   InsertsAsInList = (key : K) (value : V) (old : State K V S H) (result : Result Bool AllocError) (new : State K V S H)
       → AlwaysGrants rules → HasTables old → Insert rules offers eq hash_of key value old result new

@@ -114,7 +114,6 @@ module _ {K V S H : Type 0} (rules : Rules K V S) (offers : Offers K V S K) (eq 
       old calls replies new run none (small, within))
 
 module _ {K V H : Type 0} (eq : K → K → Bool) (hash_of : H → K → ℕ) where
-  -- the map keeps to the length n
   abbrev pub KeepsLength : ℕ → State K V ℕ H → Type 0
   KeepsLength n st = (length st.pairs ≤ n) × (st.limiter ≡ n)
 

@@ -24,7 +24,6 @@ use Rattle.lru_replay.proofs.SpelledWords.{HasLine}
 
 module _ {S : Type 0} (rules : Rules ℕ ℕ S) (offers : Offers ℕ ℕ S ℕ) (offered : AlwaysOffers offers) (old : Map S)
     (ok : IsSized old) where
-  -- the call can end
   abbrev pub CanEnd : Call ℕ ℕ S → Type 0
   CanEnd call = (reply : Reply ℕ ℕ) × (new : Map S)
       × AnswersCall rules offers old call reply new × IsSized new

@@ -49,7 +49,6 @@ from_map f None x is = absurd (cc)
 from_map f (Some y) x is = let same : f y ≡ x = cc in (y, refl, same)
 
 module _ {X : Type 0} (words : Words X) where
-  -- it holds of each row, with any numbers
   abbrev pub HoldsOfRows : (X → Type 0) → Type 0
   HoldsOfRows P = AllByRecursion (λ row. P row.1) words.alone × AllByRecursion (λ row. (n : ℕ) → P (row.1 n)) words.one
       × AllByRecursion (λ row. (k v : ℕ) → P (row.1 k v)) words.two
@@ -85,7 +84,6 @@ module _ {X : Type 0} (words : Words X) where
       let long = length-append word (32 ∷ pair_spelling k v) in
       (omega (arith, h.0, long), omega (arith, h.1, long, short_pair k v fits.0 fits.1))
 
--- the call has its line
 abbrev pub HasLine : {S : Type 0} → Call ℕ ℕ S → Type 0
 HasLine (calls.GetOrInsert k v) = ⊥
 HasLine (calls.GetByHash hash k) = ⊥

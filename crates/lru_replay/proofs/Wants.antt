@@ -14,13 +14,11 @@ head_same e = cc
 pub tail_same : {x y : MemoryReport} {xs ys : List MemoryReport} → x ∷ xs ≡ y ∷ ys → xs ≡ ys
 tail_same e = cc
 
--- whether not all memory was found
 abbrev pub is_short : MemoryReport → Bool
 is_short found_all = false
 is_short runs_out = true
 is_short runs_out_with_pairs = true
 
--- whether the answer says nothing else
 abbrev pub is_alone : MemoryReport → Bool
 is_alone found_all = false
 is_alone runs_out = true

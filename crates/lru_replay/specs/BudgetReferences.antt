@@ -9,12 +9,15 @@ use Rattle.lru_replay.specs.declared.calls.Call.TheVariants as calls
 use Rattle.lru_replay.specs.CallRuns.{IsRun, CallStep}
 use Rattle.lru_replay.specs.Replies.{Reply, memory_report, found_all}
 
+-- equal keys are the same key
 abbrev pub IsExact : {K : Type 0} → (K → K → Bool) → Type 0
 IsExact {K} eq = (a b : K) → eq a b ≡ true → a ≡ b
 
+-- no call ran out of memory
 abbrev pub FoundMemory : {K V : Type 0} → List (Reply K V) → Type 0
 FoundMemory = AllByRecursion (λ reply. memory_report reply ≡ found_all)
 
+-- the key that the call references, and the value that it inserts
 abbrev pub offered : {K V S : Type 0} → Call K V S → Option (K × V)
 offered (calls.Insert key v) = Some (key, v)
 offered (calls.GetOrInsert key v) = Some (key, v)

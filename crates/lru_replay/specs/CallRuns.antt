@@ -21,12 +21,14 @@ module _ {S C R : Type 0} (IsStep : S → C → R → S → Type 0) (Holds : S �
   IsRun old (call ∷ calls) [] new = ⊥
 
 module _ {K V S : Type 0} where
+  -- the pairs that the call gives are stored, which takes memory
   abbrev pub StoresPairs : Call K V S → Type 0
   StoresPairs (calls.InsertWith key v) = Unit {0}
   StoresPairs calls.List = Unit {0}
   StoresPairs (calls.Drain front back) = Unit {0}
   StoresPairs call = ⊥
 
+  -- a step, or no memory is found to store pairs, and nothing changes
   abbrev pub StepIfMemory : {A : Type 0} → (A → Call K V S → Reply K V → A → Type 0) → A → Call K V S → Reply K V → A
       → Type 0
   StepIfMemory IsStep old call reply new = IsStep old call reply new
@@ -54,10 +56,12 @@ module _ {K V S : Type 0} where
   NamesAmong eq test calls.PopNewest = ⊥
   NamesAmong eq test call = Unit {0}
 
+  -- the call sets no other limiter
   abbrev pub SetsNoLimiter : Call K V S → Type 0
   SetsNoLimiter (calls.SetLimiter s) = ⊥
   SetsNoLimiter call = Unit {0}
 
+  -- the call reserves no growth
   abbrev pub ReservesNothing : Call K V S → Type 0
   ReservesNothing (calls.Reserve n) = ⊥
   ReservesNothing call = Unit {0}
@@ -78,10 +82,12 @@ module _ {K V S : Type 0} (eq : K → K → Bool) (cost : K → V → ℕ) (acco
 
 module _ {K V S H : Type 0} (rules : Rules K V S) (offers : Offers K V S K) (eq : K → K → Bool)
     (hash_of : H → K → ℕ) where
+  -- a step of a map, or no memory is found to store pairs
   abbrev pub CallStep : State K V S H → Call K V S → Reply K V → State K V S H → Type 0
   CallStep = StepIfMemory (ReplyStep rules offers eq hash_of)
 
   module _ (cost : K → V → ℕ) (account : S → ℕ) where
+    -- a step of a map that keeps the cost, or the reply that the cost differs
     abbrev pub SummingStep : State K V S H → Call K V S → Reply K V → State K V S H → Type 0
     SummingStep = StepIfKept eq cost account contents CallStep
 

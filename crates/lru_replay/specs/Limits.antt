@@ -12,8 +12,10 @@ cost_rules = by_cost (λ value. value)
 abbrev pub cost_offers : Offers ℕ ℕ Budget ℕ
 cost_offers = charges (λ value. value)
 
+-- the cost that it keeps
 abbrev pub cost_reported : Budget → Option ℕ
 cost_reported b = Some b.cost
 
+-- no cost is kept
 abbrev pub no_cost : {S : Type 0} → S → Option ℕ
 no_cost s = None

@@ -21,6 +21,7 @@ StoresFirst (calls.InsertWith k v) = Unit {0}
 StoresFirst call = ⊥
 
 module _ {S : Type 0} (rules : Rules ℕ ℕ S) (offers : Offers ℕ ℕ S ℕ) where
+  -- the call is carried out, or no memory is found to store pairs, and nothing changes
   abbrev pub AnswersCall : Map S → Call ℕ ℕ S → Reply ℕ ℕ → Map S → Type 0
   AnswersCall old call reply new = ReplyStep rules offers nat_eq hash_of old call reply new
       ⊎ (StoresFirst call × (reply ≡ no_memory) × (new ≡ old))
@@ -48,12 +49,14 @@ module _ {S : Type 0} (rules : Rules ℕ ℕ S) (offers : Offers ℕ ℕ S ℕ) 
   IsLineRun old lines text new =
       (texts : List (List ℕ)) × IsRun LineStep IsSized old lines texts new × (text ≡ flat_map fed texts)
 
+  -- some run over the lines, from this map, has the text
   abbrev pub IsTextOf : Map S → List (List ℕ) → List ℕ → Type 0
   IsTextOf old lines text = (new : Map S) × IsLineRun old lines text new
 
--- IsText says which texts lines have, and Wrote what was written of a text. A reader had the bytes `from` left, if they
--- are known, and has `to` left now; a writer's bytes were `old` and are `new`.
+-- Below, IsText says which texts lines have, and Wrote what was written of a text. A reader had the bytes `from` left,
+-- if they are known, and has `to` left now. A writer's bytes were `old` and are `new`.
 module _ (IsText : List (List ℕ) → List ℕ → Type 0) (from : Option (List ℕ)) where
+  -- of a text of all the lines
   abbrev pub OfAll : (List ℕ → Type 0) → Type 0
   OfAll Wrote = IfSome from (λ input. (text : List ℕ) × IsText (lines_of input) text × Wrote text)
 

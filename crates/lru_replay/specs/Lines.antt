@@ -8,9 +8,11 @@ use Rattle.lru_replay.specs.declared.lines.line.Piece.TheVariants as pieces
 use Rattle.lru_replay.specs.declared.lines.line.Ending.{Ending}
 use Rattle.lru_replay.specs.declared.lines.line.Ending.TheVariants as endings
 
+-- the byte is not among them
 abbrev pub Lacks : ℕ → List ℕ → Type 0
 Lacks byte bytes = AllByRecursion (λ b. b ≢ byte) bytes
 
+-- a byte in front of the first line
 abbrev pub onto_first : ℕ → List (List ℕ) → List (List ℕ)
 onto_first b [] = (b ∷ []) ∷ []
 onto_first b (line ∷ lines) = (b ∷ line) ∷ lines
@@ -20,33 +22,41 @@ abbrev pub lines_of : List ℕ → List (List ℕ)
 lines_of [] = []
 lines_of (b ∷ bytes) = if b == 10 then [] ∷ lines_of bytes else onto_first b (lines_of bytes)
 
+-- a line and its line feed
 abbrev pub fed : List ℕ → List ℕ
 fed line = line ++ 10 ∷ []
 
 -- What a reader had left, and has left now.
 module _ (old new : Option (List ℕ)) where
+  -- a part of a line was read
   abbrev pub TakesPart : List ℕ → Type 0
   TakesPart bytes = Lacks 10 bytes × Consumes old new bytes
 
+  -- a line and its line feed were read
   abbrev pub TakesFed : List ℕ → Type 0
   TakesFed line = Lacks 10 line × Consumes old new (fed line)
 
+  -- what stands after the last line feed was read, and nothing is left
   abbrev pub TakesRest : List ℕ → Type 0
   TakesRest bytes = Lacks 10 bytes × Consumes old new bytes × OnSome old (IsAtEnd new)
 
+  -- what one look at the reader's buffer took of a line
   abbrev pub TakesPiece : Piece → List ℕ → Type 0
   TakesPiece pieces.Part bytes = TakesPart bytes
   TakesPiece pieces.Last bytes = TakesFed bytes
   TakesPiece pieces.End bytes = TakesRest bytes
 
+  -- a line was read, and ended so
   abbrev pub TakesLine : Ending → List ℕ → Type 0
   TakesLine endings.Feed line = TakesFed line
   TakesLine endings.InputEnd line = TakesRest line × (0 < length line)
   TakesLine endings.Nothing line = TakesRest line × (line ≡ [])
 
+  -- the first line was read, and no more
   abbrev pub TakesFirst : Type 0
   TakesFirst = (line : List ℕ) × (TakesFed line ⊎ TakesRest line)
 
+  -- these lines were read with their line feeds, and a part of the next
   abbrev pub TakesLines : List (List ℕ) → List ℕ → Type 0
   TakesLines lines part = AllByRecursion (Lacks 10) lines × Lacks 10 part
       × Consumes old new (flat_map fed lines ++ part)

@@ -1,4 +1,6 @@
 -- Calls on a list of pairs under a limiter, newest first: what each says and leaves if there is no table.
+--     rules, offers, eq   as in `Steps`
+--     hash_of k           the hash of the key k
 use Rattle.std.specs.Prelude.{◌≡◌, ℕ, ◌++◌, Bool, List, [], Option, Some, None, Result, MatchOption, is_some, length}
 use Rattle.std.specs.Prelude.{option_map, unwrap_or, if◌then◌else◌}
 use Rattle.std.specs.Map.{set_value}
@@ -36,12 +38,15 @@ module _ {K V S : Type 0} (rules : Rules K V S) (offers : Offers K V S K) (eq : 
       if r.taken then (Replaced r.old_value, trim rules (with_updated rules offers eq there key v c))
       else (Rejected r.new_value, with_removed rules offers eq there key v c)
 
+  -- or of the key, if it is there
   abbrev pub updated_in_list : Updated V × Contents K V S
   updated_in_list = unwrap_or (option_map updates_pair (lookup_entry (eq key) c.pairs)) (Absent v, c)
 
+-- without pairs, and the limiter is notified of the clear
 abbrev pub emptied : {K V S : Type 0} → Rules K V S → Contents K V S → Contents K V S
 emptied rules c = record { pairs = []; limiter = rules.on_cleared c.limiter }
 
+-- the same pairs, and the limiter with a list
 abbrev pub beside : {K V S : Type 0} → List (K × V) → Contents K V S → Contents K V (S × List (K × V))
 beside list c = record { pairs = c.pairs; limiter = (c.limiter, list) }
 
@@ -99,9 +104,11 @@ module _ {K V S : Type 0} (rules : Rules K V S) (offers : Offers K V S K) (eq : 
         (figures : Figures) × (figures.len ≡ length c.pairs) × (reply ≡ stats figures) × (d ≡ c)
     ListStep c call reply d = determined c call ≡ Some (reply, d)
 
+    -- so it does, or no memory is found to store pairs, and nothing changes
     abbrev pub ListCallStep : Contents K V S → Call K V S → Reply K V → Contents K V S → Type 0
     ListCallStep = StepIfMemory ListStep
 
     module _ (cost : K → V → ℕ) (account : S → ℕ) where
+      -- and so it does under a summing limiter, if the cost is kept
       abbrev pub ListSummingStep : Contents K V S → Call K V S → Reply K V → Contents K V S → Type 0
       ListSummingStep = StepIfKept eq cost account (λ c. c) ListCallStep

@@ -14,12 +14,15 @@ use Rattle.lru_replay.specs.declared.lines.outcome.ReplayError.TheVariants as er
 use Rattle.lru_replay.specs.Replies.{Reply, flag, given, updated, value, pair, listed, reserved, shrunk, stats, done}
 use Rattle.lru_replay.specs.Replies.{no_memory, cost_differs}
 
+-- a beginning of the text was written
 abbrev pub Begins : Option (List ℕ) → Option (List ℕ) → List ℕ → Type 0
 Begins old new text = (part : List ℕ) × IsFront part text × Appends old new part
 
+-- so it was, and a write failed
 abbrev pub Fails : ReplayError → Option (List ℕ) → Option (List ℕ) → List ℕ → Type 0
 Fails e old new text = (e ≡ errors.Write) × Begins old new text
 
+-- the text was written, or a beginning of it if a write failed
 abbrev pub Writes : {A : Type 0} → Option (List ℕ) → Option (List ℕ) → Result A ReplayError → List ℕ → Type 0
 Writes old new (Ok _) text = Appends old new text
 Writes old new (Err e) text = Fails e old new text
@@ -28,10 +31,12 @@ Writes old new (Err e) text = Fails e old new text
 abbrev pub pair_text : ℕ × ℕ → List ℕ
 pair_text p = decimal p.0 ++ 58 ∷ decimal p.1
 
+-- each with a space before it
 abbrev pub rest_text : List (ℕ × ℕ) → List ℕ
 rest_text [] = []
 rest_text (p ∷ pairs) = 32 ∷ pair_text p ++ rest_text pairs
 
+-- the pair after others, if there is one
 abbrev pub taken_text : Bool → Option (ℕ × ℕ) → List ℕ
 taken_text any None = []
 taken_text false (Some p) = pair_text p
@@ -61,6 +66,7 @@ updated_text (Replaced v) = codes "replaced " ++ decimal v
 updated_text (Rejected v) = codes "rejected " ++ decimal v
 updated_text (Absent v) = codes "absent " ++ decimal v
 
+-- whether the key is there, or that no memory was found
 abbrev pub insert_text : Result Bool AllocError → List ℕ
 insert_text (Ok there) = flag_text there
 insert_text (Err e) = codes "no memory"
@@ -76,6 +82,7 @@ shrink_text (Ok true) = codes "ok"
 shrink_text (Ok false) = codes "kept"
 shrink_text (Err e) = codes "no memory"
 
+-- a name and its number
 abbrev pub named_text : List ℕ → ℕ → List ℕ
 named_text name n = name ++ decimal n
 
@@ -110,8 +117,10 @@ reply_text cost done = codes "ok"
 reply_text cost no_memory = codes "no memory"
 reply_text cost cost_differs = codes "cost differs"
 
+-- the text of a line that spells no command
 abbrev pub bad_text : List ℕ
 bad_text = codes "bad"
 
+-- what is written if no limiter is named
 abbrev pub no_limiter_text : List ℕ
 no_limiter_text = codes "no limiter" ++ 10 ∷ []

@@ -1,4 +1,5 @@
 -- What a program does to the keys of a map with a maximum length, whichever calls it makes.
+--     eq        when two keys are equal
 use Rattle.std.specs.Prelude.{◌≡◌, ℕ, ◌+◌, ◌<◌, Bool, List, [], ◌∷◌, ◌++◌}
 use Rattle.group_table.specs.Change.{count_up}
 use Rattle.lru_model.specs.Kept.{KeepsToLength}

@@ -47,11 +47,13 @@ NamesNoLimit lines = (limit : Limit) (first : List ℕ) (others : List (List ℕ
 abbrev pub IsOutput : List (List ℕ) → List ℕ → Type 0
 IsOutput lines text = IsReplay lines text ⊎ (NamesNoLimit lines × (text ≡ no_limiter_text))
 
+-- what is written of some of the lines: nothing if there are none, and else what `IsText` says
 abbrev pub SoFar : (List (List ℕ) → List ℕ → Type 0) → List (List ℕ) → List ℕ → Type 0
 SoFar IsText [] text = text ≡ []
 SoFar IsText (first ∷ others) text = IsText (first ∷ others) text
 
--- What a replay read and wrote, by how it ended.
+-- What a replay read and wrote, by how it ended. As in `LineRuns`, a reader had the bytes `from` left, if they are known,
+-- and has `to` left now. A writer's bytes were `old` and are `new`.
 module _ (from to old new : Option (List ℕ)) where
   -- The first line names a limit, a replay of all the lines was written, and nothing is left to read.
   pub record Finished : Type 0 where

@@ -1,4 +1,7 @@
 -- What each call says, and what it leaves of the map.
+--     rules, offers       what the limiter says (`Rules`, `Offers` of `lru_limits`)
+--     eq                  when two keys are equal
+--     hash_of h k         the hash of the key k, by the hasher h
 use Rattle.std.specs.Prelude.{◌≡◌, ℕ, Bool, List, Option, Some, None, Result, is_some}
 use Rattle.std.specs.Prelude.{if◌then◌else◌}
 use Rattle.std.specs.declared.alloc.AllocError.{AllocError}

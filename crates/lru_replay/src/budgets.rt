@@ -10,7 +10,7 @@ use std::hash::Hash;
 
 /// After the same references, the keys of a map with a limit of cost are the newest keys of a map with a larger limit
 /// (`front`): both contain what a cache with that limit contains (`keys`). Each key has one value, as in a cache of
-/// what a function returns, and no value alone costs more than the smaller limit.
+/// what a function returns, and no value by itself costs more than the smaller limit.
 pub fn a_smaller_budget_is_included<K: Eq + Hash + Drop, V: Costed + Drop, S: KeyHasher<K>>()
     ensures keys { (value_of : K → V) (keys : List K) (old new : State K V ByCost S) →
         IsExact K.eq → BudgetReferences V.cost K.eq S.hash_of value_of keys old new →

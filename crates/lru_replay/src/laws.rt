@@ -36,7 +36,7 @@ pub fn lists_pay_for_moves<K: Eq + Hash, V, L: Insertion<K, V, K>, S: KeyHasher<
     laws::runs_pay_for_moves::<K, V, K, L, S>();
 }
 
-/// A list of calls evicts from the old end alone: of the pairs whose keys none of the calls names, those that are left
+/// A list of calls evicts only from the old end: of the pairs whose keys none of the calls names, those that are left
 /// are the newest, in their order, unless one of the calls is `PopNewest`. So does a list under a limiter with a
 /// running total.
 pub fn lists_evict_the_oldest<K: Eq + Hash, V, L: Insertion<K, V, K>, S: KeyHasher<K>>()

@@ -173,11 +173,11 @@ pub fn a_smaller_map_is_included<K: Eq + Hash + Drop, V: Drop, S: KeyHasher<K>>(
         is_in K.eq key (keys_of small.pairs) ≡ true → is_in K.eq key (keys_of large.pairs) ≡ true }
 {}
 
-/// LRU is competitive, whichever calls make the references. Take any policy with h places, one that knows the whole trace
-/// in advance. It begins with the keys `first`, and pays `paid` times for the same references. A map with `ByLength(k)`,
-/// h ≤ k, whatever it contains before, misses at most k / (k + 1 - h) * paid + length first times if the policy stores
-/// each key, and may load keys ahead (`loads`) or loads on demand alone (`demands`), and at most k / (k - h) * paid +
-/// length first times if it need not store a key (`bypasses`).
+/// LRU is competitive, whichever calls make the references. Take any policy with h places, one that knows the whole
+/// trace in advance. It begins with the keys `first`, and pays `paid` times for the same references. A map with
+/// `ByLength(k)`, h ≤ k, whatever it contains before, misses at most k / (k + 1 - h) * paid + length first times if the
+/// policy stores each key, and may load keys ahead (`loads`) or loads only on demand (`demands`), and at most k / (k -
+/// h) * paid + length first times if it need not store a key (`bypasses`).
 pub fn maps_are_competitive<K: Eq + Hash + Drop, V: Drop, S: KeyHasher<K>>()
     ensures loads { (trace : List K) (missed : ℕ) (old new : State K V ByLength S) (h paid : ℕ) (first left : List K) →
         IsDistinct K.eq (keys_of old.pairs) → length old.pairs ≤ old.limiter →

@@ -20,7 +20,6 @@ absent-from None absent = refl
 absent-from (Some x) absent = absurd (true≢false absent)
 
 module _ {N K V L S : Type 0} where
-  -- the cache of these tenants
   abbrev pub cache_of : HashMap N (State K V L S) S → S → ℕ → Option ℕ → Cache N K V L S
   cache_of tenants hasher entry_bytes limit =
       record { tenants = tenants.entries; hasher = hasher; entry_bytes = entry_bytes; total_limit = limit }

@@ -28,7 +28,6 @@ module _ {K V : Type 0} (names : K → Bool) where
 
 module _ {K V L S : Type 0} (rules : Rules K V L) (offers : Offers K V L K) (budget_of : L → ℕ) (eq : K → K → Bool)
     (hash_of : S → K → ℕ) (makes : V → Type 0) (key : K) (answer : Result (Option V) TenantError) where
-  -- the answer, if the key is there
   abbrev pub GetsValue : State K V L S → Type 0
   GetsValue map = IfSome (lookup (eq key) map.pairs) (λ w. answer ≡ Ok (Some w))
 

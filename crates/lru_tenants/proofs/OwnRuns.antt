@@ -50,7 +50,6 @@ run-push eq (did ∷ more) old mid new name left (next, found, step, run) leaves
 
 module _ {N K V L S C R : Type 0} (named : C → N)
     (Does : C → Option (State K V L S) → R → Option (State K V L S) → Type 0) where
-  -- each call did what it may
   abbrev pub AreSteps : List C → List R → List (Did N K V L S) → Type 0
   AreSteps [] [] [] = ⊤
   AreSteps (call ∷ calls) (answer ∷ answers) (did ∷ more) =

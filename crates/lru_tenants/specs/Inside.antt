@@ -1,4 +1,4 @@
--- What is true of the fields of a cache.
+-- What is true of the fields of a cache. No public contract cites it.
 use Rattle.std.specs.Prelude.{◌≡◌, ℕ, Bool, false, Option, sum_by}
 use Rattle.std.specs.HashMap.{HashMap, hasher_of, values}
 use Rattle.std.specs.List.{All}

@@ -5,6 +5,7 @@ use Rattle.std.specs.Prelude.{◌≡◌, ◌⊎◌, Bool, true, false, List, [],
 use Rattle.lru_model.specs.State.{State}
 use Rattle.lru_tenants.specs.Cache.{Cache, tenant, Leaves}
 
+-- what a call did: what it found of the tenant that it names, and what it left of it
 pub record Did (N K V L S : Type 0) : Type 0 where
   pub name : N
   pub found : Option (State K V L S)

@@ -1,3 +1,4 @@
+-- What the contracts of `lru_tenants` cite.
 pub mod Cache
 pub mod Inside
 pub mod Isolation

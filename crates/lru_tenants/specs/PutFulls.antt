@@ -1,4 +1,5 @@
 -- What comes back from a put.
+--     accepts s k v       whether the limiter s accepts the entry of a new key
 use Rattle.std.specs.Prelude.{Bool, Option, Some, is_some, not, ◌&&◌, if◌then◌else◌}
 use Rattle.lru_limits.specs.Rules.{Rules, Offers}
 use Rattle.lru_model.specs.Inserts.{unkept_value}
@@ -6,9 +7,11 @@ use Rattle.lru_model.specs.Lists.{lookup}
 use Rattle.lru_model.specs.State.{State, contents}
 
 module _ {K V L S : Type 0} (accepts : L → K → V → Bool) (eq : K → K → Bool) (key : K) (value : V) where
+  -- the limiter rejects the entry, and the key is new
   abbrev pub rejects : State K V L S → Bool
   rejects map = not (accepts map.limiter key value) && not (is_some (lookup (eq key) map.pairs))
 
+  -- the value that the map does not keep: of a new key the rejected one, else what an insert does not keep
   abbrev pub comes_back : Rules K V L → Offers K V L K → State K V L S → Option V
   comes_back rules offers map =
       if rejects map then Some value else unkept_value rules offers eq key value (contents map)

@@ -1,4 +1,7 @@
 -- What a call does to the tenant that it names, and what a run of calls does to each tenant.
+--     rules, offers       what the limiter says (`Rules`, `Offers` of `lru_limits`)
+--     fresh budget        the empty map with which a tenant opens
+--     hash_of h k         the hash of the key k, by the hasher h
 use Rattle.std.specs.Prelude.{◌≡◌, ◌≤◌, ◌⊎◌, ℕ, Bool, true, false, List, [], length, reverse, Option, Some, None}
 use Rattle.std.specs.Prelude.{option_map, IfSome}
 use Rattle.std.specs.Prelude.{Result, Ok, Err}
@@ -19,6 +22,7 @@ use Rattle.lru_tenants.specs.declared.call.TenantCall.{TenantCall}
 use Rattle.lru_tenants.specs.declared.call.TenantCall.TheVariants as calls
 
 module _ {N K V : Type 0} where
+  -- the tenant that the call names
   abbrev pub named : TenantCall N K V → N
   named (calls.Open name budget) = name
   named (calls.Put name key value) = name
@@ -26,57 +30,68 @@ module _ {N K V : Type 0} where
   named (calls.Cost name) = name
   named (calls.Close name) = name
 
+-- how a put returns what an insert returns
 abbrev pub put_answer : {R : Type 0} → Result R AllocError → Result R TenantError
 put_answer (Ok inserted) = Ok inserted
 put_answer (Err e) = Err Memory
 
 -- what each call may answer, and what it leaves of its tenant; `None` is a tenant that is not open
 module _ {K V L S : Type 0} where
+  -- one that is not open opens with this map, if the total limit lets it and there is memory
   abbrev pub Opens : Bool → State K V L S → Option (State K V L S) → Result (Unit {0}) TenantError
       → Option (State K V L S) → Type 0
   Opens over fresh (Some map) answer new = (answer ≡ Err AlreadyOpen) × (new ≡ Some map)
   Opens true fresh None answer new = (answer ≡ Err OverTotal) × (new ≡ None)
   Opens false fresh None answer new = ((answer ≡ Ok tt) × (new ≡ Some fresh)) ⊎ ((answer ≡ Err Memory) × (new ≡ None))
 
+  -- what is read of a tenant that is open
   abbrev pub read_of : {R : Type 0} → (State K V L S → R) → Option (State K V L S) → Result R TenantError
   read_of reads None = Err NotOpen
   read_of reads (Some map) = Ok (reads map)
 
+  -- what a call does to a tenant that is open; of any other it returns `NotOpen`, and the tenant stays closed
   abbrev pub OfOpen : {R : Type 0} → (State K V L S → Result R TenantError → Option (State K V L S) → Type 0)
       → Option (State K V L S) → Result R TenantError → Option (State K V L S) → Type 0
   OfOpen does None answer new = (answer ≡ Err NotOpen) × (new ≡ None)
   OfOpen does (Some map) answer new = does map answer new
 
+  -- the same, of a call that never fails then, and leaves the tenant open
   abbrev pub IfOpen : {R : Type 0} → (State K V L S → R → State K V L S → Type 0) → Option (State K V L S)
       → Result R TenantError → Option (State K V L S) → Type 0
   IfOpen {R} does = OfOpen (λ map answer new.
       (result : R) × (left : State K V L S) × does map result left × (answer ≡ Ok result) × (new ≡ Some left))
 
+  -- it gets a budget, if the total limit lets it, and what is over it is evicted
   abbrev pub SetsBudget : Rules K V L → (L → L) → Bool → State K V L S → Result (Unit {0}) TenantError
       → Option (State K V L S) → Type 0
   SetsBudget rules rebudgeted true map answer new = (answer ≡ Err OverTotal) × (new ≡ Some map)
   SetsBudget rules rebudgeted false map answer new = (left : State K V L S)
       × Trims rules (with_limiter (rebudgeted map.limiter) map) left × (answer ≡ Ok tt) × (new ≡ Some left)
 
+  -- what is passed to the callback of a tenant that is open; of any other nothing is
   abbrev pub PassesOn : (State K V L S → List (K × V) → Option (State K V L S) → Type 0) → Option (State K V L S)
       → List (K × V) → Option (State K V L S) → Type 0
   PassesOn does None passed new = (passed ≡ []) × (new ≡ None)
   PassesOn does (Some map) passed new = does map passed new
 
+  -- its pair becomes the newest
   abbrev pub Gets : (K → Bool) → Option (State K V L S) → Result (Option V) TenantError → Option (State K V L S) →
       Type 0
   Gets names old answer new =
       (answer ≡ read_of (λ map. lookup names map.pairs) old) × (new ≡ option_map (promoted names) old)
 
+  -- its limiter gets a budget, if the total limit lets it, and what is over it is passed on
   abbrev pub BudgetPasses : Rules K V L → (L → L) → Bool → State K V L S → List (K × V)
       → Option (State K V L S) → Type 0
   BudgetPasses rules rebudgeted true old passed new = (passed ≡ []) × (new ≡ Some old)
   BudgetPasses rules rebudgeted false old passed new = (left : State K V L S)
       × TrimPasses rules (with_limiter (rebudgeted old.limiter) old) passed left × (new ≡ Some left)
 
+  -- it closes, and passes on its pairs, oldest first
   abbrev pub ClosePasses : State K V L S → List (K × V) → Option (State K V L S) → Type 0
   ClosePasses old passed new = (passed ≡ reverse old.pairs) × (new ≡ None)
 
+  -- it closes, and n pairs are dropped
   abbrev pub Closes : State K V L S → Result ℕ TenantError → Option (State K V L S) → Type 0
   Closes map answer new = (answer ≡ Ok (length map.pairs)) × (new ≡ None)
 

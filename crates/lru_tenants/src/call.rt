@@ -1,5 +1,7 @@
 use crate::error::TenantError;
 
+/// A call of a run.
+///
 /// ```
 /// let calls = vec![in alloc; TenantCall::Open(1, 3), TenantCall::Put(1, 7, 1), TenantCall::Get(2, 7)]?;
 /// ```

@@ -1,5 +1,7 @@
 use thiserror::Error;
 
+/// Why a call on a tenant failed.
+///
 /// ```
 /// assert_eq!(rt; cache.open(1, 5), Err(TenantError::AlreadyOpen));
 /// ```

@@ -17,7 +17,7 @@ use std::hash::Hash;
 
 /// Carries out the calls on the cache, one after another, and returns one answer for each.
 ///
-/// The answers to a tenant depend on its own calls alone, except that `open` may return `OverTotal` if the cache has a
+/// The answers to a tenant depend only on its own calls, except that `open` may return `OverTotal` if the cache has a
 /// total limit, and that memory may run out.
 ///
 /// ```

@@ -34,8 +34,8 @@ fn fills(cache: &mut Cache, name: u64) -> bool {
     )
 }
 
-/// Evicts the pair (1, 4) by a budget of 12, replaces the value of 3, rejects another one, which removes the key, and
-/// closes the tenant with one pair.
+/// Sets a budget of 12, which evicts the pair (1, 4); replaces the value of 3; offers another value, whose rejection
+/// removes the key; and closes the tenant with one pair.
 fn ends(cache: &mut Cache, name: u64) -> bool {
     all!(
         cache.set_budget(&name, 12) == Ok(()),

@@ -86,7 +86,6 @@ module _ {K : Type 0} where
         go false false h ih = omega (arith, ih)
 
 module _ {K : Type 0} (cost : K → ℕ) where
-  -- what the keys cost together
   abbrev pub spent : List K → ℕ
   spent [] = 0
   spent (key ∷ keys) = cost key + spent keys

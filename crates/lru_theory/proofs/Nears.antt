@@ -160,14 +160,12 @@ module _ {K : Type 0} {eq : K → K → Bool} (laws : IsEquivalence eq) where
   named_also x y (z ∷ zs) same = λ i. laws.congr x y z same i || named_also x y zs same i
 
   module _ (key : K) (old : List K) where
-    -- the keys of the old cache without the key
     abbrev pub others : K → Bool
     others z = is_in eq z old && not (eq key z)
 
     abbrev pub kept : Bool → K → Bool
     kept b z = (b && eq key z) || others z
 
-    -- the keys that are new, apart from that key
     abbrev pub fresh : List K → ℕ
     fresh [] = 0
     fresh (u ∷ us) = cond (is_in eq u old || eq key u) 0 1 + fresh us

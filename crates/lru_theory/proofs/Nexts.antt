@@ -24,7 +24,6 @@ module _ {K : Type 0} (eq : K → K → Bool) where
   abbrev pub soon : ℕ → List K → K → ℕ
   soon d trace key = cond (nat_lt (until eq key trace) d) 1 0
 
-  -- of how many of the keys it is
   abbrev pub due : ℕ → List K → List K → ℕ
   due d trace [] = 0
   due d trace (key ∷ keys) = soon d trace key + due d trace keys

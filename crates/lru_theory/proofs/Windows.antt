@@ -15,12 +15,10 @@ use Rattle.lru_theory.proofs.Inclusions.{clash, without_missing}
 use Rattle.lru_theory.proofs.Lists.{is_in_without}
 
 module _ {K : Type 0} (eq : K → K → Bool) where
-  -- no key comes twice
   abbrev pub Apart : List K → Type 0
   Apart [] = Unit {0}
   Apart (x ∷ xs) = (is_in eq x xs ≡ false) × Apart xs
 
-  -- each of the keys is one of the others
   abbrev pub Within : List K → List K → Type 0
   Within xs ys = (key : K) → is_in eq key xs ≡ true → is_in eq key ys ≡ true
 

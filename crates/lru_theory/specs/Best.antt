@@ -1,4 +1,5 @@
 -- The best possible policies, which know the rest of the trace.
+--     eq        when two keys are equal
 use Rattle.std.specs.Prelude.{ℕ, zero, suc, ◌+◌, Bool, nat_le, if◌then◌else◌, List, [], ◌∷◌, take}
 use Rattle.std.specs.Set.{remove_key}
 use Rattle.lru_theory.specs.Traces.{fault}
@@ -30,6 +31,7 @@ module _ {K : Type 0} (eq : K → K → Bool) where
   faults_by refer keys [] = 0
   faults_by refer keys (key ∷ trace) = fault eq key keys + faults_by refer (refer key trace keys) trace
 
+  -- how often MIN with n places misses, from no keys, and MIN with bypass
   abbrev pub min_misses : ℕ → List K → ℕ
   min_misses n trace = faults_by (min_refer n) [] trace
 

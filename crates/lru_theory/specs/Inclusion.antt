@@ -1,4 +1,5 @@
 -- Calls on LRU caches of several sizes.
+--     eq        when two keys are equal
 use Rattle.std.specs.Prelude.{◌≡◌, ℕ, ◌+◌, ◌-◌, ◌≤◌, Bool, true, if◌then◌else◌, List, [], ◌∷◌, length}
 use Rattle.std.specs.Set.{remove_key}
 use Rattle.lru_theory.specs.Traces.{is_in, refer}
@@ -13,6 +14,7 @@ pub data KeyCall (K : Type 0) : Type 0 where
   looks : KeyCall K
 
 module _ {K : Type 0} (eq : K → K → Bool) (n : ℕ) where
+  -- the keys of an LRU cache of n places after a call, the newest first
   abbrev pub after_call : KeyCall K → List K → List K
   after_call (refers key) keys = refer eq n key keys
   after_call (promotes key) keys = if is_in eq key keys then key ∷ remove_key (eq key) keys else keys
@@ -20,6 +22,7 @@ module _ {K : Type 0} (eq : K → K → Bool) (n : ℕ) where
   after_call clears keys = []
   after_call looks keys = keys
 
+  -- and after calls, one after another
   abbrev pub after_calls : List (KeyCall K) → List K → List K
   after_calls [] keys = keys
   after_calls (call ∷ calls) keys = after_calls calls (after_call call keys)

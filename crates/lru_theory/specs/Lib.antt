@@ -1,3 +1,4 @@
+-- What the contracts of `lru_theory` cite.
 pub mod Traces
 pub mod Policies
 pub mod Inclusion

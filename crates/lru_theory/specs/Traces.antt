@@ -1,4 +1,5 @@
 -- Words on traces. A trace is the list of the keys that were referenced, in order of time.
+--     eq        when two keys are equal
 --     past      the keys that were referenced before, the last one first. The keys of a map are such a list.
 use Rattle.std.specs.Prelude.{◌≡◌, ℕ, ◌+◌, Bool, true, not, ◌||◌, nat_le, if◌then◌else◌, List, [], ◌∷◌, length, take}
 use Rattle.std.specs.Cmp.Lexicographic.{pointwise}
@@ -6,9 +7,11 @@ use Rattle.std.specs.List.{list_any}
 use Rattle.std.specs.Set.{remove_key}
 
 module _ {K : Type 0} (eq : K → K → Bool) where
+  -- the key is one of these
   abbrev pub is_in : K → List K → Bool
   is_in key keys = list_any (eq key) keys
 
+  -- the lists are as long, and equal key by key
   abbrev pub AreEqual : List K → List K → Type 0
   AreEqual keys others = pointwise eq keys others ≡ true
 
@@ -17,6 +20,7 @@ module _ {K : Type 0} (eq : K → K → Bool) where
   recency [] = []
   recency (key ∷ past) = key ∷ remove_key (eq key) (recency past)
 
+  -- the references after the last one to the key
   abbrev pub since : K → List K → List K
   since key [] = []
   since key (other ∷ past) = if eq key other then [] else other ∷ since key past
@@ -39,17 +43,21 @@ module _ {K : Type 0} (eq : K → K → Bool) where
   abbrev pub refer : ℕ → K → List K → List K
   refer n key keys = take n (key ∷ remove_key (eq key) keys)
 
+  -- and after a trace, if these were its keys before
   abbrev pub cached : ℕ → List K → List K → List K
   cached n keys [] = keys
   cached n keys (key ∷ trace) = cached n (refer n key keys) trace
 
+  -- 1 if the key is not there, and 0 if it is
   abbrev pub fault : K → List K → ℕ
   fault key keys = if is_in key keys then 0 else 1
 
+  -- how many references of the trace did not find their key in that cache
   abbrev pub faults : ℕ → List K → List K → ℕ
   faults n keys [] = 0
   faults n keys (key ∷ trace) = fault key keys + faults n (refer n key keys) trace
 
+-- the past after the references of a trace
 abbrev pub past_after : {K : Type 0} → List K → List K → List K
 past_after past [] = past
 past_after past (key ∷ trace) = past_after (key ∷ past) trace

@@ -33,7 +33,7 @@ pub fn more_places_never_miss_more<K: Eq>()
 ///
 /// - If it stores each key that is referenced, and may load keys ahead, LRU misses at most k / (k + 1 - h) * paid +
 ///   length first times (`loads`).
-/// - So it is for a demand policy, which pays for its misses alone (`demands`).
+/// - So it is for a demand policy, which pays only for its misses (`demands`).
 /// - If it need not store the key, LRU misses at most k / (k - h) * paid + length first times (`bypasses`).
 pub fn lru_is_competitive<K: Eq>()
     ensures loads { (k h : ℕ) (past trace first left : List K) (paid : ℕ) → h ≤ k →

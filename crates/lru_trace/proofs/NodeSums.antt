@@ -25,7 +25,6 @@ power_down levels level h =
 pub width_fits : (levels level : ℕ) → 2 ^ (levels - level) ≤ 2 ^ levels
 width_fits levels level = pow_mono (omega arith)
 
--- the sum of n nodes from node a on
 abbrev pub span : List ℕ → ℕ → ℕ → ℕ
 span t a zero = 0
 span t a (suc n) = get_or t a 0 + span t (a + 1) n

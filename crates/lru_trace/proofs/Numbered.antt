@@ -17,7 +17,6 @@ use Rattle.lru_trace.specs.Counted.{AreNumbered, number_in}
 not_none : {A B : Type 0} (x : A) → None ≡ Some x → B
 not_none x e = absurd cc
 
--- the texts have these numbers
 abbrev pub Named : (List ℕ → Option ℕ) → List (List ℕ) → List ℕ → Type 0
 Named number [] [] = Unit {0}
 Named number [] (n ∷ ns) = ⊥

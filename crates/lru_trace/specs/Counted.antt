@@ -8,11 +8,15 @@ use Rattle.lru_theory.specs.Traces.{recency, misses, past_after}
 use Rattle.lru_trace.specs.Slots.{Recent}
 
 pub record Counted : Type 0 where
+  -- the keys and their numbers
   pub names : List (String Global × ℕ)
+  -- the numbers of the keys, the last referenced first
   pub recency : List ℕ
+  -- how many references had each reuse distance
   pub counts : List ℕ
   pub references : ℕ
 
+-- the number of a key
 abbrev pub number_in : List (String Global × ℕ) → List ℕ → Option ℕ
 number_in names key = lookup (λ name. bytes_eq key (string_bytes name)) names
 

@@ -12,13 +12,16 @@ abbrev pub onto_first : ℕ → List (List ℕ) → List (List ℕ)
 onto_first b [] = (b ∷ []) ∷ []
 onto_first b (line ∷ lines) = (b ∷ line) ∷ lines
 
+-- the lines of an input, without their line feeds
 abbrev pub lines_of : List ℕ → List (List ℕ)
 lines_of [] = []
 lines_of (b ∷ bytes) = if b == 10 then [] ∷ lines_of bytes else onto_first b (lines_of bytes)
 
+-- a line and its line feed
 abbrev pub fed : List ℕ → List ℕ
 fed line = line ++ 10 ∷ []
 
+-- no byte is a line feed
 abbrev pub LacksFeed : List ℕ → Type 0
 LacksFeed bytes = AllByRecursion (λ b. b ≢ 10) bytes
 
@@ -28,11 +31,13 @@ EndsSo endings.Feed bytes line = bytes ≡ fed line
 EndsSo endings.InputEnd bytes line = (line ≡ bytes) × (0 < length line) × ((front : List ℕ) → bytes ≡ fed front → ⊥)
 EndsSo endings.Nothing bytes line = (line ≡ bytes) × (line ≡ [])
 
+-- A reader had the bytes `from` left, if they are known, and has `to` left now.
 module _ (from to : Option (List ℕ)) where
   -- these bytes without a line feed were read, and nothing is left
   abbrev pub TakesRest : List ℕ → Type 0
   TakesRest bytes = LacksFeed bytes × Consumes from to bytes × OnSome from (IsAtEnd to)
 
+  -- a line was read, and ended so
   abbrev pub TakesLine : Ending → List ℕ → Type 0
   TakesLine endings.Feed line = LacksFeed line × Consumes from to (fed line)
   TakesLine endings.InputEnd line = TakesRest line × (0 < length line)

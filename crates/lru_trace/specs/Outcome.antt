@@ -10,7 +10,8 @@ use Rattle.lru_trace.specs.Lines.{lines_of, trace_of, malformed_in}
 use Rattle.lru_trace.specs.Report.{output}
 use Rattle.lru_trace.specs.Sizes.{sizes_from}
 
--- All that was left was read, and this is the curve of the keys that its lines spell.
+-- A reader had the bytes `from` left, if they are known, and has `to` left now. All that was left was read, and this is
+-- the curve of the keys that its lines spell.
 pub record KeysRead (from to : Option (List ℕ)) (curve : Counted) (malformed : ℕ) : Type 0 where
   pub input : List ℕ
   pub reads : Consumes from to input
@@ -37,10 +38,11 @@ pub record NoSizesRead (from to : Option (List ℕ)) : Type 0 where
   pub one : length (lines_of input) ≤ 1
   pub none : output (lines_of input) ≡ None
 
+-- some bytes were read
 abbrev pub SomeRead : Option (List ℕ) → Option (List ℕ) → Type 0
 SomeRead from to = (part : List ℕ) × Consumes from to part
 
--- A beginning of the text was written.
+-- A writer's bytes were `old` and are `new`: a beginning of the text was written.
 abbrev pub Begins : Option (List ℕ) → Option (List ℕ) → List ℕ → Type 0
 Begins old new text = (begun rest : List ℕ) × (text ≡ begun ++ rest) × Appends old new begun
 
@@ -54,6 +56,7 @@ pub record Reported (from to : Option (List ℕ)) (IsWritten : List ℕ → Type
   pub determined : output (lines_of input) ≡ Some text
   pub written : IsWritten text
 
+-- what a trace read and wrote, by how it ended
 abbrev pub Ends : Option (List ℕ) → Option (List ℕ) → Option (List ℕ) → Option (List ℕ) → Result TraceEnd TraceError
     → Type 0
 Ends from to old new (Ok ends.Done) = Reported from to (Appends old new)
@@ -62,6 +65,7 @@ Ends from to old new (Err errors.Read) = SomeRead from to × Keeps old new
 Ends from to old new (Err errors.Memory) = SomeRead from to × Keeps old new
 Ends from to old new (Err errors.Write) = Reported from to (Begins old new)
 
+-- the exit status of each end
 abbrev pub status_of : Result TraceEnd TraceError → ℕ
 status_of (Ok ends.Done) = 0
 status_of (Ok ends.NoSizes) = 1

@@ -10,9 +10,11 @@ pub record Recent : Type 0 where
   pub keys : ℕ
   pub room : ℕ
 
+-- the place of a key in the recency list, if it is there
 abbrev pub position : ℕ → List ℕ → Option ℕ
 position key recency = if is_in nat_eq key recency then Some (length (since nat_eq key recency)) else None
 
+-- the keys in the slots, the last slot first
 abbrev pub newest : List (Option ℕ) → List ℕ
 newest [] = []
 newest (slot ∷ slots) = newest slots ++ option_to_list slot

@@ -129,6 +129,7 @@ impl Curve {
         self.count(key, number)
     }
 
+    /// Returns how many references there were.
     pub fn references(&self) -> u64
         ensures value { result ≡ self.now.references }
         ensures all { (trace : List (List ℕ)) → IsOf trace self.now → result ≡ length trace }
@@ -136,6 +137,7 @@ impl Curve {
         self.references
     }
 
+    /// Returns how many keys were referenced.
     pub fn keys(&self) -> usize
         ensures value { result ≡ length self.now.recency }
         ensures all { (trace : List (List ℕ)) → IsOf trace self.now → result ≡ keys trace }

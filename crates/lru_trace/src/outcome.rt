@@ -4,12 +4,14 @@ ghost use Rattle.lru_trace.specs.Outcome.{status_of};
 use std::alloc::AllocError;
 use thiserror::Error;
 
+/// How a trace ends if no read and no write fails.
 #[derive(Clone, Copy, Debug, PartialEq, Eq)]
 pub enum TraceEnd {
     Done,
     NoSizes,
 }
 
+/// What cuts a trace off.
 #[derive(Clone, Copy, Debug, PartialEq, Eq, Error)]
 pub enum TraceError {
     #[error("read failed")]

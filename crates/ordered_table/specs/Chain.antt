@@ -1,4 +1,5 @@
--- How links keep an order of buckets: each entry contains the numbers of its two neighbours.
+-- How links keep an order of buckets: each entry contains the numbers of its two neighbours. No public clause cites
+-- this module.
 use Rattle.std.specs.Prelude.{◌≡◌, ◌≢◌, ◌⊎◌, ℕ, zero, suc, ◌<◌, slice_index_or, List, [], ◌∷◌, length, map}
 use Rattle.std.specs.Prelude.{Option, Some, None, option_map, unwrap_or, Contains, AllPairs}
 use Rattle.group_table.specs.Bucket.{empty, deleted, full, Slot, IsFull, bucket_at, entry_at, entry_count}
@@ -18,6 +19,7 @@ abbrev pub pair_slots : {K V N : Type 0} → List (Slot (Entry K V N)) → List 
 pair_slots slots = map pair_slot slots
 
 module _ {N : Type 0} (link : ℕ → N) (none : N) where
+  -- the link to a bucket, or to none
   abbrev pub link_to : Option ℕ → N
   link_to None = none
   link_to (Some b) = link b
@@ -29,6 +31,7 @@ along number (suc n) slots from = unwrap_or (option_map (λ entry. number from �
     (entry_at slots (number from))) []
 
 module _ {K V N : Type 0} where
+  -- the link of the entry in a bucket to its newer neighbour, and the link to its older one
   abbrev pub newer_at : List (Slot (Entry K V N)) → ℕ → Option N
   newer_at slots b = option_map (λ entry. entry.newer) (entry_at slots b)
 
@@ -58,6 +61,7 @@ module _ {K V N : Type 0} (number : N → ℕ) where
   SetsOlder = SetsLink (λ entry. entry.older) (λ entry. entry.newer)
 
 module _ {N : Type 0} (number : N → ℕ) (none : N) (links : List N) where
+  -- the link to where the bucket of a link has moved
   abbrev pub moved_link : N → N
   moved_link l = slice_index_or links (number l) none
 
@@ -65,6 +69,7 @@ module _ {N : Type 0} (number : N → ℕ) (none : N) (links : List N) where
   abbrev pub HasPlace : N → Type 0
   HasPlace l = (l ≡ none) ⊎ (number l < length links)
 
+  -- the entry in a bucket has links to where its neighbours have moved, and nothing else has changed
   pub record MovesLinks {K V : Type 0} (old new : List (Slot (Entry K V N))) (b : ℕ) : Type 0 where
     pub pairs : pair_slots new ≡ pair_slots old
     pub newer_there : newer_at new b ≡ option_map moved_link (newer_at old b)
@@ -105,18 +110,23 @@ module _ {K V N : Type 0} (number : N → ℕ) (link : ℕ → N) (none : N) whe
     pub same : length slots ≡ length before
     pub others : (c : ℕ) → c ≢ b → bucket_at slots c ≡ bucket_at before c
 
+  -- the links of a chain keep this order
   abbrev pub KeepsOrder : Chain K V N → List ℕ → Type 0
   KeepsOrder chain = IsChain chain.table.slots chain.newest chain.oldest
 
+  -- a bucket with these links is about to be taken out of a chain with this order
   abbrev pub HasGap : Chain K V N → List ℕ → ℕ → N → N → Type 0
   HasGap chain = IsGap chain.table.slots chain.newest chain.oldest
 
+  -- the links keep an order of some buckets, and this one is among them
   abbrev pub InChain : Chain K V N → ℕ → Type 0
   InChain chain b = (order : List ℕ) × KeepsOrder chain order × Contains order b
 
+  -- the links keep an order of some buckets, and this one is not among them
   abbrev pub OutOfChain : Chain K V N → ℕ → Type 0
   OutOfChain chain b = (order : List ℕ) × KeepsOrder chain order × (Contains order b → ⊥)
 
+  -- the entries have moved into the slots, still with the links that they had in the table before
   abbrev pub Moved : Chain K V N → List N → Type 0
   Moved chain links = (before : List (Slot (Entry K V N))) × (order : List ℕ)
       × IsWhole before chain.newest chain.oldest order × Renumbers number none before chain.table.slots links

@@ -1,4 +1,4 @@
--- How the fields of a walk hold what is left of it.
+-- How the fields of a walk hold what is left of it. No public clause cites this module.
 use Rattle.std.specs.Prelude.{◌≡◌, ℕ, ◌<◌, List, [], ◌∷◌, ◌++◌, length, take, nat_eq, if◌then◌else◌, Some}
 use Rattle.ordered_table.specs.OrderedTable.{OrderedTable, IsLinked, entries_in}
 use Rattle.lru_model.specs.Lists.{first as first_bucket, last as last_bucket}
@@ -21,5 +21,6 @@ module _ {K V : Type 0} (t : OrderedTable K V) where
     pub after : List ℕ
     pub order : t.order ≡ before ++ (middle ++ after)
     pub count : length middle ≡ left
+    -- `front` and `back` are the ends of these, and any numbers if none is left
     pub first : 0 < left → first_bucket middle ≡ Some front
     pub last : 0 < left → last_bucket middle ≡ Some back

@@ -12,7 +12,6 @@ AllWithin [] = Unit {0}
 AllWithin (l ∷ ls) = (l.0 ⊑ l.1) × AllWithin ls
 
 module _ {M : Type 1} (𝓤 : Ura M) where
-  -- the same as one requirement after another, and P
   abbrev pub Outlive : List (Lft × Lft) → SProp 𝓤 → SProp 𝓤
   Outlive [] P = P
   Outlive (l ∷ ls) P = sep 𝓤 (fact 𝓤 (l.0 ⊑ l.1)) (Outlive ls P)

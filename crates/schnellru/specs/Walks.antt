@@ -21,6 +21,7 @@ use mathlib.Core.Option as maybe
 pub one_less : (n m : ℕ) → n ≤ m → n - 1 ≤ m
 one_less n m h = omega (arith, h)
 
+-- the ghost name of the value that is lent, if one is
 abbrev pub lent_name : {K V : Type 0} → Option (Bor K × MutBor V) → maybe.Option GName
 lent_name (Some pair) = maybe.some pair.1.ghost_name
 lent_name None = maybe.none
@@ -30,6 +31,7 @@ module _ {K V L S N H : Type 0} {equal : equality.Ghosts K} {input : hashing.Gho
     {links : link_type.Ghosts N}
     {keyed : key_hasher.Ghosts S K H} {build : builder.Ghosts S H} {hash : hasher.Ghosts H}
     (walk : IterMut K V L S N H equal input limits links keyed build hash) where
+  -- the map now, and the ghost name of the reference to it
   abbrev pub walk_map : State K V L S
   walk_map = walk.map.now
 
@@ -43,6 +45,7 @@ module _ {K V L S N H : Type 0} {equal : equality.Ghosts K} {input : hashing.Gho
   abbrev pub walk_end : ℕ
   walk_end = walk.end
 
+  -- the reference to the map after a value was written at a position
   abbrev pub walk_written : ℕ → V → MutBor (State K V L S)
   walk_written at w = record walk.map { now = record walk.map.now { pairs = set_value_at walk.map.now.pairs at w } }
 
@@ -84,12 +87,14 @@ module _ (K V L S N H : RattleType) (key : HashMembers K.Denot)
       (record { hash_input = key.hash_input }) limits
       links (record { hash_of = hashed.hash_of })
       (record { build_hasher = hashed.build_hasher }) hash)) where
+    -- the first pair that was left is lent until r ends, if there is one
     abbrev pub lends_next : Option (Bor K.Denot × MutBor V.Denot) → Fml
     lends_next r = follows_if walk_row V walk.ghost_name (lent_name r) (λ w. walk_after_first walk.now w) walk.now
 
     abbrev pub lends_first : Bor K.Denot × MutBor V.Denot → Fml
     lends_first r = follows walk_row V walk.ghost_name r.1.ghost_name (λ w. walk_after_first walk.now w)
 
+    -- the last pair that was left is lent until r ends, if there is one
     abbrev pub lends_next_back : Option (Bor K.Denot × MutBor V.Denot) → Fml
     lends_next_back r = follows_if walk_row V walk.ghost_name (lent_name r) (λ w. walk_after_last walk.now w) walk.now
 

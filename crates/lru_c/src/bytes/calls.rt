@@ -22,7 +22,7 @@ fn weight_of(key: usize, value: usize) -> u64
 }
 
 /// Inserts a copy of the value under a copy of the key. Takes all memory before it changes an entry. A key that is
-/// there needs memory for the copies alone.
+/// there needs memory only for the copies.
 pub fn put(alloc: Global, map: &mut BytesMap, key: &[u8], value: &[u8]) -> u32
     ensures { Puts key.now value.now map.old result map.new }
 {

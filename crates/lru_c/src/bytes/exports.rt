@@ -49,7 +49,7 @@ pub extern "C" fn lru_bytes_new(
     }
 }
 
-/// Drops the map. The handle has none then.
+/// Drops the map. The handle has none afterwards.
 #[unsafe(no_mangle)]
 pub extern "C" fn lru_bytes_free(alloc: Global, lru: &mut LruBytes)
     ensures { lru.new.map ≡ None }
@@ -60,7 +60,7 @@ pub extern "C" fn lru_bytes_free(alloc: Global, lru: &mut LruBytes)
 /// Inserts a copy of the value under a copy of the key, as the newest entry, and evicts the oldest entries while the
 /// map is over its budget. Returns a code, as `lru_put` does.
 ///
-/// `REJECTED`: the entry alone weighs more than the budget (tested), and the entry of the key was removed.
+/// `REJECTED`: the entry by itself weighs more than the budget (tested), and the entry of the key was removed.
 /// `OUT_OF_MEMORY`: nothing has changed.
 #[unsafe(no_mangle)]
 pub extern "C" fn lru_bytes_put(alloc: Global, lru: &mut LruBytes, key: &[u8], value: &[u8]) -> u32

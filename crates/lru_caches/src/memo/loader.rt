@@ -13,8 +13,6 @@ use std::marker::Model;
 /// A memo of a function that may fail, such as a read of a file. It stores the newest values that were loaded, up to a
 /// limit, and no failure.
 ///
-/// It is proved that each value is right, and that a failure stores nothing.
-///
 /// The function may borrow what it reads by `&`.
 ///
 /// ```

@@ -28,13 +28,15 @@ pub trait Budgeted<K, V>: Summing<K, V> {
     fn with_budget(budget: u64) -> Self
         ensures { result ≡ made budget };
 
+    /// Returns the budget.
     fn budget(&self) -> u64
         ensures { result ≡ budget_of self.now };
 
-    /// Sets the budget. The running total stays, so a map may be over the limit then.
+    /// Sets the budget. The running total stays, so a map may be over the new limit.
     fn set_budget(&mut self, budget: u64)
         ensures { self.new ≡ rebudgeted budget self.old };
 
+    /// Returns whether the limiter accepts the entry of a new key, as `on_insert` would.
     fn has_room_for(&self, key: &K, value: &V) -> bool
         ensures { result ≡ accepts_new self.now key.now value.now };
 

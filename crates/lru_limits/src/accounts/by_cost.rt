@@ -10,7 +10,7 @@ use std::marker::Model;
 
 /// Limits the sum of the costs of the values. A contract sees it as its limit and that sum.
 ///
-/// It rejects an entry or a replacement if its cost alone is above the limit, or if the sum would pass `u64::MAX`.
+/// It rejects an entry or a replacement if its cost by itself is above the limit, or if the sum would pass `u64::MAX`.
 /// Otherwise it accepts it, and the map evicts its oldest entries until the sum is within the limit again.
 ///
 /// ```

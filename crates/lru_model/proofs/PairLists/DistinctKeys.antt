@@ -14,7 +14,6 @@ use Rattle.lru_model.proofs.Theorems.Fronts.{front_without_last, without_none, f
 use Rattle.lru_model.proofs.Theorems.Moves.{Keeps, KeepsOffers, exchange, rewrite}
 
 module _ {K V : Type 0} (names : K → Bool) where
-  -- none of the keys is named
   abbrev pub NoneNamed : List (K × V) → Type 0
   NoneNamed pairs = AllByRecursion (λ k. names k ≡ false) (keys_of pairs)
 

@@ -183,7 +183,6 @@ module _ {K V S H : Type 0} where
 
 module _ {K V S H : Type 0} (rules : Rules K V S) (hash_of : H → K → ℕ) (pair : K × V) (old : State K V S H)
     (ok : IsSized old) where
-  -- the insertion of the pair can end
   abbrev pub Ends : Type 0
   Ends = (outcome : Outcome) × (new : State K V S H) × Place rules hash_of pair old outcome new × IsSized new
 

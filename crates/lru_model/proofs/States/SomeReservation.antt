@@ -28,7 +28,6 @@ cleared_sized {K = K} {V = V} rules old ok =
     subst (λ n. IsSound 0 old.entry_bytes old.max (replicate n empty) old.counts) as_many marked_empty
 
 module _ {K V S H : Type 0} (rules : Rules K V S) (n : ℕ) (old : State K V S H) (ok : IsSized old) where
-  -- the reservation can end
   abbrev pub CanReserve : Type 0
   CanReserve = (result : Result (Unit {0}) ReserveError) × (new : State K V S H) × Reserve rules n old result new
       × IsSized new

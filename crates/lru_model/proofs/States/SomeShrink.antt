@@ -21,7 +21,6 @@ unfolding room_of
 no_room = omega arith
 
 module _ {K V S H : Type 0} (old : State K V S H) (ok : IsSized old) where
-  -- the shrink can end
   abbrev pub CanShrink : Type 0
   CanShrink = (result : Result Bool AllocError) × (new : State K V S H) × Shrink old result new × IsSized new
 

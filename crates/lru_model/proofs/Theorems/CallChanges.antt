@@ -131,7 +131,6 @@ module _ {K V S H : Type 0} (rules : Rules K V S) (R : Contents K V S → Conten
 
 module _ {K V S H : Type 0} {rules : Rules K V S} {R : Contents K V S → Contents K V S → Type 0} (k : KeepsWay rules R)
     (n : ℕ) (old : State K V S H) where
-  -- how far the table grows is left open
   abbrev pub Grows : State K V S H → Type 0
   Grows new = Changes rules R (suc (full_capacity (buckets new))) 0 old new
 

@@ -14,12 +14,10 @@ use Rattle.lru_model.specs.Calls.{removal}
 use Rattle.lru_model.specs.Inserts.{make_room, Settles}
 
 module _ {K V S : Type 0} where
-  -- a pair comes first
   abbrev pub behind : K × V → Contents K V S → Contents K V S
   behind pair c = record { pairs = pair ∷ c.pairs; limiter = c.limiter }
 
 module _ {K V S : Type 0} (rules : Rules K V S) where
-  -- the limiter is asked for a table
   abbrev pub asks : ℕ → Contents K V S → Contents K V S
   asks bytes c = record { pairs = c.pairs; limiter = (rules.on_grow c.limiter bytes).limiter }
 
@@ -47,7 +45,6 @@ module _ {K V S I : Type 0} (rules : Rules K V S) (offers : Offers K V S I) (nam
   exchange pair i v c = let r = offers.on_replace c.limiter (length c.pairs) pair.0 i pair.1 v in
       record { pairs = (r.key, kept_value r) ∷ without (names i) c.pairs; limiter = r.limiter }
 
-  -- or in its place
   abbrev pub rewrite : K × V → I → V → Contents K V S → Contents K V S
   rewrite pair i v c = let r = offers.on_replace c.limiter (length c.pairs) pair.0 i pair.1 v in
       record { pairs = set_entry (names i) (r.key, kept_value r) c.pairs; limiter = r.limiter }

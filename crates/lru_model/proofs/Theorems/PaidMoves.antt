@@ -54,7 +54,6 @@ module _ {K V S H : Type 0} where
         addressable (inl few) = omega (arith, few, ok.table.addressable)
         addressable (inr p) = omega (arith, usage_addressable old.entry_bytes (buckets new) p.bytes p.usable)
 
--- and what holds of a map holds after it, if the table is sound
 pub stays_map : {K V S H : Type 0} {eq : K → K → Bool} (rules : Rules K V S) (more anew : ℕ) (old new : State K V S H)
     → Changes rules (λ c d. AreDistinct eq c.pairs → AreDistinct eq d.pairs) more anew old new → IsMap eq old
     → IsSized new

@@ -23,7 +23,6 @@ use Rattle.std.specs.Borrow.{Bor}
 use Rattle.std.specs.Fn.{Mut}
 
 module _ {K V S : Type 0} where
-  -- without the list
   abbrev pub plain : {H : Type 0} → State K V (S × List (K × V)) H → State K V S H
   plain st = record {
     pairs = st.pairs;

@@ -48,7 +48,6 @@ module _ {K V S H : Type 0} {rules : Rules K V S} {offers : Offers K V S K} {mos
     run_keeps_number new old (goes_on mid (inr (test, value, e)) sized r) =
         run_keeps_number new mid r ∙ ap (λ st. most st.limiter) e
 
-    -- So what each call and each write keeps within this number, runs keep within it.
     run_keeps : (P : ℕ → State K V S H → Type 0)
         → ((old new : State K V S H) → Step rules offers names hash_of old new → P (most old.limiter) old
         → P (most old.limiter) new)

@@ -51,7 +51,6 @@ module _ {K V S H I : Type 0} {rules : Rules K V S} {offers : Offers K V S I} {n
     step_changes old new (trims h) = (_, _, inl refl, trim_changes k.keeps old new h)
     step_changes old new (retains asked each h) = (_, _, inl refl, retain_changes k.keeps old asked new each h)
 
-    -- and what is written, if that keeps what is to be kept
     pub any_changes : ((c : Contents K V S) (test : K → Bool) (value : V)
         → R c (record { pairs = set_value test c.pairs value; limiter = c.limiter }))
         → ((c : Contents K V S) (s : S) → R c (record { pairs = c.pairs; limiter = s }))

@@ -53,7 +53,6 @@ moved_shape count old new m =
     let spare : room new ≡ full_capacity count - length old.pairs = omega (arith, m.exact) in
     (λ j. record { count = m.table j; spare = spare j; bare = record (m.state j) { table = empty_table } })
 
--- whether no memory was found
 abbrev pub is_memory : Result (Unit {0}) ReserveError → Bool
 is_memory (Err Memory) = true
 is_memory result = false

@@ -42,7 +42,6 @@ module _ {K V S H : Type 0} where
     state = ap (λ sh. record sh.bare { table = other.table }) e;
   }
 
-  -- with another limiter
   abbrev pub relimited : S → Shape K V S H → Shape K V S H
   relimited s sh = record sh { bare = record sh.bare { limiter = s } }
 
@@ -78,7 +77,6 @@ module _ {K V S H : Type 0} where
   fills_one hash old new small fills =
       elim fills.spends [ inl e ↦ e.1 | inr d ↦ absurd (omega (arith, small, d.1)) ]
 
--- whether memory ran out
 abbrev pub is_no_memory : Outcome → Bool
 is_no_memory no_memory = true
 is_no_memory placed = false
@@ -217,7 +215,6 @@ module _ {K V S H : Type 0} (rules : Rules K V S) (hash_of : H → K → ℕ) (p
         full_grows (is_no_memory outcome) b ∙ grow_evicts old mid small c (is_no_memory outcome)
         ∙ anew_is old mid small c some n left new outcome (one small) half gone m
 
--- the flag of an answer, if it has one
 abbrev pub said : Result Bool AllocError → Option Bool
 said (Ok flag) = Some flag
 said (Err e) = None

@@ -13,7 +13,6 @@ use Rattle.lru_model.specs.State.{State, Contents, contents, notified_of}
 use Rattle.lru_model.proofs.Theorems.Moves.{KeepsOffers, exchange, rewrite}
 
 module _ {X : Type 0} (f : X → ℕ) where
-  -- the sum of f over the list
   abbrev pub total : List X → ℕ
   total [] = 0
   total (x ∷ xs) = f x + total xs

@@ -150,7 +150,6 @@ module _ {K V S H : Type 0} (rules : Rules K V S) (P : S → Type 0) where
   }
 
 module _ {K V S H : Type 0} (rules : Rules K V S) (R : Contents K V S → Contents K V S → Type 0) where
-  -- the moves lead to this limiter
   abbrev pub Reaches : State K V S H → S → Type 0
   Reaches old s = (pairs : List (K × V)) × R (contents old) (record { pairs = pairs; limiter = s })
 

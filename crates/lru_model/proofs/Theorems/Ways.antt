@@ -242,7 +242,6 @@ module _ {K V S H I : Type 0} {rules : Rules K V S} {offers : Offers K V S I} {n
         limiter = (replacement rules offers names pair i v (contents old)).limiter;
       })) e r
 
-  -- the same with the pair in its place
   rewrites : (pair : K × V) (w : V) → kept_value (replacement rules offers names pair i v (contents old)) ≡ w
       → R (contents old) (rewrite rules offers names pair i v (contents old))
       → R (contents old) (record {

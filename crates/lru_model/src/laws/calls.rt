@@ -38,7 +38,7 @@ pub fn calls_keep_sums<K: Eq + Hash, V, I: LookupKey<K>, L: Insertion<K, V, I>, 
 /// Each call pays for what it moves: the count of moved entries and the potential together rise by at most two for each
 /// entry that it stores, and by one for each entry that a shrink rehashes, while neither the count of stored entries
 /// nor the count of rehashed entries has reached `u64::MAX` (`rise`). A call that does not shrink the table counts no
-/// entry as rehashed, and the entries that it stores pay alone, even if that count has reached `u64::MAX` (`stored`).
+/// entry as rehashed, and the entries that it stores pay for all, even if that count has reached `u64::MAX` (`stored`).
 pub fn calls_pay_for_moves<
     K: Eq + Hash,
     V,
@@ -64,7 +64,7 @@ pub fn calls_keep_the_length<K: Eq + Hash, V, L: Insertion<K, V, K>, S: KeyHashe
         length old.pairs ≤ most old.limiter → length new.pairs ≤ most old.limiter }
 {}
 
-/// With a limiter that permits tables of at most `most` bytes (`LimitsMemory`), as `ByMemoryUsage` does, alone, in
+/// With a limiter that permits tables of at most `most` bytes (`LimitsMemory`), as `ByMemoryUsage` does, by itself, in
 /// `Storing` or in `Both`, each call leaves that limit as it is, and a table of at most `most` bytes, if it had no more
 /// before.
 pub fn calls_keep_the_memory_usage<K: Eq + Hash, V, L: Insertion<K, V, K>, S: KeyHasher<K>>()
@@ -99,8 +99,8 @@ pub fn calls_add_one_pair<
         length new.pairs ≤ length old.pairs + 1 }
 {}
 
-/// A call evicts from the old end alone: of the entries whose keys it does not name, those that are left are the
-/// newest, in their order. Only `pop_newest` takes from the other end, and is left out.
+/// A call evicts only from the old end: of the entries whose keys it does not name, those that are left are the newest,
+/// in their order. Only `pop_newest` takes from the other end, and is left out.
 ///
 /// A call names the key that it inserts, looks up or removes, or whose value it writes, and a retain names the keys
 /// that its closure rejects. An insert may remove the entry of its key, too, if the replacement is rejected.

@@ -46,7 +46,7 @@ pub fn runs_pay_for_moves<
         IsSized old → PaysForMoves old new }
 {}
 
-/// Any calls evict from the old end alone: of the entries whose keys none of them names, those that are left are the
+/// Any calls evict only from the old end: of the entries whose keys none of them names, those that are left are the
 /// newest, in their order, unless one of the calls is `pop_newest`.
 pub fn runs_evict_the_oldest<
     K: Eq + Hash,
@@ -60,7 +60,7 @@ pub fn runs_evict_the_oldest<
         IsFront (others test new.pairs) (others test old.pairs) }
 {}
 
-/// Each insert of a run evicts from the old end alone, whatever the other calls of the run are, `pop_newest` too. The
+/// Each insert of a run evicts only from the old end, whatever the other calls of the run are, `pop_newest` too. The
 /// one other entry that it may remove is the entry whose replacement is rejected. The same holds of each get that
 /// inserts.
 pub fn each_insert_of_a_run_evicts_the_oldest<

@@ -17,8 +17,8 @@ pub fn shrinks_keep_the_list<K: Eq + Hash, V, L: Limiter<K, V>, S: KeyHasher<K>>
         × (new.counts.moved ≡ old.counts.moved) × (new.counts.placed ≡ old.counts.placed) }
 {}
 
-/// A shrink rehashes each entry and counts it, and the potential is at most the number of entries then. If it does not
-/// shrink the table, nothing changes.
+/// A shrink rehashes each entry and counts it, and the potential is at most the number of entries afterwards. If it
+/// does not shrink the table, nothing changes.
 pub fn shrinks_pay_for_moves<K: Eq + Hash, V, L: Limiter<K, V>, S: KeyHasher<K>>()
     ensures shrunk { (old new : State K V L S) →
         Shrink old (Ok true) new →

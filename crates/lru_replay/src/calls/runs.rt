@@ -32,7 +32,7 @@ use std::hash::Hash;
 ///
 /// # Errors
 ///
-/// `Err` says that there was no memory for the answers. No call was made then.
+/// `Err` says that there was no memory for the answers. No call was made.
 pub fn run_calls<
     K: Copy + Eq + Hash + Drop,
     V: Copy + Drop,

@@ -67,8 +67,8 @@ impl<
     ///   tenant stays as it is, the callback gets nothing, and the key is dropped.
     /// - The key was not there, and the limiter accepts its entry: `unkept` is `None`, and `kept` says whether the
     ///   entry is there.
-    /// - The key was there, and the limiter accepts the new value: `kept` is false if the entry was evicted then; the
-    ///   callback got it with the new value.
+    /// - The key was there, and the limiter accepts the new value: `kept` is false if the entry was evicted afterwards;
+    ///   the callback got it with the new value.
     /// - The key was there, and the limiter rejects the new value: `kept` is false, and `unkept` is the new value. The
     ///   entry was removed; the callback got it with the old value.
     ///

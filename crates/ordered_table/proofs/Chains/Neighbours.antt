@@ -226,7 +226,6 @@ module _ (m : ℕ → ℕ) where
     | inr k ↦ Contains-later (m c) (m b) (map m cs) (moved_in b cs k)
   ]
 
-  -- no two of these buckets move to one
   abbrev pub MovesApart : List ℕ → Type 0
   MovesApart order = (b c : ℕ) → Contains order b → Contains order c → m b ≡ m c → b ≡ c
 

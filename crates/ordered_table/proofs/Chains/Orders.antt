@@ -145,7 +145,6 @@ before_from-some c b (d ∷ ds) there e = elim (cases_eq d b) [
       ]
 ]
 
--- this bucket is not among them
 abbrev pub Lacks : ℕ → List ℕ → Type 0
 Lacks b = AllByRecursion (λ c. nat_eq c b ≡ false)
 

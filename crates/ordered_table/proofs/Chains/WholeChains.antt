@@ -220,7 +220,6 @@ module _ {N : Type 0} {number : N → ℕ} {link : ℕ → N} {none : N}
           ∙ entry_count-marks_of slots ∙ whole.count;
     }
 
-    -- and the table shows it
     pub view-refilled : (insertions : Insertions) → ◌≡◌ {A = OrderedTable K V}
         (record { slots = pair_slots after; order = along number (length after) after newest; insertions = insertions })
         (with_pair (record { slots = pair_slots slots; order = order; insertions = insertions }) b

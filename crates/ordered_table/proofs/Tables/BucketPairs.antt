@@ -23,7 +23,6 @@ before_in : {b : ℕ} {order : List ℕ} (cut : Cut b order) (c : ℕ) → Conta
 before_in {b} cut c w = subst (λ l. Contains l c) (sym cut.whole) (Contains-append_left cut.before (b ∷ cut.after) c w)
 
 module _ {T : Type 0} where
-  -- these buckets are full
   abbrev pub AreFull : List (Slot T) → List ℕ → Type 0
   AreFull slots = AllByRecursion (λ b. IsFull slots b)
 

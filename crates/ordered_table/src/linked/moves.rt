@@ -21,7 +21,7 @@ impl<K: Eq + Hash, V, N: LinkType> LinkedTable<K, V, N> {
     //
     // # Errors
     //
-    // Nothing has changed then.
+    // Nothing has changed.
     pub(crate) fn move_to<S: KeyHasher<K>>(
         &mut self,
         buckets: usize,

@@ -1,4 +1,5 @@
-//! The calls that change the order of an `OrderedTable`, or its buckets.
+//! The calls that change the order of an `OrderedTable`, or its buckets. Each first lets the links show the last
+//! promotion.
 ghost use Rattle.std.specs.Prelude.{◌≡◌, ℕ, ◌+◌, ◌^◌, ◌<◌, ◌≤◌, [], ◌∷◌, ◌++◌, length, Some, replicate};
 ghost use Rattle.std.specs.Prelude.{IfOk, IfErr, OnOk, OnErr, IsOk};
 ghost use Rattle.std.specs.List.{AllZip};
@@ -36,7 +37,7 @@ impl<K, V, N: LinkType> OrderedTable<K, V, N> {
     ///
     /// # Errors
     ///
-    /// No bucket may take the pair, which is returned. Nothing has changed then.
+    /// No bucket may take the pair, which is returned. Nothing has changed.
     pub fn try_place(&mut self, hash: u64, pair: (K, V)) -> Result<(), (K, V)>
         ensures placed { OnOk result ((b : ℕ) × Lands self.old self.new hash pair b) }
         ensures fits { OnOk result ((hash_of : K → ℕ) → KeysFit hash_of self.old.slots → hash_of pair.0 ≡ hash
@@ -52,7 +53,7 @@ impl<K, V, N: LinkType> OrderedTable<K, V, N> {
 
     /// Makes the pair in a full bucket the newest.
     ///
-    /// `O(1)`.
+    /// Cost: `O(1)`.
     #[inline]
     pub fn promote(&mut self, b: usize)
         requires { IsFull self.old.slots b }
@@ -75,7 +76,7 @@ impl<K, V, N: LinkType> OrderedTable<K, V, N> {
 
     /// Makes the pair in a full bucket the oldest.
     ///
-    /// `O(1)`.
+    /// Cost: `O(1)`.
     pub fn demote(&mut self, b: usize)
         requires { IsFull self.old.slots b }
         ensures slots { self.new.slots ≡ self.old.slots }
@@ -87,7 +88,9 @@ impl<K, V, N: LinkType> OrderedTable<K, V, N> {
         self.linked.demote(b);
     }
 
-    /// Cost:
+    /// Takes the pair out of a full bucket.
+    ///
+    /// Cost: `O(1)`.
     #[inline(always)]
     pub fn take(&mut self, b: usize) -> (K, V)
         requires { IsFull self.old.slots b }
@@ -99,9 +102,9 @@ impl<K, V, N: LinkType> OrderedTable<K, V, N> {
         self.linked.take(b, false)
     }
 
-    /// Its older link is not read.
+    /// Takes the oldest pair out of a table that is not empty. Its older link is not read.
     ///
-    /// `O(1)`.
+    /// Cost: `O(1)`.
     #[inline(always)]
     pub fn take_oldest(&mut self) -> (K, V)
         requires { 0 < length self.old.order }
@@ -116,9 +119,9 @@ impl<K, V, N: LinkType> OrderedTable<K, V, N> {
 }
 
 impl<K: Drop, V: Drop, N: LinkType> OrderedTable<K, V, N> {
-    /// The buckets stay, and are empty.
+    /// Drops all pairs. The buckets stay, and are empty.
     ///
-    /// Cost:
+    /// Cost: `O(buckets)`.
     pub fn clear(&mut self)
         ensures slots { self.new.slots ≡ replicate (length self.old.slots) empty }
         ensures order { self.new.order ≡ [] }
@@ -140,7 +143,7 @@ impl<K: Eq + Hash, V, N: LinkType> OrderedTable<K, V, N> {
     /// # Errors
     ///
     /// Out of memory; never for no buckets, nor for a table without pairs that keeps its number of buckets. Nothing has
-    /// changed then.
+    /// changed.
     pub fn move_to<S: KeyHasher<K>>(&mut self, buckets: usize, hasher: &S) -> Result<(), AllocError>
         requires count { IsBucketCount buckets }
         requires addressable { buckets + 16 < 2 ^ 63 }
@@ -163,7 +166,7 @@ impl<K: Eq + Hash, V, N: LinkType> OrderedTable<K, V, N> {
 }
 
 impl<K: Drop, V: Drop, N: LinkType> OrderedTable<K, V, N> {
-    /// Clones the pairs, into buckets of the same numbers and in the same order.
+    /// Clones the pairs, into buckets of the same numbers and in the same order. The links are copied with the entries.
     ///
     /// Cost: `O(buckets)`, and a clone of each key and value.
     ///

@@ -1,4 +1,5 @@
-//! Its links may still show it elsewhere.
+//! The order of a table in which the bucket `promoted`, if there is one, is the newest. Its links may still show it
+//! elsewhere.
 ghost use Rattle.std.specs.Prelude.{◌≡◌, ◌<◌, ℕ, length, Some, None, IfSome};
 ghost use Rattle.group_table.specs.Bucket.{IsFull};
 ghost use Rattle.lru_model.specs.Lists.{first as first_bucket, last as last_bucket};

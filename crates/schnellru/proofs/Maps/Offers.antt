@@ -108,7 +108,6 @@ module _ {K V S H I : Type 0} (rules : Rules K V S) (offers : Offers K V S I) {n
       (subst (MayTakeEach rules closure (with_replaced rules offers names offer.pair i v (contents old)).pairs)
       (sym same) (may.accepted offer.pair offer.there (offer.taken ∙ accepted)))
 
-  -- and with the evictions the call is an insert
   pub replaced_inserts : (hash_of : H → K → ℕ) {kept : Bool} {new : State K V S H} {after : List (K × V)}
       → kept ≡ not (is_empty new.pairs)
       → Leaves (noted between next) (trim (noting rules) (contents (noted between next))) (noted after new)

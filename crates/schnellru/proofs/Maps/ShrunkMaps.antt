@@ -30,7 +30,6 @@ module _ {K V S H : Type 0} (t u : OrderedTable K V) (count : ℕ) (linked : IsL
     (table : length u.slots ≡ count)
     (pairs : pairs_of u ≡ pairs_of t) (left : room (marks_of u.slots) + length t.order ≡ full_capacity count)
     (insertions : u.insertions ≡ some_moved t.insertions (length t.order)) (fields : Fields S H) where
-  -- with the pairs counted
   abbrev pub counted : Fields S H
   counted = record fields { shrunk = count_up fields.shrunk (length (pairs_of t)) }
 

@@ -2,6 +2,7 @@
 use Rattle.std.specs.Prelude.{ℕ}
 use Rattle.schnellru.specs.declared.map.LruMap.TheInside.{Inside}
 
+-- the fields of a map except its entries
 pub record Fields (S H : Type 0) : Type 0 where
   pub limiter : S
   pub hasher : H
@@ -10,6 +11,7 @@ pub record Fields (S H : Type 0) : Type 0 where
   pub entry_bytes : ℕ
   pub max : ℕ
 
+-- from all fields, and the number of the link `MAX`
 abbrev pub fields_of : {K V S H Link Hasher : Type 0} → Inside K V S H Link Hasher → ℕ → Fields S H
 fields_of m max = record {
   limiter = m.limiter;

@@ -13,7 +13,7 @@ use Rattle.lru_model.specs.Calls.{written}
 use Rattle.schnellru.specs.contracts.map.LruMap.{the_row}
 use mathlib.Core.Option.{none}
 
--- the pairs with the value w in the pair of bucket b;
+-- the pairs with the value w in the pair of bucket b; `places` lists the buckets of the pairs, in their order
 abbrev pub set_value_in : {K V : Type 0} → ℕ → V → List (K × V) → List ℕ → List (K × V)
 set_value_in b w [] places = []
 set_value_in b w (pair ∷ pairs) [] = pair ∷ pairs
@@ -28,6 +28,7 @@ module _ (K V L S N H : RattleType) (key : HashMembers K.Denot)
     (limits : limiter.Ghosts L.Denot K.Denot V.Denot N.Denot)
     (links : link_type.Ghosts N.Denot)
     (hashed : HasherMembers S.Denot K.Denot H.Denot) (hash : hasher.Ghosts H.Denot) where
+  -- the map's type, as the logic holds it
   abbrev pub map_row : RattleType
   map_row = the_row K V L S N H (record { eq = key.eq })
       (record { hash_input = key.hash_input }) limits links
@@ -39,6 +40,7 @@ module _ (K V L S N H : RattleType) (key : HashMembers K.Denot)
     abbrev pub lends_value : (K.Denot → Bool) → State K.Denot V.Denot L.Denot S.Denot → Option (MutBor V.Denot) → Fml
     lends_value names base r = LendsIf map_row V m r (λ last. written names last base) m.now
 
+    -- the map ends as `last`; a part of it was lent for reading
     abbrev pub ends_as : State K.Denot V.Denot L.Denot S.Denot → Fml
     ends_as last = follows_so map_row map_row m.ghost_name none (λ _ _. ⊤) (λ n. n ≡ last)
 
@@ -57,15 +59,19 @@ module _ (K V L S N H : RattleType) (key : HashMembers K.Denot)
     abbrev pub lends_newest : Option (MutBor V.Denot) → Fml
     lends_newest r = LendsIf map_row V m r (λ last. record m.now { pairs = set_newest m.now.pairs last }) m.now
 
+    -- the same for a reference that is always there
     abbrev pub lends_newest_value : MutBor V.Denot → Fml
     lends_newest_value r = Lends map_row V m r (λ last. record m.now { pairs = set_newest m.now.pairs last })
 
+    -- the pair in bucket b ends with the last value that was written through r
     abbrev pub lends_value_in : ℕ → MutBor V.Denot → Fml
     lends_value_in b r = Lends map_row V m r (λ last. written_in b last m.now)
 
+    -- the pair at position i ends with the last value that was written through r
     abbrev pub lends_value_at : ℕ → Bor K.Denot × MutBor V.Denot → Fml
     lends_value_at i r = follows map_row V m.ghost_name r.1.ghost_name
         (λ last. record m.now { pairs = set_value_at m.now.pairs i last })
 
+    -- the map ends with the last limiter that was written through r
     abbrev pub lends_limiter : MutBor L.Denot → Fml
     lends_limiter r = Lends map_row L m r (λ last. record m.now { limiter = last })

@@ -46,7 +46,7 @@ impl<K: Eq + Hash + Drop, V: Drop, L: Limiter<K, V>, S: KeyHasher<K>> LruMap<K, 
     ghost use Rattle.schnellru.specs.Lending.Made.{lends_or, lends_made};
 
     /// Makes the entry of a key the newest. If the key is not there, inserts it with the value that the closure
-    /// returns, as `insert` does. Returns whether the key is in the map then.
+    /// returns, as `insert` does. Returns whether the key is in the map afterwards.
     ///
     /// Then `newest_mut` lends the value.
     ///

@@ -92,7 +92,7 @@ impl<K: Eq + Hash, V, L: Limiter<K, V>, S: KeyHasher<K>> LruMap<K, V, L, S> {
         }
     }
 
-    // Then evicts the oldest pairs while the limiter is over its limit.
+    // Stores a pair that the limiter returned, with evictions before and after.
     fn insert_pair<F: FnMut(K, V)>(
         &mut self,
         hash: u64,

@@ -10,8 +10,8 @@ use lru_limits::{KeyHasher, Limiter};
 use std::hash::Hash;
 
 impl<K: Eq + Hash, V, L: Limiter<K, V>, S: KeyHasher<K>> LruMap<K, V, L, S> {
-    /// Removes and returns the oldest entry, as the limiter leaves it, if there is one and the closure returns true for
-    /// it. Otherwise nothing changes.
+    /// Removes and returns the oldest entry, if there is one and the closure returns true for it. Otherwise nothing
+    /// changes.
     ///
     /// If each use writes the time into the value, `while map.pop_oldest_if(..).is_some() {}` removes the entries that
     /// were not used since a given time.
@@ -39,9 +39,7 @@ impl<K: Eq + Hash, V, L: Limiter<K, V>, S: KeyHasher<K>> LruMap<K, V, L, S> {
         self.pop_oldest()
     }
 
-    /// Removes and returns the oldest entry, as the limiter leaves it, if there is one and the closure succeeds for it.
-    ///
-    /// A write-back cache writes the entry in the closure: the entry is removed only if it was written.
+    /// Removes and returns the oldest entry, if there is one and the closure succeeds for it.
     ///
     /// ```
     /// assert_eq!(rt; map.try_pop_oldest(|_, _| Err(7u8)), Err(7));

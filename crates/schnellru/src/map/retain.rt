@@ -36,7 +36,7 @@ impl<K: Eq + Hash + Drop, V: Drop, L: Limiter<K, V>, S: KeyHasher<K>> LruMap<K, 
 }
 
 impl<K: Eq + Hash, V, L: Limiter<K, V>, S: KeyHasher<K>> LruMap<K, V, L, S> {
-    /// As `retain`, and passes each removed entry to the callback, oldest first, as the limiter leaves it.
+    /// As `retain`, and passes each removed entry to the callback, oldest first.
     ///
     /// ```
     /// let mut removed = 0u64;

@@ -12,8 +12,7 @@ impl<K: Eq + Hash, V, L: Limiter<K, V>, S: KeyHasher<K>> LruMap<K, V, L, S> {
     /// Shrinks the table to as few buckets as hold the entries, and returns true. Returns false if the table has no
     /// more than these.
     ///
-    /// The entries and their order stay. The limiter is not called. An empty map gives its table back. The next insert
-    /// may have to grow the table again, so do not shrink a map that is about to grow.
+    /// The entries and their order stay. The limiter is not called. An empty map gives its table back.
     ///
     /// ```
     /// let mut map: LruMap<u64, u64, UnlimitedCompact> = LruMap::default(alloc);
@@ -28,7 +27,7 @@ impl<K: Eq + Hash, V, L: Limiter<K, V>, S: KeyHasher<K>> LruMap<K, V, L, S> {
     ///
     /// # Errors
     ///
-    /// `Err` says that the map ran out of memory. Nothing has changed then.
+    /// `Err` says that the map ran out of memory. Nothing has changed.
     pub fn shrink_to_fit(&mut self) -> Result<bool, AllocError>
         ensures step { Shrink self.old result self.new }
         ensures map { IsMap K.eq self.new }

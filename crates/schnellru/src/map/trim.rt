@@ -56,7 +56,7 @@ impl<K: Eq + Hash + Drop, V: Drop, L: Limiter<K, V>, S: KeyHasher<K>> LruMap<K, 
 }
 
 impl<K: Eq + Hash, V, L: Limiter<K, V>, S: KeyHasher<K>> LruMap<K, V, L, S> {
-    /// As `trim`, and passes each evicted entry to the callback, oldest first, as the limiter leaves it.
+    /// As `trim`, and passes each evicted entry to the callback, oldest first.
     ///
     /// ```
     /// let mut evicted = 0u64;
@@ -81,7 +81,7 @@ impl<K: Eq + Hash, V, L: Limiter<K, V>, S: KeyHasher<K>> LruMap<K, V, L, S> {
         let _ = &self.entries;
     }
 
-    /// As `set_limiter`, and passes each evicted entry to the callback, oldest first, as the new limiter leaves it.
+    /// As `set_limiter`, and passes each evicted entry to the callback, oldest first.
     ///
     /// ```
     /// let mut evicted = 0u64;

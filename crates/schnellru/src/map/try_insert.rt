@@ -84,7 +84,7 @@ impl<K: Eq + Hash + Drop, V: Drop, L: Admission<K, V> + Copy, S: KeyHasher<K>> L
         Ok(())
     }
 
-    // Returns whether there is, and the limiter can store the entry then.
+    // Returns whether there is, and the limiter can store the entry.
     fn get_ready_for(&mut self, key: &K, value: &V) -> bool
         requires storable { can_store L.terms L.rules key.now value.now (contents self.old) ≡ true }
         ensures ready { IsTrue result → IsReady L.rules self.old self.new }

@@ -184,7 +184,7 @@ fn most_values_at_an_eviction<'a>(
     most
 }
 
-/// A replaced value is dropped before an entry is evicted, and so is not among the values that live then.
+/// A replaced value is dropped before an entry is evicted, and so is not among the values that live at that moment.
 #[test]
 fn a_replaced_value_is_dropped_first(rt: HostRuntime) {
     let lives = Lives::new();

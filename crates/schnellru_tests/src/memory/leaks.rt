@@ -20,8 +20,7 @@ type Sized = LruMap<u64, u64, ByMemoryUsage>;
 
 type HashedBy = LruMap<u64, u64, ByMemoryUsage, LastByte>;
 
-/// A table of `n` pairs that grows, is reserved, shrunk and copied, and is given back by a shrink of no pairs. Returns
-/// whether there was memory, as the functions below.
+/// A table of `n` pairs that grows, is reserved, shrunk and copied, and is given back by a shrink of no pairs.
 fn grown_and_shrunk(map: &mut Compact, n: u64) -> bool {
     let made = insert_all(map, 1..=n).is_ok() & reserve(map, n as usize).is_ok();
     remove_all(map, 6..=n);
@@ -54,7 +53,7 @@ fn refused(map: &mut Sized) -> bool {
     made
 }
 
-/// These calls on maps that are dropped afterwards, with and without pairs.
+/// Makes these calls on maps that are dropped afterwards, with and without pairs.
 fn dropped(alloc: Global) -> bool {
     let mut map = LruMap::with_hasher(alloc, ByMemoryUsage::new(560), LastByte(0), 16);
     let mut small = map_of(alloc, ByMemoryUsage::new(84));

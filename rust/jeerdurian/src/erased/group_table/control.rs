@@ -39,9 +39,9 @@ impl Control {
         self.last == 0
     }
 
-    // The same, for a search that begins with this hash. Without buckets it begins at bucket 0, and else seldom does.
-    // So most searches test only where they begin, which they compute anyway. The sum keeps the compiler from joining
-    // both tests.
+    // For a search that begins with this hash. Without buckets it begins at bucket 0, and else seldom does. So most
+    // searches test only where they begin, which they compute anyway. The sum keeps the compiler from joining both
+    // tests.
     #[inline]
     pub(crate) fn is_empty_at(&self, hash: u64) -> bool {
         hash as usize & self.last == 0 && self.bytes.len() + self.last == 0

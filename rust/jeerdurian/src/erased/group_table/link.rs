@@ -7,8 +7,7 @@ use crate::rattle_std::prelude::*;
 /// The type of a link: the number of a bucket, below `MAX`, or `MAX` itself, which means no bucket.
 ///
 /// A table with links of type `N` has fewer than `N::MAX` buckets, so the width of the links limits its size. It is
-/// implemented for `u8`, `u16`, `u32` and `usize`. An impl of your own is a width too: it converts links to numbers and
-/// back, and proves the laws.
+/// implemented for `u8`, `u16`, `u32` and `usize`.
 pub trait LinkType: Copy {
     /// No bucket. As a number, it is one more than the greatest number of a link, and at least 255.
     const MAX: Self;

@@ -46,7 +46,7 @@ pub trait BlockDevice<B> {
     ///
     /// # Errors
     ///
-    /// The device failed. That block may be anything then, and no other block has changed.
+    /// The device failed. Afterwards that block may be anything, and no other block has changed.
     fn write(&mut self, n: u64, block: &B) -> Result<(), Self::Error>;
 
     /// Makes the blocks durable: a crash leaves exactly what a read returns, once this has returned `Ok`.

@@ -51,7 +51,7 @@ where
 
 /// A write-back cache of the blocks of a device.
 ///
-/// It keeps the pages that were used last, up to its capacity. A write changes the cached page alone: the page is dirty
+/// It keeps the pages that were used last, up to its capacity. A write changes only the cached page: the page is dirty
 /// then, and goes to the device when it is evicted or flushed. So it shows the cached page at each number, or else the
 /// block of the device.
 ///
@@ -144,7 +144,7 @@ impl<B: Copy, D: BlockDevice<B>, S: KeyHasher<u64>> PageCache<B, D, S> {
         self.map.contains(&n)
     }
 
-    /// Lends the device. It lacks the writes that are in dirty pages alone.
+    /// Lends the device. It lacks the writes that are only in dirty pages.
     ///
     /// Cost: `O(1)`.
     ///
@@ -192,7 +192,7 @@ impl<B: Copy, D: BlockDevice<B>, S: KeyHasher<u64>> PageCache<B, D, S> {
     /// # Errors
     ///
     /// `Broken`: a `sync` has failed. `NoBlock`: the device has no such number. Nothing else if the page is cached.
-    /// `Device` and `Memory` as for `read`. The block is not replaced then.
+    /// `Device` and `Memory` as for `read`. After an error the block is not replaced.
     pub fn write(&mut self, n: u64, block: B) -> Result<(), PageError<D::Error>> {
         admit(&self.device, n)?;
         let page = Page { block, is_dirty: true };
@@ -202,7 +202,8 @@ impl<B: Copy, D: BlockDevice<B>, S: KeyHasher<u64>> PageCache<B, D, S> {
         store(&mut self.map, &mut self.device, self.capacity, n, page)
     }
 
-    /// Writes all dirty pages to the device, and then calls its `sync`. The pages stay cached, and are clean then.
+    /// Writes all dirty pages to the device, and then calls its `sync`. The pages stay cached, and are clean
+    /// afterwards.
     ///
     /// ```text
     /// assert_eq!(rt; cache.flush(), Ok(()));

@@ -39,6 +39,7 @@ pub use owned_bytes::OwnedBytes;
 /// assert_eq!(rt; Page { bytes: 4096 }.cost(), 4096);
 /// ```
 pub trait Costed {
+    /// Returns the cost of the value.
     fn cost(&self) -> u64;
 }
 
@@ -103,8 +104,10 @@ impl<T> Costed for Vec<T> {
 /// assert_eq!(rt; Summing::<u64, u64>::account(&limiter), 0);
 /// ```
 pub trait Summing<K, V>: Admission<K, V> {
+    /// Returns the cost of an entry.
     fn cost_of(key: &K, value: &V) -> u64;
 
+    /// Returns the running total.
     fn account(&self) -> u64;
 }
 

@@ -42,6 +42,7 @@ impl LookupKey<String> for &str {
 /// assert_eq!(rt; KeyHasher::<String>::hash_named(&state, &"a"), state.hash_one(&key));
 /// ```
 pub trait KeyHasher<K: Eq + Hash>: BuildHasher {
+    /// Returns the hash of the key that the value names.
     fn hash_named<Q: LookupKey<K>>(&self, key: &Q) -> u64;
 }
 

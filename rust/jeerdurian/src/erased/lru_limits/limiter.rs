@@ -32,7 +32,7 @@ pub trait Limiter<K, V> {
     ///   `try_insert` calls it then on a copy of the limiter, in an empty map too.
     /// - With the length that the map has, if the map is not empty: by `trim` and `set_limiter`, and by an insert or an
     ///   update that stored an entry or replaced a value. After each eviction they call it again, unless the map is
-    ///   empty then.
+    ///   empty by then.
     fn is_over_the_limit(&self, length: usize) -> bool;
 
     /// Called with each entry that was evicted, removed or popped, or taken by an iterator, as soon as it is out of the

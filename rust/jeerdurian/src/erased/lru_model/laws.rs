@@ -29,7 +29,7 @@ pub use runs::{
 };
 pub use shrinks::{shrinks_keep_the_list, shrinks_leave_a_tight_table, shrinks_pay_for_moves};
 
-/// An insert evicts from the old end alone. The one other entry that it may remove is the entry whose replacement is
+/// An insert evicts only from the old end. The one other entry that it may remove is the entry whose replacement is
 /// rejected.
 pub fn inserts_evict_the_oldest<K: Eq + Hash, V, I: LookupKey<K>, L: Insertion<K, V, I>, S: KeyHasher<K>>() {}
 
@@ -61,9 +61,9 @@ pub fn granted_inserts_are_exact<K: Eq + Hash, V, I: LookupKey<K>, L: Insertion<
 pub fn inserts_grow_little<K: Eq + Hash, V, I: LookupKey<K>, L: Insertion<K, V, I>, S: KeyHasher<K>>() {}
 
 /// If there are entries and no growth left, and a search for the new key meets a deleted bucket first, the new entry
-/// fills that bucket: the limiter is not queried and nothing moves (`served`). No other insertion into the table ends so
-/// (`only`). So an insert of a new key, which the limiter accepts without being over its limit, adds the entry to all
-/// the others in the same table (`added`).
+/// fills that bucket: the limiter is not queried and nothing moves (`served`). An insertion that ends so, in the same
+/// table and without moves, met a deleted bucket first (`only`). So an insert of a new key, which the limiter accepts
+/// without being over its limit, adds the entry to all the others in the same table (`added`).
 pub fn deleted_buckets_serve<K: Eq + Hash, V, I: LookupKey<K>, L: Insertion<K, V, I>, S: KeyHasher<K>>() {}
 
 /// An insert pays for the entries that it moves: the count of moved entries and the potential together rise by at most

@@ -11,7 +11,7 @@ use crate::rattle_std::fmt::Display;
 /// - The key was not there: `unkept` is `None`. `kept` is false if the limiter rejected the entry, if the map could not
 ///   store it, or if it was stored and then evicted.
 /// - The key was there, and the limiter accepted the new value: `unkept` is the old value. `kept` is false if the entry
-///   was evicted then, because the limiter was still over its limit.
+///   was evicted afterwards, because the limiter was still over its limit.
 /// - The key was there, and the limiter rejected the new value: `unkept` is the new value, and `kept` is false. The
 ///   entry was removed.
 ///
@@ -37,7 +37,7 @@ pub struct Inserted<V> {
 /// ```
 #[derive(Clone, Copy, Debug, PartialEq, Eq)]
 pub enum Updated<V> {
-    /// The limiter accepted the new value in place of this one. If it was over its limit then, the entry may have been
+    /// The limiter accepted the new value instead of this one. If it was still over its limit, the entry may have been
     /// evicted.
     Replaced(V),
     /// The limiter rejected this new value, and the entry was removed.

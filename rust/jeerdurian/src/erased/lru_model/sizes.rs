@@ -1,6 +1,5 @@
 // Erased from crates/lru_model/src/sizes.rt: do not edit.
-//! What the table of a map takes in bytes, by the bytes of an entry that the map counts, and the table that it grows
-//! into.
+//! How many bytes a table takes, and into which table a map grows.
 
 #[allow(unused_imports)]
 use crate::rattle_std::prelude::*;

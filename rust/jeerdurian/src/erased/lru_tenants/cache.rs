@@ -19,9 +19,9 @@ mod totals;
 
 use totals::is_above;
 
-/// A cache for many tenants, each with a name. Each tenant has a map, limited by a budget of its own.
+/// A cache for many tenants, each with a name. Each tenant has a map, limited by its own budget.
 ///
-/// The limiter `L` says what an entry costs: with `ByCost` its value alone, with `ByWeight<OVERHEAD>` its key and its
+/// The limiter `L` says what an entry costs: with `ByCost` only its value, with `ByWeight<OVERHEAD>` its key and its
 /// value, and `OVERHEAD` for the entry itself. `S` hashes names and keys. The budgets of all tenants add up to at most
 /// the total limit, if `set_total_limit` set one.
 ///
@@ -144,11 +144,11 @@ impl<N: Eq + Hash, K: Eq + Hash, V, L: Budgeted<K, V>, S: KeyHasher<K> + Copy> T
         LruMap::with_hasher(self.alloc, limiter, self.hasher, self.entry_bytes)
     }
 
-    /// Inserts a key with a value, as the newest entry of the tenant. Returns whether the key is there then.
+    /// Inserts a key with a value, as the newest entry of the tenant. Returns whether the key is there afterwards.
     ///
-    /// It is an `insert` into the map of the tenant. `ByCost` and `ByWeight` reject an entry that alone costs more than
-    /// the budget, or that would take the tenant's total past `u64::MAX`; if the key is there, its entry is removed
-    /// then. Otherwise its oldest entries are evicted until the total is within the budget.
+    /// It is an `insert` into the map of the tenant. `ByCost` and `ByWeight` reject an entry that by itself costs more
+    /// than the budget, or that would take the tenant's total past `u64::MAX`; if the key is there, its entry is
+    /// removed then. Otherwise its oldest entries are evicted until the total is within the budget.
     ///
     /// ```text
     /// assert_eq!(rt; cache.put(&1, 8, 1), Ok(true));

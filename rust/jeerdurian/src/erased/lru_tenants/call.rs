@@ -4,6 +4,8 @@ use crate::rattle_std::prelude::*;
 
 use crate::erased::lru_tenants::error::TenantError;
 
+/// A call of a run.
+///
 /// ```text
 /// let calls = vec![in alloc; TenantCall::Open(1, 3), TenantCall::Put(1, 7, 1), TenantCall::Get(2, 7)]?;
 /// ```

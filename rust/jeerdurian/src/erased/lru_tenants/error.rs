@@ -2,6 +2,8 @@
 #[allow(unused_imports)]
 use crate::rattle_std::prelude::*;
 
+/// Why a call on a tenant failed.
+///
 /// ```text
 /// assert_eq!(rt; cache.open(1, 5), Err(TenantError::AlreadyOpen));
 /// ```

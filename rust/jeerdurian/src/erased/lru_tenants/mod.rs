@@ -1,5 +1,5 @@
 // Erased from crates/lru_tenants/src/lib.rt: do not edit.
-//! A cache for many tenants: each has a map of its own, limited by a budget of its own.
+//! A cache for many tenants: each has its own map, limited by its own budget.
 //!
 //! [`TenantCache`] is the cache, and [`run_tenants`] carries out a list of calls on it. `docs/TENANTS.md` shows how to
 //! use it, and what is proved of it.

@@ -86,10 +86,12 @@ impl Curve {
         self.count(key, number)
     }
 
+    /// Returns how many references there were.
     pub fn references(&self) -> u64 {
         self.references
     }
 
+    /// Returns how many keys were referenced.
     pub fn keys(&self) -> usize {
         self.firsts
     }

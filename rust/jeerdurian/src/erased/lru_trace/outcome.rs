@@ -4,12 +4,14 @@ use crate::rattle_std::prelude::*;
 
 use crate::rattle_std::alloc::AllocError;
 
+/// How a trace ends if no read and no write fails.
 #[derive(Clone, Copy, Debug, PartialEq, Eq)]
 pub enum TraceEnd {
     Done,
     NoSizes,
 }
 
+/// What cuts a trace off.
 #[derive(Clone, Copy, Debug, PartialEq, Eq)]
 pub enum TraceError {
     Read = 1,

@@ -1,5 +1,5 @@
 // Erased from crates/lru_limits_tests/src/bounds.rt: do not edit.
-//! Generic callers, which know a trait by its bound alone, and a call of each.
+//! Generic callers, which know a trait only by its bound, and a call of each.
 
 #[allow(unused_imports)]
 use crate::rattle_std::prelude::*;

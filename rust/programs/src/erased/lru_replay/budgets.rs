@@ -9,7 +9,7 @@ use crate::rattle_std::hash::Hash;
 
 /// After the same references, the keys of a map with a limit of cost are the newest keys of a map with a larger limit
 /// (`front`): both contain what a cache with that limit contains (`keys`). Each key has one value, as in a cache of
-/// what a function returns, and no value alone costs more than the smaller limit.
+/// what a function returns, and no value by itself costs more than the smaller limit.
 pub fn a_smaller_budget_is_included<K: Eq + Hash, V: Costed, S: KeyHasher<K>>() {
     crate::programs::lru_replay::laws::granted_calls_are_exact::<K, V, ByCost, S>();
     crate::erased::lru_theory::a_larger_budget_never_misses_more::<K>();

@@ -30,9 +30,9 @@ pub enum Call<K, V, L> {
     Contains(K),
     Promote(K),
     Demote(K),
-    /// `get_by_hash`, with a closure that accepts this key alone.
+    /// `get_by_hash`, with a closure that accepts only this key.
     GetByHash(u64, K),
-    /// `peek_by_hash`, with a closure that accepts this key alone.
+    /// `peek_by_hash`, with a closure that accepts only this key.
     PeekByHash(u64, K),
     /// Writes the value through `peek_mut` of the key.
     Write(K, V),

@@ -62,11 +62,11 @@ pub fn more_capacity_never_misses_more<K: Eq + Hash, V, S: KeyHasher<K>>() {}
 /// reference keys, get, promote, look, write, remove, clear, reserve and shrink, in any order.
 pub fn a_smaller_map_is_included<K: Eq + Hash, V, S: KeyHasher<K>>() {}
 
-/// LRU is competitive, whichever calls make the references. Take any policy with h places, one that knows the whole trace
-/// in advance. It begins with the keys `first`, and pays `paid` times for the same references. A map with `ByLength(k)`,
-/// h ≤ k, whatever it contains before, misses at most k / (k + 1 - h) * paid + length first times if the policy stores
-/// each key, and may load keys ahead (`loads`) or loads on demand alone (`demands`), and at most k / (k - h) * paid +
-/// length first times if it need not store a key (`bypasses`).
+/// LRU is competitive, whichever calls make the references. Take any policy with h places, one that knows the whole
+/// trace in advance. It begins with the keys `first`, and pays `paid` times for the same references. A map with
+/// `ByLength(k)`, h ≤ k, whatever it contains before, misses at most k / (k + 1 - h) * paid + length first times if the
+/// policy stores each key, and may load keys ahead (`loads`) or loads only on demand (`demands`), and at most k / (k -
+/// h) * paid + length first times if it need not store a key (`bypasses`).
 pub fn maps_are_competitive<K: Eq + Hash, V, S: KeyHasher<K>>() {
     references_keep_the_newest::<K, V, S>();
     crate::erased::lru_theory::lru_is_competitive::<K>();

@@ -11,7 +11,7 @@ use crate::erased::schnellru::{
 use crate::rattle_std::alloc::{AllocError, Global};
 use crate::rattle_std::hash::Hash;
 
-/// Puts a value under a key, and returns whether the key is there then. If it is, a look-up returns the value.
+/// Puts a value under a key, and returns whether the key is there afterwards. If it is, a look-up returns the value.
 fn put(map: &mut LruMap<u64, u64>, key: u64, value: u64) -> Result<bool, AllocError> {
     let kept = map.insert(key, value)?;
     if kept {
@@ -127,7 +127,7 @@ fn exchange(
 }
 
 /// Inserts a pair, pops it, and inserts another one. Each of the inserts evicts only from the old end, all of them pay
-/// for the entries that they move, and no two keys are equal then.
+/// for the entries that they move, and no two keys are equal afterwards.
 fn put_two(map: &mut LruMap<String, u64>, first: String, second: String, value: u64) -> Result<(), AllocError> {
     laws::runs_keep_maps::<String, u64, String, ByLength, RandomState>();
     laws::each_insert_of_a_run_evicts_the_oldest::<String, u64, String, ByLength, RandomState>();
@@ -146,8 +146,8 @@ fn put_tightly(map: &mut LruMap<String, u64>, key: String, value: u64) -> Result
     map.insert(key, value)
 }
 
-/// Puts a pair of a new key into a map. If it is there then, the map kept all others, or it has at least half of what
-/// the table may hold.
+/// Puts a pair of a new key into a map. If it is there afterwards, the map kept all others, or it has at least half of
+/// what the table may hold.
 fn put_and_keep_half(
     map: &mut LruMap<String, u64, ByMemoryUsage>,
     key: String,
@@ -183,8 +183,8 @@ fn forget(map: &mut LruMap<String, u64>, key: &str) -> Option<u64> {
     map.remove(&key)
 }
 
-/// Shrinks the table. A table of at most n bytes has at most n bytes then, whatever the result is. If the result is
-/// true, all entries are counted as rehashed.
+/// Shrinks the table. A table of at most n bytes has at most n bytes afterwards, whatever the result is. If the result
+/// is true, all entries are counted as rehashed.
 fn shrink_within(map: &mut LruMap<String, u64>) -> Result<bool, AllocError> {
     laws::shrinks_pay_for_moves::<String, u64, ByLength, RandomState>();
     laws::shrinks_leave_a_tight_table::<String, u64, ByLength, RandomState>();

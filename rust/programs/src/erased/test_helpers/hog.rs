@@ -59,7 +59,7 @@ impl Hog {
         drop(self.spare.pop());
     }
 
-    /// Whether no memory is left, which an allocator with checks of its own may never come to.
+    /// Whether no memory is left, which an allocator with its own checks may never come to.
     pub fn took_all(&self) -> bool {
         self.held.len() < MOST
     }

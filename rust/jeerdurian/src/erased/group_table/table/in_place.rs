@@ -9,10 +9,6 @@ use crate::erased::group_table::link::LinkType;
 use crate::erased::group_table::probe::{first_free, is_read_first};
 
 // Inserts every entry again, over cleared control bytes, and writes where each is now.
-//
-// The control bytes from before say which places held an entry, and are only read. An entry whose turn it is stays, if
-// a search for it reads its bucket among the first 16, and otherwise goes into the first free bucket. A bucket whose
-// entry still waits counts as free: if it is chosen, its entry is taken out and is the next to be inserted.
 pub(crate) fn place_again<T, N: LinkType, H: Fn(&T) -> u64>(
     before: &Control,
     control: &mut Control,

@@ -15,8 +15,7 @@ use crate::rattle_std::io::{Read, Seek, Write};
 ///
 /// A write replaces the last 8 bytes by the hash of the others and of the block's number, so contracts see of a block
 /// all bytes but these. A read returns `Ok` only if the block has its checksum: it finds blocks that are torn, damaged
-/// or of another number, after a restart too, and needs no memory for that. Two blocks may have one hash; how rarely is
-/// not proved. The seeds are known, so whoever writes the file can make a block with its checksum.
+/// or of another number, after a restart too, and needs no memory for that.
 ///
 /// [`FileDevice`]: crate::FileDevice
 ///

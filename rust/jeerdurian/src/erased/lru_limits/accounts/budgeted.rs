@@ -20,10 +20,12 @@ pub trait Budgeted<K, V>: Summing<K, V> {
     /// Makes a limiter with a budget, and a running total of 0.
     fn with_budget(budget: u64) -> Self;
 
+    /// Returns the budget.
     fn budget(&self) -> u64;
 
-    /// Sets the budget. The running total stays, so a map may be over the limit then.
+    /// Sets the budget. The running total stays, so a map may be over the new limit.
     fn set_budget(&mut self, budget: u64);
 
+    /// Returns whether the limiter accepts the entry of a new key, as `on_insert` would.
     fn has_room_for(&self, key: &K, value: &V) -> bool;
 }

@@ -24,7 +24,7 @@ use crate::erased::lru_limits::limiter::Limiter;
 /// assert!(rt; limiter.admit(0, &1u64, &8u64) && limiter.0.cost() == 8);
 /// ```
 ///
-/// Cost: each callback calls at most two callbacks of each limiter, and takes no memory of its own.
+/// Cost: each callback calls at most two callbacks of each limiter, and takes no memory itself.
 #[derive(Clone, Copy, Debug)]
 pub struct Both<A, B>(pub A, pub B);
 

@@ -7,8 +7,8 @@ use crate::rattle_std::prelude::*;
 use crate::erased::lru_limits::{Admission, KeyHasher};
 use crate::rattle_std::hash::Hash;
 
-/// A `try_insert` pays for its insertions into the table, although it may reserve: they and the potential together rise
-/// by at most 3 (`rise`), and only if it stores the entry (`stored`).
+/// A `try_insert` pays for its insertions into the table, although it may reserve. Their number and the potential
+/// together rise by at most 3 (`rise`), and only if the entry is stored (`stored`).
 ///
 /// So do any calls one after another, inserts and `try_insert` among them (`runs`): the insertions and the potential
 /// together rise by at most 3 for each entry stored, and by 2 for each entry that shrinks rehashed, while neither the

@@ -21,11 +21,11 @@ pub fn runs_keep_sums<K: Eq + Hash, V, I: LookupKey<K>, L: Insertion<K, V, I>, S
 /// rehashed entries has reached `u64::MAX`.
 pub fn runs_pay_for_moves<K: Eq + Hash, V, I: LookupKey<K>, L: Insertion<K, V, I>, S: KeyHasher<K>>() {}
 
-/// Any calls evict from the old end alone: of the entries whose keys none of them names, those that are left are the
+/// Any calls evict only from the old end: of the entries whose keys none of them names, those that are left are the
 /// newest, in their order, unless one of the calls is `pop_newest`.
 pub fn runs_evict_the_oldest<K: Eq + Hash, V, I: LookupKey<K>, L: Insertion<K, V, I>, S: KeyHasher<K>>() {}
 
-/// Each insert of a run evicts from the old end alone, whatever the other calls of the run are, `pop_newest` too. The
+/// Each insert of a run evicts only from the old end, whatever the other calls of the run are, `pop_newest` too. The
 /// one other entry that it may remove is the entry whose replacement is rejected. The same holds of each get that
 /// inserts.
 pub fn each_insert_of_a_run_evicts_the_oldest<

@@ -24,7 +24,6 @@ impl<K, V, N: LinkType> Chain<K, V, N> {
         self.close_gap(newer, older, false);
     }
 
-    // Its entry may be gone from the table already.
     #[inline]
     pub(crate) fn close_gap(&mut self, newer: N, older: N, last: bool) {
         if last {
@@ -36,7 +35,7 @@ impl<K, V, N: LinkType> Chain<K, V, N> {
         }
     }
 
-    // It compares the link with the number of buckets, and not with `MAX`: that takes one instruction less.
+    // Compares the link with the number of buckets, and not with `MAX`: that takes one instruction less.
     #[inline]
     pub(crate) fn leads(&self, link: N) -> bool {
         self.table.has_bucket(link.into_usize())

@@ -15,7 +15,7 @@ impl<K: Eq + Hash, V, N: LinkType> LinkedTable<K, V, N> {
     //
     // # Errors
     //
-    // Nothing has changed then.
+    // Nothing has changed.
     pub(crate) fn move_to<S: KeyHasher<K>>(&mut self, buckets: usize, hasher: &S) -> Result<(), AllocError> {
         let links = renumber_entries(&mut self.chain.table, buckets, hasher)?;
         self.chain.rewrite(links.as_slice());

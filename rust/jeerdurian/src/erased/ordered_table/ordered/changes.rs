@@ -1,5 +1,6 @@
 // Erased from crates/ordered_table/src/ordered/changes.rt: do not edit.
-//! The calls that change the order of an `OrderedTable`, or its buckets.
+//! The calls that change the order of an `OrderedTable`, or its buckets. Each first lets the links show the last
+//! promotion.
 
 #[allow(unused_imports)]
 use crate::rattle_std::prelude::*;
@@ -25,7 +26,7 @@ impl<K, V, N: LinkType> OrderedTable<K, V, N> {
     ///
     /// # Errors
     ///
-    /// No bucket may take the pair, which is returned. Nothing has changed then.
+    /// No bucket may take the pair, which is returned. Nothing has changed.
     pub fn try_place(&mut self, hash: u64, pair: (K, V)) -> Result<(), (K, V)> {
         settle(&mut self.linked, &mut self.promoted);
         self.linked.try_place(hash, pair)
@@ -33,7 +34,7 @@ impl<K, V, N: LinkType> OrderedTable<K, V, N> {
 
     /// Makes the pair in a full bucket the newest.
     ///
-    /// `O(1)`.
+    /// Cost: `O(1)`.
     #[inline]
     pub fn promote(&mut self, b: usize) {
         match &mut self.promoted {
@@ -50,22 +51,24 @@ impl<K, V, N: LinkType> OrderedTable<K, V, N> {
 
     /// Makes the pair in a full bucket the oldest.
     ///
-    /// `O(1)`.
+    /// Cost: `O(1)`.
     pub fn demote(&mut self, b: usize) {
         settle(&mut self.linked, &mut self.promoted);
         self.linked.demote(b);
     }
 
-    /// Cost:
+    /// Takes the pair out of a full bucket.
+    ///
+    /// Cost: `O(1)`.
     #[inline(always)]
     pub fn take(&mut self, b: usize) -> (K, V) {
         settle(&mut self.linked, &mut self.promoted);
         self.linked.take(b, false)
     }
 
-    /// Its older link is not read.
+    /// Takes the oldest pair out of a table that is not empty. Its older link is not read.
     ///
-    /// `O(1)`.
+    /// Cost: `O(1)`.
     #[inline(always)]
     pub fn take_oldest(&mut self) -> (K, V) {
         settle(&mut self.linked, &mut self.promoted);
@@ -75,9 +78,9 @@ impl<K, V, N: LinkType> OrderedTable<K, V, N> {
 }
 
 impl<K, V, N: LinkType> OrderedTable<K, V, N> {
-    /// The buckets stay, and are empty.
+    /// Drops all pairs. The buckets stay, and are empty.
     ///
-    /// Cost:
+    /// Cost: `O(buckets)`.
     pub fn clear(&mut self) {
         self.promoted = None;
         self.linked.clear();
@@ -93,7 +96,7 @@ impl<K: Eq + Hash, V, N: LinkType> OrderedTable<K, V, N> {
     /// # Errors
     ///
     /// Out of memory; never for no buckets, nor for a table without pairs that keeps its number of buckets. Nothing has
-    /// changed then.
+    /// changed.
     pub fn move_to<S: KeyHasher<K>>(&mut self, buckets: usize, hasher: &S) -> Result<(), AllocError> {
         settle(&mut self.linked, &mut self.promoted);
         self.linked.move_to(buckets, hasher)
@@ -101,7 +104,7 @@ impl<K: Eq + Hash, V, N: LinkType> OrderedTable<K, V, N> {
 }
 
 impl<K, V, N: LinkType> OrderedTable<K, V, N> {
-    /// Clones the pairs, into buckets of the same numbers and in the same order.
+    /// Clones the pairs, into buckets of the same numbers and in the same order. The links are copied with the entries.
     ///
     /// Cost: `O(buckets)`, and a clone of each key and value.
     ///

@@ -1,5 +1,6 @@
 // Erased from crates/ordered_table/src/ordered/promoted.rt: do not edit.
-//! Its links may still show it elsewhere.
+//! The order of a table in which the bucket `promoted`, if there is one, is the newest. Its links may still show it
+//! elsewhere.
 
 #[allow(unused_imports)]
 use crate::rattle_std::prelude::*;

@@ -55,8 +55,7 @@ impl<K: Eq + Hash, V, L: Limiter<K, V>, S: KeyHasher<K>> LruMap<K, V, L, S> {
     /// Returns the bytes of the table, or 0 without buckets: `entry_bytes` for each bucket, full or not, together
     /// rounded up to a multiple of 16, a byte more for each bucket, and 16 more.
     ///
-    /// `entry_bytes` is the number that the constructor was given, or that `with_limiter` computed. 4 buckets of 16
-    /// bytes are 64 + 4 + 16 = 84. Cost: `O(1)`.
+    /// Cost: `O(1)`.
     ///
     /// ```text
     /// let mut map: LruMap<u32, u32, ByMemoryUsage> = LruMap::with_memory_budget(alloc, 84, [1, 2, 3, 4], 16);
@@ -154,7 +153,7 @@ impl<K: Eq + Hash, V, L: Limiter<K, V>, S: KeyHasher<K>> LruMap<K, V, L, S> {
     }
 }
 
-/// Shows the number of entries alone, as `LruMap { len: 3, .. }`.
+/// Shows only the number of entries, as `LruMap { len: 3, .. }`.
 impl<K: Eq + Hash, V, L: Limiter<K, V>, S: KeyHasher<K>> fmt::Debug for LruMap<K, V, L, S> {
     fn fmt(&self, f: &mut fmt::Formatter<'_>) -> fmt::Result {
         let len = self.len();

@@ -36,7 +36,7 @@ fn kept_or<V>(lent: Result<&mut V, NotLent<AllocError>>) -> Result<Option<&mut V
 
 impl<K: Eq + Hash, V, L: Limiter<K, V>, S: KeyHasher<K>> LruMap<K, V, L, S> {
     /// Makes the entry of a key the newest. If the key is not there, inserts it with the value that the closure
-    /// returns, as `insert` does. Returns whether the key is in the map then.
+    /// returns, as `insert` does. Returns whether the key is in the map afterwards.
     ///
     /// Then `newest_mut` lends the value.
     ///

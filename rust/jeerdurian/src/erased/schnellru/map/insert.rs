@@ -12,14 +12,14 @@ use crate::rattle_std::alloc::AllocError;
 use crate::rattle_std::hash::Hash;
 
 impl<K: Eq + Hash, V, L: Limiter<K, V>, S: KeyHasher<K>> LruMap<K, V, L, S> {
-    /// Inserts a key with a value, as the newest entry. Returns whether the key is in the map then.
+    /// Inserts a key with a value, as the newest entry. Returns whether the key is in the map afterwards.
     ///
     /// If the key is there, the stored key stays; if the limiter rejects the new value, the entry is removed and the
     /// result is false. A new key goes to the limiter, which returns the entry to store, or none. If one more entry
     /// would be over the limit, the oldest is evicted first.
     ///
-    /// If no bucket takes the entry then, a table with fewer than half of the entries that it may hold is rehashed, and
-    /// any other grows. If there is no larger table, or the limiter refuses it, the oldest entries are evicted until a
+    /// If no bucket takes the entry, a table with fewer than half of the entries that it may hold is rehashed, and any
+    /// other grows. If there is no larger table, or the limiter refuses it, the oldest entries are evicted until a
     /// bucket is free, or until fewer than half are left. If there is no entry to evict, the new one is not stored, and
     /// the result is false. At the end, if the key is in the map, the oldest entries are evicted while the limiter is
     /// over its limit. A replaced value is dropped before anything is evicted.
@@ -35,9 +35,9 @@ impl<K: Eq + Hash, V, L: Limiter<K, V>, S: KeyHasher<K>> LruMap<K, V, L, S> {
     ///
     /// # Errors
     ///
-    /// An `Err` says that the map ran out of memory for a new key, which is not there then. Either `on_insert` ran out
-    /// of memory; then nothing has changed. Or the table had no growth left, and the allocation for a rehash or a
-    /// larger table failed. Then the newest of the old entries are left: some of the oldest may have been evicted to
+    /// An `Err` says that the map ran out of memory for a new key, which is not there afterwards. Either `on_insert`
+    /// ran out of memory; then nothing has changed. Or the table had no growth left, and the allocation for a rehash or
+    /// a larger table failed. Then the newest of the old entries are left: some of the oldest may have been evicted to
     /// make room. The limiter was notified of each, and of the new entry.
     ///
     /// While there is growth left, only `on_insert` takes memory.
@@ -70,7 +70,7 @@ impl<K: Eq + Hash, V, L: Limiter<K, V>, S: KeyHasher<K>> LruMap<K, V, L, S> {
     ///
     /// # Errors
     ///
-    /// Fails as `insert` does. The new entry was passed to the callback then, unless `on_insert` ran out of memory.
+    /// Fails as `insert` does. The new entry was passed to the callback, unless `on_insert` ran out of memory.
     #[inline(always)]
     pub fn insert_with<I: LookupKey<K>, F: FnMut(K, V)>(
         &mut self,

@@ -10,7 +10,7 @@ use crate::erased::schnellru::map::LruMap;
 use crate::rattle_std::hash::Hash;
 
 impl<K: Eq + Hash, V, L: Limiter<K, V>, S: KeyHasher<K>> LruMap<K, V, L, S> {
-    /// Removes and returns the oldest entry, as the limiter leaves it, if there is one.
+    /// Removes and returns the oldest entry, if there is one.
     ///
     /// ```text
     /// assert_eq!(rt; map.pop_oldest(), Some((1, 10)));
@@ -28,7 +28,7 @@ impl<K: Eq + Hash, V, L: Limiter<K, V>, S: KeyHasher<K>> LruMap<K, V, L, S> {
         Some(self.take_oldest())
     }
 
-    /// Removes and returns the newest entry, as the limiter leaves it, if there is one.
+    /// Removes and returns the newest entry, if there is one.
     ///
     /// ```text
     /// assert_eq!(rt; map.pop_newest(), Some((3, 30)));
@@ -45,8 +45,7 @@ impl<K: Eq + Hash, V, L: Limiter<K, V>, S: KeyHasher<K>> LruMap<K, V, L, S> {
         Some(take_out(&mut self.entries, &mut self.limiter, b))
     }
 
-    /// Removes a key. Returns the stored key and its value, as the limiter leaves them. The other entries keep their
-    /// order.
+    /// Removes a key. Returns the stored key and its value. The other entries keep their order.
     ///
     /// ```text
     /// assert_eq!(rt; map.remove_entry(&1), Some((1, 10)));
@@ -64,7 +63,7 @@ impl<K: Eq + Hash, V, L: Limiter<K, V>, S: KeyHasher<K>> LruMap<K, V, L, S> {
 }
 
 impl<K: Eq + Hash, V, L: Limiter<K, V>, S: KeyHasher<K>> LruMap<K, V, L, S> {
-    /// Removes a key. Returns its value, as the limiter leaves it. The other entries keep their order.
+    /// Removes a key. Returns its value. The other entries keep their order.
     ///
     /// ```text
     /// assert_eq!(rt; map.remove(&1), Some(10));

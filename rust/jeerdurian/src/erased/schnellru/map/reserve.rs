@@ -29,9 +29,9 @@ impl<K: Eq + Hash, V, L: Limiter<K, V>, S: KeyHasher<K>> LruMap<K, V, L, S> {
     ///
     /// Each error leaves the entries and the table as they are. `TooLarge`: `len` + n overflows, or is more than half
     /// of what the table may hold, and there is no larger table for it: links cannot number one, or its bytes would
-    /// pass `isize::MAX - 15`. The table is not rehashed then, even if it would hold the entries. `Refused`: the
-    /// limiter refused the larger table. `Memory`: out of memory. After `Refused` and `Memory` the limiter keeps what
-    /// it noted when it was queried.
+    /// pass `isize::MAX - 15`. After `TooLarge` the table was not rehashed, even if it would hold the entries.
+    /// `Refused`: the limiter refused the larger table. `Memory`: out of memory. After `Refused` and `Memory` the
+    /// limiter keeps what it noted when it was queried.
     ///
     /// After schnellru's `LruMap::try_reserve`.
     pub fn try_reserve(&mut self, n: usize) -> Result<(), ReserveError> {

@@ -47,7 +47,7 @@ impl<K: Eq + Hash, V, L: Limiter<K, V>, S: KeyHasher<K>> LruMap<K, V, L, S> {
 }
 
 impl<K: Eq + Hash, V, L: Limiter<K, V>, S: KeyHasher<K>> LruMap<K, V, L, S> {
-    /// As `trim`, and passes each evicted entry to the callback, oldest first, as the limiter leaves it.
+    /// As `trim`, and passes each evicted entry to the callback, oldest first.
     ///
     /// ```text
     /// let mut evicted = 0u64;
@@ -64,7 +64,7 @@ impl<K: Eq + Hash, V, L: Limiter<K, V>, S: KeyHasher<K>> LruMap<K, V, L, S> {
         let _ = &self.entries;
     }
 
-    /// As `set_limiter`, and passes each evicted entry to the callback, oldest first, as the new limiter leaves it.
+    /// As `set_limiter`, and passes each evicted entry to the callback, oldest first.
     ///
     /// ```text
     /// let mut evicted = 0u64;

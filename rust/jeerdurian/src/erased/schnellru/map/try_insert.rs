@@ -65,7 +65,7 @@ impl<K: Eq + Hash, V, L: Admission<K, V> + Copy, S: KeyHasher<K>> LruMap<K, V, L
         Ok(())
     }
 
-    // Returns whether there is, and the limiter can store the entry then.
+    // Returns whether there is, and the limiter can store the entry.
     fn get_ready_for(&mut self, key: &K, value: &V) -> bool {
         if self.growth_left() > 0 {
             return true;

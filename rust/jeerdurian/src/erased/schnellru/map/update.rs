@@ -13,9 +13,9 @@ use crate::rattle_std::hash::Hash;
 impl<K: Eq + Hash, V, L: Limiter<K, V>, S: KeyHasher<K>> LruMap<K, V, L, S> {
     /// Offers the limiter a new value for a key that is there. The entry keeps its place in the order of use.
     ///
-    /// If the limiter accepts the value, the oldest entries are evicted then while it is over its limit; the updated
-    /// entry is one of these if it is old enough. If the limiter rejects the value, the entry is removed. If the key is
-    /// not there, nothing changes.
+    /// If the limiter accepts the value, the oldest entries are evicted while the limiter is over its limit. The
+    /// updated entry may be one of them. If the limiter rejects the value, the entry is removed. If the key is not
+    /// there, nothing changes.
     ///
     /// ```text
     /// assert_eq!(rt; map.update(1, 11), Updated::Replaced(10));
@@ -34,8 +34,8 @@ impl<K: Eq + Hash, V, L: Limiter<K, V>, S: KeyHasher<K>> LruMap<K, V, L, S> {
 }
 
 impl<K: Eq + Hash, V, L: Limiter<K, V>, S: KeyHasher<K>> LruMap<K, V, L, S> {
-    /// As `update`, and passes each entry that is evicted or removed to the callback, as the limiter leaves it: the
-    /// evicted entries, oldest first, or the entry whose new value is rejected.
+    /// As `update`, and passes each entry that is evicted or removed to the callback: the evicted entries, oldest
+    /// first, or the entry whose new value is rejected.
     ///
     /// ```text
     /// let mut left = None;

@@ -30,7 +30,7 @@ use crate::rattle_std::hash::Hash;
 ///
 /// # Errors
 ///
-/// `Err` says that there was no memory for the answers. No call was made then.
+/// `Err` says that there was no memory for the answers. No call was made.
 pub fn run_calls<K: Copy + Eq + Hash, V: Copy, L: Insertion<K, V, K>, S: KeyHasher<K>>(
     alloc: Global,
     map: &mut LruMap<K, V, L, S>,

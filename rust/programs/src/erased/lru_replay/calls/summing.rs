@@ -28,7 +28,7 @@ use crate::rattle_std::hash::Hash;
 ///
 /// # Errors
 ///
-/// `Err` says that there was no memory for the answers. No call was made then.
+/// `Err` says that there was no memory for the answers. No call was made.
 pub fn run_summing<K, V, L, S>(
     alloc: Global,
     map: &mut LruMap<K, V, L, S>,
