@@ -72,14 +72,14 @@ module _ {K V S : Type 0} (rules : Rules K V S) where
   trimmed c = (Ok (not (is_empty (trim rules c).pairs)), trim rules c)
 
   -- the pair meets c and is not stored, and the limiter is notified of it
-  abbrev pub turned_away : Report → K × V → Contents K V S → Contents K V S
-  turned_away report pair c = let d = met report c in after_removal rules (Some pair) d.pairs d.limiter
+  abbrev pub not_stored : Report → K × V → Contents K V S → Contents K V S
+  not_stored report pair c = let d = met report c in after_removal rules (Some pair) d.pairs d.limiter
 
   -- the pair is stored as the newest, if there is a bucket for it
   abbrev pub stored : Report → K × V → Contents K V S → Result Bool AllocError × Contents K V S
   stored report pair c = let d = met report c in
       if report.has_bucket then trimmed (record { pairs = pair ∷ d.pairs; limiter = d.limiter })
-      else (Ok false, turned_away report pair c)
+      else (Ok false, not_stored report pair c)
 
 -- the pair gets the value and is the newest, or is removed, as the limiter says
 abbrev pub exchanged : {K V S I : Type 0} (rules : Rules K V S) (offers : Offers K V S I) (names : I → K → Bool) (i : I)
@@ -106,7 +106,7 @@ module _ {K V S I : Type 0} (rules : Rules K V S) (offers : Offers K V S I) (nam
         InsertsNew
     not_placed : (s : S) (pair : K × V) → MayGive rules offers names i v old s (Some pair) →
         (report : Report) → Tells s pair report → IsErr result →
-        new ≡ turned_away rules report pair (make_room rules (record { pairs = old.pairs; limiter = s })) →
+        new ≡ not_stored rules report pair (make_room rules (record { pairs = old.pairs; limiter = s })) →
         InsertsNew
 
   -- the key is new, or in this pair

@@ -22,7 +22,7 @@ use Rattle.lru_model.proofs.States.LeavingPairs.{known_is, oldest_leaves}
 use Rattle.lru_model.proofs.States.Outcomes.{ok-not_err}
 use Rattle.lru_model.proofs.Theorems.Moves.{behind, left_are}
 use Rattle.lru_model.specs.Exact.{Report, at_once, refusal, report_of, MayReport, fits, too_small, small_report}
-use Rattle.lru_model.specs.Exact.{queried, met, trimmed, turned_away, stored, InsertsNew, not_offered, not_admitted}
+use Rattle.lru_model.specs.Exact.{queried, met, trimmed, not_stored, stored, InsertsNew, not_offered, not_admitted}
 use Rattle.lru_model.specs.Exact.{admitted, not_placed, InsertsBy, InsertsGiven}
 use Rattle.lru_model.specs.Exact.{exchanged}
 use Rattle.lru_model.specs.Exact.{IsDetermined}
@@ -31,8 +31,8 @@ module _ {K V S : Type 0} (rules : Rules K V S) (pair : K × V) where
   -- the insertion ends with this outcome as the report says
   abbrev pub Lands : Report → Contents K V S → Outcome → Contents K V S → Type 0
   Lands report c placed new = (report.has_bucket ≡ true) × (new ≡ behind pair (met rules report c))
-  Lands report c refused new = (report.has_bucket ≡ false) × (new ≡ turned_away rules report pair c)
-  Lands report c no_memory new = new ≡ turned_away rules report pair c
+  Lands report c refused new = (report.has_bucket ≡ false) × (new ≡ not_stored rules report pair c)
+  Lands report c no_memory new = new ≡ not_stored rules report pair c
 
 module _ {K V S H : Type 0} (rules : Rules K V S) (pair : K × V) where
   if_memory : (report : Report) (c : Contents K V S) → report.has_bucket ≡ true → (st : State K V S H)

@@ -17,7 +17,7 @@ use Rattle.lru_model.specs.Lists.{is_empty, last, lookup_entry, without, without
 use Rattle.lru_model.specs.State.{State, Contents, contents, room, Leaves, trim, IsSized}
 use Rattle.lru_model.specs.Place.{table_for}
 use Rattle.lru_model.specs.Inserts.{Insert, make_room}
-use Rattle.lru_model.specs.Exact.{at_once, trimmed, turned_away, stored, exchanged, InsertsNew, not_offered}
+use Rattle.lru_model.specs.Exact.{at_once, trimmed, not_stored, stored, exchanged, InsertsNew, not_offered}
 use Rattle.lru_model.specs.Exact.{not_admitted, admitted, not_placed, InsertsInList}
 use Rattle.group_table.specs.Sizes.{IsBucketCount}
 use Rattle.lru_model.specs.Calls.{written}
@@ -131,7 +131,7 @@ module _ {K V : Type 0} (eq : K → K → Bool) (key : K) (value : V) (old new :
       → EndsSo result
   absent none (not_offered k r e) = absurd k
   absent none (not_placed s pair n report told r e) =
-      short result r (ap (λ d. d.pairs) (e ∙ (λ j. turned_away length_rules (told j) pair (way s pair n j))))
+      short result r (ap (λ d. d.pairs) (e ∙ (λ j. not_stored length_rules (told j) pair (way s pair n j))))
   absent none (admitted s pair n report told e) =
       let some = more_than_none old.limiter key value s pair n in
       let gives : Some pair ≡ Some (key, value) = rw (lt-ltb 0 old.limiter some) at n.pair in
