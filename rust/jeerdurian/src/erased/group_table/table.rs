@@ -166,12 +166,10 @@ impl<T> Table<T> {
     // Puts an entry with this hash into the first free bucket, which takes this much of the growth left.
     #[inline(always)]
     fn fill_free(&mut self, b: usize, spent: usize, hash: u64, entry: T) {
-        // `len` rises before the bucket is written, and `placed` after it: then each takes one instruction.
-        make_count_room(&mut self.placed);
         self.len += 1;
         fill_bucket(&mut self.control, &mut self.entries, b, tag_of(hash), entry);
         self.room -= spent;
-        self.placed += 1;
+        self.placed = self.placed.saturating_add(1);
     }
 
     // Makes every bucket of a table without entries empty.
@@ -242,12 +240,4 @@ impl<T> Table<T> {
 #[inline]
 fn is_without_buckets(control: &Control, room: usize) -> bool {
     room == 0 && control.is_empty()
-}
-
-// Subtracts 1 from a count of `u64::MAX`, so that the addition of 1 that follows ends there.
-#[inline]
-fn make_count_room(count: &mut u64) {
-    if *count == u64::MAX {
-        *count -= 1;
-    }
 }

@@ -24,7 +24,7 @@ pub struct Row<'a> {
 
 impl<'a> Row<'a> {
     /// An empty row of this name.
-    fn new(alloc: Global, name: &'a str) -> Row<'a> {
+    const fn new(alloc: Global, name: &'a str) -> Row<'a> {
         Row { name, input: Vec::new(alloc), text: Vec::new(alloc), status: 0, alloc }
     }
 

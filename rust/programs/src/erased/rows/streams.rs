@@ -71,7 +71,7 @@ pub struct Narrow {
 
 impl Narrow {
     /// A writer that never fails.
-    pub fn new(alloc: Global, most: usize) -> Narrow {
+    pub const fn new(alloc: Global, most: usize) -> Narrow {
         Narrow {
             bytes: Vec::new(alloc),
             flushes: 0,

@@ -75,6 +75,7 @@ impl<K: Eq + Hash, V, L: Limiter<K, V>, S: KeyHasher<K>> LruMap<K, V, L, S> {
     // Evicts the oldest pair, if the limiter would be over its limit with one more, and stores a pair that the limiter
     // returned. Then evicts the oldest pairs while the limiter is over its limit.
     fn insert_pair<F: FnMut(K, V)>(&mut self, hash: u64, pair: (K, V), sink: &mut F) -> Result<bool, AllocError> {
+        self.settle();
         self.make_room(sink);
         // `insert_without_growth` takes the key and the value apart, because a pair would lie in memory that each
         // insert clears first.
