@@ -11,7 +11,8 @@ change. What no rule knows is an error.
                  Rust; `Clone`, whose result is a `Result` in Rattle, and which is `TryClone` if it may fail; the `Display`
                  of errors, which thiserror derives
   bodies.py      calls of `clone`, `fmt`, `hash_one`, `into_bytes`, `String::new` and `replace`, of which Rust has
-                 others; the bound `Clone`; an index that is proved to be within; bounds of structs
+                 others; the bound `Clone`; an index that is proved to be within; bounds of structs; constructors of empty
+                 values
   names.py       paths, imports, docs
   tests.py       a test gets its runtime from a closure, and a program's `main` from its caller; macros are exported by a
                  `use`

@@ -64,6 +64,28 @@ def fmt(toks, i, out):
     return raw("fmt" + re.sub(r"Formatter<\w+>", "Formatter<'_>", text_of(toks[paren:brace]))), brace
 
 
+def constructors(toks):
+    """A `new` or `with_hasher` that only lists the fields of an empty value is `const`, so that a map can be a static.
+    Rattle's `Vec::new` is not."""
+    out = []
+    for i, token in enumerate(toks):
+        if token.kind == "id" and token.text == "fn" and text_of(toks[i + 1:i + 2]).isspace() and lists_fields(toks, i):
+            out.append(raw("const "))
+        out.append(token)
+    return out
+
+
+def lists_fields(toks, i):
+    """Whether the function at `i` is such a constructor: it takes the allocator, and calls no other function but a `new`
+    with the allocator."""
+    name = after(toks, i)
+    if toks[name].text not in ("new", "with_hasher") or words(toks[name + 1:name + 6])[:4] != ["(", "alloc", ":", "Global"]:
+        return False
+    brace = find(toks, i, "{")
+    body = " ".join(words(toks[brace + 1:closing(toks, brace)])).replace(":: new ( alloc )", "")
+    return re.fullmatch(r"\w+ \{[\w\s:,{}]*\}", body) is not None and toks[before(toks, i)].text != "const"
+
+
 def defines_nowhere(toks, i):
     return toks[i].text == "macro_rules" and "nowhere" in words(toks[i:i + 8])
 

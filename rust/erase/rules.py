@@ -1,5 +1,5 @@
 """The order of the rules."""
-from bodies import calls, indices, key_bounds
+from bodies import calls, constructors, indices, key_bounds
 from contracts import drop_attributes, drop_bounds, lex
 from impls import displayed_errors, impls, take_apart
 from names import docs, imports, paths
@@ -11,7 +11,7 @@ def erase(text, crate, modules):
     """The Rust module of a Rattle file, without the places and the head."""
     toks = drop_bounds(drop_attributes(displayed_errors(lex(text, tests_full=crate == "group_table"))))
     toks, dropped = impls(toks)
-    toks = calls(take_apart(toks, dropped))
+    toks = constructors(calls(take_apart(toks, dropped)))
     toks = tests(key_bounds(indices(toks), dropped))
     docs(toks)
     return macros(imports(text_of(paths(toks, crate, modules))))

@@ -49,6 +49,10 @@ CASES = [
     ("fn f() { hasher.hash_one(&x.y) }", "fn f() { hasher.hash_by(&x.y) }"),
     ("fn fmt<W: fmt::Write>(&self, f: &mut fmt::Formatter<W>) -> fmt::Result {}",
      "fn fmt(&self, f: &mut fmt::Formatter<'_>) -> fmt::Result {}"),
+    # Constructors: an empty value is const, a body with another call is not.
+    ("fn new(alloc: Global) -> S { S { a: Vec::new(alloc), b: T { c: N::MAX }, alloc } } fn new(alloc: Global) -> T { g(alloc) }",
+     "const fn new(alloc: Global) -> S { S { a: Vec::new(alloc), b: T { c: N::MAX }, alloc } }"
+     " fn new(alloc: Global) -> T { g(alloc) }"),
     # Paths.
     ("use std::mem; use crate::a::b; use low::C; fn f() { low::g(); x.std; pub(crate) struct S; }",
      "use crate::rattle_std::mem; use crate::me::a::b; use crate::low::C;"

@@ -88,7 +88,9 @@ fn search_group<T, F: FnMut(&T) -> bool>(
     }
 }
 
-#[inline]
+// Calls `f` with the entries with the tag of the hash, group by group, until it accepts one. `inline(always)`: an
+// argument of a call would be read before the search, also by a search that compares no entry.
+#[inline(always)]
 pub(crate) fn find_bucket<T, F: FnMut(&T) -> bool>(
     control: &Control,
     entries: &Entries<T>,

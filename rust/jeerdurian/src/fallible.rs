@@ -1,11 +1,18 @@
 //! The calls that take memory, in forms that return an error when it runs out.
 
+use crate::erased::lru_limits::KeyHasher;
 use crate::keys::{Named, Offered};
 use crate::limiter::Limiter;
 use crate::map::LruMap;
 use crate::rattle_std::alloc::AllocError;
 use crate::{GetOrInsertError, Inserted};
 use core::hash::{BuildHasher, Hash};
+
+/// Drops what an insert evicts, the key first.
+fn discard<K, V>(key: K, value: V) {
+    drop(key);
+    drop(value);
+}
 
 /// The calls of a map that take memory, each with an error for *out of memory*. [`More::fallible`](crate::More::fallible)
 /// makes it, for one call.
@@ -29,7 +36,8 @@ where
     S: BuildHasher,
     L: Limiter<K, V>,
 {
-    /// Inserts as [`LruMap::insert`] does.
+    /// Inserts as [`LruMap::insert`] does. Proved: `Ok(true)` exactly if the key is there, as the newest, within the
+    /// limit; an `Err` leaves the newest of the entries.
     ///
     /// # Errors
     ///
@@ -40,10 +48,11 @@ where
     where
         L::KeyToInsert<'a>: Hash + PartialEq<K>,
     {
-        self.map.map.insert(Offered(key), value)
+        self.map.map.insert_with(Offered(key), value, &mut discard)
     }
 
-    /// Inserts as [`More::insert_full`](crate::More::insert_full) does.
+    /// Inserts as [`More::insert_full`](crate::More::insert_full) does. Proved: as of `insert`, and the value that it
+    /// returns.
     ///
     /// # Errors
     ///
@@ -61,7 +70,8 @@ where
         self.map.map.insert_full(Offered(key), value, &mut lost)
     }
 
-    /// Lends the value of a key as the newest, and inserts it first if the key is not there.
+    /// Lends the value of a key as the newest, and inserts it first if the key is not there. Proved: the look-up, as of
+    /// `LruMap::get`, and the insert, as of `insert`.
     ///
     /// # Errors
     ///
@@ -76,18 +86,27 @@ where
         L::KeyToInsert<'a>: Hash + PartialEq<K>,
     {
         let map = &mut self.map.map;
-        if map.promote(&Named(&key)) {
-            return Ok(map.newest_mut());
+        let hash = map.hasher().hash_named(&Named(&key));
+        if let Some(b) = map.entries.find(hash, &Named(&key)) {
+            map.entries.promote(b);
+            return Ok(Some(&mut map.entries.pair_mut(b).value));
         }
         let value = get().map_err(GetOrInsertError::Caller)?;
-        match map.insert(Offered(key.into()), value) {
-            Ok(true) => Ok(map.newest_mut()),
+        let key = Offered(key.into());
+        // A conversion need not keep the hash. If it does, the key is not there, and needs no second search.
+        let kept = if map.hasher().hash_named(&key) == hash {
+            map.insert_new(hash, key, value, &mut discard)
+        } else {
+            map.insert_with(key, value, &mut discard)
+        };
+        match kept {
+            Ok(true) => Ok(Some(map.newest_value_mut())),
             Ok(false) => Ok(None),
             Err(AllocError) => Err(GetOrInsertError::Memory),
         }
     }
 
-    /// Clones the map as `clone` does.
+    /// Clones the map as `clone` does. Proved: as of the clone of `LruMap`.
     ///
     /// # Errors
     ///
@@ -102,7 +121,8 @@ where
         Ok(LruMap { map: self.map.map.try_clone()? })
     }
 
-    /// Moves the entries into the smallest table that holds them. Returns whether it moved them.
+    /// Moves the entries into the smallest table that holds them. Returns whether it moved them. Proved: as of
+    /// `More::shrink_to_fit`.
     ///
     /// # Errors
     ///

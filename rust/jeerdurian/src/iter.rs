@@ -24,12 +24,12 @@ impl<K, V, L: Limiter<K, V>> Clone for Iter<'_, K, V, L> {
     }
 }
 
-/// An iterator over the keys of a map, the newest first.
+/// An iterator over the keys of a map, the newest first. Proved: it returns each key once, in the order of use.
 pub struct Keys<'a, K, V, L: Limiter<K, V>> {
     pub(crate) walk: ordered_table::Keys<'a, K, V, L::LinkType>,
 }
 
-/// An iterator over the values of a map, the newest first.
+/// An iterator over the values of a map, the newest first. Proved: it returns each value once, in the order of use.
 pub struct Values<'a, K, V, L: Limiter<K, V>> {
     pub(crate) walk: ordered_table::Values<'a, K, V, L::LinkType>,
 }
@@ -46,7 +46,7 @@ where
     pub(crate) drain: proved::Drain<'a, K, V, Calls<L>, S>,
 }
 
-/// An iterator that owns a map and takes the entries out of it, the newest first.
+/// An iterator that owns a map and takes the entries out of it, the newest first. Proved: as of [`Drain`].
 pub struct IntoIter<K, V, L: Limiter<K, V>, S> {
     entries: proved::IntoIter<K, V, Calls<L>, S>,
 }
@@ -168,9 +168,8 @@ impl<'a, K, V, N: LinkType> WalkMut<'a, K, V, N> {
         }
         // The links of the newest entry are written now, if its promotion waits. So a step reads only the links of the
         // entry that it lends, and of none that an earlier step lent.
-        let front = entries.newest();
-        entries.promote(front);
-        let back = entries.oldest();
+        entries.settle();
+        let (front, back) = (entries.newest(), entries.oldest());
         WalkMut { entries, front, back, left }
     }
 

@@ -29,62 +29,74 @@ where
     S: BuildHasher,
     L: Limiter<K, V>,
 {
-    /// Returns whether a key is there. The order of use stays.
+    /// Returns whether a key is there. The order of use stays. Proved: true exactly if there is an entry with this key.
     fn contains(&self, key: &(impl Hash + PartialEq<K> + ?Sized)) -> bool;
 
-    /// Returns the stored key and the value of a key. The order of use stays.
+    /// Returns the stored key and the value of a key. The order of use stays. Proved: it is this key's entry, and
+    /// `None` exactly if there is none.
     fn peek_key_value(&self, key: &(impl Hash + PartialEq<K> + ?Sized)) -> Option<(&K, &V)>;
 
-    /// Returns the stored key and the value of a key, and makes its entry the newest.
+    /// Returns the stored key and the value of a key, and makes its entry the newest. Proved: it is this key's entry;
+    /// the others keep their order.
     fn get_key_value(&mut self, key: &(impl Hash + PartialEq<K> + ?Sized)) -> Option<(&K, &V)>;
 
-    /// Makes the entry of a key the newest. Returns whether the key is there.
+    /// Makes the entry of a key the newest. Returns whether the key is there. Proved: the other entries keep their
+    /// order, and without this key nothing changes.
     fn promote(&mut self, key: &(impl Hash + PartialEq<K> + ?Sized)) -> bool;
 
-    /// Makes the entry of a key the oldest, the next to be evicted. Returns whether the key is there.
+    /// Makes the entry of a key the oldest, the next to be evicted. Returns whether the key is there. Proved: the other
+    /// entries keep their order, and without this key nothing changes.
     fn demote(&mut self, key: &(impl Hash + PartialEq<K> + ?Sized)) -> bool;
 
-    /// Lends the newest value for writing.
+    /// Lends the newest value for writing. Proved: what is written is the value of the newest entry, and no other entry
+    /// changes.
     fn newest_mut(&mut self) -> Option<&mut V>;
 
-    /// Returns the entry at an index, of which 0 is the newest. Cost: `O(index)`.
+    /// Returns the entry at an index, of which 0 is the newest. Cost: `O(index)`. Proved: it is the entry at this place
+    /// of the order, and `None` exactly if there are too few.
     fn get_index(&self, index: usize) -> Option<(&K, &V)>;
 
-    /// Returns the index of a key's entry, of which 0 is the newest. Cost: `O(len)`.
+    /// Returns the index of a key's entry, of which 0 is the newest. Cost: `O(len)`. Proved: it is the place of this
+    /// key's entry in the order, and `None` exactly if there is none.
     fn get_index_of(&self, key: &(impl Hash + PartialEq<K> + ?Sized)) -> Option<usize>;
 
-    /// Returns the keys, the newest first.
+    /// Returns the keys, the newest first. Proved: each key comes once, in the order of use, from either end.
     fn keys(&self) -> Keys<'_, K, V, L>;
 
-    /// Returns the values, the newest first.
+    /// Returns the values, the newest first. Proved: each value comes once, in the order of use, from either end.
     fn values(&self) -> Values<'_, K, V, L>;
 
-    /// Removes a key. Returns the stored key and its value, as the limiter leaves them.
+    /// Removes a key. Returns the stored key and its value, as the limiter leaves them. Proved: exactly this key's
+    /// entry is gone, and the limiter was notified of it.
     fn remove_entry(&mut self, key: &(impl Hash + PartialEq<K> + ?Sized)) -> Option<(K, V)>;
 
-    /// Removes the entries that `keep` rejects. It is asked once for each entry, from the oldest to the newest.
+    /// Removes the entries that `keep` rejects. It is asked once for each entry, from the oldest to the newest. Proved:
+    /// the entries that `keep` accepted stay, in their order, and the limiter was notified of each removed one.
     fn retain(&mut self, keep: impl FnMut(&K, &V) -> bool);
 
-    /// The same, and passes each removed entry to a callback, before `keep` is asked again.
+    /// The same, and passes each removed entry to a callback, before `keep` is asked again. Proved: as of `retain`, and
+    /// the callback gets each removed entry once.
     fn retain_with(&mut self, keep: impl FnMut(&K, &V) -> bool, removed: impl FnMut(K, V));
 
-    /// Removes the oldest entry if the closure agrees.
+    /// Removes the oldest entry if the closure agrees. Proved: if the closure disagrees, nothing changes.
     fn pop_oldest_if(&mut self, accepts: impl FnOnce(&K, &V) -> bool) -> Option<(K, V)>;
 
     /// Inserts as [`LruMap::insert`] does, and passes to a callback each entry that the map evicts, removes, or cannot
-    /// store.
+    /// store. Proved: the callback gets each of these entries once, in their order, as the limiter left it.
     fn insert_with<'a>(&mut self, key: L::KeyToInsert<'a>, value: V, lost: impl FnMut(K, V)) -> bool
     where
         L::KeyToInsert<'a>: Hash + PartialEq<K>;
 
     /// The same, and returns the value that the map does not keep if the key is there: the old one, or the new one if
-    /// the limiter rejects it. Out of memory, nothing is kept.
+    /// the limiter rejects it. Out of memory, nothing is kept. Proved: as of `insert_with`, and the value that it
+    /// returns.
     fn insert_full<'a>(&mut self, key: L::KeyToInsert<'a>, value: V, lost: impl FnMut(K, V)) -> Inserted<V>
     where
         L::KeyToInsert<'a>: Hash + PartialEq<K>;
 
     /// Inserts a new key if nothing has to be evicted for it: the key is absent, the limiter accepts the entry and is
-    /// within its limit with it, and a bucket takes it.
+    /// within its limit with it, and a bucket takes it. Proved: after an `Ok` the map has this entry before all that it
+    /// had, and is within its limit.
     ///
     /// # Errors
     ///
@@ -102,29 +114,33 @@ where
         L: Admission<K, V> + Copy;
 
     /// Replaces the value of a key that is there, if the limiter accepts that. The entry keeps its place in the order.
+    /// Proved: the entries keep their order, and without this key nothing changes.
     fn update<'a>(&mut self, key: L::KeyToInsert<'a>, value: V) -> Updated<V>
     where
         L::KeyToInsert<'a>: Hash + PartialEq<K>;
 
-    /// Evicts the oldest entries while the limiter is over its limit.
+    /// Evicts the oldest entries while the limiter is over its limit. Proved: afterwards the map is within its limit or
+    /// empty, and only the oldest entries are gone.
     fn trim(&mut self);
 
     /// Sets the limiter, and evicts the oldest entries while it is over its limit. Returns the old one. A running total
-    /// is the new limiter's own: it is not computed from the entries.
+    /// is the new limiter's own: it is not computed from the entries. Proved: as of `trim`, under the new limiter.
     fn set_limiter(&mut self, limiter: L) -> L;
 
-    /// Returns the hasher.
+    /// Returns the hasher. Proved: it is the hasher that the map was made with.
     fn hasher(&self) -> &S;
 
-    /// Reserves growth for at least `additional` new entries.
+    /// Reserves growth for at least `additional` new entries. Proved: an `Ok` leaves growth for that many entries, and
+    /// the entries stay in any case.
     ///
     /// # Errors
     ///
     /// Says why there is no such table. Nothing has changed then.
     fn try_reserve(&mut self, additional: usize) -> Result<(), ReserveError>;
 
-    /// Moves the entries into the smallest table that holds them. Returns whether it moved them; out of memory, it returns
-    /// false.
+    /// Moves the entries into the smallest table that holds them. Returns whether it moved them; out of memory, it
+    /// returns false. Proved: the entries and their order stay, and after true the buckets are the fewest that hold
+    /// them.
     fn shrink_to_fit(&mut self) -> bool;
 
     /// Returns how many entries were stored, were moved by inserts, and were rehashed by shrinks.

@@ -161,6 +161,28 @@ fn a_closure_that_fails_changes_nothing() {
     assert!(map.keys().eq(&[13, 12, 11, 10, 9]));
 }
 
+/// A key that becomes another one, with another hash, is looked for again.
+#[test]
+fn a_conversion_may_make_another_key() {
+    #[derive(Hash)]
+    struct Before(u64);
+    impl PartialEq<u64> for Before {
+        fn eq(&self, key: &u64) -> bool {
+            self.0 == *key
+        }
+    }
+    impl From<Before> for u64 {
+        fn from(key: Before) -> u64 {
+            key.0 + 1
+        }
+    }
+    let mut map = LruMap::new(ByLength::new(3));
+    assert!(map.insert(2, 20));
+    assert_eq!(map.get_or_insert(Before(2), || 30), Some(&mut 20));
+    assert_eq!(map.get_or_insert(Before(1), || 10), Some(&mut 10));
+    assert!(map.iter().eq([(&2, &10)]));
+}
+
 /// What a limiter rejects is not there, and the newest entry is not lent for it.
 #[test]
 fn what_is_rejected_is_not_lent() {

@@ -18,6 +18,15 @@ use std::alloc::AllocError;
 use std::hash::Hash;
 
 impl<K, V, N: LinkType> OrderedTable<K, V, N> {
+    /// Lets the links show the last promotion. If several calls that change the order follow, the compiler then knows
+    /// that none of them has to.
+    #[inline(always)]
+    pub fn settle(&mut self)
+        ensures { self.new ≡ self.old }
+    {
+        settle(&mut self.linked, &mut self.promoted);
+    }
+
     /// Puts a pair whose key has this hash into the first free bucket of a table with growth left, as the newest.
     ///
     /// Cost: `O(1)` expected.

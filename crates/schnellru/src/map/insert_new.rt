@@ -105,6 +105,7 @@ impl<K: Eq + Hash, V, L: Limiter<K, V>, S: KeyHasher<K>> LruMap<K, V, L, S> {
         ensures passed { Passes F.FnMut sink.old sink.new (λ before after. PlacesNew (noting L.rules)
             S.hash_of pair (noted before self.old) result (noted after self.new)) }
     {
+        self.settle();
         self.make_room(sink);
         // `insert_without_growth` takes the key and the value apart, because a pair would lie in memory that each
         // insert clears first.

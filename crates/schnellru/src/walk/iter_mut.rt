@@ -208,6 +208,8 @@ impl<K: Eq + Hash, V, L: Limiter<K, V>, S: KeyHasher<K>> LruMap<K, V, L, S> {
         ensures step { WritesAll F.FnMut f self.old self.new }
         ensures map { IsMap K.eq self.new }
     {
+        self.settle();
+        // Nothing at run time: it shows the proof that a position fits.
         let _ = self.len();
         let (mut next, _) = self.ends();
         let mut at = 0;

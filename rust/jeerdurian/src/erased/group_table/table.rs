@@ -161,12 +161,10 @@ impl<T> Table<T> {
 
     #[inline(always)]
     fn fill_free(&mut self, b: usize, spent: usize, hash: u64, entry: T) {
-        // `len` rises before the bucket is written, and `placed` after it: then each takes one instruction.
-        make_count_room(&mut self.placed);
         self.len += 1;
         fill_bucket(&mut self.control, &mut self.entries, b, tag_of(hash), entry);
         self.room -= spent;
-        self.placed += 1;
+        self.placed = self.placed.saturating_add(1);
     }
 
     fn empty_buckets(&mut self) {
@@ -233,11 +231,4 @@ impl<T> Table<T> {
 #[inline]
 fn is_without_buckets(control: &Control, room: usize) -> bool {
     room == 0 && control.is_empty()
-}
-
-#[inline]
-fn make_count_room(count: &mut u64) {
-    if *count == u64::MAX {
-        *count -= 1;
-    }
 }

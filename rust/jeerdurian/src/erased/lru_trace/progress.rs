@@ -15,7 +15,7 @@ pub struct Progress<P> {
 
 impl<P: Write> Progress<P> {
     /// Makes progress that is written to this writer, if there is one.
-    pub fn new(alloc: Global, writer: Option<P>) -> Self {
+    pub const fn new(alloc: Global, writer: Option<P>) -> Self {
         Progress { alloc, writer }
     }
 

@@ -18,7 +18,7 @@ pub struct Row<'a> {
 }
 
 impl<'a> Row<'a> {
-    fn new(alloc: Global, name: &'a str) -> Row<'a> {
+    const fn new(alloc: Global, name: &'a str) -> Row<'a> {
         Row { name, input: Vec::new(alloc), text: Vec::new(alloc), status: 0, alloc }
     }
 

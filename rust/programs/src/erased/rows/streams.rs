@@ -63,7 +63,7 @@ pub struct Narrow {
 }
 
 impl Narrow {
-    pub fn new(alloc: Global, most: usize) -> Narrow {
+    pub const fn new(alloc: Global, most: usize) -> Narrow {
         Narrow {
             bytes: Vec::new(alloc),
             flushes: 0,

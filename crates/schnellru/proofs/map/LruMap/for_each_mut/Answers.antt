@@ -7,12 +7,12 @@ use Rattle.schnellru.proofs.Maps.WrittenPairs.{with_others}
 use Rattle.schnellru.proofs.map.LruMap.for_each_mut.Goals as goal
 
 pub pairs-init : goal.pairs-init
-pairs-init g c = record {
+pairs-init g c = let ends = rw c.settle.ensures at c.ends-next.ensures in rw c.settle.ensures record {
   callable = c.requires.callable;
-  next = c.ends-next.ensures.newest;
+  next = ends.newest;
   written = written_none g.F.FnMut c.args.self.now.pairs c.args.f;
   state = refl;
-  places = c.ends-next.ensures.places;
+  places = ends.places;
   many = refl;
 }
 
@@ -48,7 +48,7 @@ overflow_add-at g c =
       slice_get_within c.pairs.self.table.places c.pairs.at c.in-Some.b (sym i.next ∙ c.in-Some.is),
       i.places,
       i.many,
-      c.len.ensures.len,
+      rw c.settle.ensures at c.len.ensures.len,
     )
 
 pub returns-clause-step : goal.returns-clause-step

@@ -7,35 +7,38 @@ use Rattle.lru_model.proofs.States.NewKeys.{stays_new}
 use Rattle.lru_model.specs.MayTake.{MayTakeEach}
 use Rattle.schnellru.proofs.map.LruMap.insert_pair.Goals as goal
 
+pub make_room-requires : goal.make_room-requires
+make_room-requires g c = rw c.settle.ensures record { callable = (c.args.pair, c.requires.callable) }
+
 pub insert_without_growth-requires-clause-hash : goal.insert_without_growth-requires-clause-hash
 insert_without_growth-requires-clause-hash g c =
     (stays_new g.L.Limiter.rules g.S.KeyHasher.hash_of g.K.PartialEq.eq c.args.hash c.args.pair c.args.self.now
-    c.make_room.new.self _ (c.make_room.ensures.passed c.args.sink.now [] refl).2 c.requires.hash
-    c.requires.absent).hash
+    c.make_room.new.self _ ((rw c.settle.ensures at c.make_room.ensures.passed) c.args.sink.now [] refl).2
+    c.requires.hash c.requires.absent).hash
 
 pub insert_without_growth-requires-clause-absent : goal.insert_without_growth-requires-clause-absent
 insert_without_growth-requires-clause-absent g c =
     (stays_new g.L.Limiter.rules g.S.KeyHasher.hash_of g.K.PartialEq.eq c.args.hash c.args.pair c.args.self.now
-    c.make_room.new.self _ (c.make_room.ensures.passed c.args.sink.now [] refl).2 c.requires.hash
-    c.requires.absent).absent
+    c.make_room.new.self _ ((rw c.settle.ensures at c.make_room.ensures.passed) c.args.sink.now [] refl).2
+    c.requires.hash c.requires.absent).absent
 
 pub store_in_room-requires-clause-hash : goal.store_in_room-requires-clause-hash
 store_in_room-requires-clause-hash g c =
     (stays_new g.L.Limiter.rules g.S.KeyHasher.hash_of g.K.PartialEq.eq c.args.hash c.args.pair c.args.self.now
-    c.make_room.new.self _ (c.make_room.ensures.passed c.args.sink.now [] refl).2 c.requires.hash
-    c.requires.absent).hash
+    c.make_room.new.self _ ((rw c.settle.ensures at c.make_room.ensures.passed) c.args.sink.now [] refl).2
+    c.requires.hash c.requires.absent).hash
 
 pub store_in_room-requires-clause-absent : goal.store_in_room-requires-clause-absent
 store_in_room-requires-clause-absent g c =
     (stays_new g.L.Limiter.rules g.S.KeyHasher.hash_of g.K.PartialEq.eq c.args.hash c.args.pair c.args.self.now
-    c.make_room.new.self _ (c.make_room.ensures.passed c.args.sink.now [] refl).2 c.requires.hash
-    c.requires.absent).absent
+    c.make_room.new.self _ ((rw c.settle.ensures at c.make_room.ensures.passed) c.args.sink.now [] refl).2
+    c.requires.hash c.requires.absent).absent
 
 pub returns-then-growth_left-eq0 : goal.returns-then-growth_left-eq0
 returns-then-growth_left-eq0 g c = record {
   passed =
       λ first before taken.
-      let (mid, had, way) = c.make_room.ensures.passed first before taken in
+      let (mid, had, way) = (rw c.settle.ensures at c.make_room.ensures.passed) first before taken in
       let (after, has, step) = c.insert_without_growth.ensures.passed first mid had in
       (after, has, (noted mid c.make_room.new.self, way, step));
 }
@@ -45,11 +48,11 @@ returns g c = record {
   passed =
       let ready = c.make_room.new.self in let stored = c.store_in_room.ensures in let new = c.store_in_room.new.self in
       λ first before taken.
-      let (mid, had, way) = c.make_room.ensures.passed first before taken in
+      let (mid, had, way) = (rw c.settle.ensures at c.make_room.ensures.passed) first before taken in
       let (after, in_all, trimmed) = c.evict_over_limit.ensures.passed first mid had in
       let is = (stays_new g.L.Limiter.rules g.S.KeyHasher.hash_of g.K.PartialEq.eq c.args.hash c.args.pair
-      c.args.self.now ready _ (c.make_room.ensures.passed c.args.sink.now [] refl).2 c.requires.hash
-      c.requires.absent).hash in
+      c.args.self.now ready _ ((rw c.settle.ensures at c.make_room.ensures.passed) c.args.sink.now [] refl).2
+      c.requires.hash c.requires.absent).hash in
       let put = in_bucket stored.within (inl (omega (arith, c.growth_left.ensures, c.if-growth_left-eq0.false)))
       (subst (λ h. FillsBucket h ready.table new.table) is
       stored.fills) refl
@@ -59,10 +62,11 @@ returns g c = record {
 }
 
 pub insert_without_growth-requires-clause-callable : goal.insert_without_growth-requires-clause-callable
-insert_without_growth-requires-clause-callable g c = c.make_room.ensures.callable c.args.pair c.requires.callable
+insert_without_growth-requires-clause-callable g c =
+    (rw c.settle.ensures at c.make_room.ensures.callable) c.args.pair c.requires.callable
 
 pub evict_over_limit-requires-clause-callable : goal.evict_over_limit-requires-clause-callable
 evict_over_limit-requires-clause-callable g c =
     subst (λ pairs. MayTakeEach g.L.Limiter.rules g.F.FnMut pairs c.make_room.new.sink)
     (sym (ap (λ st. st.pairs) c.store_in_room.ensures.placed.state))
-    (c.make_room.ensures.callable c.args.pair c.requires.callable)
+    ((rw c.settle.ensures at c.make_room.ensures.callable) c.args.pair c.requires.callable)

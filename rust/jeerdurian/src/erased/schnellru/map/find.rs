@@ -36,6 +36,12 @@ impl<K: Eq + Hash, V, L: Limiter<K, V>, S: KeyHasher<K>> LruMap<K, V, L, S> {
         self.entries.promote(b);
     }
 
+    // Lets the links show the last promotion, so that what follows need not test for one.
+    #[inline(always)]
+    pub(crate) fn settle(&mut self) {
+        self.entries.settle();
+    }
+
     #[inline]
     pub(super) fn demote_at(&mut self, b: usize) {
         self.entries.demote(b);

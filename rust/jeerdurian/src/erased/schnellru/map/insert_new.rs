@@ -69,6 +69,7 @@ impl<K: Eq + Hash, V, L: Limiter<K, V>, S: KeyHasher<K>> LruMap<K, V, L, S> {
 
     // Stores a pair that the limiter returned, with evictions before and after.
     fn insert_pair<F: FnMut(K, V)>(&mut self, hash: u64, pair: (K, V), sink: &mut F) -> Result<bool, AllocError> {
+        self.settle();
         self.make_room(sink);
         // `insert_without_growth` takes the key and the value apart, because a pair would lie in memory that each
         // insert clears first.

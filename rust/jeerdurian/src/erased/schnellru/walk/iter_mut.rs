@@ -161,6 +161,8 @@ impl<K: Eq + Hash, V, L: Limiter<K, V>, S: KeyHasher<K>> LruMap<K, V, L, S> {
     ///
     /// After `Iterator::for_each` over the `iter_mut` of std's `HashMap`.
     pub fn for_each_mut<F: FnMut(&K, &mut V)>(&mut self, mut f: F) {
+        self.settle();
+        // Nothing at run time: it shows the proof that a position fits.
         let _ = self.len();
         let (mut next, _) = self.ends();
         let mut at = 0;
