@@ -38,9 +38,8 @@ pub fn inserts_evict_the_oldest<K: Eq + Hash, V, I: LookupKey<K>, L: Insertion<K
 /// a callback is an insert like any other (`step`).
 pub fn inserts_pass_few<K: Eq + Hash, V, I: LookupKey<K>, L: Insertion<K, V, I>, S: KeyHasher<K>>() {}
 
-/// An insert into a table of up to 16 buckets has one possible result for each outcome of its allocations: what it
-/// returns, the entries and the limiter follow from the entries and the limiter before. If the limiter's offers are
-/// determined too, two equal inserts end alike, wherever the limiter's entry is stored.
+/// In a table of up to 16 buckets the entries, the limiter, the number of buckets and the growth left determine what the
+/// table reports of an insert (`small_report`), and so how the insert ends, unless memory runs out.
 pub fn small_inserts_are_exact<K: Eq + Hash, V, I: LookupKey<K>, L: Insertion<K, V, I>, S: KeyHasher<K>>() {}
 
 /// If two maps differ at most in which buckets are full, so do they after equal inserts, and both inserts return the
@@ -48,10 +47,10 @@ pub fn small_inserts_are_exact<K: Eq + Hash, V, I: LookupKey<K>, L: Insertion<K,
 /// memory; and both inserts find memory or neither does.
 pub fn small_inserts_look_alike<K: Eq + Hash, V, I: LookupKey<K>, L: Insertion<K, V, I>, S: KeyHasher<K>>() {}
 
-/// An insert that returns `Ok` is one into a plain list, unless growth is refused: its entry is stored with all the
-/// others, after the limiter was queried for a table of some bytes, or not at all (`exact`). If the limiter's offers are
-/// determined, what an insert returns, the entries and the limiter follow from the entries and the limiter before, and
-/// from that query (`alike`).
+/// An insert is one into a list, as the table reports (`exact`). Unless growth is refused, its entry is stored with all
+/// the others, after the limiter was queried for a table of some bytes, or not at all. If growth is refused, the report
+/// also says how many entries were evicted. Given the report (`given`), and if the limiter's offers are determined, the
+/// entries and the limiter before an insert that returns `Ok` determine what it returns and leaves (`alike`).
 pub fn inserts_are_exact_unless_refused<K: Eq + Hash, V, I: LookupKey<K>, L: Insertion<K, V, I>, S: KeyHasher<K>>() {}
 
 /// If the limiter permits every growth, as `ByLength` and the unlimited ones do, and the tables that an insert may need

@@ -26,6 +26,10 @@ pub fn more_places_never_miss_more<K: Eq>() {}
 /// A policy that begins with no keys has no additive term.
 pub fn lru_is_competitive<K: Eq>() {}
 
+/// Loading keys ahead gains nothing: if a policy with h places that loads keys ahead pays `paid` times, some demand policy
+/// with h places, which begins with the same keys, misses at most `paid` times.
+pub fn loading_ahead_gains_nothing<K: Eq>() {}
+
 /// After the same calls a smaller cache is included in a larger one, if it was before (`included`): its keys are keys
 /// of the larger cache, in the same order, and the larger cache contains at most m - n more. So what the smaller
 /// cache finds, the larger cache finds (`finds`), and it misses no more often at the references of a trace (`misses`).

@@ -162,9 +162,8 @@ fn put_and_keep_half(
     map.insert(key, value)
 }
 
-/// Puts a pair into a map. Unless it runs out of memory, either growth was refused, or the entries, the limiter and
-/// whether it was queried for growth determine how it ends (`listed`). In a table of up to 16 buckets the growth left
-/// decides how it ends (`small`).
+/// Puts a pair into a map. It ends as the table reports (`reported`), and the entries, the limiter and the report
+/// determine how it ends (`given`). In a table of up to 16 buckets the growth left determines the report (`small`).
 fn put_exactly<K: Eq + Hash, V, L: Insertion<K, V, K>, S: KeyHasher<K>>(
     map: &mut LruMap<K, V, L, S>,
     key: K,
