@@ -27,6 +27,7 @@ pub mod SmallBudgets
 pub mod SmallGrowth
 pub mod SmallLengths
 pub mod SmallTotals
+pub mod ReferenceLoops
 pub mod ReferencePairs
 pub mod ReferenceRuns
 pub mod ReferenceSteps
@@ -34,3 +35,4 @@ pub mod KeySteps
 pub mod StoredCounts
 pub mod BudgetLists
 pub mod BudgetSteps
+pub mod BudgetCounts

@@ -78,8 +78,8 @@ module _ {K V H : Type 0} {eq : K → K → Bool} {hash_of : H → K → ℕ} (l
           limiter = known.limiter old new step;
           keeps = λ _. known.goes_on old new keeps sized step;
         };
-        stored = λ some. insert_counts hash_of eq key v old new keeps.sized.placed (Ok flag)
-            (leaves.answer refl ∙ ap Ok (lt-ltb 0 old.limiter some)) h;
+        stored = λ some. insert_counts length_rules hash_of length_offers eq key v old new keeps.sized.placed (Ok flag)
+            refl (λ none. leaves.answer refl ∙ ap Ok (lt-ltb 0 old.limiter some)) h;
       }
 
   pub got_refers : (names : K → Bool) (key : K) (w left : V) (old : State K V ℕ H) → names ≡ eq key
@@ -113,7 +113,7 @@ module _ {K V H : Type 0} {eq : K → K → Bool} {hash_of : H → K → ℕ} (l
                   (known.goes_on old (promoted (eq key) old) keeps (promoted_sized old (eq key) keeps.sized)
                   (gets (eq key) refl));
             };
-            stored = λ some. rw is (same_count hash_of eq key w old old sized.placed);
+            stored = λ some. rw is (same_count old.counts.placed sized.placed);
           }
 
   pub makes_refers : (makes : V → Type 0) (key : K) (old : State K V ℕ H) (flag : Bool) (new : State K V ℕ H)

@@ -1,18 +1,19 @@
 -- Which keys a map contains, and that an insert of a new key is counted.
 use Rattle.std.proofs.Common.{◌≡◌, ℕ, zero, suc, ◌^◌, ◌<◌, Bool, true, false, cond, List, [], ◌∷◌, take}
-use Rattle.std.proofs.Common.{Some, None, Result, Ok, refl, ap, ◌∙◌, subst, arith}
-use Rattle.std.specs.Prelude.{IsErr, ◌||◌}
+use Rattle.std.proofs.Common.{Some, None, Result, Ok, refl, sym, ap, ◌∙◌, arith}
+use Rattle.std.specs.Prelude.{IsOk, ◌||◌}
 use Rattle.std.specs.declared.alloc.AllocError.{AllocError}
 use Rattle.std.specs.List.{list_any}
 use Rattle.std.specs.Set.{remove_key}
 use Rattle.group_table.specs.Change.{count_up}
-use Rattle.lru_limits.specs.Limiters.{length_rules, length_offers}
+use Rattle.lru_limits.specs.Rules.{Rules, Offers}
 use Rattle.lru_model.specs.Inserts.{Insert, replaced, not_replaced, no_memory_to_admit, not_admitted, admitted}
 use Rattle.lru_model.specs.Lists.{keys_of, lookup, lookup_entry, without}
 use Rattle.lru_model.specs.Place.{Place, Outcome, placed, refused, no_memory, in_bucket, rehashed, grown, not_grown}
 use Rattle.lru_model.specs.Place.{IsPlacedIfMemory, OldestEvicted, CannotGrow, no_target, denied, Evicts}
 use Rattle.lru_model.specs.Place.{nothing_to_evict, finds_bucket, rehashes}
 use Rattle.lru_model.specs.State.{State}
+use Rattle.lru_model.proofs.States.Outcomes.{ok-not_err}
 use Rattle.lru_theory.specs.Traces.{is_in}
 
 pub clash : {A : Type 0} → false ≡ true → A
@@ -33,6 +34,7 @@ module _ {K V : Type 0} where
   keys_taken (suc n) [] = refl
   keys_taken (suc n) (x ∷ xs) = ap (λ ks. x.0 ∷ ks) (keys_taken n xs)
 
+  -- whether a key is there
   pub there : (test : K → Bool) (xs : List (K × V)) (p : K × V) → lookup_entry test xs ≡ Some p → list_any test
       (keys_of xs) ≡ true
   there test [] p e = absurd (grind (arith, e))
@@ -65,22 +67,29 @@ module _ {K V : Type 0} where
       go true e later = (x, refl)
       go false e later = later e
 
-module _ {K V H : Type 0} (hash_of : H → K → ℕ) where
-  oldest_placed : (hash n : ℕ) (old new : State K V ℕ H) → OldestEvicted length_rules hash n old new
+untrue : ◌≡◌ {A = Result Bool AllocError} (Ok true) (Ok false) → ⊥
+untrue e = cc
+
+pub same_count : (n : ℕ) → n < 2 ^ 64 → n ≡ count_up n 0
+same_count n fits = omega (arith, fits)
+
+module _ {K V S H : Type 0} (rules : Rules K V S) (hash_of : H → K → ℕ) where
+  -- each pair that leaves leaves the count of stored entries as it is
+  oldest_placed : (hash n : ℕ) (old new : State K V S H) → OldestEvicted rules hash n old new
       → new.counts.placed ≡ old.counts.placed
   oldest_placed hash zero old new e = ap (λ st. st.counts.placed) e
   oldest_placed hash (suc n) old new (before, more, none, leaves) =
       ap (λ st. st.counts.placed) leaves.is ∙ oldest_placed hash n old before more
 
-  if_memory : (pair : K × V) (count spare moves : ℕ) (old : State K V ℕ H) (outcome : Outcome) (new : State K V ℕ H)
-      → outcome ≡ placed → IsPlacedIfMemory length_rules pair count spare moves old outcome new
+  if_memory : (pair : K × V) (count spare moves : ℕ) (old : State K V S H) (outcome : Outcome) (new : State K V S H)
+      → outcome ≡ placed → IsPlacedIfMemory rules pair count spare moves old outcome new
       → new.counts.placed ≡ count_up old.counts.placed 1
   if_memory pair count spare moves old placed new e h = ap (λ st. st.counts.placed) h.state
   if_memory pair count spare moves old refused new e h = absurd h
   if_memory pair count spare moves old no_memory new e h = absurd cc
 
-  evicts_placed : (hash : ℕ) (pair : K × V) (old mid : State K V ℕ H) (outcome : Outcome) (new : State K V ℕ H)
-      → outcome ≡ placed → Evicts length_rules hash pair old mid outcome new
+  evicts_placed : (hash : ℕ) (pair : K × V) (old mid : State K V S H) (outcome : Outcome) (new : State K V S H)
+      → outcome ≡ placed → Evicts rules hash pair old mid outcome new
       → new.counts.placed ≡ count_up mid.counts.placed 1
   evicts_placed hash pair old mid outcome new e (nothing_to_evict none is same) = absurd cc
   evicts_placed hash pair old mid outcome new e (finds_bucket n some small few left oldest fills is h) =
@@ -88,12 +97,13 @@ module _ {K V H : Type 0} (hash_of : H → K → ℕ) where
   evicts_placed hash pair old mid outcome new e (rehashes some n more small few left oldest h) =
       if_memory pair _ _ _ left outcome new e h ∙ ap (λ m. count_up m 1) (oldest_placed hash n mid left oldest)
 
-  cannot_placed : (old mid : State K V ℕ H) → CannotGrow length_rules old mid → mid.counts.placed ≡ old.counts.placed
+  cannot_placed : (old mid : State K V S H) → CannotGrow rules old mid → mid.counts.placed ≡ old.counts.placed
   cannot_placed old mid (no_target none same) = ap (λ st. st.counts.placed) same
   cannot_placed old mid (denied count bytes target denies same) = ap (λ st. st.counts.placed) same
 
-  placed_counts : (pair : K × V) (old : State K V ℕ H) (outcome : Outcome) (new : State K V ℕ H) → outcome ≡ placed
-      → Place length_rules hash_of pair old outcome new → new.counts.placed ≡ count_up old.counts.placed 1
+  -- a pair that is stored is counted
+  placed_counts : (pair : K × V) (old : State K V S H) (outcome : Outcome) (new : State K V S H) → outcome ≡ placed
+      → Place rules hash_of pair old outcome new → new.counts.placed ≡ count_up old.counts.placed 1
   placed_counts pair old outcome new e (in_bucket few some fills is h) = ap (λ st. st.counts.placed) h.state
   placed_counts pair old outcome new e (rehashed none few why h) = if_memory pair _ _ _ old outcome new e h
   placed_counts pair old outcome new e (grown outgrown count bytes target grants h) = if_memory pair _ _ _ _ outcome
@@ -101,23 +111,23 @@ module _ {K V H : Type 0} (hash_of : H → K → ℕ) where
   placed_counts pair old outcome new e (not_grown outgrown mid cannot evicts) =
       evicts_placed _ pair old mid outcome new e evicts ∙ ap (λ m. count_up m 1) (cannot_placed old mid cannot)
 
-  module _ (eq : K → K → Bool) (key : K) (v : V) (old new : State K V ℕ H) where
-    pub same_count : old.counts.placed < 2 ^ 64 → old.counts.placed ≡ count_up old.counts.placed 0
-    same_count fits = omega (arith, fits)
-
-    pub insert_counts : old.counts.placed < 2 ^ 64 → (result : Result Bool AllocError) → result ≡ Ok true
-        → Insert length_rules length_offers eq hash_of key v old result new
+  module _ (offers : Offers K V S K) (eq : K → K → Bool) (key : K) (v : V) (old new : State K V S H) where
+    -- an insert that returned `Ok`, and true if the key was new, counts its key if the key was new
+    pub insert_counts : old.counts.placed < 2 ^ 64 → (result : Result Bool AllocError) → IsOk result
+        → (lookup_entry (eq key) old.pairs ≡ None → result ≡ Ok true)
+        → Insert rules offers eq hash_of key v old result new
         → new.counts.placed ≡ count_up old.counts.placed (cond (is_in eq key (keys_of old.pairs)) 0 1)
-    insert_counts fits result ok (replaced pair found taken is leaves) =
-        rw (there (eq key) old.pairs pair found) (ap (λ st. st.counts.placed) leaves.is ∙ same_count fits)
-    insert_counts fits result ok (not_replaced pair found taken is leaves) = absurd cc
-    insert_counts fits result ok (no_memory_to_admit none never is same) = absurd never
-    insert_counts fits result ok (not_admitted none s gives is same) = absurd cc
-    insert_counts fits result ok (admitted none s pair gives (ready, way, (placed, landed, place, settles))) =
+    insert_counts fits result ok says (replaced pair found taken is leaves) =
+        rw (there (eq key) old.pairs pair found) (ap (λ st. st.counts.placed) leaves.is ∙ same_count old.counts.placed fits)
+    insert_counts fits result ok says (not_replaced pair found taken is leaves) =
+        rw (there (eq key) old.pairs pair found) (ap (λ st. st.counts.placed) leaves.is ∙ same_count old.counts.placed fits)
+    insert_counts fits result ok says (no_memory_to_admit none ran_out is same) = ok-not_err result ok is
+    insert_counts fits result ok says (not_admitted none s gives is same) = absurd (untrue (sym (says none) ∙ is))
+    insert_counts fits result ok says (admitted none s pair gives (ready, way, (placed, landed, place, settles))) =
         rw (absent (eq key) old.pairs none)
         (ap (λ st. st.counts.placed) settles.1.is ∙ placed_counts pair ready placed landed refl place
         ∙ ap (λ st. count_up st.counts.placed 1) way.is)
-    insert_counts fits result ok (admitted none s pair gives (ready, way, (refused, landed, place, settles))) = absurd
-        cc
-    insert_counts fits result ok (admitted none s pair gives (ready, way, (no_memory, landed, place, settles))) =
-        clash (subst IsErr ok settles.0)
+    insert_counts fits result ok says (admitted none s pair gives (ready, way, (refused, landed, place, settles))) =
+        absurd (untrue (sym (says none) ∙ settles.0))
+    insert_counts fits result ok says (admitted none s pair gives (ready, way, (no_memory, landed, place, settles))) =
+        ok-not_err result ok settles.0

@@ -1,7 +1,7 @@
 -- Runs of references to keys under a limit of cost.
 use Rattle.std.specs.Prelude.{◌≡◌, ℕ, ◌+◌, ◌*◌, ◌^◌, ◌≤◌, ◌<◌, Bool, true, List, [], length, map, Option, Some, None}
 use Rattle.std.specs.List.{AllByRecursion}
-use Rattle.lru_limits.specs.Budget.{Budget, by_cost, charges}
+use Rattle.lru_limits.specs.Budget.{Budget, by_weight, weighs}
 use Rattle.lru_model.specs.Exact.{HasTableFor}
 use Rattle.lru_model.specs.State.{State, IsMap}
 use Rattle.lru_replay.specs.declared.calls.Call.{Call}
@@ -26,14 +26,14 @@ offered call = None
 -- A run of calls that reference these keys, one after another, from an empty map with a limit of cost. Each key has one
 -- value, which alone costs at most the limit. The running total begins at 0, and the limit is below 2 ^ 63. No call
 -- runs out of memory, and the tables are within reach.
-pub record BudgetReferences {K V H : Type 0} (cost : V → ℕ) (eq : K → K → Bool) (hash_of : H → K → ℕ) (value_of : K → V)
+pub record BudgetReferences {K V H : Type 0} (weight : K → V → ℕ) (eq : K → K → Bool) (hash_of : H → K → ℕ) (value_of : K → V)
     (keys : List K) (old new : State K V Budget H) : Type 0 where
   pub calls : List (Call K V Budget)
   pub replies : List (Reply K V)
-  pub run : IsRun (CallStep (by_cost cost) (charges cost) eq hash_of) (IsMap eq) old calls replies new
+  pub run : IsRun (CallStep (by_weight weight) (weighs weight) eq hash_of) (IsMap eq) old calls replies new
   pub named : map offered calls ≡ map (λ key. Some (key, value_of key)) keys
   pub memory : FoundMemory replies
-  pub small : AllByRecursion (λ key. cost (value_of key) ≤ old.limiter.limit) keys
+  pub small : AllByRecursion (λ key. weight key (value_of key) ≤ old.limiter.limit) keys
   pub empty : old.pairs ≡ []
   pub unspent : old.limiter.cost ≡ 0
   pub fits : old.limiter.limit < 2 ^ 63

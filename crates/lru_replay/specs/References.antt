@@ -1,6 +1,6 @@
 -- What a program does to the keys of a map with a maximum length, whichever calls it makes.
 --     eq        when two keys are equal
-use Rattle.std.specs.Prelude.{◌≡◌, ℕ, ◌+◌, ◌<◌, Bool, List, [], ◌∷◌, ◌++◌}
+use Rattle.std.specs.Prelude.{◌≡◌, ℕ, ◌+◌, ◌<◌, ◌≤◌, Bool, List, [], ◌∷◌, ◌++◌, take}
 use Rattle.group_table.specs.Change.{count_up}
 use Rattle.lru_model.specs.Kept.{KeepsToLength}
 use Rattle.lru_model.specs.Lists.{keys_of}
@@ -40,3 +40,9 @@ module _ {K V H : Type 0} (eq : K → K → Bool) where
     nothing : Did old [] old
     does_more : (call : KeyCall K) (calls : List (KeyCall K)) (mid new : State K V ℕ H) → Did old calls mid →
         Does call mid new → Did old (calls ++ call ∷ []) new
+
+  -- A loop made the references of the first i keys of a trace, and missed this often. The map keeps to its length.
+  pub record Loops (old : State K V ℕ H) (trace : List K) (i missed : ℕ) (new : State K V ℕ H) : Type 0 where
+    pub run : Referenced old (take i trace) missed new
+    pub keeps : KeepsToLength new
+    pub few : missed ≤ i

@@ -26,9 +26,9 @@ use lru_model::laws;
 use std::hash::Hash;
 
 /// Each of these calls makes a reference if it returns `Ok`: an insert (`inserts`), an insert that evicts nothing
-/// (`tries`), a get that finds the key, whatever is written through the loan (`gets`), and a promotion of a key that is
-/// there (`promotes`). So if a get returns `None`, an insert makes the reference. A reference to a key is one to each key
-/// that is equal (`equal`).
+/// (`tries`), a get that finds the key, whatever is written through the loan (`gets`), a promotion of a key that is
+/// there (`promotes`), and what a memo remembers (`remembers`). So if a get returns `None`, an insert makes the reference.
+/// A reference to a key is one to each key that is equal (`equal`).
 pub fn calls_make_references<K: Eq + Hash + Drop, V: Drop, S: KeyHasher<K>>()
     ensures inserts { (key : K) (value : V) (kept : Bool) (old new : State K V ByLength S) →
         KeepsToLength old → IsSized new →
@@ -46,6 +46,11 @@ pub fn calls_make_references<K: Eq + Hash + Drop, V: Drop, S: KeyHasher<K>>()
     ensures promotes { (names : K → Bool) (key : K) (value : V) (old : State K V ByLength S) →
         names ≡ K.eq key → length old.pairs ≤ old.limiter → IsSized old → lookup names old.pairs ≡ Some value →
         Reference K.eq key old (promoted names old) }
+    ensures remembers { (key : K) (value : V) (kept : Bool) (old new : State K V ByLength S) →
+        KeepsToLength old → IsSized new →
+        MakesNewest ⟦<ByLength as Limiter<K, V>>⟧.rules ⟦<ByLength as Insertion<K, V, K>>⟧.offers K.eq S.hash_of
+        (λ made. made ≡ value) key old (Ok kept) new →
+        Reference K.eq key old new }
     ensures equal { (key other : K) (old new : State K V ByLength S) →
         K.eq other key ≡ true → Reference K.eq other old new → Reference K.eq key old new }
 {
