@@ -81,7 +81,8 @@ module _ {K V S I : Type 0} (rules : Rules K V S) (offers : Offers K V S I) (nam
   ending_new s (Some pair) =
       settled rules (land pair (make_room rules (record { pairs = old.pairs; limiter = s })))
 
-  -- The insert ends so, for this pair of the key; without one, for some pair, or none, that the limiter may return.
+  -- The insert ends so for this pair of the key. If there is none, it ends so for a pair, or none, that the limiter may
+  -- return.
   abbrev pub EndsBy : Option (K × V) → Result Bool AllocError → Contents K V S → Type 0
   EndsBy (Some pair) result new = IsEnding (ending_there pair) result new
   EndsBy None result new = (s : S) × (given : Option (K × V)) × MayGive rules offers names i v old s given
