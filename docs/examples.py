@@ -5,9 +5,9 @@ Run it at the top of the repository: `python3 docs/examples.py` compares what it
 with 1 if they differ; `--write` writes them and needs `rt fmt`; `--bare` lists public items without an example.
 
 The tests are written in the form that is proved fastest. The assertions that follow one another become one `all!`. An
-example that begins with a name of `GIVEN`, such as `map`, stands in a function that takes it by `&mut`, and the map is
-filled again before each example. Other examples of a file follow one another in one test; a new test begins if a name
-is declared again. An example that another one contains is not repeated.
+example that begins with a given name, such as `map`, stands in a function that takes it by `&mut`, and the map is
+filled again unless the example before only reads (`READS`). Other examples of a file follow one another in one test; a
+new test begins if a name is declared again. An example that another one contains is not repeated.
 """
 import pathlib
 import re
@@ -22,6 +22,9 @@ GENERICS = re.compile(r"(?:::|->\s*\w*)<[^<>;(){}]*(?:<[^<>]*>[^<>;(){}]*)*>")
 FOUND = r"(\w+(?:\.\w+\([^()]*\))+) == Some"
 ERRORS = {"_fallible(": "GetOrInsertError<u8>", "put_full(": "TenantError"}
 LENGTH = 12
+READS = {"len", "is_empty", "contains", "contains_key", "peek", "peek_key_value", "peek_oldest", "peek_newest", "keys",
+         "values", "iter", "get_index", "get_index_of", "first", "last", "entries", "budget", "cost",
+         "names", "total_cost", "total_budget", "total_limit"}
 
 
 class Given:
@@ -120,6 +123,10 @@ class Example:
         declared = re.search(rf"let (?:mut )?{name}\b", self.text)
         return bool(use) and not (declared and declared.start() < use.start()
                                   and f"{name}." not in self.text[declared.start():].split(";")[0])
+
+    def reads(self, name):
+        """Whether the example only reads this value."""
+        return set(re.findall(rf"\b{name}\.(\w+)", self.text)) <= READS
 
     def declared(self):
         return set(re.findall(r"^let (?:mut )?(\w+)\b", self.text, re.M))
@@ -238,10 +245,12 @@ class Written:
         return taken, alone
 
     def part(self, name, number, examples):
-        given, steps = self.crate.given[name], []
+        given, steps, is_full = self.crate.given[name], [], False
         for it in examples:
-            steps.append((True, f"{given.fill}({name})"))
+            if not is_full:
+                steps.append((True, f"{given.fill}({name})"))
             steps += steps_of(it, self.crate)
+            is_full = it.reads(name)
         text = "\n".join(it.text for it in examples)
         lines, last = body(steps)
         error = error_of(text)

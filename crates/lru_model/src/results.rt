@@ -12,7 +12,8 @@ use thiserror::Error;
 /// - The key was there, and the limiter rejected the new value: `unkept` is the new value, and `kept` is false. The
 ///   entry was removed.
 ///
-/// So a `kept` of false with a value has two causes; in both the callback got the entry of the key.
+/// If `kept` is false and there is a value, the callback got the entry of the key: it was evicted, or its new value was
+/// rejected.
 ///
 /// ```
 /// let inserted = map.insert_full(1, 11, &mut |_, _| {})?;

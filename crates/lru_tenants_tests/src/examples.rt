@@ -48,13 +48,9 @@ fn cache_3(cache: &mut Numbers) -> bool {
     all!(
         refill(cache),
         cache.contains(&1, &7) == Ok(true),
-        refill(cache),
         cache.entries(&1) == Ok(1),
-        refill(cache),
         cache.budget(&1) == Ok(3),
-        refill(cache),
         cache.names().next() == Some(&1),
-        refill(cache),
         cache.set_total_limit(Some(5)) == Ok(()),
         cache.open(2, 3) == Err(TenantError::OverTotal)
     )
@@ -67,11 +63,9 @@ fn cache_4(cache: &mut Numbers) -> bool {
         cache.total_limit() == Some(5),
         refill(cache),
         (cache.total_cost(), cache.total_budget()) == (2, 3),
-        refill(cache),
         (cache.len(), cache.close(&1), cache.len()) == (1, Ok(1), 0),
         refill(cache),
         !cache.is_empty(),
-        refill(cache),
         cache.open(2, 3) == Ok(()),
         cache.open(1, 5) == Err(TenantError::AlreadyOpen)
     )

@@ -51,8 +51,8 @@ where
 
 /// A write-back cache of the blocks of a device.
 ///
-/// It keeps the pages that were used last, up to its capacity. A write changes only the cached page: the page is dirty
-/// then, and goes to the device when it is evicted or flushed. So it shows the cached page at each number, or else the
+/// It keeps the pages that were used last, up to its capacity. A write changes only the cached page: the page is then
+/// dirty, and goes to the device when it is evicted or flushed. So it shows the cached page at each number, or else the
 /// block of the device.
 ///
 /// After a `flush` that returned `Ok`, a crash leaves each block as it was shown at that flush or was written later;

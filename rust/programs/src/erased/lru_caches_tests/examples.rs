@@ -26,9 +26,7 @@ fn map_1(map: &mut Map) -> bool {
     let mut entries = map.iter();
     held & all!(
         (entries.len(), entries.next(), entries.next_back()) == (2, Some((&1, &11)), Some((&2, &20))),
-        refill(map),
         is_value(map.keys().next(), 1) && is_value(map.values().next_back(), 20),
-        refill(map),
         is_pair(map.get_key_value(&1), 1, 11) && map.get_key_value(&9).is_none(),
         refill(map),
         map.move_to_back(&1) && !map.move_to_back(&9),
@@ -43,11 +41,8 @@ fn map_2(map: &mut Map) -> bool {
         (map.shrink_to_fit(), map.shrink_to_fit()) == (Ok(true), Ok(false)),
         refill(map),
         map.len() == 2,
-        refill(map),
         !map.is_empty(),
-        refill(map),
         map.contains_key(&1) && !map.contains_key(&9),
-        refill(map),
         (map.get(&1), map.get(&9)) == (Some(&11), None)
     )
 }
@@ -74,7 +69,7 @@ fn map_4(map: &mut Map) -> bool {
     for (key, value) in map.iter() {
         total = total.wrapping_add(key.wrapping_mul(*value));
     }
-    let held = held & all!(total == 51, refill(map), (map.remove(&2), map.remove(&2)) == (Some(20), None), refill(map));
+    let held = held & all!(total == 51, (map.remove(&2), map.remove(&2)) == (Some(20), None), refill(map));
     map.retain(|key, value| *key == 1 || *value > 30);
     let held = held & all!((map.len(), map.contains_key(&1)) == (1, true), refill(map));
     map.clear();
@@ -98,7 +93,6 @@ fn cache_1(cache: &mut Cache<'_>) -> bool {
         cache.read(4) == Err(PageError::NoBlock),
         rewrite(cache),
         cache.contains(1) && !cache.contains(2),
-        rewrite(cache),
         cache.device().blocks == [10, 11, 12, 13],
         rewrite(cache),
         cache.flush() == Ok(()),

@@ -116,11 +116,8 @@ fn map_8(map: &mut LruMap<u64, u64>) -> bool {
         is_pair(map.peek_oldest(), 3, 30),
         fill(map),
         map.contains(&1) && !map.contains(&9),
-        fill(map),
         is_value(map.peek(&1), 10),
-        fill(map),
-        is_pair(map.peek_key_value(&1), 1, 10),
-        fill(map)
+        is_pair(map.peek_key_value(&1), 1, 10)
     );
     if let Some(value) = map.peek_mut(&1) {
         *value = 100;
@@ -132,9 +129,7 @@ fn map_9(map: &mut LruMap<u64, u64>) -> bool {
     all!(
         fill(map),
         is_pair(map.peek_oldest(), 1, 10),
-        fill(map),
         is_pair(map.peek_newest(), 3, 30),
-        fill(map),
         map.pop_oldest_if(|key, _| *key == 9) == None,
         map.pop_oldest_if(|key, _| *key == 1) == Some((1, 10)),
         fill(map),
@@ -247,13 +242,9 @@ fn map_16(map: &mut LruMap<u64, u64>) -> bool {
     }
     held & all!(
         total == 140,
-        fill(map),
         is_value(map.keys().next(), 3) && is_value(map.keys().next_back(), 1),
-        fill(map),
         is_value(map.values().next(), 30) && map.values().len() == 3,
-        fill(map),
         is_pair(map.get_index(0), 3, 30) && map.get_index(3).is_none(),
-        fill(map),
         (map.get_index_of(&1), map.get_index_of(&9)) == (Some(2), None)
     )
 }
