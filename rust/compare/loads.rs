@@ -18,9 +18,12 @@ impl Made for schnellru::RandomState {
     }
 }
 
+// All maps of a process have the same seeds, as those of a checkout without a source of random numbers: the processor
+// foresees the branches of a fill that it has seen before.
 impl Made for jeerdurian::RandomState {
     fn made() -> Self {
-        Default::default()
+        static SEEDS: std::sync::OnceLock<jeerdurian::RandomState> = std::sync::OnceLock::new();
+        *SEEDS.get_or_init(Default::default)
     }
 }
 

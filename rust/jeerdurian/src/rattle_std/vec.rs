@@ -1,6 +1,7 @@
 //! A vector whose growth may fail.
 
 use super::alloc::{AllocError, Global};
+use super::prelude::prove;
 use core::ops::{Deref, DerefMut};
 
 /// Rust's `Vec`, but each call that asks for memory returns a `Result`.
@@ -61,7 +62,13 @@ impl<T> Vec<T> {
     /// Adds an item, for which there is memory.
     #[inline]
     pub fn push_reserved(&mut self, item: T) {
-        self.0.push(item);
+        let n = self.0.len();
+        prove!(n < self.0.capacity(), "a push without memory");
+        // SAFETY: there is memory behind the last item, as the contract of each caller requires.
+        unsafe {
+            self.0.as_mut_ptr().add(n).write(item);
+            self.0.set_len(n + 1);
+        }
     }
 
     #[inline]
