@@ -28,10 +28,13 @@ READS = {"len", "is_empty", "contains", "contains_key", "peek", "peek_key_value"
 
 
 class Given:
-    """A value that examples begin with: how a test makes it, its type, how it is filled, and how a test ends it."""
+    """A value that examples begin with: how a test makes it, its type, how it is filled, and how a test ends it.
 
-    def __init__(self, make, kind=None, fill=None, end=""):
-        self.make, self.kind, self.fill, self.end = make, kind, fill, end
+    Examples with `hash_named` stand in a function that is generic over the hasher, if `generic` names its parameter and
+    the type: then the prover finds that an insert gets the hash of its key."""
+
+    def __init__(self, make, kind=None, fill=None, end="", generic=None):
+        self.make, self.kind, self.fill, self.end, self.generic = make, kind, fill, end, generic
 
 
 class Crate:
@@ -67,7 +70,8 @@ CRATES = {
         use test_helpers::{all, check};
         use test_maps::{fill, is_pair, is_value};""",
         {"map": Given("let mut map: LruMap<u64, u64> = LruMap::with_limiter(alloc, ByLength::new(3));",
-                      "LruMap<u64, u64>", "fill")}, pairs=True),
+                      "LruMap<u64, u64>", "fill",
+                      generic=("S: KeyHasher<u64>", "LruMap<u64, u64, ByLength, S>"))}, pairs=True),
     "lru_replay": Crate(["lru_replay"], """
         use lru_replay::{Answer, Call, ReplayEnd, ReplayError, replay, run_calls, run_summing, status};
         use schnellru::{ByCost, ByLength, LruMap};
@@ -245,7 +249,10 @@ class Written:
         return taken, alone
 
     def part(self, name, number, examples):
-        given, steps, is_full = self.crate.given[name], [], False
+        given, steps = self.crate.given[name], []
+        is_generic = given.generic is not None and "hash_named" in examples[0].text
+        parameter, kind_of = (f"<{given.generic[0]}>", given.generic[1]) if is_generic else ("", given.kind)
+        is_full = is_generic
         for it in examples:
             if not is_full:
                 steps.append((True, f"{given.fill}({name})"))
@@ -255,8 +262,9 @@ class Written:
         lines, last = body(steps)
         error = error_of(text)
         kind, last = (f"Result<bool, {error}>", f"Ok({last})") if error else ("bool", last)
-        self.functions.append("\n".join([f"fn {name}_{number}({name}: &mut {given.kind}) -> {kind} {{", *lines, last, "}"]))
-        return f"{name}_{number}(&mut {name})" + (".unwrap_or(false)" if error else "")
+        self.functions.append("\n".join([f"fn {name}_{number}{parameter}({name}: &mut {kind_of}) -> {kind} {{", *lines, last, "}"]))
+        call = f"{name}_{number}(&mut {name})" + (".unwrap_or(false)" if error else "")
+        return f"{given.fill}(&mut {name}), {call}" if is_generic else call
 
     def parts(self, name, examples):
         """Writes the functions that take a value, and the test that calls them."""
@@ -264,7 +272,8 @@ class Written:
         for it in [*examples, None]:
             length = len(list(it.statements())) + 1 if it else 0
             errors = {error_of(other.text) for other in [*group, it] if other} - {None}
-            if group and (it is None or size + length > LENGTH or len(errors) > 1):
+            is_other = it is not None and "hash_named" in "".join(other.text for other in [*group[-1:], it])
+            if group and (it is None or size + length > LENGTH or len(errors) > 1 or is_other):
                 calls.append(self.part(name, len(calls) + 1, group))
                 group, size = [], 0
             if it:
