@@ -1,5 +1,5 @@
 #!/usr/bin/env python3
-"""Writes the tests of the examples of the docs, `crates/*_tests/src/examples.rt`, from the doc comments of the libraries.
+"""Writes the tests of the examples, `crates/*_tests/src/examples.rt`, from the doc comments of the libraries.
 
 Run it at the top of the repository: `python3 docs/examples.py` compares what it would write with the files, and exits
 with 1 if they differ; `--write` writes them and needs `rt fmt`; `--bare` lists public items without an example.
@@ -140,7 +140,8 @@ class Example:
         for line in self.text.splitlines():
             found += ("\n" if found else "") + line
             level = STRING.sub("", found)
-            if sum(level.count(it) for it in "([{") == sum(level.count(it) for it in ")]}") and line.endswith((";", "}")):
+            is_closed = sum(level.count(it) for it in "([{") == sum(level.count(it) for it in ")]}")
+            if is_closed and line.endswith((";", "}")):
                 yield found
                 found = ""
         if found:
@@ -242,7 +243,8 @@ class Written:
         for it in examples:
             needed = [name for name in self.crate.given if it.needs(name)]
             name = next((name for name in needed if self.crate.given[name].fill), None)
-            if name and not re.search(rf"&{name}\b|{{{name}|\b{name} ==|\b{name}\.into_iter|\b{name}\.close\(\)", it.text):
+            owned = rf"&{name}\b|{{{name}|\b{name} ==|\b{name}\.into_iter|\b{name}\.close\(\)"
+            if name and not re.search(owned, it.text):
                 taken.setdefault(name, []).append(it)
             else:
                 alone.append(it)
@@ -262,7 +264,8 @@ class Written:
         lines, last = body(steps)
         error = error_of(text)
         kind, last = (f"Result<bool, {error}>", f"Ok({last})") if error else ("bool", last)
-        self.functions.append("\n".join([f"fn {name}_{number}{parameter}({name}: &mut {kind_of}) -> {kind} {{", *lines, last, "}"]))
+        head = f"fn {name}_{number}{parameter}({name}: &mut {kind_of}) -> {kind} {{"
+        self.functions.append("\n".join([head, *lines, last, "}"]))
         call = f"{name}_{number}(&mut {name})" + (".unwrap_or(false)" if error else "")
         return f"{given.fill}(&mut {name}), {call}" if is_generic else call
 
@@ -288,7 +291,8 @@ class Written:
         lines = []
         for name in names:
             make = self.crate.given[name].make
-            needed = [other for other in self.crate.given if other != name and re.search(rf"[(&, ]{other}\b", make.split("=")[1])]
+            needed = [other for other in self.crate.given
+                      if other != name and re.search(rf"[(&, ]{other}\b", make.split("=")[1])]
             lines += [*self.made(needed), make]
         return list(dict.fromkeys(lines))
 
@@ -356,8 +360,8 @@ def examples_of(crate):
 
 def main():
     if "--bare" in sys.argv:
-        bare = [f"{path}:{at}: {name}" for crate in CRATES.values() for path, at, name, is_public, examples in items(crate)
-                if is_public and not examples]
+        bare = [f"{path}:{at}: {name}" for crate in CRATES.values()
+                for path, at, name, is_public, examples in items(crate) if is_public and not examples]
         print("\n".join([*bare, f"{len(bare)} public items without an example"]))
         return 0
     lost = 0
