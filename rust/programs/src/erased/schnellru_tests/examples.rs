@@ -42,11 +42,14 @@ fn map_2(map: &mut LruMap<u64, u64>) -> Result<bool, AllocError> {
     Ok(held & all!(map.limiter().max_length() == 1))
 }
 
-fn map_3(map: &mut LruMap<u64, u64>) -> Result<bool, AllocError> {
-    let held = fill(map);
+fn map_3<S: KeyHasher<u64>>(map: &mut LruMap<u64, u64, ByLength, S>) -> Result<bool, AllocError> {
     let hash = map.hasher().hash_named(&5);
     let inserted = map.insert_hashed(hash, 5, 50, &mut |_, _| {})?;
-    let held = held & all!(inserted.kept, fill(map));
+    Ok(inserted.kept)
+}
+
+fn map_4(map: &mut LruMap<u64, u64>) -> Result<bool, AllocError> {
+    let held = fill(map);
     *map.limiter_mut() = ByLength::new(1);
     let held = held & all!(map.len() == 3);
     map.insert(4, 40)?;
@@ -56,15 +59,12 @@ fn map_3(map: &mut LruMap<u64, u64>) -> Result<bool, AllocError> {
             *count = count.saturating_add(1);
         }
     }
-    Ok(held)
-}
-
-fn map_4(map: &mut LruMap<u64, u64>) -> Result<bool, AllocError> {
-    Ok(all!(
-        fill(map),
-        map.get_or_insert(1, || 10)?.copied() == Some(10),
-        map.get_or_insert(1, || 20)?.copied() == Some(10)
-    ))
+    Ok(held
+        & all!(
+            fill(map),
+            map.get_or_insert(1, || 10)?.copied() == Some(10),
+            map.get_or_insert(1, || 20)?.copied() == Some(10)
+        ))
 }
 
 fn map_5(map: &mut LruMap<u64, u64>) -> Result<bool, GetOrInsertError<u8>> {
@@ -263,6 +263,7 @@ fn on_a_map() {
         let held = all!(
             map_1(&mut map),
             map_2(&mut map).unwrap_or(false),
+            fill(&mut map),
             map_3(&mut map).unwrap_or(false),
             map_4(&mut map).unwrap_or(false),
             map_5(&mut map).unwrap_or(false),
