@@ -10,9 +10,9 @@ use crate::erased::lru_model::laws;
 use crate::rattle_std::hash::Hash;
 
 /// Each of these calls makes a reference if it returns `Ok`: an insert (`inserts`), an insert that evicts nothing
-/// (`tries`), a get that finds the key, whatever is written through the loan (`gets`), and a promotion of a key that is
-/// there (`promotes`). So if a get returns `None`, an insert makes the reference. A reference to a key is one to each key
-/// that is equal (`equal`).
+/// (`tries`), a get that finds the key, whatever is written through the loan (`gets`), a promotion of a key that is
+/// there (`promotes`), and what a memo remembers (`remembers`). So if a get returns `None`, an insert makes the reference.
+/// A reference to a key is one to each key that is equal (`equal`).
 pub fn calls_make_references<K: Eq + Hash, V, S: KeyHasher<K>>() {
     laws::inserts_leave_the_newest::<K, V, S>();
     laws::maps_keep_to_their_length::<K, V, S>();
