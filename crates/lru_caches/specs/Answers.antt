@@ -8,7 +8,7 @@ use Rattle.lru_limits.specs.Rules.{Rules, Offers}
 use Rattle.lru_model.specs.GetOrInserts.{MakesNewest}
 use Rattle.lru_model.specs.State.{State}
 
--- what a contract sees of a memo
+-- what a contract sees of a memo or a loader
 pub record Memoized (K V S H F : Type 0) : Type 0 where
   -- the map of the stored answers
   pub map : State K V S H
@@ -20,12 +20,6 @@ abbrev pub Remembers : {K V S H : Type 0} → Rules K V S → Offers K V S K →
     → State K V S H → State K V S H → Type 0
 Remembers rules offers eq hash_of key value old new = (kept : Result Bool AllocError)
     × MakesNewest rules offers eq hash_of (λ made. made ≡ value) key old kept new
-
--- what a contract sees of a loader
-pub record Remembered (K V F : Type 0) : Type 0 where
-  -- the stored answers, newest first
-  pub known : List (K × V)
-  pub function : F
 
 module _ {K V : Type 0} (eq : K → K → Bool) (post : K → V → Type 0) where
   -- the function may return the value at the key, or at a key that equals it

@@ -7,7 +7,7 @@ use Rattle.std.proofs.lemmas.Map.{keys-set_value}
 use Rattle.std.proofs.lemmas.Map.Entries.{length-keys_of}
 use Rattle.std.proofs.lemmas.Map.Made.{length-remove_key}
 use Rattle.std.specs.Cmp.{IsEquivalence}
-use Rattle.std.specs.Prelude.{option_map, unwrap_or}
+use Rattle.std.specs.Prelude.{IsOk, option_map, unwrap_or}
 use Rattle.std.specs.List.{list_any}
 use Rattle.std.specs.Set.{remove_key}
 use Rattle.std.specs.declared.alloc.AllocError.{AllocError}
@@ -125,6 +125,14 @@ module _ {K V H : Type 0} {eq : K → K → Bool} {hash_of : H → K → ℕ} (l
       subst (Reference eq key old) (sym (same ∙ sym (read_back (eq key) old w found)))
       (got_refers (eq key) key w w old refl keeps.within keeps.sized found)
 
+  -- what a memo remembers, if it found memory
+  pub remembers_refers : (key : K) (v : V) (old : State K V ℕ H) (kept : Result Bool AllocError) (new : State K V ℕ H)
+      → KeepsToLength old → IsSized new → IsOk kept
+      → MakesNewest length_rules length_offers eq hash_of (λ made. made ≡ v) key old kept new → Reference eq key old new
+  remembers_refers key v old (Ok flag) new keeps sized ok h = makes_refers (λ made. made ≡ v) key old flag new keeps sized h
+  remembers_refers key v old (Err e) new keeps sized ok h = absurd cc
+
+  -- and one whose closure may fail
   pub makes_if_made : {E : Type 0} (makes : Result V E → Type 0) (key : K) (old : State K V ℕ H) (flag : Bool)
       (new : State K V ℕ H) → KeepsToLength old → IsSized new
       → MakesNewestIfMade length_rules length_offers eq hash_of makes key old (Ok flag) new → Reference eq key old new

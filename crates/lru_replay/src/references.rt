@@ -1,7 +1,7 @@
 //! Programs that make references: what they leave of a map with `ByLength`, and how often they miss. The functions do
 //! nothing: their contracts are the theorems. `docs/THEORY.md` says each in words.
 ghost use Rattle.std.specs.Prelude.{◌≡◌, ℕ, ◌+◌, ◌-◌, ◌*◌, ◌^◌, ◌≤◌, ◌<◌, Bool, [], ◌∷◌, ◌++◌, List, length, take, true};
-ghost use Rattle.std.specs.Prelude.{Some, None, Ok, Option, Result};
+ghost use Rattle.std.specs.Prelude.{Some, None, Ok, Option, Result, IsOk};
 ghost use Rattle.std.specs.declared.alloc.AllocError.{AllocError};
 ghost use Rattle.std.specs.List.{IsDistinct};
 ghost use Rattle.group_table.specs.Change.{count_up};
@@ -46,10 +46,10 @@ pub fn calls_make_references<K: Eq + Hash + Drop, V: Drop, S: KeyHasher<K>>()
     ensures promotes { (names : K → Bool) (key : K) (value : V) (old : State K V ByLength S) →
         names ≡ K.eq key → length old.pairs ≤ old.limiter → IsSized old → lookup names old.pairs ≡ Some value →
         Reference K.eq key old (promoted names old) }
-    ensures remembers { (key : K) (value : V) (kept : Bool) (old new : State K V ByLength S) →
-        KeepsToLength old → IsSized new →
+    ensures remembers { (key : K) (value : V) (kept : Result Bool AllocError) (old new : State K V ByLength S) →
+        KeepsToLength old → IsSized new → IsOk kept →
         MakesNewest ⟦<ByLength as Limiter<K, V>>⟧.rules ⟦<ByLength as Insertion<K, V, K>>⟧.offers K.eq S.hash_of
-        (λ made. made ≡ value) key old (Ok kept) new →
+        (λ made. made ≡ value) key old kept new →
         Reference K.eq key old new }
     ensures equal { (key other : K) (old new : State K V ByLength S) →
         K.eq other key ≡ true → Reference K.eq other old new → Reference K.eq key old new }

@@ -1,2 +1,1 @@
 pub mod Results
-mod Options

@@ -1,36 +1,36 @@
 //! Programs with `String` keys that make references, and prove how often they miss.
-ghost use Rattle.std.specs.Prelude.{◌≡◌, ◌≤◌, ◌<◌, ◌-◌, ◌+◌, ◌*◌, ℕ, [], List, IfOk, OnOk, is_none};
+ghost use Rattle.std.specs.Prelude.{◌≡◌, ◌≤◌, ◌<◌, ◌-◌, ◌+◌, ◌*◌, ℕ, [], List, IfOk, OnOk};
 ghost use Rattle.std.specs.String.{string_eq};
 ghost use Rattle.lru_model.specs.Kept.{KeepsToLength};
-ghost use Rattle.lru_model.specs.Lists.{keys_of, lookup};
-ghost use Rattle.lru_replay.specs.References.{Reference};
-ghost use Rattle.lru_theory.specs.Policies.{Demands, Served};
-ghost use Rattle.lru_theory.specs.Traces.{misses};
+ghost use Rattle.lru_model.specs.Lists.{keys_of};
+ghost use Rattle.lru_replay.specs.References.{Reference, Referenced};
+ghost use Rattle.lru_theory.specs.Policies.{Loads, Served};
+ghost use Rattle.lru_theory.specs.Traces.{fault, misses};
 
 use lru_replay::references::{
-    calls_make_references, programs_make_references, references_keep_the_newest,
+    calls_make_references, maps_are_competitive, references_keep_the_newest,
 };
 use schnellru::{ByLength, LruMap, RandomState, laws};
 use std::alloc::{AllocError, Global};
 
-/// Looks up a text, and computes and inserts its value if it is not there. Returns whether it did.
+/// Looks up a text, and computes and inserts its value if it is not there. Returns how many values it computed.
 fn compute_at_miss<F: Fn(&String) -> u64>(
     map: &mut LruMap<String, u64>,
     text: &String,
     compute: &F,
-) -> Result<bool, AllocError>
+) -> Result<u64, AllocError>
     requires callable { F.IsAlwaysCallable compute.now }
     requires keeps { KeepsToLength map.old }
     ensures reference { OnOk result (Reference string_eq text.now map.old map.new) }
-    ensures computed { IfOk result (λ computed. computed ≡ is_none (lookup (string_eq text.now) map.old.pairs)) }
+    ensures computed { IfOk result (λ count. count ≡ fault string_eq text.now (keys_of map.old.pairs)) }
 {
     calls_make_references::<String, u64, RandomState>();
     if let Some(_value) = map.get(text) {
-        return Ok(false);
+        return Ok(0);
     }
     let value = compute(text);
     map.insert(text.clone()?, value)?;
-    Ok(true)
+    Ok(1)
 }
 
 /// Looks up each text so, and returns how often it computed a value: exactly at the misses of the trace.
@@ -41,24 +41,22 @@ pub fn read_through<F: Fn(&String) -> u64>(
 ) -> Result<u64, AllocError>
     requires callable { F.IsAlwaysCallable compute.now }
     requires keeps { KeepsToLength map.old }
-    ensures { IfOk result
+    ensures run { IfOk result (λ count. Referenced string_eq map.old texts.now count map.new) }
+    ensures count { IfOk result
         (λ count. count ≡ misses string_eq map.old.limiter (keys_of map.old.pairs) texts.now) }
 {
-    programs_make_references::<String, u64, RandomState>();
     references_keep_the_newest::<String, u64, RandomState>();
     let _len = map.len();
     let mut count = 0u64;
     for text in texts {
-        if compute_at_miss(map, text, compute)? {
-            count += 1;
-        }
+        count += compute_at_miss(map, text, compute)?;
     }
     Ok(count)
 }
 
-/// Computes the values of the texts with two new maps. The larger one computes no more often, and no demand policy with
-/// h places, which may know the texts in advance, misses less than (length + 1 - h) / length times as often as the
-/// smaller one.
+/// Computes the values of the texts with two new maps. The larger one computes no more often, and no policy with h
+/// places, which may know the texts in advance and load them ahead, pays less than (length + 1 - h) / length times as
+/// often as the smaller one.
 fn compare<F: Fn(&String) -> u64>(
     alloc: Global,
     texts: &[String],
@@ -70,12 +68,12 @@ fn compare<F: Fn(&String) -> u64>(
     requires small { lengths.1 ≤ 939524096 }
     ensures fewer { IfOk result (λ counts. counts.1 ≤ counts.0) }
     ensures competitive { IfOk result (λ counts. (h paid : ℕ) (left : List _) → h ≤ lengths.0 →
-        Served (Demands string_eq h) left [] texts.now paid →
+        Served (Loads string_eq h) left [] texts.now paid →
         (lengths.0 + 1 - h) * counts.0 ≤ lengths.0 * paid) }
 {
     laws::maps_keep_to_their_length::<String, u64, RandomState>();
     lru_theory::more_places_never_miss_more::<String>();
-    lru_theory::lru_is_competitive::<String>();
+    maps_are_competitive::<String, u64, RandomState>();
     let mut small: LruMap<String, u64> = LruMap::new(
         alloc,
         ByLength::new(lengths.0),

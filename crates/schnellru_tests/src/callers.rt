@@ -250,6 +250,23 @@ fn put_exactly<K: Eq + Hash + Drop, V: Drop, L: Insertion<K, V, K>, S: KeyHasher
     map.insert(key, value)
 }
 
+/// Puts a pair into two maps with the same entries and growth left. Both inserts return the same, and leave the same
+/// entries, wherever each table has them.
+fn put_into_both(
+    one: &mut LruMap<u64, u64>,
+    other: &mut LruMap<u64, u64>,
+    key: u64,
+    value: u64,
+) -> Result<(bool, bool), AllocError>
+    requires same { contents one.old ≡ contents other.old }
+    requires room { (0 < room one.old) × (0 < room other.old) }
+    ensures { OnOk result (contents one.new ≡ contents other.new) }
+{
+    laws::inserts_with_room_are_exact::<u64, u64, u64, ByLength, RandomState>();
+    laws::inserts_are_exact_unless_refused::<u64, u64, u64, ByLength, RandomState>();
+    Ok((one.insert(key, value)?, other.insert(key, value)?))
+}
+
 /// Puts a pair of a new key into a full table, in which a search for the key first meets a bucket whose entry was
 /// removed. The entry fills that bucket, and all the others stay.
 fn put_into_deleted(

@@ -1,9 +1,10 @@
-//! `Loader`. A contract sees a loader as its stored values and its function.
+//! `Loader`. A contract sees a loader as the map of its stored values, and its function.
 ghost use Rattle.std.specs.Prelude.{◌≡◌, [], length, None, Ok, IfOk, IfSome, OnErr};
 ghost use Rattle.std.specs.Map.{lookup};
 ghost use Rattle.lru_model.specs.Lists.{is_empty};
 ghost use Rattle.lru_model.specs.Theorems.{KeepsValues};
-ghost use Rattle.lru_caches.specs.Answers.{IsAnswer, AreAnswers, loads};
+ghost use Rattle.lru_model.specs.State.{IsMap, empty_map};
+ghost use Rattle.lru_caches.specs.Answers.{IsAnswer, AreAnswers, Remembers, loads};
 
 use schnellru::{Insertion, KeyHasher, LruMap, RandomState, laws};
 use std::alloc::Global;
@@ -12,6 +13,9 @@ use std::marker::Model;
 
 /// A memo of a function that may fail, such as a read of a file. It stores the newest values that were loaded, up to a
 /// limit, and no failure.
+///
+/// It is proved that each value is right, that a failure changes nothing, and that any other call is a step of a map, as
+/// for a `Memo` (`step` of `load`).
 ///
 /// The function may borrow what it reads by `&`.
 ///
@@ -36,11 +40,11 @@ pub struct Loader<
 impl<K: Copy + Eq + Hash, V: Copy, F, L: Insertion<K, V, K>, S: KeyHasher<K>> Model
     for Loader<K, V, F, L, S> {
     ghost use Rattle.lru_model.specs.Theorems.{KeepsValues};
-    ghost use Rattle.lru_caches.specs.Answers.{Remembered};
+    ghost use Rattle.lru_caches.specs.Answers.{Memoized};
 
-    ghost Value = { Remembered K V F };
+    ghost Value = { Memoized K V L S F };
 
-    ghost view = { λ m. record { known = m.map.pairs; function = m.function } };
+    ghost view = { λ m. record { map = m.map; function = m.function } };
 
     ghost invariant = { λ m. KeepsValues L.offers };
 }
@@ -62,8 +66,10 @@ impl<K: Copy + Eq + Hash, V: Copy, E, F: Fn(K) -> Result<V, E>, L: Insertion<K, 
     /// ```
     pub fn new(alloc: Global, limiter: L, function: F) -> Self
         requires { KeepsValues L.offers }
-        ensures empty { result.known ≡ [] }
-        ensures known { AreAnswers K.eq (loads (F.post result.function)) result.known }
+        ensures map { result.map ≡ empty_map limiter result.map.hasher result.map.entry_bytes
+            (L.LinkType.number L.LinkType.MAX) }
+        ensures empty { result.map.pairs ≡ [] }
+        ensures known { AreAnswers K.eq (loads (F.post result.function)) result.map.pairs }
         ensures function { result.function ≡ function }
     {
         Loader {
@@ -99,8 +105,9 @@ impl<
         function: F,
     ) -> Self
         requires { KeepsValues L.offers }
-        ensures empty { result.known ≡ [] }
-        ensures known { AreAnswers K.eq (loads (F.post result.function)) result.known }
+        ensures map { result.map ≡ empty_map limiter hasher entry_bytes (L.LinkType.number L.LinkType.MAX) }
+        ensures empty { result.map.pairs ≡ [] }
+        ensures known { AreAnswers K.eq (loads (F.post result.function)) result.map.pairs }
         ensures function { result.function ≡ function }
     {
         Loader {
@@ -125,12 +132,15 @@ impl<
     /// The function failed, with this error. The stored values stay.
     pub fn load(&mut self, key: K) -> Result<V, E>
         requires callable { F.IsAlwaysCallable self.old.function }
-        requires known { AreAnswers K.eq (loads (F.post self.old.function)) self.old.known }
+        requires known { AreAnswers K.eq (loads (F.post self.old.function)) self.old.map.pairs }
         ensures value { IfOk result (IsAnswer K.eq (loads (F.post self.old.function)) key) }
-        ensures stored { IfSome (lookup (K.eq key) self.old.known) (λ value. result ≡ Ok value) }
-        ensures loaded { lookup (K.eq key) self.old.known ≡ None → F.post self.old.function key result }
-        ensures failed { OnErr result (self.new.known ≡ self.old.known) }
-        ensures known { AreAnswers K.eq (loads (F.post self.new.function)) self.new.known }
+        ensures stored { IfSome (lookup (K.eq key) self.old.map.pairs) (λ value. result ≡ Ok value) }
+        ensures loaded { lookup (K.eq key) self.old.map.pairs ≡ None → F.post self.old.function key result }
+        ensures step { IfOk result
+            (λ value. Remembers L.rules L.offers K.eq S.hash_of key value self.old.map self.new.map) }
+        ensures map { IsMap K.eq self.new.map }
+        ensures failed { OnErr result (self.new.map ≡ self.old.map) }
+        ensures known { AreAnswers K.eq (loads (F.post self.new.function)) self.new.map.pairs }
         ensures function { self.new.function ≡ self.old.function }
     {
         loaded(&mut self.map, &self.function, key)
@@ -144,7 +154,7 @@ impl<
     /// assert_eq!(rt; (blocks.load(3), blocks.len()), (Err(3), 1));
     /// ```
     pub fn len(&self) -> usize
-        ensures { result ≡ length self.now.known }
+        ensures { result ≡ length self.now.map.pairs }
     {
         self.map.len()
     }
@@ -159,7 +169,7 @@ impl<
     /// assert!(rt; empty.is_empty());
     /// ```
     pub fn is_empty(&self) -> bool
-        ensures { result ≡ is_empty self.now.known }
+        ensures { result ≡ is_empty self.now.map.pairs }
     {
         self.map.is_empty()
     }
@@ -179,7 +189,9 @@ fn loaded<
     ensures value { IfOk result (IsAnswer K.eq (loads (F.post function.now)) key) }
     ensures stored { IfSome (lookup (K.eq key) map.old.pairs) (λ value. result ≡ Ok value) }
     ensures loaded { lookup (K.eq key) map.old.pairs ≡ None → F.post function.now key result }
-    ensures failed { OnErr result (map.new.pairs ≡ map.old.pairs) }
+    ensures step { IfOk result (λ value. Remembers L.rules L.offers K.eq S.hash_of key value map.old map.new) }
+    ensures map { IsMap K.eq map.new }
+    ensures failed { OnErr result (map.new ≡ map.old) }
     ensures known { AreAnswers K.eq (loads (F.post function.now)) map.new.pairs }
 {
     laws::inserts_evict_the_oldest::<K, V, K, L, S>();

@@ -36,7 +36,7 @@ fn count<F: Fn(u64) -> u64, G: Fn(u64) -> Result<u64, u64>>(
     requires callable { F.IsAlwaysCallable memo.function }
     requires known { AreAnswers nat_eq (F.post memo.function) memo.map.pairs }
     requires can_load { G.IsAlwaysCallable loader.function }
-    requires loaded { AreAnswers nat_eq (loads (G.post loader.function)) loader.known }
+    requires loaded { AreAnswers nat_eq (loads (G.post loader.function)) loader.map.pairs }
 {
     let (mut keys, mut random, mut count) = ([u64::MAX; 100], Random::new(3), 0u64);
     for _ in 0..CALLS / LENGTHS.len() as u64 {

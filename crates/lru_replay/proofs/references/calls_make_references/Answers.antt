@@ -3,7 +3,7 @@ use Rattle.lru_model.proofs.CallerLemmas.{read_back}
 use Rattle.lru_limits.specs.Limits.{length-limits}
 use Rattle.lru_replay.specs.References.{Reference}
 use Rattle.lru_replay.proofs.ReferenceSteps.{Known, insert_refers, tries_refers}
-use Rattle.lru_replay.proofs.ReferenceSteps.{got_refers, equal_refers, makes_refers}
+use Rattle.lru_replay.proofs.ReferenceSteps.{got_refers, equal_refers, remembers_refers}
 use Rattle.lru_replay.proofs.references.calls_make_references.Goals as goal
 
 pub returns : goal.returns
@@ -23,7 +23,7 @@ returns g c =
       promotes = λ names key value old same within sized found.
           subst (Reference g.K.PartialEq.eq key old) (read_back names old value found)
           (got_refers laws known names key value value old same within sized found);
-      remembers = λ key value kept old new keeps sized h.
-          makes_refers laws known (λ made. made ≡ value) key old kept new keeps sized h;
+      remembers = λ key value kept old new keeps sized ok h.
+          remembers_refers laws known key value old kept new keeps sized ok h;
       equal = λ key other old new same h. equal_refers laws known key other old new same h;
     }

@@ -1,21 +1,22 @@
-use Rattle.std.proofs.Common.{◌≡◌, ◌∙◌, true, refl, sym, ap}
-use Rattle.std.specs.String.{string_eq, string_bytes}
-use Rattle.std.specs.Str.{bytes_eq}
-use Rattle.std.proofs.lemmas.Cmp.{nat_list_eq_equiv}
+use Rattle.std.proofs.Common.{refl, sym}
+use Rattle.std.specs.String.{string_eq}
+use Rattle.lru_replay.proofs.ReferenceLoops.{copy_equal, fault_found, fault_absent}
 use Rattle.lru_replay_tests.proofs.references.compute_at_miss.Goals as goal
 
-pub returns-in-Some-clause-reference : goal.returns-in-Some-clause-reference
-returns-in-Some-clause-reference g c =
-    let keeps = c.requires.keeps in
-    c.calls_make_references.ensures.gets (string_eq c.args.text.now) c.args.text.now _ _ c.args.map.now refl keeps.within
-    keeps.sized (sym c.in-Some.ensures.value)
+pub returns-in-Some : goal.returns-in-Some
+returns-in-Some g c =
+    let text = c.args.text.now in let keeps = c.requires.keeps in let found = sym c.in-Some.ensures.value in
+    let law = c.calls_make_references.ensures in record {
+      reference = law.gets (string_eq text) text _ _ c.args.map.now refl keeps.within keeps.sized found;
+      computed = fault_found string_eq text c.args.map.now.pairs _ found;
+    }
 
-pub returns-clause-reference : goal.returns-clause-reference
-returns-clause-reference g c =
-    let text = c.args.text.now in let copy = c.in_ok-clone.field-0 in
-    let old = c.args.map.now in let new = c.insert.new.self in
-    let same : string_eq copy text ≡ true = ap (λ bytes. bytes_eq bytes (string_bytes text)) c.in_ok-clone.ensures.cases
-    ∙ nat_list_eq_equiv.refl (string_bytes text) in
-    let law = c.calls_make_references.ensures in
-    law.equal text copy old new same (law.inserts copy c.compute-value.result c.in_ok-insert.field-0 old new
-    c.requires.keeps c.insert.ensures.map.sized c.in_ok-insert.ensures.step)
+pub returns : goal.returns
+returns g c =
+    let text = c.args.text.now in let copy = c.in_ok-clone.field-0 in let law = c.calls_make_references.ensures in
+    let old = c.args.map.now in let new = c.insert.new.self in record {
+      reference = law.equal text copy old new (copy_equal copy text c.in_ok-clone.ensures.cases) (law.inserts copy
+          c.compute-value.result c.in_ok-insert.field-0 old new c.requires.keeps c.insert.ensures.map.sized
+          c.in_ok-insert.ensures.step);
+      computed = fault_absent string_eq text old.pairs (sym c.in_default.ensures.value);
+    }

@@ -8,6 +8,8 @@
 use crate::rattle_std::prelude::*;
 
 #[cfg(test)]
+mod caches;
+#[cfg(test)]
 mod callers;
 #[cfg(test)]
 mod examples;

@@ -6,23 +6,23 @@ use crate::rattle_std::prelude::*;
 
 use crate::erased::schnellru::{ByLength, LruMap, RandomState, laws};
 use crate::programs::lru_replay::references::{
-    calls_make_references, programs_make_references, references_keep_the_newest,
+    calls_make_references, maps_are_competitive, references_keep_the_newest,
 };
 use crate::rattle_std::alloc::{AllocError, Global};
 
-/// Looks up a text, and computes and inserts its value if it is not there. Returns whether it did.
+/// Looks up a text, and computes and inserts its value if it is not there. Returns how many values it computed.
 fn compute_at_miss<F: Fn(&String) -> u64>(
     map: &mut LruMap<String, u64>,
     text: &String,
     compute: &F,
-) -> Result<bool, AllocError> {
+) -> Result<u64, AllocError> {
     calls_make_references::<String, u64, RandomState>();
     if let Some(_value) = map.get(text) {
-        return Ok(false);
+        return Ok(0);
     }
     let value = compute(text);
     map.insert(text.try_clone()?, value)?;
-    Ok(true)
+    Ok(1)
 }
 
 /// Looks up each text so, and returns how often it computed a value: exactly at the misses of the trace.
@@ -31,21 +31,18 @@ pub fn read_through<F: Fn(&String) -> u64>(
     texts: &[String],
     compute: &F,
 ) -> Result<u64, AllocError> {
-    programs_make_references::<String, u64, RandomState>();
     references_keep_the_newest::<String, u64, RandomState>();
     let _len = map.len();
     let mut count = 0u64;
     for text in texts {
-        if compute_at_miss(map, text, compute)? {
-            count += 1;
-        }
+        count += compute_at_miss(map, text, compute)?;
     }
     Ok(count)
 }
 
-/// Computes the values of the texts with two new maps. The larger one computes no more often, and no demand policy with
-/// h places, which may know the texts in advance, misses less than (length + 1 - h) / length times as often as the
-/// smaller one.
+/// Computes the values of the texts with two new maps. The larger one computes no more often, and no policy with h
+/// places, which may know the texts in advance and load them ahead, pays less than (length + 1 - h) / length times as
+/// often as the smaller one.
 fn compare<F: Fn(&String) -> u64>(
     alloc: Global,
     texts: &[String],
@@ -54,7 +51,7 @@ fn compare<F: Fn(&String) -> u64>(
 ) -> Result<(u64, u64), AllocError> {
     laws::maps_keep_to_their_length::<String, u64, RandomState>();
     crate::erased::lru_theory::more_places_never_miss_more::<String>();
-    crate::erased::lru_theory::lru_is_competitive::<String>();
+    maps_are_competitive::<String, u64, RandomState>();
     let mut small: LruMap<String, u64> = LruMap::new(alloc, ByLength::new(lengths.0), [1, 2, 3, 4], 40);
     let mut large: LruMap<String, u64> = LruMap::new(alloc, ByLength::new(lengths.1), [1, 2, 3, 4], 40);
     Ok((read_through(&mut small, texts, compute)?, read_through(&mut large, texts, compute)?))

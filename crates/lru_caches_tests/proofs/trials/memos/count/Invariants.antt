@@ -7,5 +7,5 @@ invariant-loop g l = record {
   function : l.memo.function ≡ l.fn.memo.function;
   known : AreAnswers nat_eq (goal.F-post g l.memo.function) l.memo.map.pairs;
   source : l.loader.function ≡ l.fn.loader.function;
-  loaded : AreAnswers nat_eq (loads (goal.G-post g l.loader.function)) l.loader.known;
+  loaded : AreAnswers nat_eq (loads (goal.G-post g l.loader.function)) l.loader.map.pairs;
 }

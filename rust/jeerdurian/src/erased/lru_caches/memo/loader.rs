@@ -1,5 +1,5 @@
 // Erased from crates/lru_caches/src/memo/loader.rt: do not edit.
-//! `Loader`. A contract sees a loader as its stored values and its function.
+//! `Loader`. A contract sees a loader as the map of its stored values, and its function.
 
 #[allow(unused_imports)]
 use crate::rattle_std::prelude::*;
@@ -10,6 +10,9 @@ use crate::rattle_std::hash::Hash;
 
 /// A memo of a function that may fail, such as a read of a file. It stores the newest values that were loaded, up to a
 /// limit, and no failure.
+///
+/// It is proved that each value is right, that a failure changes nothing, and that any other call is a step of a map, as
+/// for a `Memo` (`step` of `load`).
 ///
 /// The function may borrow what it reads by `&`.
 ///

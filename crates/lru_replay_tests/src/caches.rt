@@ -1,0 +1,48 @@
+//! Calls of the caches of `lru_caches` that are references: a memo, a loader and a page cache.
+ghost use Rattle.std.specs.Prelude.{◌≡◌, Bool, IfOk, IsOk, Result, nat_eq};
+ghost use Rattle.std.specs.declared.alloc.AllocError.{AllocError};
+ghost use Rattle.lru_caches.specs.Answers.{AreAnswers, loads};
+ghost use Rattle.lru_model.specs.Kept.{KeepsToLength};
+ghost use Rattle.lru_model.specs.Lists.{keys_of};
+ghost use Rattle.lru_replay.specs.References.{Reference};
+ghost use Rattle.lru_theory.specs.Traces.{refer};
+
+use lru_caches::{BlockDevice, Loader, Memo, PageCache, PageError};
+use lru_replay::references::calls_make_references;
+use schnellru::{ByLength, RandomState};
+
+/// Returns an answer of a memo. Unless the memo ran out of memory, the call is a reference.
+fn answer<F: Fn(u64) -> u64>(memo: &mut Memo<u64, u64, F, ByLength>, key: u64) -> u64
+    requires callable { F.IsAlwaysCallable memo.old.function }
+    requires known { AreAnswers nat_eq (F.post memo.old.function) memo.old.map.pairs }
+    requires keeps { KeepsToLength memo.old.map }
+    ensures { (kept : Result Bool AllocError) × (IsOk kept → Reference nat_eq key memo.old.map memo.new.map) }
+{
+    calls_make_references::<u64, u64, RandomState>();
+    memo.answer(key)
+}
+
+/// Returns a value of a loader. If it was loaded, and the loader did not run out of memory, the call is a reference.
+fn load<F: Fn(u64) -> Result<u64, u64>>(
+    loader: &mut Loader<u64, u64, F, ByLength>,
+    key: u64,
+) -> Result<u64, u64>
+    requires callable { F.IsAlwaysCallable loader.old.function }
+    requires known { AreAnswers nat_eq (loads (F.post loader.old.function)) loader.old.map.pairs }
+    requires keeps { KeepsToLength loader.old.map }
+    ensures { IfOk result (λ value. (kept : Result Bool AllocError) ×
+        (IsOk kept → Reference nat_eq key loader.old.map loader.new.map)) }
+{
+    calls_make_references::<u64, u64, RandomState>();
+    let value = loader.load(key)?;
+    Ok(value)
+}
+
+/// Reads a block through a page cache. The pages are those of an LRU cache after a reference to the number.
+fn read<D: BlockDevice<u8>>(cache: &mut PageCache<u8, D>, n: u64) -> Result<u8, PageError<D::Error>>
+    ensures { IfOk result
+        (λ block. keys_of cache.new.pages ≡ refer nat_eq cache.old.capacity n (keys_of cache.old.pages)) }
+{
+    let block = cache.read(n)?;
+    Ok(block)
+}

@@ -1,0 +1,28 @@
+// Erased from crates/lru_replay_tests/src/caches.rt: do not edit.
+//! Calls of the caches of `lru_caches` that are references: a memo, a loader and a page cache.
+
+#[allow(unused_imports)]
+use crate::rattle_std::prelude::*;
+
+use crate::erased::lru_caches::{BlockDevice, Loader, Memo, PageCache, PageError};
+use crate::erased::schnellru::{ByLength, RandomState};
+use crate::programs::lru_replay::references::calls_make_references;
+
+/// Returns an answer of a memo. Unless the memo ran out of memory, the call is a reference.
+fn answer<F: Fn(u64) -> u64>(memo: &mut Memo<u64, u64, F, ByLength>, key: u64) -> u64 {
+    calls_make_references::<u64, u64, RandomState>();
+    memo.answer(key)
+}
+
+/// Returns a value of a loader. If it was loaded, and the loader did not run out of memory, the call is a reference.
+fn load<F: Fn(u64) -> Result<u64, u64>>(loader: &mut Loader<u64, u64, F, ByLength>, key: u64) -> Result<u64, u64> {
+    calls_make_references::<u64, u64, RandomState>();
+    let value = loader.load(key)?;
+    Ok(value)
+}
+
+/// Reads a block through a page cache. The pages are those of an LRU cache after a reference to the number.
+fn read<D: BlockDevice<u8>>(cache: &mut PageCache<u8, D>, n: u64) -> Result<u8, PageError<D::Error>> {
+    let block = cache.read(n)?;
+    Ok(block)
+}
