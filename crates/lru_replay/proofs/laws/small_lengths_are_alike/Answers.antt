@@ -1,4 +1,5 @@
 use Rattle.std.proofs.Common.{nat_lt}
+use Rattle.lru_limits.specs.Limiters.{length_terms}
 use Rattle.lru_limits.specs.Limits.{length-limits}
 use Rattle.lru_model.proofs.CallerLemmas.{offers_of-determined, offers_of-finds}
 use Rattle.lru_replay.proofs.SmallGrowth.{small_of, small_alike}
@@ -13,7 +14,7 @@ returns g c = record {
       let also = other_short old other alike few within in
       let small = small_of old sized buckets in
       c.small_calls_are_alike.ensures.alike old other new last calls replies answers
-      (offers_of-determined _) (offers_of-finds _) alike buckets plain
+      (offers_of-determined length_terms) (offers_of-finds length_terms) alike buckets plain
       (run_stays_short eq _ (law.length (λ most. most) length-limits) (law.limit (λ most. most) length-limits) old calls replies new run none reserves few within small)
       (run_stays_short eq _ (law.length (λ most. most) length-limits) (law.limit (λ most. most) length-limits) other calls answers last ran none reserves also.0 also.1
       (small_alike old other alike small))
