@@ -2,6 +2,7 @@ use Rattle.std.proofs.Common.{◌≡◌, ℕ, nat_eq, true, sym, subst}
 use Rattle.std.proofs.lemmas.Bool.{eqb-true}
 use Rattle.std.proofs.lemmas.List.Elements.{All-contains}
 use Rattle.std.proofs.lemmas.Map.Views.{Contains-from_lookup}
+use Rattle.lru_limits.specs.Limiters.{length_terms}
 use Rattle.lru_model.proofs.CallerLemmas.{read-all, inserted-all, inserted-only, offers_of-keeps}
 use Rattle.schnellru_tests.proofs.callers.memo.Goals as goal
 
@@ -30,7 +31,7 @@ returns-in_err-insert-clause-knows g c =
     let value = c.answers-value.result in
     let evicts = c.inserts_evict_the_oldest.ensures key value old c.insert.result new c.insert.ensures.step in
     let insert = c.insert.ensures in
-    let only = inserted-only (offers_of-keeps _) _ nat_eq key old new c.insert.result insert.says insert.stores in
+    let only = inserted-only (offers_of-keeps length_terms) _ nat_eq key old new c.insert.result insert.says insert.stores in
     inserted-all (λ p. goal.F-post g c.args.answers p.0 p.1) (nat_eq key) old.pairs new.pairs evicts c.requires.known
     (λ p named found. alike (goal.F-post g c.args.answers) key value c.answers-value.ensures p named (only p.1 found))
 
@@ -42,6 +43,6 @@ returns-clause-knows g c =
     let value = c.answers-value.result in
     let evicts = c.inserts_evict_the_oldest.ensures key value old c.insert.result new c.insert.ensures.step in
     let insert = c.insert.ensures in
-    let only = inserted-only (offers_of-keeps _) _ nat_eq key old new c.insert.result insert.says insert.stores in
+    let only = inserted-only (offers_of-keeps length_terms) _ nat_eq key old new c.insert.result insert.says insert.stores in
     inserted-all (λ p. goal.F-post g c.args.answers p.0 p.1) (nat_eq key) old.pairs new.pairs evicts c.requires.known
     (λ p named found. alike (goal.F-post g c.args.answers) key value c.answers-value.ensures p named (only p.1 found))
