@@ -7,9 +7,8 @@ use Rattle.std.specs.declared.alloc.AllocError.{AllocError}
 use Rattle.std.specs.declared.alloc.Global.{Global}
 use Rattle.std.specs.declared.string.String.{String}
 use Rattle.group_table.specs.Sizes.{full_capacity}
-use Rattle.lru_limits.specs.Limiters.{memory_rules}
+use Rattle.lru_limits.specs.Limiters.{memory_rules, all_terms}
 use Rattle.lru_limits.specs.Rules.{Offers}
-use Rattle.lru_limits.specs.Limiters.{all_terms}
 use Rattle.lru_model.specs.State.{State, Leaves, contents, buckets}
 use Rattle.lru_model.specs.Lists.{lookup_entry}
 use Rattle.lru_model.specs.Place.{Place, Outcome, placed, refused, no_memory}
@@ -63,5 +62,5 @@ returns c = λ yes.
     let pair : String Global × ℕ = (c.args.key, c.args.value) in
     keeps _ string_eq _ pair c.args.map.now c.insert.new.self c.insert.result
     (c.growth_keeps_the_list.ensures.otherwise pair) (c.refused_growth_keeps_half.ensures.half pair) yes
-    (offers_of-accepts all_terms _ string_eq c.args.key c.args.value (contents c.args.map.now) refl refl) c.requires
+    (offers_of-accepts all_terms memory_rules string_eq c.args.key c.args.value (contents c.args.map.now) refl refl) c.requires
     c.insert.ensures.step
