@@ -12,6 +12,8 @@ mod counts;
 #[cfg(test)]
 mod every_call;
 #[cfg(test)]
+mod exact;
+#[cfg(test)]
 mod examples;
 #[cfg(test)]
 mod memory;

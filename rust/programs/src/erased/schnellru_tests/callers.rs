@@ -158,31 +158,6 @@ fn put_and_keep_half(
     map.insert(key, value)
 }
 
-/// Puts a pair into a map. It ends as the table reports (`reported`), and the entries, the limiter and the report
-/// determine how it ends (`given`). In a table of up to 16 buckets the growth left determines the report (`small`).
-fn put_exactly<K: Eq + Hash, V, L: Insertion<K, V, K>, S: KeyHasher<K>>(
-    map: &mut LruMap<K, V, L, S>,
-    key: K,
-    value: V,
-) -> Result<bool, AllocError> {
-    laws::inserts_are_exact_unless_refused::<K, V, K, L, S>();
-    laws::small_inserts_are_exact::<K, V, K, L, S>();
-    map.insert(key, value)
-}
-
-/// Puts a pair into two maps with the same entries and growth left. Both inserts return the same, and leave the same
-/// entries, wherever each table has them.
-fn put_into_both(
-    one: &mut LruMap<u64, u64>,
-    other: &mut LruMap<u64, u64>,
-    key: u64,
-    value: u64,
-) -> Result<(bool, bool), AllocError> {
-    laws::inserts_with_room_are_exact::<u64, u64, u64, ByLength, RandomState>();
-    laws::inserts_are_exact_unless_refused::<u64, u64, u64, ByLength, RandomState>();
-    Ok((one.insert(key, value)?, other.insert(key, value)?))
-}
-
 /// Puts a pair of a new key into a full table, in which a search for the key first meets a bucket whose entry was
 /// removed. The entry fills that bucket, and all the others stay.
 fn put_into_deleted(map: &mut LruMap<String, u64>, key: String, value: u64) -> Result<bool, AllocError> {

@@ -1,4 +1,4 @@
-use Rattle.schnellru_tests.proofs.callers.put_exactly.Goals as goal
+use Rattle.schnellru_tests.proofs.exact.put_exactly.Goals as goal
 
 pub returns : goal.returns
 returns g c =

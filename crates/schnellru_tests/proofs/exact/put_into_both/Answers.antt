@@ -3,7 +3,7 @@ use Rattle.lru_limits.specs.Limiters.{length_rules, length_offers}
 use Rattle.lru_model.proofs.CallerLemmas.{offers_if-determined}
 use Rattle.lru_model.specs.Exact.{at_once, InsertsInList}
 use Rattle.lru_model.specs.State.{contents}
-use Rattle.schnellru_tests.proofs.callers.put_into_both.Goals as goal
+use Rattle.schnellru_tests.proofs.exact.put_into_both.Goals as goal
 
 pub returns : goal.returns
 returns c =
