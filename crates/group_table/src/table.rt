@@ -10,7 +10,7 @@ ghost use Rattle.group_table.specs.Control.{buckets_of};
 ghost use Rattle.group_table.specs.Layout.{IsLaidOut, slots_of};
 ghost use Rattle.group_table.specs.Probe.{IsFirstFree};
 ghost use Rattle.group_table.specs.Search.{Finds, FindsNone};
-ghost use Rattle.group_table.specs.Change.{Places, MayFill, HasNoPlace, Removes, count_up, no_insertions};
+ghost use Rattle.group_table.specs.Change.{Places, MayFill, HasNoPlace, Removes, no_insertions};
 
 use crate::control::{Control, emptied_byte, room_taken, tag_of};
 use crate::entries::Entries;
@@ -274,9 +274,7 @@ impl<T> Table<T> {
         self.len += 1;
         fill_bucket(&mut self.control, &mut self.entries, b, tag_of(hash), entry);
         self.room -= spent;
-        // The test and the sum take one instruction each where a count is changed in memory.
-        make_count_room(&mut self.placed);
-        self.placed += 1;
+        self.placed = self.placed.saturating_add(1);
     }
 
     fn empty_buckets(&mut self)
@@ -349,14 +347,4 @@ fn is_without_buckets(control: &Control, room: usize) -> bool
     ensures { result ≡ nat_eq (buckets_of control.now) 0 }
 {
     room == 0 && control.is_empty()
-}
-
-// Subtracts 1 from a count of `u64::MAX`, so that the addition of 1 that follows ends there.
-#[inline]
-fn make_count_room(count: &mut u64)
-    ensures { count.new + 1 ≡ count_up count.old 1 }
-{
-    if *count == u64::MAX {
-        *count -= 1;
-    }
 }

@@ -164,9 +164,7 @@ impl<T> Table<T> {
         self.len += 1;
         fill_bucket(&mut self.control, &mut self.entries, b, tag_of(hash), entry);
         self.room -= spent;
-        // The test and the sum take one instruction each where a count is changed in memory.
-        make_count_room(&mut self.placed);
-        self.placed += 1;
+        self.placed = self.placed.saturating_add(1);
     }
 
     fn empty_buckets(&mut self) {
@@ -233,12 +231,4 @@ impl<T> Table<T> {
 #[inline]
 fn is_without_buckets(control: &Control, room: usize) -> bool {
     room == 0 && control.is_empty()
-}
-
-// Subtracts 1 from a count of `u64::MAX`, so that the addition of 1 that follows ends there.
-#[inline]
-fn make_count_room(count: &mut u64) {
-    if *count == u64::MAX {
-        *count -= 1;
-    }
 }

@@ -59,7 +59,7 @@ returns-clause-placed g c =
       first = rw (← c.self.view_is) at c.requires.first;
       slots = rw (c.fill_bucket.ensures.control, c.fill_bucket.ensures.entries, c.tag_of.ensures.value)
           (slots_of-written _ _ c.args.b _ _);
-      insertions = ap (λ n. record { placed = n; moved = c.self.inside.moved }) c.make_count_room.ensures;
+      insertions = ap (λ n. record { placed = n; moved = c.self.inside.moved }) c.saturating_add-self-inside.ensures;
     }
 
 pub returns-clause-room : goal.returns-clause-room
