@@ -6,16 +6,17 @@ use Rattle.std.specs.Option.{option_copied}
 use Rattle.std.specs.declared.hash.Hasher as hasher
 use Rattle.group_table.specs.declared.link.LinkType as link_type
 use Rattle.lru_limits.specs.Hashing.{HasherMembers}
-use Rattle.lru_limits.specs.Rules.{Rules, Offers}
+use Rattle.lru_limits.specs.Admissions.{Terms}
+use Rattle.lru_limits.specs.Rules.{Rules}
 use Rattle.lru_tenants.specs.Cache.{Cache}
 use Rattle.lru_tenants.specs.contracts.cache.TenantCache.{the_row}
 use mathlib.Core.Option.{none}
 
 -- what `L.Budgeted` gives a clause
-abbrev pub BudgetMembers : Type 0 → Type 0 → Type 0 → Type 1
+abbrev pub BudgetMembers : Type 0 → Type 0 → Type 0 → Type 0
 BudgetMembers K V L = record {
   rules : Rules K V L;
-  offers : Offers K V L K;
+  terms : Terms K V L;
   cost_of : K → V → ℕ;
   account : L → ℕ;
   budget_of : L → ℕ;
@@ -37,7 +38,7 @@ module _ (N K V L S M H : RattleType) (name : HashMembers N.Denot) (key : HashMe
         accepts_new = limits.accepts_new;
         made = limits.made;
         rebudgeted = limits.rebudgeted;
-      }) (record { cost_of = limits.cost_of; account = limits.account }) (record { offers = limits.offers })
+      }) (record { cost_of = limits.cost_of; account = limits.account }) (record { terms = limits.terms })
       (record { rules = limits.rules }) links
       (record { hash_of = hashed.hash_of }) (record { build_hasher = hashed.build_hasher }) hash
 
