@@ -8,7 +8,7 @@ use Rattle.std.proofs.Math.ListN.{get_or-map}
 use native.Mathlib.Decide.{dec_lt}
 use Rattle.group_table.specs.Sizes.{full_capacity}
 use Rattle.group_table.specs.Bucket.{Bucket, Mark, empty, deleted, full, is_full, is_deleted, is_used, bucket_at}
-use Rattle.group_table.specs.Bucket.{IsFull, entry_count, mark_of, marks_of, room}
+use Rattle.group_table.specs.Bucket.{IsFull, entry_count, mark_of, marks_of, growth_left}
 
 module _ {A : Type 0} where
   pub empty_not_full : (s : Bucket A) → s ≡ empty → is_full s ≡ true → ⊥
@@ -162,6 +162,6 @@ module _ {A : Type 0} where
   some_empty (full held ∷ rest) p = let w = some_empty rest (omega (arith, count_by-cons is_used (full held) rest)) in
       (suc w.0, omega (arith, w.1), w.2)
 
-pub room_is : (marks : List Mark) → room marks ≡ full_capacity (length marks) - count_by is_used marks
-unfolding room
+pub room_is : (marks : List Mark) → growth_left marks ≡ full_capacity (length marks) - count_by is_used marks
+unfolding growth_left
 room_is marks = refl

@@ -1,7 +1,7 @@
 -- What follows for the bucket states of every table.
 use Rattle.std.proofs.Common.{◌≡◌, ℕ, ◌+◌, ◌<◌, ◌≤◌, List, length, ap, arith, inl, inr, subst}
 use Rattle.group_table.specs.Sizes.{full_capacity, IsPowerFromFour}
-use Rattle.group_table.specs.Bucket.{Mark, empty, bucket_at, is_full, entry_count, room}
+use Rattle.group_table.specs.Bucket.{Mark, empty, bucket_at, is_full, entry_count, growth_left}
 use Rattle.group_table.specs.Table.{IsTable}
 use Rattle.group_table.specs.Probe.{probed, IsFirstFree}
 use Rattle.group_table.proofs.SizeLemmas.{full_capacity-lt}
@@ -10,8 +10,8 @@ use Rattle.group_table.proofs.ProbeLemmas.{probed-lt, probed-meets}
 use Rattle.group_table.proofs.FirstFree.{first_free_there}
 
 pub record TableFacts (marks : List Mark) : Type 0 where
-  pub within : entry_count marks + room marks ≤ full_capacity (length marks)
-  pub exact : length marks ≤ 16 → entry_count marks + room marks ≡ full_capacity (length marks)
+  pub within : entry_count marks + growth_left marks ≤ full_capacity (length marks)
+  pub exact : length marks ≤ 16 → entry_count marks + growth_left marks ≡ full_capacity (length marks)
   pub some_empty : 0 < length marks → (b : ℕ) × (b < length marks) × (bucket_at marks b ≡ empty)
   pub some_free : 0 < length marks → (hash : ℕ) → (b : ℕ) × (b < length marks) × IsFirstFree marks hash b
   pub visits_each : (hash b : ℕ) → b < length marks

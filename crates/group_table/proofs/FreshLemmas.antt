@@ -7,7 +7,7 @@ use Rattle.std.proofs.lemmas.List.Sums.{sum_by-cons}
 use native.Mathlib.Decide.{dec_lt}
 use Rattle.group_table.specs.Sizes.{IsPowerFromFour, full_capacity}
 use Rattle.group_table.specs.Bucket.{Bucket, Slot, Tagged, empty, deleted, full, is_used, is_full, bucket_at}
-use Rattle.group_table.specs.Bucket.{entry_count, marks_of, room}
+use Rattle.group_table.specs.Bucket.{entry_count, marks_of, growth_left}
 use Rattle.group_table.specs.Fits.{Fits}
 use Rattle.group_table.specs.Layout.{slot_of, slots_of, byte_of, byte_at, IsLaidOut, IsValid}
 use Rattle.group_table.proofs.BucketLemmas.{empty_not_deleted, count_by-pos, count_by-cons, room_is, length-marks_of}
@@ -72,9 +72,9 @@ module _ (T : Type 0) where
   pub entry_count-fresh : (n m : ℕ) → n ≤ m → entry_count (slots_of {T = T} (replicate m 255) (replicate n None)) ≡ 0
   entry_count-fresh n m p = rw (slots_of-fresh n m p) (none_counted {A = Tagged T} is_full refl n)
 
-  pub room-fresh : (n : ℕ) → room (marks_of (replicate {A = Slot T} n empty))
+  pub growth_left-fresh : (n : ℕ) → growth_left (marks_of (replicate {A = Slot T} n empty))
       ≡ full_capacity (length (replicate {A = Slot T} n empty))
-  room-fresh n =
+  growth_left-fresh n =
       let slots : List (Slot T) = replicate n empty in
       omega (
         arith,

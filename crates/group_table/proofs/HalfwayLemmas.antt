@@ -58,7 +58,7 @@ module _ {T N : Type 0} (number : N → ℕ) (none : N) (IsGiven : (ℕ → ℕ)
   IsHalfway-start = record {
     gone = nowhere;
     placed = nowhere;
-    room = full_capacity (length whole);
+    growth_left = full_capacity (length whole);
     gone_length = length-replicate (length whole) _;
     placed_length = length-replicate (length whole) _;
     now_length = refl;
@@ -94,7 +94,7 @@ module _ {T N : Type 0} (number : N → ℕ) (none : N) (IsGiven : (ℕ → ℕ)
   passed_by here = record {
     gone = half.gone;
     placed = half.placed;
-    room = half.room;
+    growth_left = half.growth_left;
     gone_length = half.gone_length;
     placed_length = half.placed_length;
     now_length = half.now_length;
@@ -161,7 +161,7 @@ module _ {T N : Type 0} (number : N → ℕ) (none : N) (IsGiven : (ℕ → ℕ)
         record {
           gone = half.gone;
           placed = half.placed;
-          room = half.room;
+          growth_left = half.growth_left;
           gone_length = half.gone_length ∙ sym (length-set whole b None);
           placed_length = half.placed_length ∙ sym (length-set whole b None);
           now_length = length-set now b None ∙ half.now_length ∙ sym (length-set whole b None);
@@ -208,9 +208,9 @@ module _ {T N : Type 0} (number : N → ℕ) (none : N) (IsGiven : (ℕ → ℕ)
 
   pub IsValid-last : IsValid control now (full_capacity (length whole) - count_by is_some whole)
   IsValid-last =
-      let valid : IsValid control now half.room = rw (← all_placed) half.valid in
+      let valid : IsValid control now half.growth_left = rw (← all_placed) half.valid in
       let capacity : full_capacity (length now) ≡ full_capacity (length whole) = ap full_capacity half.now_length in
-      let left : half.room ≡ full_capacity (length whole) - count_by is_some whole =
+      let left : half.growth_left ≡ full_capacity (length whole) - count_by is_some whole =
       omega (
         arith,
         capacity,

@@ -30,12 +30,12 @@ module _ {T N : Type 0} (number : N → ℕ) (none : N) (IsGiven : (ℕ → ℕ)
   pub record IsHalfway (old now : List (Option T)) (control : List ℕ) (links : List N) (passed : ℕ) : Type 0 where
     pub gone : List (Option T)
     pub placed : List (Option T)
-    pub room : ℕ
+    pub growth_left : ℕ
     pub gone_length : length gone ≡ length old
     pub placed_length : length placed ≡ length old
     pub now_length : length now ≡ length old
     pub links_length : length links ≡ length old
-    pub valid : IsValid control placed room
+    pub valid : IsValid control placed growth_left
     pub none_deleted : count_by is_deleted (slots_of control placed) ≡ 0
     pub counted : count_by is_some now ≡ count_by is_some old
     pub settled : (b : ℕ) → b < passed → IsSettled old gone placed now b

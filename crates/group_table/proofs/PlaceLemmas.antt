@@ -3,7 +3,7 @@ use Rattle.std.proofs.Common.{◌≡◌, ◌≢◌, ℕ, ◌+◌, ◌-◌, ◌<�
 use Rattle.std.proofs.Common.{Bool, false, refl, ap, sym, ◌∙◌, subst, arith, inl, inr, nat_eq, eq-eqb}
 use Rattle.std.proofs.lemmas.Bool.{ltb-false, eqb-false, cases_eq, ne_eqb, false≢true}
 use Rattle.group_table.specs.Bucket.{Slot, Tagged, empty, deleted, full, bucket_at, is_full, is_used, entry_count}
-use Rattle.group_table.specs.Bucket.{mark_of, room, room_at}
+use Rattle.group_table.specs.Bucket.{mark_of, growth_left, growth_left_at}
 use Rattle.group_table.specs.Probe.{probed, Reaches, IsFirst, IsFirstFree}
 use Rattle.group_table.specs.Change.{MayFill, HasNoPlace}
 use Rattle.group_table.specs.Layout.{slot_of, slots_of, marks_by, Agrees, IsValid, written}
@@ -38,18 +38,18 @@ module _ {T : Type 0} where
 
   -- what an insertion takes of the room: 1 at an empty bucket, and nothing at a deleted one
   abbrev pub Spends : Slot T → ℕ → ℕ → Type 0
-  Spends s room spent = ((s ≡ empty) × (0 < room) × (spent ≡ 1)) ⊎ ((s ≡ deleted) × (spent ≡ 0))
+  Spends s growth_left spent = ((s ≡ empty) × (0 < growth_left) × (spent ≡ 1)) ⊎ ((s ≡ deleted) × (spent ≡ 0))
 
-  spends_marked : (s : Slot T) (room spent : ℕ) → is_full (mark_of s) ≡ false → spent ≡ cond (is_used (mark_of s)) 0 1
-      → spent ≤ room → Spends s room spent
-  spends_marked empty room spent free is within = inl (refl, omega (arith, is, within), is)
-  spends_marked deleted room spent free is within = inr (refl, is)
-  spends_marked (full held) room spent free is within = absurd (false≢true (sym free))
+  spends_marked : (s : Slot T) (growth_left spent : ℕ) → is_full (mark_of s) ≡ false → spent ≡ cond (is_used (mark_of s)) 0 1
+      → spent ≤ growth_left → Spends s growth_left spent
+  spends_marked empty growth_left spent free is within = inl (refl, omega (arith, is, within), is)
+  spends_marked deleted growth_left spent free is within = inr (refl, is)
+  spends_marked (full held) growth_left spent free is within = absurd (false≢true (sym free))
 
-  free_of : (s : Slot T) (room spent : ℕ) → Spends s room spent → (is_full s ≡ false)
-      × (cond (is_used s) 1 0 + spent ≡ 1) × (spent ≤ room)
-  free_of s room spent (inl w) = rw w.0 (refl, omega (arith, w.2), omega (arith, w.1, w.2))
-  free_of s room spent (inr w) = rw w.0 (refl, omega (arith, w.1), omega (arith, w.1))
+  free_of : (s : Slot T) (growth_left spent : ℕ) → Spends s growth_left spent → (is_full s ≡ false)
+      × (cond (is_used s) 1 0 + spent ≡ 1) × (spent ≤ growth_left)
+  free_of s growth_left spent (inl w) = rw w.0 (refl, omega (arith, w.2), omega (arith, w.1, w.2))
+  free_of s growth_left spent (inr w) = rw w.0 (refl, omega (arith, w.1), omega (arith, w.1))
 
 -- the bucket is free, and a search for the hash reaches it
 abbrev pub IsFreeFor : {T : Type 0} → List ℕ → List (Option T) → ℕ → ℕ → Type 0
@@ -68,7 +68,7 @@ some_free_byte control entries r valid pos = let w = some_empty_byte control ent
     (w.0, w.1, omega (arith, w.2))
 
 pub some_buckets : {T : Type 0} {control : List ℕ} {entries : List (Option T)} {r : ℕ} → IsValid control entries r
-    → 0 < room (marks_by control entries) → 0 < buckets_of control
+    → 0 < growth_left (marks_by control entries) → 0 < buckets_of control
 some_buckets {T} {control} {entries} {r} valid some = omega (
   arith,
   some,
@@ -162,7 +162,7 @@ module _ {T : Type 0} {control : List ℕ} {entries : List (Option T)} {r spent 
     | inr w ↦ inr (bucket_at-marks_of (slots_of control entries) b ∙ rw w.0)
   ]
 
-  pub room_spent : room_at (marks_by control entries) b ≡ spent
+  pub room_spent : growth_left_at (marks_by control entries) b ≡ spent
   room_spent = elim spends [
     | inl w ↦ ap (λ m. cond {A = ℕ} (is_used m) 0 1) (bucket_at-marks_of (slots_of control entries) b ∙ ap mark_of w.0)
         ∙ sym w.2
@@ -186,9 +186,9 @@ module _ {T : Type 0} {control : List ℕ} {entries : List (Option T)} {r spent 
         ap (λ t. cond {A = ℕ} t 1 0) frees.0 in
         omega (arith, none, entry_count-written control entries r valid b tag (Some entry) within tag_fits)
 
-    pub room-placed : room (marks_by (written control entries b tag) (set entries b (Some entry))) + room_at
-        (marks_by control entries) b ≡ room (marks_by control entries)
-    room-placed =
+    pub growth_left-placed : growth_left (marks_by (written control entries b tag) (set entries b (Some entry))) + growth_left_at
+        (marks_by control entries) b ≡ growth_left (marks_by control entries)
+    growth_left-placed =
         let frees = free_of (bucket_at (slots_of control entries) b) r spent spends in
         omega (arith, frees.2, room_spent, room_by _ _ _ IsValid-placed, room_by control entries r valid)
 
@@ -203,7 +203,7 @@ module _ {T : Type 0} {control : List ℕ} {entries : List (Option T)} {r : ℕ}
       let byte = sym (is_full-byte control entries valid.laid_out b free_within) ∙ free in
       (free_slot _ _ (valid.laid_out.agrees b free_within) (ltb-false _ 128 byte)).1
 
-  pub free_spends : (spent : ℕ) → spent ≡ room_at (marks_by control entries) b → spent ≤ room (marks_by control entries)
+  pub free_spends : (spent : ℕ) → spent ≡ growth_left_at (marks_by control entries) b → spent ≤ growth_left (marks_by control entries)
       → Spends (bucket_at (slots_of control entries) b) r spent
   free_spends spent is enough =
       let mark = bucket_at-marks_of (slots_of control entries) b in

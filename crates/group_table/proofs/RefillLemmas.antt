@@ -14,7 +14,7 @@ use Rattle.group_table.proofs.SearchLemmas.{held_by}
 use Rattle.group_table.proofs.FitsLemmas.{one_held}
 use Rattle.group_table.proofs.WriteLemmas.{written-same, slots_of-written, IsValid-written, entry_count-written}
 
-module _ {T : Type 0} (control : List ℕ) (entries : List (Option T)) (room : ℕ) (valid : IsValid control entries room)
+module _ {T : Type 0} (control : List ℕ) (entries : List (Option T)) (growth_left : ℕ) (valid : IsValid control entries growth_left)
     (b : ℕ) (there : IsFull (slots_of control entries) b) (w : T) where
   within : b < length entries
   within = full_within control entries valid.laid_out b there
@@ -35,12 +35,12 @@ module _ {T : Type 0} (control : List ℕ) (entries : List (Option T)) (room : �
       ∙ slots_of-written control entries b (get_or control b 0) (Some w)
       ∙ ap (λ s. set (slots_of control entries) b (refilled s w)) (sym was)
 
-  pub IsValid-refilled : IsValid control (set entries b (Some w)) room
+  pub IsValid-refilled : IsValid control (set entries b (Some w)) growth_left
   IsValid-refilled =
       let one : ◌≡◌ {A = ℕ} (cond (is_used (bucket_at (slots_of control entries) b)) 1 0) 1 =
       ap (λ t. cond {A = ℕ} t 1 0) (used_from_full _ there) in
-      subst (λ all. IsValid all (set entries b (Some w)) room) same_bytes
-      (IsValid-written control entries room valid b (get_or control b 0) (Some w) within byte_below room
+      subst (λ all. IsValid all (set entries b (Some w)) growth_left) same_bytes
+      (IsValid-written control entries growth_left valid b (get_or control b 0) (Some w) within byte_below growth_left
       (omega (arith, one))
       (λ small e. full_not_deleted (slot_of (get_or control b 0) (Some w)) refl e))
 
@@ -49,7 +49,7 @@ module _ {T : Type 0} (control : List ℕ) (entries : List (Option T)) (room : �
   entry_count-refilled =
       let one : ◌≡◌ {A = ℕ} (cond (is_full (bucket_at (slots_of control entries) b)) 1 0) 1 =
       ap (λ t. cond {A = ℕ} t 1 0) there in
-      let count = entry_count-written control entries room valid b (get_or control b 0) (Some w) within byte_below in
+      let count = entry_count-written control entries growth_left valid b (get_or control b 0) (Some w) within byte_below in
       ap (λ all. entry_count (slots_of all (set entries b (Some w)))) (sym same_bytes) ∙ omega (arith, one, count)
 
 pub entry_of-refilled : {T : Type 0} (s : Slot T) (w : T) → is_full s ≡ true → entry_of (refilled s w) ≡ Some w

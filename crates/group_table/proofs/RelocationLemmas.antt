@@ -6,17 +6,17 @@ use Rattle.std.proofs.lemmas.List.Sums.{sum_by-cons}
 use native.Mathlib.Decide.{dec_lt}
 use Rattle.group_table.specs.Sizes.{full_capacity}
 use Rattle.group_table.specs.Bucket.{Slot, deleted, empty, is_full, is_deleted, entry_of, entry_at}
-use Rattle.group_table.specs.Bucket.{entry_count, marks_of, room}
+use Rattle.group_table.specs.Bucket.{entry_count, marks_of, growth_left}
 use Rattle.group_table.specs.Layout.{slot_of, slots_of, IsLaidOut}
 use Rattle.group_table.specs.Moves.{place_at}
 use Rattle.group_table.proofs.BucketLemmas.{bucket_at-past, room_is, used_count-marks_of, used_count-split}
 use Rattle.group_table.proofs.BucketLemmas.{length-marks_of}
 use Rattle.group_table.proofs.LayoutLemmas.{bucket_at-laid_out, length-laid_out, entries_within, is_full-test}
 
-pub room-none_deleted : {T : Type 0} (slots : List (Slot T)) → count_by is_deleted slots ≡ 0
+pub growth_left-none_deleted : {T : Type 0} (slots : List (Slot T)) → count_by is_deleted slots ≡ 0
     → entry_count slots ≤ full_capacity (length slots)
-    → room (marks_of slots) + entry_count slots ≡ full_capacity (length slots)
-room-none_deleted slots none within =
+    → growth_left (marks_of slots) + entry_count slots ≡ full_capacity (length slots)
+growth_left-none_deleted slots none within =
     omega (
       arith,
       none,

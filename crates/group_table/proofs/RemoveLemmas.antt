@@ -5,7 +5,7 @@ use Rattle.std.proofs.Common.{refl, ap, sym, ◌∙◌, arith, inl, inr, count_b
 use Rattle.std.proofs.Math.Nat.{mod-add-mod, mod-lt}
 use mir.Val.{bool_byte}
 use Rattle.group_table.specs.Bucket.{Slot, Tagged, Mark, empty, deleted, bucket_at, is_used, is_full, IsFull, IsEmpty}
-use Rattle.group_table.specs.Bucket.{entry_count, room, room_at}
+use Rattle.group_table.specs.Bucket.{entry_count, growth_left, growth_left_at}
 use Rattle.group_table.specs.Neighbours.{HasEmptyNeighbours, IsHemmedIn}
 use Rattle.group_table.specs.Change.{Removes}
 use Rattle.group_table.specs.Layout.{slot_of, slots_of, marks_by, IsLaidOut, IsValid, written}
@@ -18,10 +18,10 @@ use Rattle.group_table.proofs.LayoutLemmas.{byte_from_mark}
 use Rattle.group_table.proofs.TableLemmas.{used_lt, room_by}
 use Rattle.group_table.proofs.WriteLemmas.{slots_of-written, IsValid-written, entry_count-written}
 
-pub room_gained : (gives : Bool) (room ones : ℕ) → ones ≡ cond gives (2 ^ 64 - 1) 0 → room < 2 ^ 64 - 1
-    → (room + (2 ^ 64 - ones)) % 2 ^ 64 ≡ room + bool_byte gives
-room_gained true room ones all small = omega (arith, all)
-room_gained false room ones none small = omega (arith, none)
+pub room_gained : (gives : Bool) (growth_left ones : ℕ) → ones ≡ cond gives (2 ^ 64 - 1) 0 → growth_left < 2 ^ 64 - 1
+    → (growth_left + (2 ^ 64 - ones)) % 2 ^ 64 ≡ growth_left + bool_byte gives
+room_gained true growth_left ones all small = omega (arith, all)
+room_gained false growth_left ones none small = omega (arith, none)
 
 hemmed_in_small : (marks : List Mark) (b : ℕ) → IsHemmedIn (IsEmpty marks) (length marks) b → length marks ≤ 16
     → count_by is_used marks < length marks → ⊥
@@ -70,10 +70,10 @@ module _ {T : Type 0} (control : List ℕ) (entries : List (Option T)) (r : ℕ)
     pub count : entry_count (slots_of (written control entries b byte) (set entries b None)) + 1
         ≡ entry_count (slots_of control entries)
     pub removes : Removes (slots_of control entries) (slots_of (written control entries b byte) (set entries b None)) b
-    pub gained_there : room_at (marks_by (written control entries b byte) (set entries b None)) b ≡ gained
+    pub gained_there : growth_left_at (marks_by (written control entries b byte) (set entries b None)) b ≡ gained
 
   counts_as : (byte : ℕ) (s : Slot T) → slot_of byte None ≡ s
-      → room_at (marks_by (written control entries b byte) (set entries b None)) b ≡ cond (is_used s) 0 1
+      → growth_left_at (marks_by (written control entries b byte) (set entries b None)) b ≡ cond (is_used s) 0 1
   counts_as byte s is =
       let in_slots : b < length (slots_of control entries) =
       omega (arith, within, length-laid_out control entries valid.laid_out) in
@@ -119,7 +119,7 @@ module _ {T : Type 0} (control : List ℕ) (entries : List (Option T)) (r : ℕ)
       count_by-pos is_full (slots_of control entries) b
       (omega (arith, within, length-laid_out control entries valid.laid_out)) there
 
-  pub room-removed : (byte gained : ℕ) → Removed byte gained
-      → room (marks_by (written control entries b byte) (set entries b None))
-      ≡ room (marks_by control entries) + room_at (marks_by (written control entries b byte) (set entries b None)) b
-  room-removed byte gained w = omega (arith, w.gained_there, room_by _ _ _ w.is_valid, room_by control entries r valid)
+  pub growth_left-removed : (byte gained : ℕ) → Removed byte gained
+      → growth_left (marks_by (written control entries b byte) (set entries b None))
+      ≡ growth_left (marks_by control entries) + growth_left_at (marks_by (written control entries b byte) (set entries b None)) b
+  growth_left-removed byte gained w = omega (arith, w.gained_there, room_by _ _ _ w.is_valid, room_by control entries r valid)

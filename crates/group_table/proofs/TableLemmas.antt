@@ -1,7 +1,7 @@
 -- What holds of every table, from the invariant of its fields.
 use Rattle.std.proofs.Common.{◌≡◌, ℕ, ◌+◌, ◌-◌, ◌<◌, ◌≤◌, List, length, Option, ap, sym, ◌∙◌, arith, inl, inr, count_by}
 use Rattle.group_table.specs.Sizes.{full_capacity, IsBucketCount}
-use Rattle.group_table.specs.Bucket.{empty, bucket_at, is_used, is_deleted, room}
+use Rattle.group_table.specs.Bucket.{empty, bucket_at, is_used, is_deleted, growth_left}
 use Rattle.group_table.specs.Table.{IsTable}
 use Rattle.group_table.specs.Layout.{slots_of, marks_by, IsValid}
 use Rattle.group_table.proofs.SizeLemmas.{full_capacity-lt, full_capacity-small}
@@ -16,7 +16,7 @@ module _ {T : Type 0} (control : List ℕ) (entries : List (Option T)) (r : ℕ)
   used_is : count_by is_used (marks_by control entries) + r ≡ full_capacity (length entries)
   used_is = omega (arith, used_count-marks_of (slots_of control entries), valid.room_left)
 
-  pub room_by : r ≡ room (marks_by control entries)
+  pub room_by : r ≡ growth_left (marks_by control entries)
   room_by = let e = room_is (marks_by control entries) in let same = length-marks_by control entries valid.laid_out in
       (let f : r ≡ full_capacity (length entries) - count_by is_used (marks_by control entries) = omega
       (arith, used_is) in f)

@@ -65,8 +65,8 @@ module _ {T N : Type 0} {number : N → ℕ} {none : N} {IsGiven : (ℕ → ℕ)
 
   pub some_free : (b : ℕ) × (b < length now) × (128 ≤ get_or control b 0)
   some_free =
-      let pos = some_buckets control half.placed half.room half.valid half.none_deleted less in
-      let w = some_free_byte control half.placed half.room half.valid pos in
+      let pos = some_buckets control half.placed half.growth_left half.valid half.none_deleted less in
+      let w = some_free_byte control half.placed half.growth_left half.valid pos in
       (w.0, omega (arith, w.1, half.placed_length, half.now_length), w.2)
 
   n_placed : buckets_of control ≡ length half.placed
@@ -74,7 +74,7 @@ module _ {T N : Type 0} {number : N → ℕ} {none : N} {IsGiven : (ℕ → ℕ)
 
   module _ {hash b : ℕ} (reached : IsFreeFor control half.placed hash b) where
     in_placed : b < length half.placed
-    in_placed = join_within control half.placed half.room half.valid half.none_deleted less hash b reached
+    in_placed = join_within control half.placed half.growth_left half.valid half.none_deleted less hash b reached
 
     put_within : b < length now
     put_within = omega (arith, in_placed, half.placed_length, half.now_length)
@@ -88,7 +88,7 @@ module _ {T N : Type 0} {number : N → ℕ} {none : N} {IsGiven : (ℕ → ℕ)
 
   pub put_into : {hash b : ℕ} → IsFirst (full_at control) (probed (buckets_of control) hash) b → IsPut hash b
   put_into {hash} {b} first =
-      let reached = first_reached control half.placed half.room half.valid half.none_deleted less hash b first in
+      let reached = first_reached control half.placed half.growth_left half.valid half.none_deleted less hash b first in
       record {
         reached = reached;
         in_whole = omega (arith, put_within reached, now_length);
@@ -102,7 +102,7 @@ module _ {T N : Type 0} {number : N → ℕ} {none : N} {IsGiven : (ℕ → ℕ)
       (tag_is : tag ≡ hash_tag hash) (tag_fits : tag < 128)
       (gives : (hash_at : ℕ → ℕ) → IsGiven hash_at → hash ≡ hash_at old) where
     free_placed : place_at half.placed b ≡ None
-    free_placed = join_none control half.placed half.room half.valid half.none_deleted less hash b reached
+    free_placed = join_none control half.placed half.growth_left half.valid half.none_deleted less hash b reached
 
     same_bytes : written control now b tag ≡ written control half.placed b tag
     same_bytes = ap (λ k. set (set control b tag) (b + max 16 k) tag) (sym (buckets_now half) ∙ n_placed)
@@ -117,7 +117,7 @@ module _ {T N : Type 0} {number : N → ℕ} {none : N} {IsGiven : (ℕ → ℕ)
     now_then = set now b (Some entry)
 
     joins : Joins (slots_of control half.placed) (slots_of (written control half.placed b tag) placed_then) hash entry b
-    joins = joins_there control half.placed half.room half.valid half.none_deleted less hash b reached tag
+    joins = joins_there control half.placed half.growth_left half.valid half.none_deleted less hash b reached tag
         entry tag_fits tag_is
 
     was_out : place_at half.gone old ≡ None
@@ -193,12 +193,12 @@ module _ {T N : Type 0} {number : N → ℕ} {none : N} {IsGiven : (ℕ → ℕ)
       IsHalfway-then = record {
         gone = gone_then;
         placed = placed_then;
-        room = half.room - 1;
+        growth_left = half.growth_left - 1;
         gone_length = length-set half.gone old (Some entry) ∙ half.gone_length ∙ same_length ∙ sym next_length;
         placed_length = length-set half.placed b (Some entry) ∙ half.placed_length ∙ same_length ∙ sym next_length;
         now_length = length-set now b (Some entry) ∙ half.now_length ∙ same_length ∙ sym next_length;
         links_length = length-set links old (link b) ∙ half.links_length ∙ same_length ∙ sym next_length;
-        valid = IsValid-joined control half.placed half.room half.valid half.none_deleted less hash b reached
+        valid = IsValid-joined control half.placed half.growth_left half.valid half.none_deleted less hash b reached
             tag entry tag_fits;
         none_deleted = deleted_count-joined joins ∙ half.none_deleted;
         counted = counted;

@@ -64,12 +64,12 @@ module _ {A : Type 0} where
   marks_of buckets = map mark_of buckets
 
 -- how many more entries are sure to find an empty bucket
-unfoldable pub room : List Mark → ℕ
-room marks = full_capacity (length marks) - count_by is_used marks
+unfoldable pub growth_left : List Mark → ℕ
+growth_left marks = full_capacity (length marks) - count_by is_used marks
 
 -- what a bucket counts in the room: one if it is empty
-abbrev pub room_at : List Mark → ℕ → ℕ
-room_at marks b = if is_used (bucket_at marks b) then 0 else 1
+abbrev pub growth_left_at : List Mark → ℕ → ℕ
+growth_left_at marks b = if is_used (bucket_at marks b) then 0 else 1
 
 module _ {T : Type 0} where
   abbrev pub entry_of : Slot T → Option T

@@ -1,6 +1,6 @@
 -- How an insertion and a removal change a table.
 use Rattle.std.specs.Prelude.{◌≡◌, ℕ, ◌+◌, ◌-◌, ◌^◌, ◌<◌, ◌⊎◌, min, List, length, slice_set}
-use Rattle.group_table.specs.Bucket.{Bucket, Mark, empty, deleted, bucket_at, IsEmpty, marks_of, room}
+use Rattle.group_table.specs.Bucket.{Bucket, Mark, empty, deleted, bucket_at, IsEmpty, marks_of, growth_left}
 use Rattle.group_table.specs.Probe.{filled, IsFirstFree}
 use Rattle.group_table.specs.Neighbours.{HasEmptyNeighbours, IsHemmedIn}
 use Rattle.group_table.specs.Table.{Table, Insertions}
@@ -27,12 +27,12 @@ placings c = count_up c.placed c.moved
 
 -- an entry may go into this free bucket: growth is left, or the bucket is deleted
 abbrev pub MayFill : List Mark → ℕ → Type 0
-MayFill marks b = (0 < room marks) ⊎ (bucket_at marks b ≡ deleted)
+MayFill marks b = (0 < growth_left marks) ⊎ (bucket_at marks b ≡ deleted)
 
 -- there are no buckets, or no growth is left and the first free bucket is empty
 abbrev pub HasNoPlace : List Mark → ℕ → Type 0
 HasNoPlace marks hash = (length marks ≡ 0)
-    ⊎ ((room marks ≡ 0) × (b : ℕ) × IsFirstFree marks hash b × (bucket_at marks b ≡ empty))
+    ⊎ ((growth_left marks ≡ 0) × (b : ℕ) × IsFirstFree marks hash b × (bucket_at marks b ≡ empty))
 
 module _ {T : Type 0} where
   -- the entry filled the first free bucket, and each other bucket stays

@@ -51,8 +51,8 @@ module _ {T : Type 0} where
     pub agrees : (b : ℕ) → b < length entries → Agrees (slice_index control b) (slice_index_or entries b None)
     pub bytes : (p : ℕ) → p < length control → slice_index control p ≡ byte_at (slots_of control entries) p
 
-  pub record IsValid (control : List ℕ) (entries : List (Option T)) (room : ℕ) : Type 0 where
+  pub record IsValid (control : List ℕ) (entries : List (Option T)) (growth_left : ℕ) : Type 0 where
     pub laid_out : IsLaidOut control entries
-    pub room_left : count_by is_used (slots_of control entries) + room ≡ full_capacity (length entries)
+    pub room_left : count_by is_used (slots_of control entries) + growth_left ≡ full_capacity (length entries)
     pub none_deleted : length entries ≤ 16
         → (b : ℕ) → bucket_at (slots_of control entries) b ≡ deleted → length entries ≡ 0

@@ -3,7 +3,7 @@ ghost use Rattle.std.specs.Prelude.{◌≡◌, ℕ, ◌+◌, ◌^◌, ◌<◌, �
 ghost use Rattle.std.specs.Prelude.{IfOk, IfErr, OnErr, IsOk, nat_eq};
 ghost use Rattle.std.specs.Borrow.{sem};
 ghost use Rattle.group_table.specs.Sizes.{IsBucketCount};
-ghost use Rattle.group_table.specs.Bucket.{empty, marks_of, IsFull, entry_at, entry_count, room, room_at};
+ghost use Rattle.group_table.specs.Bucket.{empty, marks_of, IsFull, entry_at, entry_count, growth_left, growth_left_at};
 ghost use Rattle.group_table.specs.Table.{IsTable, with_entry};
 ghost use Rattle.group_table.specs.Fits.{Fits, with_hash};
 ghost use Rattle.group_table.specs.Control.{buckets_of};
@@ -44,7 +44,7 @@ mod relocation;
 /// ```
 pub struct Table<T> {
     // Not next to `len`: the compiler would join the changes of both into one load and one store, which is slower.
-    room: usize,
+    growth_left: usize,
     control: Control,
     entries: Entries<T>,
     placed: u64,
@@ -66,7 +66,7 @@ impl<T> Model for Table<T> {
       insertions = record { placed = t.placed; moved = t.moved };
     } };
 
-    ghost invariant = { λ t. IsValid t.control t.entries t.room
+    ghost invariant = { λ t. IsValid t.control t.entries t.growth_left
         × (t.len ≡ entry_count (slots_of t.control t.entries)) };
 }
 
@@ -83,7 +83,7 @@ impl<T> Table<T> {
         Table {
             control: Control::new(alloc),
             entries: Entries::new(alloc),
-            room: 0,
+            growth_left: 0,
             len: 0,
             placed: 0,
             moved: 0,
@@ -123,7 +123,7 @@ impl<T> Table<T> {
         Ok(Table {
             control,
             entries,
-            room: full_capacity(buckets),
+            growth_left: full_capacity(buckets),
             len: 0,
             placed: 0,
             moved: 0,
@@ -184,8 +184,8 @@ impl<T> Table<T> {
         requires { IsFull self.old.slots b }
         ensures entry { entry_at self.old.slots b ≡ Some result }
         ensures removed { Removes self.old.slots self.new.slots b }
-        ensures room { room (marks_of self.new.slots)
-            ≡ room (marks_of self.old.slots) + room_at (marks_of self.new.slots) b }
+        ensures growth_left { growth_left (marks_of self.new.slots)
+            ≡ growth_left (marks_of self.old.slots) + growth_left_at (marks_of self.new.slots) b }
         ensures insertions { self.new.insertions ≡ self.old.insertions }
         ensures fits { (hash_of : ℕ → ℕ) → Fits self.old.slots hash_of → Fits self.new.slots hash_of }
         ensures table { IsTable (marks_of self.new.slots) }
@@ -193,7 +193,7 @@ impl<T> Table<T> {
         self.len -= 1;
         let gives_room = ones_if_empty_neighbours(&self.control, b);
         // To subtract all ones is to add 1.
-        self.room = self.room.wrapping_sub(gives_room);
+        self.growth_left = self.growth_left.wrapping_sub(gives_room);
         let byte = emptied_byte(gives_room);
         empty_bucket(&mut self.control, &mut self.entries, b, byte)
     }
@@ -205,17 +205,17 @@ impl<T> Table<T> {
     /// and reads 16 control bytes at once, usually of one group or two.
     ///
     /// ```
-    /// if table.room() > 0 {
+    /// if table.growth_left() > 0 {
     ///     let b = table.place(9, "b");
     ///     assert_eq!(rt; table.find(9, |entry| *entry == "b"), Some(b));
     /// }
     /// ```
     #[inline(always)]
     pub fn place(&mut self, hash: u64, entry: T) -> usize
-        requires { 0 < room (marks_of self.old.slots) }
+        requires { 0 < growth_left (marks_of self.old.slots) }
         ensures placed { Places self.old self.new hash entry result }
-        ensures room { room (marks_of self.new.slots) + room_at (marks_of self.old.slots) result
-            ≡ room (marks_of self.old.slots) }
+        ensures growth_left { growth_left (marks_of self.new.slots) + growth_left_at (marks_of self.old.slots) result
+            ≡ growth_left (marks_of self.old.slots) }
         ensures fits { (hash_of : ℕ → ℕ) → Fits self.old.slots hash_of →
             Fits self.new.slots (with_hash hash_of result hash) }
         ensures table { IsTable (marks_of self.new.slots) }
@@ -236,8 +236,8 @@ impl<T> Table<T> {
     pub fn try_place(&mut self, hash: u64, entry: T) -> Result<usize, T>
         ensures placed { IfOk result (Places self.old self.new hash entry) }
         ensures may_fill { IfOk result (MayFill (marks_of self.old.slots)) }
-        ensures room { IfOk result (λ b.
-            room (marks_of self.new.slots) + room_at (marks_of self.old.slots) b ≡ room (marks_of self.old.slots)) }
+        ensures growth_left { IfOk result (λ b.
+            growth_left (marks_of self.new.slots) + growth_left_at (marks_of self.old.slots) b ≡ growth_left (marks_of self.old.slots)) }
         ensures fits { IfOk result (λ b. (hash_of : ℕ → ℕ) → Fits self.old.slots hash_of →
             Fits self.new.slots (with_hash hash_of b hash)) }
         ensures table { IsTable (marks_of self.new.slots) }
@@ -246,12 +246,12 @@ impl<T> Table<T> {
         ensures unchanged { OnErr result (self.new ≡ self.old) }
         ensures no_place { OnErr result (HasNoPlace (marks_of self.old.slots) hash) }
     {
-        if is_without_buckets(&self.control, self.room) {
+        if is_without_buckets(&self.control, self.growth_left) {
             return Err(entry);
         }
         let b = first_free(&self.control, hash);
         let spent = room_taken(self.control.byte(b));
-        if self.room < spent {
+        if self.growth_left < spent {
             return Err(entry);
         }
         self.fill_free(b, spent, hash, entry);
@@ -262,18 +262,18 @@ impl<T> Table<T> {
     fn fill_free(&mut self, b: usize, spent: usize, hash: u64, entry: T)
         requires bucket { b < length self.old.slots }
         requires first { IsFirstFree (marks_of self.old.slots) hash b }
-        requires spent { spent ≡ room_at (marks_of self.old.slots) b }
-        requires within { spent ≤ room (marks_of self.old.slots) }
+        requires spent { spent ≡ growth_left_at (marks_of self.old.slots) b }
+        requires within { spent ≤ growth_left (marks_of self.old.slots) }
         ensures placed { Places self.old self.new hash entry b }
-        ensures room { room (marks_of self.new.slots) + room_at (marks_of self.old.slots) b
-            ≡ room (marks_of self.old.slots) }
+        ensures growth_left { growth_left (marks_of self.new.slots) + growth_left_at (marks_of self.old.slots) b
+            ≡ growth_left (marks_of self.old.slots) }
         ensures fits { (hash_of : ℕ → ℕ) → Fits self.old.slots hash_of →
             Fits self.new.slots (with_hash hash_of b hash) }
         ensures table { IsTable (marks_of self.new.slots) }
     {
         self.len += 1;
         fill_bucket(&mut self.control, &mut self.entries, b, tag_of(hash), entry);
-        self.room -= spent;
+        self.growth_left -= spent;
         self.placed = self.placed.saturating_add(1);
     }
 
@@ -284,7 +284,7 @@ impl<T> Table<T> {
         ensures table { IsTable (marks_of self.new.slots) }
     {
         self.control.clear();
-        self.room = full_capacity(self.control.buckets());
+        self.growth_left = full_capacity(self.control.buckets());
     }
 
     fn free_unused(self)
@@ -301,7 +301,7 @@ impl<T> Table<T> {
         let Table {
             control,
             entries,
-            room: _,
+            growth_left: _,
             len: _,
             placed: _,
             moved: _,
@@ -330,21 +330,21 @@ impl<T: Drop> Table<T> {
         ensures fits { (hash_of : ℕ → ℕ) → Fits self.new.slots hash_of }
     {
         let most = full_capacity(self.control.buckets());
-        if self.room == most {
+        if self.growth_left == most {
             return;
         }
         drop_entries(&self.control, &mut self.entries, self.len);
         self.control.clear();
-        self.room = most;
+        self.growth_left = most;
         self.len = 0;
     }
 }
 
 // Returns whether there are no buckets. With growth left there are some, and the control bytes are not read.
 #[inline]
-fn is_without_buckets(control: &Control, room: usize) -> bool
-    requires { buckets_of control.now ≡ 0 → room ≡ 0 }
+fn is_without_buckets(control: &Control, growth_left: usize) -> bool
+    requires { buckets_of control.now ≡ 0 → growth_left ≡ 0 }
     ensures { result ≡ nat_eq (buckets_of control.now) 0 }
 {
-    room == 0 && control.is_empty()
+    growth_left == 0 && control.is_empty()
 }

@@ -51,7 +51,7 @@ fn of_table(rt: HostRuntime) -> Result<(), Fail> {
     let mut table = Table::with_buckets(alloc, 8)?;
     let b = table.try_place(7, "a").ok().ok_or("no room")?;
     let held = table.find(7, |entry| *entry == "a") == Some(b);
-    if table.room() > 0 {
+    if table.growth_left() > 0 {
         let b = table.place(9, "b");
         assert_eq!(rt; table.find(9, |entry| *entry == "b"), Some(b));
     }

@@ -21,7 +21,7 @@ use Rattle.lru_model.specs.Calls.{Remove, PopOldest}
 use Rattle.lru_model.specs.Inserts.{Insert}
 use Rattle.lru_model.specs.Lists.{last, lookup}
 use Rattle.lru_model.specs.Reservations.{Reserve}
-use Rattle.lru_model.specs.State.{State, room}
+use Rattle.lru_model.specs.State.{State, growth_left}
 use Rattle.lru_c.specs.declared.bytes.answers.Popped.{Popped}
 use Rattle.lru_c.specs.declared.bytes.answers.Value.{Value}
 
@@ -133,7 +133,7 @@ pub data IsReady (key : List ℕ) (old ready : BytesMap) : Type 0 where
 
 -- an insert of this key finds memory: the key is there, or there is growth left
 abbrev pub FindsMemory : List ℕ → BytesMap → Type 0
-FindsMemory key ready = has_bytes key ready ≡ false → 1 ≤ room ready
+FindsMemory key ready = has_bytes key ready ≡ false → 1 ≤ growth_left ready
 
 -- A put, and what it returns.
 pub data Puts (key value : List ℕ) (old : BytesMap) (code : ℕ) (new : BytesMap) : Type 0 where

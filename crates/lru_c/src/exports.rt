@@ -13,7 +13,7 @@ ghost use Rattle.lru_model.specs.Lists.{lookup, first, last};
 ghost use Rattle.lru_model.specs.Reservations.{Reserve};
 ghost use Rattle.lru_model.specs.Shrinks.{Shrink};
 ghost use Rattle.lru_model.specs.Sizes.{max_of_32_bits, usage};
-ghost use Rattle.lru_model.specs.State.{empty_map, buckets, contents, room, Trims, IsWithin};
+ghost use Rattle.lru_model.specs.State.{empty_map, buckets, contents, growth_left, Trims, IsWithin};
 ghost use Rattle.lru_model.specs.declared.results.ReserveError.{ReserveError};
 ghost use Rattle.lru_c.specs.Answers.{found_of, pair_of, inserted_of, filled, fitting, Inserts, OnMap, put_code};
 ghost use Rattle.lru_c.specs.Handle.{hash_of};
@@ -285,7 +285,7 @@ pub extern "C" fn lru_max_length(alloc: Global, lru: &mut Lru) -> u32
 #[unsafe(no_mangle)]
 pub extern "C" fn lru_capacity(alloc: Global, lru: &mut Lru) -> usize
     ensures { OnMap (result ≡ 0)
-        (λ old new. (result ≡ length old.pairs + room old) × (new ≡ old)) lru.old.map lru.new.map }
+        (λ old new. (result ≡ length old.pairs + growth_left old) × (new ≡ old)) lru.old.map lru.new.map }
 {
     match lru.take(alloc) {
         Some(map) => {

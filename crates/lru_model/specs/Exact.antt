@@ -7,7 +7,7 @@ use Rattle.lru_limits.specs.Rules.{Rules, Offers}
 use Rattle.group_table.specs.Sizes.{IsPowerFromFour, full_capacity}
 use Rattle.lru_model.specs.Sizes.{usage, Target, target, no_table, same_table, new_table}
 use Rattle.lru_model.specs.Lists.{is_empty, lookup_entry}
-use Rattle.lru_model.specs.State.{State, buckets, room, Contents, contents, Leaves, after_removal, pops, trim}
+use Rattle.lru_model.specs.State.{State, buckets, growth_left, Contents, contents, Leaves, after_removal, pops, trim}
 use Rattle.lru_model.specs.Place.{table_for, IsOutgrown}
 use Rattle.lru_model.specs.Inserts.{make_room, replacement, with_replaced, with_removed, MayGive}
 
@@ -41,7 +41,7 @@ module _ {K V S : Type 0} (rules : Rules K V S) where
   -- what the table of a map may report for a pair of this hash
   pub data MayReport {H : Type 0} (hash : ℕ) (st : State K V S H) (report : Report) : Type 0 where
     -- There is growth left, or a rehash is enough, or, only above 16 buckets, a deleted bucket takes the pair.
-    fits : (room st ≡ 0 → full_capacity (buckets st) / 2 < length st.pairs + 1 → 16 < buckets st) →
+    fits : (growth_left st ≡ 0 → full_capacity (buckets st) / 2 < length st.pairs + 1 → 16 < buckets st) →
         report ≡ at_once →
         MayReport hash st report
     -- Or the table is too small. If growth is refused, one pair is evicted, and more only above 16 buckets.
@@ -54,7 +54,7 @@ module _ {K V S : Type 0} (rules : Rules K V S) where
   -- of the growth left
   abbrev pub small_report : {H : Type 0} → State K V S H → Contents K V S → Report
   small_report st c =
-      if nat_lt 0 (room st + length st.pairs - length c.pairs) then at_once
+      if nat_lt 0 (growth_left st + length st.pairs - length c.pairs) then at_once
       else (if nat_le (length c.pairs + 1) (full_capacity (buckets st) / 2) then at_once
       else report_of (target st.max st.entry_bytes (buckets st) (length c.pairs + 1)) 1 c)
 
@@ -148,7 +148,7 @@ NeverRunsOut {V = V} {S = S} {I = I} offers = (s : S) (n : ℕ) (i : I) (v : V) 
 -- two maps differ at most in which of their buckets are full or deleted: their growth left is the same
 pub record LookAlike {K V S H : Type 0} (st other : State K V S H) : Type 0 where
   pub table : buckets other ≡ buckets st
-  pub room : room other ≡ room st
+  pub growth_left : growth_left other ≡ growth_left st
   pub state : other ≡ record st { table = other.table }
 
 -- the limiter permits every growth, and stays as it is

@@ -8,7 +8,7 @@ use Rattle.std.specs.declared.alloc.AllocError.{AllocError}
 use Rattle.lru_limits.specs.Rules.{Rules, Offers, Replaced}
 use Rattle.lru_model.specs.Lists.{is_empty, lookup_entry, without}
 use Rattle.lru_model.specs.declared.results.Inserted.{Inserted}
-use Rattle.lru_model.specs.State.{State, buckets, room, Contents, contents, Leaves, pop, trim}
+use Rattle.lru_model.specs.State.{State, buckets, growth_left, Contents, contents, Leaves, pop, trim}
 use Rattle.lru_model.specs.Place.{Place, Outcome, placed, refused, no_memory}
 
 -- the value that the map does not keep after a new value was offered: the old one if the limiter accepted the new one,
@@ -111,7 +111,7 @@ module _ {K V S I : Type 0} (rules : Rules K V S) (offers : Offers K V S I) (nam
     -- The table may need memory for the pair that the limiter returned: no growth is left, and either there are no
     -- buckets, or the map contains a pair even after `make_room`. (A rehash of a table without pairs needs no memory.)
     pub record NeedsMemory (i : I) (v : V) (old : State K V S H) : Type 0 where
-      pub no_room : room old ≡ 0
+      pub no_growth_left : growth_left old ≡ 0
       pub s : S
       pub pair : K × V
       pub given : MayGive i v (contents old) s (Some pair)

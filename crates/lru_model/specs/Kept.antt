@@ -9,7 +9,7 @@ use Rattle.std.specs.declared.alloc.AllocError.{AllocError}
 use Rattle.lru_limits.specs.Rules.{Rules, Offers}
 use Rattle.lru_model.specs.Sizes.{max_of_32_bits}
 use Rattle.lru_model.specs.Lists.{is_empty, lookup_entry, without}
-use Rattle.lru_model.specs.State.{State, Contents, contents, buckets, room, IsSized}
+use Rattle.lru_model.specs.State.{State, Contents, contents, buckets, growth_left, IsSized}
 use Rattle.lru_model.specs.Inserts.{replacement, with_old_value, MayGive}
 use Rattle.lru_model.specs.Theorems.{Stores}
 
@@ -55,7 +55,7 @@ module _ {K V S H I : Type 0} (rules : Rules K V S) (offers : Offers K V S I) (n
     pub pairs : new.pairs ≡ pair ∷ old.pairs
     pub limiter : MayGive rules offers names i v (contents old) new.limiter (Some pair)
     pub table : buckets new ≡ buckets old
-    pub room : room old ≤ room new + 1
+    pub growth_left : growth_left old ≤ growth_left new + 1
 
 module _ {K V S I : Type 0} (rules : Rules K V S) (offers : Offers K V S I) (names : I → K → Bool) where
   -- For this key and value the limiter does not run out of memory, returns this pair to store, and is then not over its

@@ -5,7 +5,7 @@
 use Rattle.std.specs.Prelude.{◌≡◌, ℕ, ◌+◌, ◌-◌, ◌*◌, ◌^◌, ◌≤◌, ◌<◌, Bool, Result}
 use Rattle.lru_limits.specs.Rules.{Rules}
 use Rattle.lru_limits.specs.Admissions.{Terms, offers_of}
-use Rattle.lru_model.specs.State.{State, room, potential}
+use Rattle.lru_model.specs.State.{State, growth_left, potential}
 use Rattle.lru_model.specs.TryInserts.{TryInsert}
 use Rattle.lru_model.specs.Runs.{AnyStep, calls, reserves}
 
@@ -22,7 +22,7 @@ module _ {K V S H : Type 0} (terms : Terms K V S) (rules : Rules K V S) (eq : K 
     (hash_of : H → K → ℕ) where
   -- if it is a reservation, no growth was left
   abbrev pub ReservesIfFull : (old new : State K V S H) → AnyStep rules (offers_of terms) eq hash_of old new → Type 0
-  ReservesIfFull old new (calls (reserves n result h)) = room old ≡ 0
+  ReservesIfFull old new (calls (reserves n result h)) = growth_left old ≡ 0
   ReservesIfFull old new step = Unit {0}
 
   -- a `try_insert`, or any other step, a reservation only if no growth was left

@@ -4,11 +4,11 @@ use Rattle.std.specs.Prelude.{◌≡◌, ℕ, zero, suc, ◌+◌, ◌-◌, ◌/�
 use Rattle.std.specs.Prelude.{length}
 use Rattle.std.specs.Prelude.{Result, Ok, Err, slice_set}
 use Rattle.group_table.specs.Sizes.{full_capacity}
-use Rattle.group_table.specs.Bucket.{Mark, empty, deleted, full, bucket_at, room as room_of}
+use Rattle.group_table.specs.Bucket.{Mark, empty, deleted, full, bucket_at, growth_left as growth_left_of}
 use Rattle.group_table.specs.Probe.{IsFirstFree}
 use Rattle.lru_limits.specs.Rules.{Rules}
 use Rattle.lru_model.specs.Sizes.{target, Target, no_table, new_table}
-use Rattle.lru_model.specs.State.{State, TableState, buckets, room, FirstFreeIs, count_insert, contents, Leaves, pop}
+use Rattle.lru_model.specs.State.{State, TableState, buckets, growth_left, FirstFreeIs, count_insert, contents, Leaves, pop}
 
 -- What comes of it: the pair is stored (`placed`), the table cannot grow and there is no pair to evict (`refused`), or
 -- the map ran out of memory.
@@ -29,14 +29,14 @@ pub record FillsBucket (hash : ℕ) (old new : TableState) : Type 0 where
   pub first : IsFirstFree old.marks hash bucket
   pub marks : new.marks ≡ slice_set old.marks bucket (full tt)
   pub places : new.places ≡ bucket ∷ old.places
-  pub spends : ((bucket_at old.marks bucket ≡ empty) × (room_of new.marks + 1 ≡ room_of old.marks))
-      ⊎ ((bucket_at old.marks bucket ≡ deleted) × (16 < length old.marks) × (room_of new.marks ≡ room_of old.marks))
+  pub spends : ((bucket_at old.marks bucket ≡ empty) × (growth_left_of new.marks + 1 ≡ growth_left_of old.marks))
+      ⊎ ((bucket_at old.marks bucket ≡ deleted) × (16 < length old.marks) × (growth_left_of new.marks ≡ growth_left_of old.marks))
 
 -- In a table of n pairs no bucket takes a pair of this hash: no growth is left, and the first free bucket that a
 -- search finds is empty. A table without pairs is not searched: without growth left it is rehashed, even if a deleted
 -- bucket could take the pair.
 pub record NoBucketTakes (hash n : ℕ) (marks : List Mark) : Type 0 where
-  pub no_room : room_of marks ≡ 0
+  pub no_growth_left : growth_left_of marks ≡ 0
   pub first_empty : 0 < n → FirstFreeIs empty hash marks
 
 -- No bucket takes a pair of this hash, and a rehash is no remedy: with one pair more the table would be over half full.
@@ -51,7 +51,7 @@ module _ {K V S H : Type 0} where
   -- it
   pub record IsPlaced (pair : K × V) (count spare moves : ℕ) (old new : State K V S H) : Type 0 where
     pub table : buckets new ≡ count
-    pub room_left : room new ≡ spare
+    pub room_left : growth_left new ≡ spare
     pub state : new ≡ record old {
       pairs = pair ∷ old.pairs;
       table = new.table;
@@ -60,7 +60,7 @@ module _ {K V S H : Type 0} where
 
   -- the pair is in a bucket of the same table, and no entry moved for it
   abbrev pub IsPlacedInTable : K × V → State K V S H → State K V S H → Type 0
-  IsPlacedInTable pair old new = IsPlaced pair (buckets old) (room new) 0 old new
+  IsPlacedInTable pair old new = IsPlaced pair (buckets old) (growth_left new) 0 old new
 
   -- no bucket takes a pair of this hash
   abbrev pub HasNoBucket : ℕ → State K V S H → Type 0
@@ -76,7 +76,7 @@ module _ {K V S H : Type 0} where
 
   -- there are pairs, and no growth is left
   abbrev pub HasPairsButNoGrowth : State K V S H → Type 0
-  HasPairsButNoGrowth st = (0 < length st.pairs) × (room st ≡ 0)
+  HasPairsButNoGrowth st = (0 < length st.pairs) × (growth_left st ≡ 0)
 
 module _ {K V S H : Type 0} (rules : Rules K V S) where
   -- the map after its limiter was queried for a table of n bytes (`on_grow`)
@@ -130,7 +130,7 @@ module _ {K V S H : Type 0} (rules : Rules K V S) where
     finds_bucket : (n : ℕ) → 0 < n → (buckets old ≤ 16 → n ≡ 1) →
         full_capacity (buckets old) / 2 + n ≤ length old.pairs →
         (left : State K V S H) → OldestEvicted hash n mid left → FillsBucket hash left.table new.table →
-        outcome ≡ placed → IsPlaced pair (buckets old) (room new) 0 left new →
+        outcome ≡ placed → IsPlaced pair (buckets old) (growth_left new) 0 left new →
         Evicts hash pair old mid outcome new
     rehashes : 0 < length old.pairs → (n : ℕ) → 0 < n → (buckets old ≤ 16 → n ≡ 1) →
         length old.pairs + 1 ≡ full_capacity (buckets old) / 2 + n →
@@ -142,7 +142,7 @@ module _ {K V S H : Type 0} (rules : Rules K V S) (hash_of : H → K → ℕ) wh
   -- what may come of inserting the pair into the table
   pub data Place (pair : K × V) (old : State K V S H) (outcome : Outcome) (new : State K V S H) : Type 0 where
     -- A free bucket takes the pair. The limiter is not queried, and no memory is needed.
-    in_bucket : length old.pairs < full_capacity (buckets old) → (0 < room old) ⊎ (0 < length old.pairs) →
+    in_bucket : length old.pairs < full_capacity (buckets old) → (0 < growth_left old) ⊎ (0 < length old.pairs) →
         FillsBucket (hash_of old.hasher pair.0) old.table new.table →
         outcome ≡ placed → IsPlacedInTable pair old new →
         Place pair old outcome new

@@ -2,7 +2,7 @@
 use Rattle.std.specs.Prelude.{◌≡◌, ◌⊎◌, ℕ, ◌+◌, ◌^◌, ◌≤◌, ◌<◌, length, Result, Ok, Err}
 use Rattle.lru_limits.specs.Rules.{Rules}
 use Rattle.lru_model.specs.Sizes.{no_table, same_table, new_table}
-use Rattle.lru_model.specs.State.{State, buckets, room, MovesTo}
+use Rattle.lru_model.specs.State.{State, buckets, growth_left, MovesTo}
 use Rattle.lru_model.specs.Place.{table_for, asked, Grants, Denies}
 use Rattle.lru_model.specs.declared.results.ReserveError.{ReserveError}
 use Rattle.lru_model.specs.declared.results.ReserveError.TheVariants.{TooLarge, Refused, Memory}
@@ -10,12 +10,12 @@ use Rattle.lru_model.specs.declared.results.ReserveError.TheVariants.{TooLarge, 
 module _ {K V S H : Type 0} (n : ℕ) (st : State K V S H) where
   -- n is more than the growth left, and the number of pairs with n more is below 2 ^ 64
   abbrev pub NeedsGrowthFor : Type 0
-  NeedsGrowthFor = (room st < n) × (length st.pairs + n < 2 ^ 64)
+  NeedsGrowthFor = (growth_left st < n) × (length st.pairs + n < 2 ^ 64)
 
   -- why a reservation changes nothing
   pub data ReservesNothing (result : Result (Unit {0}) ReserveError) : Type 0 where
     -- there is enough growth left,
-    enough_room : n ≤ room st → length st.pairs + n < 2 ^ 64 → result ≡ Ok tt → ReservesNothing result
+    enough_room : n ≤ growth_left st → length st.pairs + n < 2 ^ 64 → result ≡ Ok tt → ReservesNothing result
     -- or the number of pairs would pass 64 bits, or no table holds them,
     too_many : 2 ^ 64 ≤ length st.pairs + n → result ≡ Err TooLarge → ReservesNothing result
     no_such_table : NeedsGrowthFor → table_for n st ≡ no_table → result ≡ Err TooLarge → ReservesNothing result

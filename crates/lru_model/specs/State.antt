@@ -3,7 +3,7 @@ use Rattle.std.specs.Prelude.{◌≡◌, ℕ, zero, suc, ◌+◌, ◌-◌, ◌*�
 use Rattle.std.specs.Prelude.{[], length, Option, Some, None, filter, not, nat_eq}
 use Rattle.std.specs.List.{IsDistinct}
 use Rattle.group_table.specs.Sizes.{full_capacity}
-use Rattle.group_table.specs.Bucket.{Mark, bucket_at, entry_count, room as room_of}
+use Rattle.group_table.specs.Bucket.{Mark, bucket_at, entry_count, growth_left as growth_left_of}
 use Rattle.group_table.specs.Change.{count_up, Removes}
 use Rattle.group_table.specs.Probe.{IsFirstFree}
 use Rattle.group_table.specs.Table.{IsTable}
@@ -79,9 +79,9 @@ pub record IsPaid (potential : ℕ) (counts : Counts) : Type 0 where
 -- growth left. In a table of up to 16 buckets it does.
 pub record GivesBack (was n : ℕ) (old new : List Mark) : Type 0 where
   pub table : length new ≡ length old
-  pub keeps : room_of old ≤ room_of new
-  pub at_most : n + room_of new ≤ was + room_of old
-  pub exact : length old ≤ 16 → n + room_of new ≡ was + room_of old
+  pub keeps : growth_left_of old ≤ growth_left_of new
+  pub at_most : n + growth_left_of new ≤ was + growth_left_of old
+  pub exact : length old ≤ 16 → n + growth_left_of new ≡ was + growth_left_of old
   -- if no pair was removed, no bucket has changed its state
   pub untouched : n ≡ was → new ≡ old
 
@@ -131,8 +131,8 @@ module _ {K V S H : Type 0} where
   buckets st = length st.table.marks
 
   -- the growth left: how many more pairs the table holds for sure
-  abbrev pub room : State K V S H → ℕ
-  room st = room_of st.table.marks
+  abbrev pub growth_left : State K V S H → ℕ
+  growth_left st = growth_left_of st.table.marks
 
   -- the bucket of the pair of the named key
   abbrev pub place_in : (K → Bool) → State K V S H → Option ℕ
@@ -144,7 +144,7 @@ module _ {K V S H : Type 0} where
 
   -- twice the number of full and deleted buckets above half of the full capacity, or 0
   abbrev pub potential : State K V S H → ℕ
-  potential st = full_capacity (buckets st) - 2 * room st
+  potential st = full_capacity (buckets st) - 2 * growth_left st
 
   -- what holds of every map
   pub record IsMap (eq : K → K → Bool) (st : State K V S H) : Type 0 where
@@ -154,13 +154,13 @@ module _ {K V S H : Type 0} where
     pub paid : IsPaid (potential st) st.counts
 
   -- the pairs that were removed, if any, gave back growth
-  abbrev pub FreesRoom : State K V S H → State K V S H → Type 0
-  FreesRoom old new = GivesBack (length old.pairs) (length new.pairs) old.table.marks new.table.marks
+  abbrev pub FreesGrowth : State K V S H → State K V S H → Type 0
+  FreesGrowth old new = GivesBack (length old.pairs) (length new.pairs) old.table.marks new.table.marks
 
   -- all pairs moved into a table of `count` buckets, none of which is deleted
   pub record MovesTo (count : ℕ) (old new : State K V S H) : Type 0 where
     pub table : buckets new ≡ count
-    pub exact : length old.pairs + room new ≡ full_capacity count
+    pub exact : length old.pairs + growth_left new ≡ full_capacity count
     pub state : new ≡ record old {
       table = new.table;
       counts = record old.counts { placings = count_up old.counts.placings (length old.pairs) };
@@ -170,7 +170,7 @@ module _ {K V S H : Type 0} where
   -- differ; nothing else does.
   pub record Leaves (old : State K V S H) (left : Contents K V S) (new : State K V S H) : Type 0 where
     pub is : new ≡ record old { pairs = left.pairs; limiter = left.limiter; table = new.table }
-    pub room : FreesRoom old new
+    pub growth_left : FreesGrowth old new
 
 module _ {K V S : Type 0} (rules : Rules K V S) where
   -- the limiter after it was notified of a removed pair, if there is one

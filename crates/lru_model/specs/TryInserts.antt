@@ -7,16 +7,16 @@ use Rattle.std.specs.Prelude.{Result, Ok, Err}
 use Rattle.lru_limits.specs.Rules.{Rules}
 use Rattle.lru_limits.specs.Admissions.{Terms, offers_of}
 use Rattle.lru_model.specs.Lists.{lookup_entry}
-use Rattle.lru_model.specs.State.{State, Contents, contents, room, IsSized}
+use Rattle.lru_model.specs.State.{State, Contents, contents, growth_left, IsSized}
 use Rattle.lru_model.specs.Reservations.{Reserve}
 use Rattle.lru_model.specs.Inserts.{Insert}
 use Rattle.lru_model.specs.declared.results.ReserveError.{ReserveError}
 
 -- growth is left for one more pair, or a reservation made some and left a sound table, as every call does
 pub data IsReady {K V S H : Type 0} (rules : Rules K V S) (old ready : State K V S H) : Type 0 where
-  has_growth : 0 < room old → ready ≡ old →
+  has_growth : 0 < growth_left old → ready ≡ old →
       IsReady rules old ready
-  reserved : room old ≡ 0 → Reserve rules 1 old (Ok tt) ready → IsSized ready →
+  reserved : growth_left old ≡ 0 → Reserve rules 1 old (Ok tt) ready → IsSized ready →
       IsReady rules old ready
 
 module _ {K V S : Type 0} (terms : Terms K V S) (rules : Rules K V S) where
@@ -29,9 +29,9 @@ module _ {K V S : Type 0} (terms : Terms K V S) (rules : Rules K V S) where
   module _ {H : Type 0} (key : K) (value : V) (old : State K V S H) where
     -- a reservation fails, or leaves a limiter that cannot store the pair
     pub data IsUnready (left : State K V S H) : Type 0 where
-      not_reserved : room old ≡ 0 → (error : ReserveError) → Reserve rules 1 old (Err error) left →
+      not_reserved : growth_left old ≡ 0 → (error : ReserveError) → Reserve rules 1 old (Err error) left →
           IsUnready left
-      cannot_store_then : room old ≡ 0 → Reserve rules 1 old (Ok tt) left →
+      cannot_store_then : growth_left old ≡ 0 → Reserve rules 1 old (Ok tt) left →
           can_store key value (contents left) ≡ false →
           IsUnready left
 

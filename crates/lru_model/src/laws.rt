@@ -10,7 +10,7 @@ ghost use Rattle.group_table.specs.Bucket.{deleted};
 ghost use Rattle.group_table.specs.Sizes.{full_capacity};
 ghost use Rattle.lru_model.specs.Lists.{first, without_last, keys_of, lookup, lookup_entry, IsFront};
 ghost use Rattle.lru_model.specs.Sizes.{usage, IsGreatestUsage};
-ghost use Rattle.lru_model.specs.State.{State, Contents, contents, buckets, room, potential, FirstFreeIs, IsSized};
+ghost use Rattle.lru_model.specs.State.{State, Contents, contents, buckets, growth_left, potential, FirstFreeIs, IsSized};
 ghost use Rattle.lru_model.specs.State.{IsPaid};
 ghost use Rattle.lru_model.specs.Place.{Place, Outcome, placed, no_memory, IsPlaced, HasPairsButNoGrowth, FillsBucket};
 ghost use Rattle.lru_model.specs.Calls.{Remove};
@@ -284,7 +284,7 @@ pub fn reservations_keep_the_list<K: Eq + Hash, V, L: Limiter<K, V>, S: KeyHashe
 /// After a successful reservation of n, the table holds n more entries without growth.
 pub fn reservations_make_room<K: Eq + Hash, V, L: Limiter<K, V>, S: KeyHasher<K>>()
     ensures { (n : ℕ) (old new : State K V L S) →
-        IsSized old → Reserve L.rules n old (Ok tt) new → n ≤ room new }
+        IsSized old → Reserve L.rules n old (Ok tt) new → n ≤ growth_left new }
 {}
 
 /// If the bytes that a map uses are taken as a budget, the greatest usage within that budget is the same number.

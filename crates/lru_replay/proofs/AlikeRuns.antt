@@ -71,7 +71,7 @@ figures_alike old other a b alike f g =
     let same = same_shape alike in
     let len = f.len ∙ ap (λ sh. length sh.bare.pairs) (sym same) ∙ sym g.len in
     let capacity : a.capacity ≡ b.capacity = omega
-    (arith, f.capacity, g.capacity, alike.room, ap (λ sh. length sh.bare.pairs) same) in
+    (arith, f.capacity, g.capacity, alike.growth_left, ap (λ sh. length sh.bare.pairs) same) in
     let memory : Some a.memory ≡ Some b.memory =
     sym f.memory ∙ ap (λ sh. usage sh.bare.entry_bytes sh.count) (sym same) ∙ g.memory in
     let memory_is : a.memory ≡ b.memory = cc in
@@ -107,12 +107,12 @@ module _ {K V S H : Type 0} (rules : Rules K V S) (offers : Offers K V S K) (eq 
     noted_alike : (list : List (K × V)) (st st' : State K V S H) → LookAlike st st'
         → LookAlike (noted list st) (noted list st')
     noted_alike list st st' alike =
-        record { table = alike.table; room = alike.room; state = ap (noted list) alike.state }
+        record { table = alike.table; growth_left = alike.growth_left; state = ap (noted list) alike.state }
 
     plain_alike : (list list' : List (K × V)) (st st' : State K V S H) → LookAlike (noted list st) (noted list' st')
         → LookAlike st st'
     plain_alike list list' st st' alike =
-        record { table = alike.table; room = alike.room; state = ap plain alike.state }
+        record { table = alike.table; growth_left = alike.growth_left; state = ap plain alike.state }
 
     module _ (old other new last : State K V S H) (alike : LookAlike old other) (small : buckets old ≤ 16)
         (after : buckets new ≤ 16) (too : buckets last ≤ 16) (reply answer : Reply K V) where

@@ -13,7 +13,7 @@ use Rattle.lru_model.specs.Place.{Place, in_bucket, rehashed, grown, not_grown, 
 use Rattle.lru_model.specs.Place.{finds_bucket, rehashes, OldestEvicted, CannotGrow, no_target, denied}
 use Rattle.lru_model.specs.Place.{Outcome, placed, refused, no_memory, IsPlacedIfMemory}
 use Rattle.lru_model.specs.Sizes.{usage, target, target_from, table_of, new_table}
-use Rattle.lru_model.specs.State.{State, buckets, room, contents, IsSized}
+use Rattle.lru_model.specs.State.{State, buckets, growth_left, contents, IsSized}
 
 table_of_is : (m n bytes : ℕ) (u : Option ℕ) → table_of m u ≡ new_table n bytes → m ≡ n
 table_of_is m n bytes None h = grind arith
@@ -73,7 +73,7 @@ module _ {K V S H : Type 0} where
   pub record IsSmall (st : State K V S H) : Type 0 where
     pub few : buckets st ≤ 16
     pub count : IsBucketCount (buckets st)
-    pub exact : length st.pairs + room st ≡ full_capacity (buckets st)
+    pub exact : length st.pairs + growth_left st ≡ full_capacity (buckets st)
 
   pub small_of : (st : State K V S H) → IsSized st → buckets st ≤ 16 → IsSmall st
   small_of st sized few = record {
@@ -89,7 +89,7 @@ module _ {K V S H : Type 0} where
     exact = omega (
       arith,
       small.exact,
-      alike.room,
+      alike.growth_left,
       ap (λ st. length st.pairs) alike.state,
       ap full_capacity alike.table,
     );
@@ -104,7 +104,7 @@ module _ {K V S H : Type 0} (rules : Rules K V S) where
       → buckets new ≡ buckets old
   evicted_buckets hash zero old new e = ap buckets e
   evicted_buckets hash (suc n) old new (before, gone, none, left) =
-      left.room.table ∙ evicted_buckets hash n old before gone
+      left.growth_left.table ∙ evicted_buckets hash n old before gone
 
   moved_buckets : (pair : K × V) (count spare moves : ℕ) (old : State K V S H) (outcome : Outcome)
       (new : State K V S H) → IsPlacedIfMemory rules pair count spare moves old outcome new
@@ -125,7 +125,7 @@ module _ {K V S H : Type 0} (rules : Rules K V S) where
 
   settled_buckets : (outcome : Outcome) (landed : State K V S H) (result : Result Bool AllocError)
       (new : State K V S H) → Settles rules outcome landed result new → buckets new ≡ buckets landed
-  settled_buckets placed landed result new h = h.1.room.table
+  settled_buckets placed landed result new h = h.1.growth_left.table
   settled_buckets refused landed result new h = ap buckets h.1
   settled_buckets no_memory landed result new h = ap buckets h.1
 
@@ -140,7 +140,7 @@ module _ {K V S H : Type 0} (rules : Rules K V S) where
         ]
     place_small pair old outcome new small few (grown b count bytes t g m) =
         let full : length old.pairs + 1 ≡ full_capacity (buckets old) + 1 =
-        omega (arith, small.exact, b.no_bucket.no_room) in
+        omega (arith, small.exact, b.no_bucket.no_growth_left) in
         let larger : count ≤ 16 = small_target _ _ _ _ count bytes small.count small.few (omega (arith, few)) full t in
         elim (moved_buckets pair _ _ _ _ outcome new m) [
           | inl is ↦ omega (arith, is, larger)
@@ -158,16 +158,16 @@ module _ {K V S H : Type 0} (rules : Rules K V S) (offers : Offers K V S K) (eq 
 
   pub insert_small : (key : K) (v : V) (old : State K V S H) (result : Result Bool AllocError) (new : State K V S H)
       → IsSmall old → MakesRoom old → Insert rules offers eq hash_of key v old result new → buckets new ≤ 16
-  insert_small key v old result new small few (replaced pair found y r l) = omega (arith, l.room.table, small.few)
+  insert_small key v old result new small few (replaced pair found y r l) = omega (arith, l.growth_left.table, small.few)
   insert_small key v old result new small few (not_replaced pair found y r l) =
-      omega (arith, l.room.table, small.few)
+      omega (arith, l.growth_left.table, small.few)
   insert_small key v old result new small few (no_memory_to_admit a k r e) = omega (arith, ap buckets e, small.few)
   insert_small key v old result new small few (not_admitted a s n r e) = omega (arith, ap buckets e, small.few)
   insert_small key v old result new small few (admitted a s pair n (ready, l, (outcome, landed, p, t))) =
       let ready_small : IsSmall ready = record {
-        few = omega (arith, l.room.table, small.few);
-        count = subst IsBucketCount (sym l.room.table) small.count;
-        exact = omega (arith, l.room.exact small.few, small.exact, ap full_capacity l.room.table);
+        few = omega (arith, l.growth_left.table, small.few);
+        count = subst IsBucketCount (sym l.growth_left.table) small.count;
+        exact = omega (arith, l.growth_left.exact small.few, small.exact, ap full_capacity l.growth_left.table);
       } in
       let left : length ready.pairs ≤ 13 = omega (arith, ap (λ st. length st.pairs) l.is, few key v s pair n) in
       omega (

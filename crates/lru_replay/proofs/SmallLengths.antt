@@ -50,8 +50,8 @@ module _ {K V S H : Type 0} (rules : Rules K V S) (offers : Offers K V S K) (eq 
   newest_small key v result (inserted n u m s) = insert_small rules offers eq hash_of key u old result new small few s
 
   update_small : (key : K) (v : V) (result : Updated V) → Update rules offers eq key v old result new → buckets new ≤ 16
-  update_small key v result (updated there e y r l) = left_small l.room.table
-  update_small key v result (rejected there e y r l) = left_small l.room.table
+  update_small key v result (updated there e y r l) = left_small l.growth_left.table
+  update_small key v result (rejected there e y r l) = left_small l.growth_left.table
   update_small key v result (not_there none r e) = same_small e
 
   shrink_small : (result : Result Bool AllocError) → Shrink old result new → buckets new ≤ 16
@@ -73,17 +73,17 @@ module _ {K V S H : Type 0} (rules : Rules K V S) (offers : Offers K V S K) (eq 
   reply_small (calls.GetByHash hash k) reply none (result, h, is, e) = found_small (is_some result) k e
   reply_small (calls.PeekByHash hash k) reply none (result, h, is, e) = same_small e
   reply_small (calls.Write k v) reply none (is, e) = left_small (ap buckets e)
-  reply_small (calls.Remove k) reply none (result, h, is) = left_small h.state.room.table
-  reply_small (calls.RemoveEntry k) reply none (result, h, is) = left_small h.state.room.table
-  reply_small calls.PopOldest reply none (result, h, is) = left_small h.state.room.table
-  reply_small calls.PopNewest reply none (result, h, is) = left_small h.state.room.table
+  reply_small (calls.Remove k) reply none (result, h, is) = left_small h.state.growth_left.table
+  reply_small (calls.RemoveEntry k) reply none (result, h, is) = left_small h.state.growth_left.table
+  reply_small calls.PopOldest reply none (result, h, is) = left_small h.state.growth_left.table
+  reply_small calls.PopNewest reply none (result, h, is) = left_small h.state.growth_left.table
   reply_small (calls.Reserve n) reply none step = absurd none
   reply_small calls.Shrink reply none (result, h, is) = shrink_small result h
-  reply_small calls.Trim reply none (is, h) = left_small h.room.table
+  reply_small calls.Trim reply none (is, h) = left_small h.growth_left.table
   reply_small calls.Clear reply none (is, e) =
       left_small (ap buckets e ∙ length-replicate {A = Mark} (buckets old) empty)
   reply_small (calls.Drain front back) reply none (pairs, h, is) = left_small
-      (ap buckets h.state.2 ∙ length-replicate {A = Mark} (buckets h.state.0) empty ∙ h.state.1.room.table)
+      (ap buckets h.state.2 ∙ length-replicate {A = Mark} (buckets h.state.0) empty ∙ h.state.1.growth_left.table)
   reply_small calls.Stats reply none (figures, h, is, e) = same_small e
   reply_small (calls.SetLimiter s) reply none (is, e) = left_small (ap buckets e)
   reply_small call reply none h = same_small h.1

@@ -6,7 +6,7 @@ use Rattle.std.specs.Prelude.{nat_eq, is_some}
 use Rattle.lru_limits.specs.Rules.{Rules, Offers}
 use Rattle.lru_model.specs.Lists.{lookup, lookup_entry, first, last}
 use Rattle.lru_model.specs.Calls.{promoted, demoted, removal, pop_first, cleared, left_of}
-use Rattle.lru_model.specs.State.{Contents, room, contents, Leaves, IsSized, pop}
+use Rattle.lru_model.specs.State.{Contents, growth_left, contents, Leaves, IsSized, pop}
 use Rattle.lru_model.specs.Drains.{pops_first, newest_given}
 use Rattle.lru_model.proofs.CallerLemmas.{promoted_sized, demoted_sized, cleared_sized, some_insert, some_update}
 use Rattle.lru_model.proofs.CallerLemmas.{some_leave, some_reservation, some_shrink, length-without}
@@ -88,7 +88,7 @@ module _ {S : Type 0} (rules : Rules ℕ ℕ S) (offers : Offers ℕ ℕ S ℕ) 
   some_step calls.Stats has =
       let figures : Figures = record {
         len = length old.pairs;
-        capacity = length old.pairs + room old;
+        capacity = length old.pairs + growth_left old;
         memory = ok.usable.0;
         moved = old.counts.moved;
         placed = old.counts.placed;

@@ -3,8 +3,8 @@ use Rattle.std.specs.Prelude.{◌≡◌, ◌≢◌, ℕ, ◌+◌, List, [], ◌�
 use Rattle.std.specs.Prelude.{Option, Some, None, if◌then◌else◌}
 use Rattle.std.specs.Prelude.{option_to_list, unwrap_or, Contains, AllPairs}
 use Rattle.lru_model.specs.Lists.{first}
-use Rattle.group_table.specs.Bucket.{Slot, IsFull, entry_at, entry_count, bucket_at, refilled, marks_of, room}
-use Rattle.group_table.specs.Bucket.{room_at}
+use Rattle.group_table.specs.Bucket.{Slot, IsFull, entry_at, entry_count, bucket_at, refilled, marks_of, growth_left}
+use Rattle.group_table.specs.Bucket.{growth_left_at}
 use Rattle.group_table.specs.Probe.{filled, IsFirstFree}
 use Rattle.group_table.specs.Change.{MayFill, one_placed, Removes}
 use Rattle.group_table.specs.Table.{Insertions, IsTable}
@@ -67,7 +67,7 @@ module _ {K V : Type 0} where
     pub slots : new.slots ≡ slice_set old.slots b (filled hash pair)
     pub order : new.order ≡ b ∷ old.order
     pub insertions : new.insertions ≡ one_placed old.insertions
-    pub room : room (marks_of new.slots) + room_at (marks_of old.slots) b ≡ room (marks_of old.slots)
+    pub growth_left : growth_left (marks_of new.slots) + growth_left_at (marks_of old.slots) b ≡ growth_left (marks_of old.slots)
 
   -- the pair was taken out of its bucket, and the others keep their order
   pub record Takes (old new : OrderedTable K V) (b : ℕ) (taken : K × V) : Type 0 where
@@ -75,7 +75,7 @@ module _ {K V : Type 0} where
     pub removed : Removes old.slots new.slots b
     pub order : new.order ≡ without_bucket b old.order
     pub insertions : new.insertions ≡ old.insertions
-    pub room : room (marks_of new.slots) ≡ room (marks_of old.slots) + room_at (marks_of new.slots) b
+    pub growth_left : growth_left (marks_of new.slots) ≡ growth_left (marks_of old.slots) + growth_left_at (marks_of new.slots) b
 
   -- what holds of every table whose buckets are linked
   pub record IsLinked (t : OrderedTable K V) : Type 0 where

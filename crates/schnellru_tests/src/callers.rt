@@ -10,7 +10,7 @@ ghost use Rattle.lru_limits.specs.Texts.{names_text};
 ghost use Rattle.lru_model.specs.Lists.{keys_of, lookup, lookup_entry, without, IsFront};
 ghost use Rattle.lru_model.specs.Place.{HasPairsButNoGrowth};
 ghost use Rattle.lru_model.specs.Sizes.{usage, max_of_32_bits};
-ghost use Rattle.lru_model.specs.State.{buckets, room, FirstFreeIs};
+ghost use Rattle.lru_model.specs.State.{buckets, growth_left, FirstFreeIs};
 ghost use Rattle.lru_model.specs.Calls.{promoted};
 ghost use Rattle.lru_model.specs.Callbacks.{CalledWith};
 ghost use Rattle.lru_model.specs.Kept.{KeepsToLength};
@@ -275,7 +275,7 @@ fn shrink_within(map: &mut LruMap<String, u64>) -> Result<bool, AllocError>
 fn resize(map: &mut LruMap<String, u64>, n: usize) -> bool
     ensures pairs { map.new.pairs ≡ map.old.pairs }
     ensures placed { map.new.counts.placed ≡ map.old.counts.placed }
-    ensures room { result ≡ true → n ≤ room map.new }
+    ensures growth_left { result ≡ true → n ≤ growth_left map.new }
 {
     laws::shrinks_keep_the_list::<String, u64, ByLength, RandomState>();
     laws::reservations_keep_the_list::<String, u64, ByLength, RandomState>();

@@ -1,7 +1,7 @@
 //! Callers of the laws on exact inserts.
 ghost use Rattle.std.specs.Prelude.{◌≡◌, ◌≤◌, ◌<◌, OnOk};
 ghost use Rattle.lru_model.specs.Exact.{InsertsAsReported, InsertsGiven, InsertsInSmallTable, Report};
-ghost use Rattle.lru_model.specs.State.{buckets, contents, room};
+ghost use Rattle.lru_model.specs.State.{buckets, contents, growth_left};
 
 use schnellru::{ByLength, Insertion, KeyHasher, LruMap, RandomState, laws};
 use std::alloc::AllocError;
@@ -34,7 +34,7 @@ fn put_into_both(
     value: u64,
 ) -> Result<(bool, bool), AllocError>
     requires same { contents one.old ≡ contents other.old }
-    requires room { (0 < room one.old) × (0 < room other.old) }
+    requires growth_left { (0 < growth_left one.old) × (0 < growth_left other.old) }
     ensures { OnOk result (contents one.new ≡ contents other.new) }
 {
     laws::inserts_with_room_are_exact::<u64, u64, u64, ByLength, RandomState>();

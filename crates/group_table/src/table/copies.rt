@@ -46,7 +46,7 @@ impl<T: Drop> Table<T> {
         Ok(Table {
             control,
             entries,
-            room: self.room,
+            growth_left: self.growth_left,
             len: self.len,
             placed: self.placed,
             moved: self.moved,

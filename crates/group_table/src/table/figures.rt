@@ -2,7 +2,7 @@
 ghost use Rattle.std.specs.Prelude.{◌≡◌, ◌↔◌, ◌<◌, nat_lt, length, IsTrue};
 ghost use Rattle.std.specs.Mem.{type_size};
 ghost use prog.Memory.{capped};
-ghost use Rattle.group_table.specs.Bucket.{marks_of, IsFull, entry_count, room};
+ghost use Rattle.group_table.specs.Bucket.{marks_of, IsFull, entry_count, growth_left};
 ghost use Rattle.group_table.specs.Table.{IsTable};
 ghost use Rattle.group_table.specs.Change.{placings};
 
@@ -47,11 +47,11 @@ impl<T> Table<T> {
     /// Returns the growth left: how many more entries find an empty bucket for sure. It is the most entries that the
     /// table may hold, less the buckets that are full or deleted.
     #[inline]
-    pub fn room(&self) -> usize
-        ensures value { result ≡ room (marks_of self.now.slots) }
+    pub fn growth_left(&self) -> usize
+        ensures value { result ≡ growth_left (marks_of self.now.slots) }
         ensures table { IsTable (marks_of self.now.slots) }
     {
-        self.room
+        self.growth_left
     }
 
     /// Returns how many insertions the table has made. A moved entry counts as one insertion. A count that reaches

@@ -17,14 +17,14 @@ impl<T> Table<T> {
     // No insertion is counted.
     #[inline]
     pub(crate) fn place_fresh(&mut self, hash: u64, entry: T) -> usize
-        requires room { entry_count self.old.slots < full_capacity (length self.old.slots) }
+        requires growth_left { entry_count self.old.slots < full_capacity (length self.old.slots) }
         requires none_deleted { count_by is_deleted self.old.slots ≡ 0 }
         ensures joins { Joins self.old.slots self.new.slots hash entry result }
         ensures insertions { self.new.insertions ≡ self.old.insertions }
     {
         let b = first_free(&self.control, hash);
         fill_bucket(&mut self.control, &mut self.entries, b, tag_of(hash), entry);
-        self.room -= 1;
+        self.growth_left -= 1;
         self.len += 1;
         b
     }

@@ -2,7 +2,7 @@
 //! table does not compile.
 ghost use Rattle.std.specs.Prelude.{◌≡◌, ℕ, ◌+◌, ◌^◌, ◌<◌, ◌≤◌, [], length, count_by, IfOk, OnErr, OnOk, IsOk};
 ghost use Rattle.group_table.specs.Sizes.{IsBucketCount, full_capacity};
-ghost use Rattle.group_table.specs.Bucket.{marks_of, entry_at, entry_count, is_deleted, room};
+ghost use Rattle.group_table.specs.Bucket.{marks_of, entry_at, entry_count, is_deleted, growth_left};
 ghost use Rattle.group_table.specs.Table.{IsTable};
 ghost use Rattle.group_table.specs.Change.{some_moved};
 ghost use Rattle.group_table.specs.Relocation.{Renumbers, KeepsHashes, GivesHashes};
@@ -45,8 +45,8 @@ impl<T> Table<T> {
         ensures renumbered { IfOk result (λ links. Renumbers N.number N.MAX self.old.slots self.new.slots links.items) }
         ensures no_links { IfOk result (λ links. entry_count self.old.slots ≡ 0 → links.items ≡ []) }
         ensures entries { OnOk result (entry_count self.new.slots ≡ entry_count self.old.slots) }
-        ensures room { OnOk result (
-            room (marks_of self.new.slots) + entry_count self.old.slots ≡ full_capacity (length self.new.slots)) }
+        ensures growth_left { OnOk result (
+            growth_left (marks_of self.new.slots) + entry_count self.old.slots ≡ full_capacity (length self.new.slots)) }
         ensures none_deleted { OnOk result (count_by is_deleted self.new.slots ≡ 0) }
         ensures insertions { OnOk result (
             self.new.insertions ≡ some_moved self.old.insertions (entry_count self.old.slots)) }
@@ -101,8 +101,8 @@ impl<T> Table<T> {
         ensures renumbered { IfOk result (λ links. Renumbers N.number N.MAX self.old.slots self.new.slots links.items) }
         ensures no_links { IfOk result (λ links. entry_count self.old.slots ≡ 0 → links.items ≡ []) }
         ensures entries { OnOk result (entry_count self.new.slots ≡ entry_count self.old.slots) }
-        ensures room { OnOk result (
-            room (marks_of self.new.slots) + entry_count self.old.slots ≡ full_capacity (length self.new.slots)) }
+        ensures growth_left { OnOk result (
+            growth_left (marks_of self.new.slots) + entry_count self.old.slots ≡ full_capacity (length self.new.slots)) }
         ensures none_deleted { OnOk result (count_by is_deleted self.new.slots ≡ 0) }
         ensures insertions { OnOk result (
             self.new.insertions ≡ some_moved self.old.insertions (entry_count self.old.slots)) }
@@ -129,7 +129,7 @@ impl<T> Table<T> {
             &mut links,
             &hash_of,
         );
-        self.room = full_capacity(buckets) - self.len;
+        self.growth_left = full_capacity(buckets) - self.len;
         self.moved = self.moved.saturating_add(self.len as u64);
         Ok(links)
     }

@@ -173,7 +173,7 @@ fn make_room<B: Copy, D: BlockDevice<B>, S: KeyHasher<u64>>(
     ensures cause { IfErr result (IsFault D.BlockDevice device.old device.new) }
     ensures kept { OnErr result (map.new.pairs ≡ map.old.pairs) }
     ensures absent { (n : ℕ) → lookup (nat_eq n) map.old.pairs ≡ None → lookup (nat_eq n) map.new.pairs ≡ None }
-    ensures room { OnOk result (length map.new.pairs < capacity) }
+    ensures growth_left { OnOk result (length map.new.pairs < capacity) }
     ensures newest { OnOk result (map.new.pairs ≡ take (capacity - 1) map.old.pairs) }
 {
     if map.len() < capacity {

@@ -3,7 +3,7 @@ use Rattle.std.proofs.Common.{◌≡◌, ℕ, zero, suc, ◌-◌, ◌<◌, ◌�
 use Rattle.std.proofs.Common.{subst, arith}
 use Rattle.lru_model.specs.Lists.{without_first, without_last}
 use Rattle.lru_limits.specs.Rules.{Rules}
-use Rattle.lru_model.specs.State.{State, buckets, room, Contents, contents, FreesRoom, Leaves, pop, pops, trim}
+use Rattle.lru_model.specs.State.{State, buckets, growth_left, Contents, contents, FreesGrowth, Leaves, pop, pops, trim}
 use Rattle.lru_model.specs.State.{trim_from}
 use Rattle.lru_model.specs.Place.{CannotGrow, no_target, denied, OldestEvicted}
 
@@ -55,7 +55,7 @@ module _ {K V S : Type 0} (rules : Rules K V S) where
           ap (λ m. trim_from rules m (pop rules c)) g)
 
 module _ {K V S H : Type 0} where
-  frees_trans : (old mid new : State K V S H) → FreesRoom old mid → FreesRoom mid new → FreesRoom old new
+  frees_trans : (old mid new : State K V S H) → FreesGrowth old mid → FreesGrowth mid new → FreesGrowth old new
   frees_trans old mid new f g = record {
     table = g.table ∙ f.table;
     keeps = omega (arith, f.keeps, g.keeps);
@@ -68,7 +68,7 @@ module _ {K V S H : Type 0} where
   pub leaves_self : (st : State K V S H) → Leaves st (contents st) st
   leaves_self st = record {
     is = refl;
-    room = record {
+    growth_left = record {
       table = refl;
       keeps = omega arith;
       at_most = omega arith;
@@ -82,7 +82,7 @@ module _ {K V S H : Type 0} where
   leaves_trans old mid new some all l m = record {
     is = m.is ∙ ap {A = State K V S H} {B = State K V S H}
         (λ st. record st { pairs = all.pairs; limiter = all.limiter; table = new.table }) l.is;
-    room = frees_trans old mid new l.room m.room;
+    growth_left = frees_trans old mid new l.growth_left m.growth_left;
   }
 
 module _ {K V S H : Type 0} (rules : Rules K V S) where
@@ -107,11 +107,11 @@ leaves_trimmed rules old mid new left some rest = leaves_trans old mid new left 
 
 pub room_after : {K V S H : Type 0} (rules : Rules K V S) (n : ℕ) (mid left : State K V S H)
     → Leaves mid (pops rules n (contents mid)) left
-    → buckets mid ≤ 16 → n ≤ length mid.pairs → room mid ≡ 0 → room left ≡ 0 → n ≡ 0
+    → buckets mid ≤ 16 → n ≤ length mid.pairs → growth_left mid ≡ 0 → growth_left left ≡ 0 → n ≡ 0
 room_after rules n mid left step small enough none still =
     omega (
       arith,
-      step.room.exact small,
+      step.growth_left.exact small,
       none,
       still,
       ap (λ st. length st.pairs) step.is,

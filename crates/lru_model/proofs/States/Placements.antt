@@ -10,14 +10,14 @@ use Rattle.group_table.specs.Bucket.{Mark}
 use Rattle.group_table.specs.Change.{HasNoPlace}
 use Rattle.lru_limits.specs.Rules.{Rules}
 use Rattle.lru_model.specs.Sizes.{no_table, new_table}
-use Rattle.lru_model.specs.State.{State, TableState, buckets, room, contents, IsSized, Leaves, pop, pops}
+use Rattle.lru_model.specs.State.{State, TableState, buckets, growth_left, contents, IsSized, Leaves, pop, pops}
 use Rattle.lru_model.specs.Place.{Place, rehashed, grown, not_grown, HasNoBucket, IsOutgrown, CannotGrow}
 use Rattle.lru_model.specs.Place.{no_target, denied, Evicts, nothing_to_evict, finds_bucket, rehashes, OldestEvicted}
 use Rattle.lru_model.specs.Place.{Outcome, outcome_of, placed, no_memory, IsPlaced, IsPlacedIfMemory}
 use Rattle.lru_model.specs.Place.{HasPairsButNoGrowth, NoBucketTakes, FillsBucket, table_for}
 use Rattle.lru_model.proofs.TableSizes.SizedMarks.{fits, exact}
 use Rattle.lru_model.proofs.TableSizes.Growth.{full_capacity-at_most, full_capacity-even}
-use Rattle.lru_model.proofs.Theorems.OutOfMemory.{no_room}
+use Rattle.lru_model.proofs.Theorems.OutOfMemory.{no_growth_left}
 use Rattle.lru_model.proofs.States.Outcomes.{placed-not_no_memory, refused-not_no_memory}
 use Rattle.lru_model.proofs.States.LeavingPairs.{length-without_last, length-pops, known_is, leaves_more, oldest_leaves}
 use Rattle.lru_model.proofs.States.LeavingPairs.{room_after}
@@ -81,7 +81,7 @@ module _ {K V S H : Type 0} (rules : Rules K V S) (hash_of : H → K → ℕ) (p
         go (finds_bucket n pos one half left gone fills o p) = finds_bucket n pos
             (λ small. one (omega (arith, same, small)))
             (omega (arith, half, pairs, ap full_capacity same)) left gone fills o
-            (subst (λ b. IsPlaced pair b (room new) 0 left new) same p)
+            (subst (λ b. IsPlaced pair b (growth_left new) 0 left new) same p)
         go (rehashes some n pos one half left gone m) = rehashes (omega (arith, some, pairs)) n pos
             (λ small. one (omega (arith, same, small)))
             (omega (arith, half, pairs, ap full_capacity same)) left gone
@@ -118,10 +118,10 @@ module _ {K V S H : Type 0} (st : State K V S H) (ok : IsSized st) (hash : ℕ) 
 
   pub no_place_bucket : HasNoPlace st.table.marks hash → HasNoBucket hash st
   no_place_bucket (inl none) = record {
-    no_room = no_room st.table.marks none;
+    no_growth_left = no_growth_left st.table.marks none;
     first_empty = λ some. absurd (omega (arith, ap length (none_without_buckets st ok none), some));
   }
-  no_place_bucket (inr (none, b, first, is)) = record { no_room = none; first_empty = λ some. (b, first, is) }
+  no_place_bucket (inr (none, b, first, is)) = record { no_growth_left = none; first_empty = λ some. (b, first, is) }
 
 -- no bucket of a table with these states takes a pair of this hash, and it holds at least half of what it may
 pub record IsStuck (hash least : ℕ) (marks : List Mark) (pairs : ℕ) : Type 0 where
@@ -149,11 +149,11 @@ module _ {K V S H : Type 0} (rules : Rules K V S) (hash : ℕ) (pair : K × V) (
   only_one small = omega (
     arith,
     room_after rules n old before leaves small (omega (arith, in_all)) is_full.1
-        stuck.no_bucket.no_room,
+        stuck.no_bucket.no_growth_left,
   )
 
   pub same_buckets : buckets left ≡ buckets old
-  same_buckets = step.room.table ∙ leaves.room.table
+  same_buckets = step.growth_left.table ∙ leaves.growth_left.table
 
   pub left_absent : (names : K → Bool) → lookup_entry names old.pairs ≡ None → lookup_entry names left.pairs ≡ None
   left_absent names absent = front_absent names left.pairs old.pairs
@@ -163,11 +163,11 @@ module _ {K V S H : Type 0} (rules : Rules K V S) (hash : ℕ) (pair : K × V) (
 
   module _ (new : State K V S H) where
     pub finds : full_capacity (buckets old) / 2 ≤ length left.pairs
-        → IsPlaced pair (buckets left) (room new) 0 left new → FillsBucket hash left.table new.table
+        → IsPlaced pair (buckets left) (growth_left new) 0 left new → FillsBucket hash left.table new.table
         → Evicts rules hash pair old old placed new
     finds enough p fills = finds_bucket (suc n) (omega arith) only_one
         (omega (arith, enough, one_fewer, in_all)) left one_more fills refl
-        (subst (λ b. IsPlaced pair b (room new) 0 left new) same_buckets p)
+        (subst (λ b. IsPlaced pair b (growth_left new) 0 left new) same_buckets p)
 
     pub rehashes_then : (outcome : Outcome) → length left.pairs < full_capacity (buckets old) / 2 →
         IsPlacedIfMemory rules pair (buckets old) (full_capacity (buckets old) - length left.pairs - 1)

@@ -6,15 +6,15 @@ use Rattle.std.proofs.lemmas.Bool.{false≢true}
 use Rattle.std.proofs.lemmas.List.{nil_from_length}
 use native.Mathlib.Decide.{dec_lt}
 use Rattle.group_table.specs.Sizes.{full_capacity, IsBucketCount, IsPowerFromFour}
-use Rattle.group_table.specs.Bucket.{Mark, empty, deleted, full, bucket_at, is_full, is_used, is_deleted, room_at}
-use Rattle.group_table.specs.Bucket.{room as room_of}
+use Rattle.group_table.specs.Bucket.{Mark, empty, deleted, full, bucket_at, is_full, is_used, is_deleted, growth_left_at}
+use Rattle.group_table.specs.Bucket.{growth_left as growth_left_of}
 use Rattle.group_table.specs.Probe.{IsFirstFree}
 use Rattle.group_table.specs.Change.{MayFill, count_up}
 use Rattle.group_table.proofs.BucketLemmas.{room_is, used_count-split, count_by-set}
 use Rattle.group_table.proofs.CountedMarks.{facts}
 use Rattle.lru_limits.specs.Rules.{Rules}
 use Rattle.lru_model.specs.Sizes.{Target, no_table, same_table, new_table, usage}
-use Rattle.lru_model.specs.State.{State, Contents, buckets, room, contents, IsSound, IsSized, Leaves, FirstFreeIs}
+use Rattle.lru_model.specs.State.{State, Contents, buckets, growth_left, contents, IsSound, IsSized, Leaves, FirstFreeIs}
 use Rattle.lru_model.specs.State.{pops, count_insert}
 use Rattle.lru_model.specs.Place.{Place, in_bucket, rehashed, grown, not_grown, nothing_to_evict, finds_bucket}
 use Rattle.lru_model.specs.Place.{rehashes}
@@ -24,7 +24,7 @@ use Rattle.lru_model.proofs.TableSizes.Growth.{full_capacity-at_most, full_capac
 use Rattle.lru_model.proofs.States.LeavingPairs.{length-pops}
 use Rattle.lru_model.proofs.States.Outcomes.{placed-not_no_memory}
 use Rattle.lru_model.proofs.TableSizes.FilledBuckets.{deleted_large, fills_free}
-use Rattle.lru_model.proofs.TableSizes.SomeMarks.{marked, length-marked, room-marked, sized-marked}
+use Rattle.lru_model.proofs.TableSizes.SomeMarks.{marked, length-marked, growth_left-marked, sized-marked}
 
 counted : (n more : ℕ) → count_up n more < 2 ^ 64
 counted n more = omega arith
@@ -32,13 +32,13 @@ counted n more = omega arith
 module _ {K V S H : Type 0} where
   pub some_leave : (old : State K V S H) (c : Contents K V S) → IsSized old → length c.pairs ≤ length old.pairs
       → (new : State K V S H) × Leaves old c new × IsSized new
-      × (length c.pairs + room new ≡ length old.pairs + room old)
+      × (length c.pairs + growth_left new ≡ length old.pairs + growth_left old)
   some_leave old c ok fewer = elim (dec_lt (length c.pairs) (length old.pairs)) [
     | no q ↦ let same : length c.pairs ≡ length old.pairs = omega (arith, fewer, q) in (
       record old { pairs = c.pairs; limiter = c.limiter },
       record {
         is = refl;
-        room = record {
+        growth_left = record {
           table = refl;
           keeps = omega arith;
           at_most = omega (arith, same);
@@ -60,13 +60,13 @@ module _ {K V S H : Type 0} where
           limiter = c.limiter;
           table = record old.table { marks = marked old ok c.pairs deletions within };
         } in
-        let left = room-marked old ok c.pairs deletions within in
-        let freed : length c.pairs + room new ≡ length old.pairs
-        + room old = omega (arith, left, room_is old.table.marks, split, ok.taken, ok.table.used_within, q) in (
+        let left = growth_left-marked old ok c.pairs deletions within in
+        let freed : length c.pairs + growth_left new ≡ length old.pairs
+        + growth_left old = omega (arith, left, room_is old.table.marks, split, ok.taken, ok.table.used_within, q) in (
           new,
           record {
             is = refl;
-            room = record {
+            growth_left = record {
               table = length-marked old ok c.pairs deletions within;
               keeps = omega (arith, freed, q);
               at_most = omega (arith, freed);
@@ -97,7 +97,7 @@ module _ {K V S H : Type 0} where
           new,
           record {
             table = length-marked old ok pairs deletions fit;
-            room_left = omega (arith, room-marked old ok pairs deletions fit);
+            room_left = omega (arith, growth_left-marked old ok pairs deletions fit);
             state = refl;
           },
           sized-marked old ok pairs deletions fit none_deleted new.counts (counted old.counts.moved 0)
@@ -105,7 +105,7 @@ module _ {K V S H : Type 0} where
         )
 
     fill_first : (hash b : ℕ) → b < buckets old → IsFirstFree old.table.marks hash b → MayFill old.table.marks b
-        → (new : State K V S H) × IsPlaced pair (buckets old) (room new) 0 old new
+        → (new : State K V S H) × IsPlaced pair (buckets old) (growth_left new) 0 old new
         × FillsBucket hash old.table new.table × IsSized new
     fill_first hash b within first may =
         (new, placed, fills_free old.table new.table ok hash b within first spends refl refl, sized)
@@ -139,7 +139,7 @@ module _ {K V S H : Type 0} where
               (arith, counts is_used, ap (λ m. cond {A = ℕ} (is_used m) 1 0) there, ok.table.used_within)
         ]
 
-        spends : room_of marks + room_at old.table.marks b ≡ room_of old.table.marks
+        spends : growth_left_of marks + growth_left_at old.table.marks b ≡ growth_left_of old.table.marks
         spends = omega (
           arith,
           room_is marks,
@@ -150,7 +150,7 @@ module _ {K V S H : Type 0} where
           used,
         )
 
-        placed : IsPlaced pair (buckets old) (room new) 0 old new
+        placed : IsPlaced pair (buckets old) (growth_left new) 0 old new
         placed = record { table = same; room_left = refl; state = refl }
 
         sized : IsSized new
@@ -173,8 +173,8 @@ module _ {K V S H : Type 0} where
           shrunk = ok.shrunk;
         }
 
-    some_filled : (hash : ℕ) → 0 < room old
-        → (new : State K V S H) × IsPlaced pair (buckets old) (room new) 0 old new
+    some_filled : (hash : ℕ) → 0 < growth_left old
+        → (new : State K V S H) × IsPlaced pair (buckets old) (growth_left new) 0 old new
         × FillsBucket hash old.table new.table × IsSized new
     some_filled hash r =
         let (b, within, first) =
@@ -195,18 +195,18 @@ module _ {K V S H : Type 0} (rules : Rules K V S) (hash_of : H → K → ℕ) (p
   abbrev hash : ℕ
   hash = hash_of old.hasher pair.0
 
-  spent : room old ≡ full_capacity (buckets old) - (length old.pairs + deletions)
+  spent : growth_left old ≡ full_capacity (buckets old) - (length old.pairs + deletions)
   spent = omega (arith, room_is old.table.marks, used_count-split old.table.marks, ok.taken)
 
   spent_within : length old.pairs + deletions ≤ full_capacity (buckets old)
   spent_within = omega (arith, used_count-split old.table.marks, ok.taken, ok.table.used_within)
 
-  roomy_ends : 0 < room old → Ends
+  roomy_ends : 0 < growth_left old → Ends
   roomy_ends r =
       let (new, is, fills, sized) = some_filled pair old ok hash r in
       (placed, new, in_bucket (omega (arith, r, spent)) (inl r) fills refl is, sized)
 
-  deleted_ends : 0 < length old.pairs → room old ≡ 0 → (free : FirstFreeIs deleted hash old.table.marks)
+  deleted_ends : 0 < length old.pairs → growth_left old ≡ 0 → (free : FirstFreeIs deleted hash old.table.marks)
       → free.0 < buckets old → Ends
   deleted_ends l none free below =
       let (large, spare) = deleted_large ok free.0 below free.2 in
@@ -241,7 +241,7 @@ module _ {K V S H : Type 0} (rules : Rules K V S) (hash_of : H → K → ℕ) (p
                   new,
                   not_grown outgrown mid cannot
                       (finds_bucket 1 (omega arith) (λ _. refl) (omega (arith, l)) end gone fills refl
-                      (subst (λ n. IsPlaced pair n (room new) 0 end new) leaves.room.table is)),
+                      (subst (λ n. IsPlaced pair n (growth_left new) 0 end new) leaves.growth_left.table is)),
                   after,
                 )
             | no l ↦ (
@@ -302,7 +302,7 @@ module _ {K V S H : Type 0} (rules : Rules K V S) (hash_of : H → K → ℕ) (p
     )
   ]
 
-  full_ends : 0 < length old.pairs → room old ≡ 0 → Ends
+  full_ends : 0 < length old.pairs → growth_left old ≡ 0 → Ends
   full_ends some none = go (bucket_at old.table.marks free.0) refl
     where
       free : (b : ℕ) × (b < buckets old) × IsFirstFree old.table.marks hash b
@@ -310,17 +310,17 @@ module _ {K V S H : Type 0} (rules : Rules K V S) (hash_of : H → K → ℕ) (p
           hash
 
       go : (m : Mark) → bucket_at old.table.marks free.0 ≡ m → Ends
-      go empty e = pairs_end some (record { no_room = none; first_empty = λ _. (free.0, free.2, e) })
+      go empty e = pairs_end some (record { no_growth_left = none; first_empty = λ _. (free.0, free.2, e) })
       go deleted e = deleted_ends some none (free.0, free.2, e) free.1
       go (full held) e = absurd (false≢true (sym free.2.free_there ∙ ap is_full e))
 
   pub some_place : Ends
-  some_place = elim (dec_lt 0 (room old)) [
+  some_place = elim (dec_lt 0 (growth_left old)) [
     | yes r ↦ roomy_ends r
     | no r ↦ elim (dec_lt 0 (length old.pairs)) [
       | yes some ↦ full_ends some (omega (arith, r))
       | no none ↦ without_pairs (omega (arith, none)) ok.table.count
-          (record { no_room = omega (arith, r); first_empty = λ some. absurd (none some) })
+          (record { no_growth_left = omega (arith, r); first_empty = λ some. absurd (none some) })
     ]
   ]
     where

@@ -9,7 +9,7 @@ use Rattle.group_table.specs.Sizes.{full_capacity}
 use Rattle.group_table.proofs.BucketLemmas.{used_count-split}
 use Rattle.lru_limits.specs.Rules.{Rules}
 use Rattle.lru_model.specs.Calls.{cleared}
-use Rattle.lru_model.specs.State.{State, buckets, room, IsSound, IsSized}
+use Rattle.lru_model.specs.State.{State, buckets, growth_left, IsSound, IsSized}
 use Rattle.lru_model.specs.Place.{table_for, asked}
 use Rattle.lru_model.specs.Reservations.{NeedsGrowthFor, Reserve, unchanged, rehashed, asked_only, enough_room}
 use Rattle.lru_model.specs.Reservations.{too_many}
@@ -17,7 +17,7 @@ use Rattle.lru_model.specs.Reservations.{no_such_table}
 use Rattle.lru_model.specs.Sizes.{Target, no_table, same_table, new_table}
 use Rattle.lru_model.specs.declared.results.ReserveError.{ReserveError}
 use Rattle.lru_model.specs.declared.results.ReserveError.TheVariants.{TooLarge, Refused, Memory}
-use Rattle.lru_model.proofs.TableSizes.SomeMarks.{marked, length-marked, room-marked, sized-marked}
+use Rattle.lru_model.proofs.TableSizes.SomeMarks.{marked, length-marked, growth_left-marked, sized-marked}
 
 pub cleared_sized : {K V S H : Type 0} (rules : Rules K V S) (old : State K V S H) → IsSized old
     → IsSized (cleared rules old)
@@ -45,7 +45,7 @@ module _ {K V S H : Type 0} (rules : Rules K V S) (n : ℕ) (old : State K V S H
         rehashed needs_growth is refl
             (record {
               table = length-marked old ok old.pairs 0 within;
-              exact = omega (arith, room-marked old ok old.pairs 0 within, within);
+              exact = omega (arith, growth_left-marked old ok old.pairs 0 within, within);
               state = refl;
             }),
         sized-marked old ok old.pairs 0 within (λ _. refl) new.counts ok.moved ok.placed refl,
@@ -67,7 +67,7 @@ module _ {K V S H : Type 0} (rules : Rules K V S) (n : ℕ) (old : State K V S H
   pub some_reservation : CanReserve
   some_reservation = elim (dec_lt (length old.pairs + n) (2 ^ 64)) [
     | no many ↦ (Err TooLarge, old, unchanged (too_many (omega (arith, many)) refl) refl, ok)
-    | yes fits ↦ elim (dec_lt (room old) n) [
+    | yes fits ↦ elim (dec_lt (growth_left old) n) [
       | no enough ↦ (Ok tt, old, unchanged (enough_room (omega (arith, enough)) fits refl) refl, ok)
       | yes needs_growth ↦ some_table (needs_growth, fits) (table_for n old) refl
     ]

@@ -5,7 +5,7 @@ use Rattle.std.proofs.Common.{inl, refl, sym, ap, ◌∙◌, arith}
 use Rattle.std.proofs.lemmas.Option.{same_Some}
 use native.Mathlib.Decide.{dec_lt}
 use Rattle.std.specs.declared.alloc.AllocError.{AllocError}
-use Rattle.group_table.specs.Bucket.{room as room_of}
+use Rattle.group_table.specs.Bucket.{growth_left as growth_left_of}
 use Rattle.group_table.specs.Change.{count_up}
 use Rattle.group_table.specs.Sizes.{full_capacity, buckets_for}
 use Rattle.lru_model.specs.Shrinks.{Shrink, IsLooseFor, shrink_counted, kept, shrunk, no_memory_to_shrink}
@@ -16,9 +16,9 @@ pub none_needed : (max count : ℕ) → buckets_for max 0 ≡ Some count → cou
 unfolding buckets_for
 none_needed max count is = sym (same_Some 0 count is)
 
-no_room : room_of [] ≡ full_capacity 0
-unfolding room_of
-no_room = omega arith
+no_growth_left : growth_left_of [] ≡ full_capacity 0
+unfolding growth_left_of
+no_growth_left = omega arith
 
 module _ {K V S H : Type 0} (old : State K V S H) (ok : IsSized old) where
   abbrev pub CanShrink : Type 0
@@ -39,7 +39,7 @@ module _ {K V S H : Type 0} (old : State K V S H) (ok : IsSized old) where
         shrunk count loose refl
             (record {
               table = sym gone;
-              exact = omega (arith, few, no_room, ap full_capacity gone);
+              exact = omega (arith, few, no_growth_left, ap full_capacity gone);
               state = refl;
             }),
         record {

@@ -6,7 +6,7 @@ use Rattle.std.proofs.lemmas.List.{length-append, length-replicate}
 use Rattle.std.proofs.lemmas.List.Folds.{sum_by-replicate}
 use Rattle.std.proofs.lemmas.List.Sums.{sum_by-append}
 use Rattle.group_table.specs.Sizes.{full_capacity, IsBucketCount}
-use Rattle.group_table.specs.Bucket.{Mark, empty, deleted, full, is_full, is_used, is_deleted, room as room_of}
+use Rattle.group_table.specs.Bucket.{Mark, empty, deleted, full, is_full, is_used, is_deleted, growth_left as growth_left_of}
 use Rattle.group_table.specs.Table.{IsTable}
 use Rattle.group_table.proofs.BucketLemmas.{room_is}
 use Rattle.lru_model.specs.Sizes.{usage}
@@ -64,8 +64,8 @@ module _ {K V S H : Type 0} (old : State K V S H) (ok : IsSized old) (pairs : Li
   used-marked : count_by is_used marked ≡ length pairs + d
   used-marked = omega (arith, count-row is_used (length pairs) d (buckets old - length pairs - d))
 
-  pub room-marked : room_of marked ≡ full_capacity (buckets old) - (length pairs + d)
-  room-marked = omega (arith, room_is marked, used-marked, ap full_capacity length-marked)
+  pub growth_left-marked : growth_left_of marked ≡ full_capacity (buckets old) - (length pairs + d)
+  growth_left-marked = omega (arith, room_is marked, used-marked, ap full_capacity length-marked)
 
   module _ (none_deleted : buckets old ≤ 16 → d ≡ 0) where
     table-marked : IsTable marked

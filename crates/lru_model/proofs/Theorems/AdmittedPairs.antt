@@ -10,7 +10,7 @@ use Rattle.std.specs.declared.alloc.AllocError.{AllocError}
 use Rattle.lru_limits.specs.Rules.{Rules}
 use Rattle.lru_limits.specs.Admissions.{Terms, offers_of}
 use Rattle.lru_model.specs.Lists.{lookup_entry}
-use Rattle.lru_model.specs.State.{State, Contents, contents, room, IsSized}
+use Rattle.lru_model.specs.State.{State, Contents, contents, growth_left, IsSized}
 use Rattle.lru_model.specs.Reservations.{Reserve, unchanged, rehashed, reserved as grown, asked_only}
 use Rattle.lru_model.specs.declared.results.ReserveError.{ReserveError}
 use Rattle.lru_model.specs.Inserts.{Insert}
@@ -45,7 +45,7 @@ module _ {K V S : Type 0} (terms : Terms K V S) (rules : Rules K V S) (eq : K �
 
   pub adds : {H : Type 0} {hash_of : H → K → ℕ} (old : State K V S H) (result : Result Bool AllocError)
       (new : State K V S H) → can_store terms rules key value (contents old) ≡ true
-      → lookup_entry (eq key) old.pairs ≡ None → 0 < room old
+      → lookup_entry (eq key) old.pairs ≡ None → 0 < growth_left old
       → Insert rules (offers_of terms) eq hash_of key value old result new → Adds old result new
   adds old result new place absent some step =
       let added = is_added rules (offers_of terms) eq key value (key, value) old result new _ (accepts_new (contents old) place)
@@ -72,7 +72,7 @@ module _ {K V S H : Type 0} (rules : Rules K V S) (old : State K V S H) where
   ready_hasher ready (has_growth some e) = ap (λ st. st.hasher) e
   ready_hasher ready (reserved none step sized) = hasher_stays (Ok tt) ready step
 
-  pub ready_room : (ready : State K V S H) → IsSized old → IsReady rules old ready → 0 < room ready
+  pub ready_room : (ready : State K V S H) → IsSized old → IsReady rules old ready → 0 < growth_left ready
   ready_room ready ok (has_growth some e) = rw e some
   ready_room ready ok (reserved none step sized) = makes_room rules 1 old ready ok step
 
@@ -85,9 +85,9 @@ module _ {K V S H : Type 0} (terms : Terms K V S) (rules : Rules K V S) (eq : K 
     pub within : OnOk result (rules.is_over_the_limit new.limiter (length new.pairs) ≡ false)
     pub returned : IfErr result (λ back. back ≡ (key, value))
     pub keeps : OnErr result (new.pairs ≡ old.pairs)
-    pub unchanged : 0 < room old → OnErr result (new ≡ old)
+    pub unchanged : 0 < growth_left old → OnErr result (new ≡ old)
 
-  refuses : (answer : Result (Unit {0}) ReserveError) (new : State K V S H) → room old ≡ 0
+  refuses : (answer : Result (Unit {0}) ReserveError) (new : State K V S H) → growth_left old ≡ 0
       → Reserve rules 1 old answer new → IsSized new → Says (Err (key, value)) new
   refuses answer new none step sized = record {
     calls = goes_on new (reserves 1 answer step) sized ends;

@@ -138,7 +138,7 @@ module _ {K V : Type 0} (bytes_of : K → V → ℕ) where
         → Frees old.limiter left.limiter → Calm old new
     leaves_calm old left new l f = record {
       entry_bytes = ap (λ st. st.entry_bytes) l.is;
-      table = l.room.table;
+      table = l.growth_left.table;
       limiter = subst (Frees old.limiter) (sym (ap (λ st. st.limiter) l.is)) f;
     }
 

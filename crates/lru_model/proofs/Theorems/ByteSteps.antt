@@ -78,7 +78,7 @@ module _ {K V H : Type 0} (bytes_of : K → V → ℕ) (most : ℕ) where
   trimmed_ends old left new l same k =
       let f = trim_frees bytes_of left in
       let is = ap (λ st. st.limiter) l.is in (
-        counts_from bytes_of most old new (ap (λ st. st.entry_bytes) l.is) l.room.table
+        counts_from bytes_of most old new (ap (λ st. st.entry_bytes) l.is) l.growth_left.table
             (ap (λ b. b.limit) is ∙ f.limit ∙ same.0) (ap (λ b. b.table) is ∙ f.table ∙ same.1) k,
         inr (subst (IsWithin (rules bytes_of)) (sym (left_are old _ new l)) (trim_ends (rules bytes_of) left)),
       )

@@ -7,7 +7,7 @@ use Rattle.std.proofs.lemmas.List.{length-replicate}
 use Rattle.std.proofs.lemmas.Map.{length-set_value}
 use Rattle.std.specs.declared.alloc.AllocError.{AllocError}
 use Rattle.group_table.specs.Sizes.{full_capacity, IsBucketCount}
-use Rattle.group_table.specs.Bucket.{Mark, empty, is_used, room as room_of}
+use Rattle.group_table.specs.Bucket.{Mark, empty, is_used, growth_left as growth_left_of}
 use Rattle.lru_limits.specs.Rules.{Rules, Offers}
 use Rattle.lru_model.specs.State.{State, buckets, Contents, contents, MovesTo, Leaves, Trims}
 use Rattle.lru_model.specs.Calls.{promoted, demoted, written, pop_first, Remove, PopOldest, PopNewest, cleared}
@@ -40,16 +40,16 @@ module _ {K V S : Type 0} {rules : Rules K V S} {R : Contents K V S → Contents
   pops_first_keep zero c = k.way.self c
   pops_first_keep (suc n) c = k.way.trans (pop_first_keeps c) (pops_first_keep n (pop_first rules c))
 
-pub room_cleared : (n : ℕ) → room_of (replicate n empty) ≡ full_capacity n
-unfolding room_of
+pub room_cleared : (n : ℕ) → growth_left_of (replicate n empty) ≡ full_capacity n
+unfolding growth_left_of
 room_cleared n = omega (arith, none_used n, ap full_capacity (length-replicate {A = Mark} n empty))
   where
     none_used : (n : ℕ) → count_by (is_used {A = Unit {0}}) (replicate n empty) ≡ 0
     none_used zero = refl
     none_used (suc n) = none_used n
 
-room_within : (marks : List Mark) → room_of marks ≤ full_capacity (length marks)
-unfolding room_of
+room_within : (marks : List Mark) → growth_left_of marks ≤ full_capacity (length marks)
+unfolding growth_left_of
 room_within marks = omega arith
 
 module _ {K V S H : Type 0} (rules : Rules K V S) (old : State K V S H) where

@@ -5,7 +5,7 @@ use Rattle.group_table.proofs.SizeLemmas.{power_pos}
 use Rattle.group_table.specs.Bucket.{Mark, empty, deleted, bucket_at}
 use Rattle.group_table.proofs.FirstFree.{IsFirstFree-unique}
 use Rattle.lru_limits.specs.Rules.{Rules}
-use Rattle.lru_model.specs.State.{State, buckets, room, FirstFreeIs}
+use Rattle.lru_model.specs.State.{State, buckets, growth_left, FirstFreeIs}
 use Rattle.lru_model.specs.Place.{Place, in_bucket, rehashed, grown, not_grown, FillsBucket}
 use Rattle.lru_model.specs.Place.{nothing_to_evict, finds_bucket, rehashes, Outcome, placed, IsPlaced, asked}
 use Rattle.lru_model.proofs.Theorems.RefusedGrowth.{left_length, placed_if}
@@ -13,7 +13,7 @@ use Rattle.lru_model.proofs.TableSizes.Growth.{target_doubles}
 use Rattle.lru_model.proofs.Theorems.Potential.{IsBounded, no_buckets}
 
 module _ {K V S H : Type 0} (rules : Rules K V S) (hash_of : H → K → ℕ) (pair : K × V) (old : State K V S H)
-    (some : 0 < length old.pairs) (no_room : room old ≡ 0) where
+    (some : 0 < length old.pairs) (no_growth_left : growth_left old ≡ 0) where
   abbrev hash : ℕ
   hash = hash_of old.hasher pair.0
 
@@ -25,10 +25,10 @@ module _ {K V S H : Type 0} (rules : Rules K V S) (hash_of : H → K → ℕ) (p
       no h = grind arith
 
   of_deleted : FirstFreeIs deleted hash old.table.marks → (new : State K V S H)
-      → FillsBucket hash old.table new.table → room new ≡ 0
+      → FillsBucket hash old.table new.table → growth_left new ≡ 0
   of_deleted p new f = elim f.spends [
     | inl e ↦ absurd (not_both p (f.bucket, f.first, e.0))
-    | inr d ↦ omega (arith, d.2, no_room)
+    | inr d ↦ omega (arith, d.2, no_growth_left)
   ]
 
   pub deleted_serves : FirstFreeIs deleted hash old.table.marks → (outcome : Outcome) (new : State K V S H)
@@ -44,7 +44,7 @@ module _ {K V S H : Type 0} (rules : Rules K V S) (hash_of : H → K → ℕ) (p
       → Place rules hash_of pair old outcome new → IsPlaced pair (buckets old) 0 0 old new
       → FirstFreeIs deleted hash old.table.marks
   only_deleted ok outcome new q (in_bucket l f s o n) p = elim s.spends [
-    | inl e ↦ absurd (omega (arith, e.1, no_room))
+    | inl e ↦ absurd (omega (arith, e.1, no_growth_left))
     | inr d ↦ (s.bucket, s.first, d.0)
   ]
   only_deleted ok outcome new q (rehashed b l any m) p =

@@ -7,7 +7,7 @@ use Rattle.lru_limits.specs.Rules.{Rules, Offers}
 use Rattle.group_table.specs.Sizes.{full_capacity}
 use Rattle.lru_model.specs.Lists.{is_empty, last, without_last, lookup_entry}
 use Rattle.lru_model.specs.Sizes.{target}
-use Rattle.lru_model.specs.State.{State, buckets, room, Contents, contents, Leaves, after_removal, pop, pops, trim}
+use Rattle.lru_model.specs.State.{State, buckets, growth_left, Contents, contents, Leaves, after_removal, pop, pops, trim}
 use Rattle.lru_model.specs.Place.{Place, in_bucket, rehashed, grown, not_grown}
 use Rattle.lru_model.specs.Place.{nothing_to_evict, finds_bucket, rehashes}
 use Rattle.lru_model.specs.Place.{CannotGrow, no_target, denied, table_for, Outcome, placed, refused, no_memory}
@@ -250,14 +250,14 @@ module _ {K V S H : Type 0} (rules : Rules K V S) (old : State K V S H) (small :
       same = ap contents l.is
 
       spare : ℕ
-      spare = room old + length old.pairs - length c.pairs
+      spare = growth_left old + length old.pairs - length c.pairs
 
-      left : room ready ≡ spare
-      left = omega (arith, l.room.exact small, ap (λ d. length d.pairs) same)
+      left : growth_left ready ≡ spare
+      left = omega (arith, l.growth_left.exact small, ap (λ d. length d.pairs) same)
 
       half : (length ready.pairs + 1 ≡ length c.pairs + 1)
           × (full_capacity (buckets ready) / 2 ≡ full_capacity (buckets old) / 2)
-      half = (ap (λ d. length d.pairs + 1) same, ap (λ n. full_capacity n / 2) l.room.table)
+      half = (ap (λ d. length d.pairs + 1) same, ap (λ n. full_capacity n / 2) l.growth_left.table)
 
       go : MayReport rules hash ready report → report ≡ small_report rules old c
       go (fits large e) = e ∙ elim (dec_lt 0 spare) [
@@ -265,7 +265,7 @@ module _ {K V S H : Type 0} (rules : Rules K V S) (old : State K V S H) (small :
         | no none ↦ elim (dec_lt (full_capacity (buckets old) / 2) (length c.pairs + 1)) [
           | yes above ↦
               let huge = large (omega (arith, left, none)) (omega (arith, above, half)) in
-              absurd (omega (arith, huge, l.room.table, small))
+              absurd (omega (arith, huge, l.growth_left.table, small))
           | no below ↦ rw (
             le-ltb 0 spare (omega (arith, none)),
             le-leb (length c.pairs + 1) (full_capacity (buckets old) / 2) (omega (arith, below)),
@@ -273,10 +273,10 @@ module _ {K V S H : Type 0} (rules : Rules K V S) (old : State K V S H) (small :
         ]
       ]
       go (too_small b n pos one bound e) = e
-          ∙ ap (λ n. report_of rules (table_for 1 ready) n (contents ready)) (one (omega (arith, l.room.table, small)))
-          ∙ (λ j. report_of rules (target (l.is j).max (l.is j).entry_bytes (l.room.table j)
+          ∙ ap (λ n. report_of rules (table_for 1 ready) n (contents ready)) (one (omega (arith, l.growth_left.table, small)))
+          ∙ (λ j. report_of rules (target (l.is j).max (l.is j).entry_bytes (l.growth_left.table j)
           (length (same j).pairs + 1)) 1 (same j))
           ∙ rw (
-            le-ltb 0 spare (omega (arith, left, b.no_bucket.no_room)),
+            le-ltb 0 spare (omega (arith, left, b.no_bucket.no_growth_left)),
             lt-leb (length c.pairs + 1) (full_capacity (buckets old) / 2) (omega (arith, b.above_half, half)),
           ) refl

@@ -6,7 +6,7 @@ use Rattle.std.specs.declared.alloc.AllocError.{AllocError}
 use native.Mathlib.Decide.{dec_lt}
 use Rattle.lru_limits.specs.Rules.{Rules, Offers}
 use Rattle.lru_model.specs.Sizes.{Target, target, no_table, same_table, new_table}
-use Rattle.lru_model.specs.State.{State, Contents, contents, buckets, room, Leaves, pop}
+use Rattle.lru_model.specs.State.{State, Contents, contents, buckets, growth_left, Leaves, pop}
 use Rattle.lru_model.specs.Place.{Place, in_bucket, rehashed, grown, not_grown}
 use Rattle.lru_model.specs.Place.{table_for, Outcome, placed, IsPlaced, IsOutgrown}
 use Rattle.lru_model.specs.Inserts.{Insert, make_room, MayGive}
@@ -17,16 +17,16 @@ use Rattle.lru_model.proofs.Theorems.Exactness.{insert_reports}
 
 -- with growth left the pair is stored in the same table
 pub place_with_room : {K V S H : Type 0} (rules : Rules K V S) (pair : K × V) (old : State K V S H)
-    (hash_of : H → K → ℕ) → 0 < room old → (outcome : Outcome) (new : State K V S H)
+    (hash_of : H → K → ℕ) → 0 < growth_left old → (outcome : Outcome) (new : State K V S H)
     → Place rules hash_of pair old outcome new
-    → (outcome ≡ placed) × IsPlaced pair (buckets old) (room new) 0 old new × (room old ≤ room new + 1)
+    → (outcome ≡ placed) × IsPlaced pair (buckets old) (growth_left new) 0 old new × (growth_left old ≤ growth_left new + 1)
 place_with_room rules pair old hash_of some outcome new (in_bucket l f s o p) =
     (o, p, elim s.spends [ inl e ↦ omega (arith, e.1) | inr d ↦ omega (arith, d.2) ])
-place_with_room rules pair old hash_of some outcome new (rehashed b l p m) = absurd (omega (arith, some, b.no_room))
+place_with_room rules pair old hash_of some outcome new (rehashed b l p m) = absurd (omega (arith, some, b.no_growth_left))
 place_with_room rules pair old hash_of some outcome new (grown g count bytes t y m) =
-    absurd (omega (arith, some, g.no_bucket.no_room))
+    absurd (omega (arith, some, g.no_bucket.no_growth_left))
 place_with_room rules pair old hash_of some outcome new (not_grown g mid c e) =
-    absurd (omega (arith, some, g.no_bucket.no_room))
+    absurd (omega (arith, some, g.no_bucket.no_growth_left))
 
 module _ {K V S H : Type 0} (rules : Rules K V S) (old : State K V S H) where
   -- after room was made, the map has as many pairs as before, or one fewer
@@ -52,7 +52,7 @@ module _ {K V S H : Type 0} (rules : Rules K V S) (old : State K V S H) where
       let goes : (n : ℕ) → n ≡ length ready.pairs + 1 → target old.max old.entry_bytes (buckets old) n ≢ no_table
       → table_for 1 ready ≢ no_table =
       (λ n e some h. some ((λ j. target (ap (λ st. st.max) (sym l.is) j) (ap (λ st. st.entry_bytes) (sym l.is) j)
-      (sym l.room.table j) (e j)) ∙ h)) in
+      (sym l.growth_left.table j) (e j)) ∙ h)) in
       elim (way_length (record { pairs = old.pairs; limiter = s })) [
         | inl all ↦ goes (length old.pairs + 1) (omega (arith, left, all)) tables.0
         | inr one ↦ goes (length old.pairs + 0) (omega (arith, left, one)) tables.1
@@ -110,7 +110,7 @@ module _ {K V S H I : Type 0} (rules : Rules K V S) (offers : Offers K V S I) (n
   insert_granted grants tables = insert_if_tables grants (λ s pair n ready l. way_tables rules old tables s ready l)
 
   -- and if growth is left.
-  pub insert_with_room : {hash_of : H → K → ℕ} → 0 < room old → Insert rules offers names hash_of i v old result new
+  pub insert_with_room : {hash_of : H → K → ℕ} → 0 < growth_left old → Insert rules offers names hash_of i v old result new
       → EndsSo
   insert_with_room some =
-      in_list (λ s pair n ready l hash b m. absurd (omega (arith, some, l.room.keeps, b.no_bucket.no_room)))
+      in_list (λ s pair n ready l hash b m. absurd (omega (arith, some, l.growth_left.keeps, b.no_bucket.no_growth_left)))

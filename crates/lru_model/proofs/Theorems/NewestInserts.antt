@@ -14,7 +14,7 @@ use Rattle.lru_limits.specs.Limits.{length-limits}
 use Rattle.lru_limits.specs.Limiters.{length_rules, length_offers}
 use Rattle.lru_model.specs.Sizes.{no_table}
 use Rattle.lru_model.specs.Lists.{is_empty, last, lookup_entry, without, without_last}
-use Rattle.lru_model.specs.State.{State, Contents, contents, room, Leaves, trim, IsSized}
+use Rattle.lru_model.specs.State.{State, Contents, contents, growth_left, Leaves, trim, IsSized}
 use Rattle.lru_model.specs.Place.{table_for}
 use Rattle.lru_model.specs.Inserts.{Insert, make_room}
 use Rattle.lru_model.specs.Exact.{at_once, trimmed, not_stored, stored, exchanged, InsertsNew, not_offered}
@@ -162,7 +162,7 @@ module _ {K V : Type 0} (eq : K → K → Bool) (key : K) (value : V) (old new :
 module _ {K V H : Type 0} (eq : K → K → Bool) (key : K) (value : V) (old : State K V ℕ H)
     (result : Result Bool AllocError) (new : State K V ℕ H) where
   -- with growth left
-  pub leaves_with_room : {hash_of : H → K → ℕ} → length old.pairs ≤ old.limiter → 0 < room old
+  pub leaves_with_room : {hash_of : H → K → ℕ} → length old.pairs ≤ old.limiter → 0 < growth_left old
       → Insert length_rules length_offers eq hash_of key value old result new
       → LeavesTheNewest eq old.limiter key value old.pairs result new.pairs
   leaves_with_room few some step = list_leaves eq key value (contents old) (contents new) result few
@@ -186,7 +186,7 @@ module _ {K V H : Type 0} (eq : K → K → Bool) (key : K) (value : V) (old : S
           (way eq key value (contents old) (contents new) result keeps.within s pair n) in
           has_table_of_half ready (ap (λ st. st.max) l.is ∙ keeps.links)
           (rw (ap (λ st. st.entry_bytes) l.is) keeps.entry)
-          (subst IsBucketCount (sym l.room.table) keeps.sized.table.count)
+          (subst IsBucketCount (sym l.growth_left.table) keeps.sized.table.count)
           (omega (arith, ap length left, take_few (old.limiter - 1) old.pairs, some, keeps.half))
 
 module _ {K V H : Type 0} (eq : K → K → Bool) (old new : State K V ℕ H) where

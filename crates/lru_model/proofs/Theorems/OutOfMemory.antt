@@ -3,9 +3,9 @@ use Rattle.std.proofs.Common.{◌≡◌, ℕ, ◌<◌, ◌⊎◌, inl, inr, Bool
 use Rattle.std.proofs.Common.{subst, arith}
 use Rattle.std.specs.Prelude.{IsErr, OnErr}
 use Rattle.std.specs.declared.alloc.AllocError.{AllocError}
-use Rattle.group_table.specs.Bucket.{Mark, room as room_of}
+use Rattle.group_table.specs.Bucket.{Mark, growth_left as growth_left_of}
 use Rattle.lru_limits.specs.Rules.{Rules, Offers}
-use Rattle.lru_model.specs.State.{State, buckets, room}
+use Rattle.lru_model.specs.State.{State, buckets, growth_left}
 use Rattle.lru_model.specs.Place.{Place, in_bucket, rehashed, grown, not_grown}
 use Rattle.lru_model.specs.Place.{nothing_to_evict, finds_bucket, rehashes, Outcome, placed, refused, no_memory}
 use Rattle.lru_model.specs.Inserts.{Insert, replaced, not_replaced, no_memory_to_admit, not_admitted, admitted}
@@ -19,25 +19,25 @@ use Rattle.lru_model.proofs.Theorems.InsertAnswers.{place_comes}
 use Rattle.lru_model.proofs.States.Outcomes.{placed-not_no_memory, refused-not_no_memory, ok-not_err}
 use Rattle.lru_model.proofs.TableSizes.Growth.{full_capacity-at_most}
 
-pub no_room : (marks : List Mark) → length marks ≡ 0 → room_of marks ≡ 0
-unfolding room_of
-no_room marks e = omega (arith, full_capacity-at_most (length marks))
+pub no_growth_left : (marks : List Mark) → length marks ≡ 0 → growth_left_of marks ≡ 0
+unfolding growth_left_of
+no_growth_left marks e = omega (arith, full_capacity-at_most (length marks))
 
 module _ {K V S H : Type 0} (rules : Rules K V S) (hash_of : H → K → ℕ) (pair : K × V) (old : State K V S H) where
   -- there is no room, and no table or a pair
   abbrev pub LacksTable : Type 0
-  LacksTable = (room old ≡ 0) × ((buckets old ≡ 0) ⊎ (0 < length old.pairs))
+  LacksTable = (growth_left old ≡ 0) × ((buckets old ≡ 0) ⊎ (0 < length old.pairs))
 
   pub place_runs_out : (new : State K V S H) (outcome : Outcome) → outcome ≡ no_memory
       → Place rules hash_of pair old outcome new → LacksTable
   place_runs_out new outcome q (in_bucket l f s o n) = placed-not_no_memory (sym o ∙ q)
-  place_runs_out new outcome q (rehashed b l some m) = (b.no_room, inr (some q))
-  place_runs_out new outcome q (grown b count bytes t g m) = (b.no_bucket.no_room, b.begun)
+  place_runs_out new outcome q (rehashed b l some m) = (b.no_growth_left, inr (some q))
+  place_runs_out new outcome q (grown b count bytes t g m) = (b.no_bucket.no_growth_left, b.begun)
   place_runs_out new outcome q (not_grown b mid c (nothing_to_evict e o n)) = refused-not_no_memory (sym o ∙ q)
   place_runs_out new outcome q (not_grown b mid c (finds_bucket n pos one half left gone fills o p)) =
       placed-not_no_memory (sym o ∙ q)
   place_runs_out new outcome q (not_grown b mid c (rehashes some n pos one half left gone m)) =
-      (b.no_bucket.no_room, inr some)
+      (b.no_bucket.no_growth_left, inr some)
 
 module _ {K V S H I : Type 0} {rules : Rules K V S} {offers : Offers K V S I} {names : I → K → Bool}
     {hash_of : H → K → ℕ} {i : I} {v : V} {old : State K V S H} {result : Result Bool AllocError}
@@ -52,7 +52,7 @@ module _ {K V S H I : Type 0} {rules : Rules K V S} {offers : Offers K V S I} {n
     where
       short : LacksTable rules hash_of pair ready → NeedsMemory rules offers names hash_of i v old
       short k = record {
-        no_room = omega (arith, l.room.keeps, k.0);
+        no_growth_left = omega (arith, l.growth_left.keeps, k.0);
         s = s;
         pair = pair;
         given = n;
@@ -61,7 +61,7 @@ module _ {K V S H I : Type 0} {rules : Rules K V S} {offers : Offers K V S I} {n
         where
           side : (buckets ready ≡ 0) ⊎ (0 < length ready.pairs) → (buckets old ≡ 0)
               ⊎ (0 < length (make_room rules (record { pairs = old.pairs; limiter = s })).pairs)
-          side (inl b) = inl (sym l.room.table ∙ b)
+          side (inl b) = inl (sym l.growth_left.table ∙ b)
           side (inr f) = inr (subst (λ ps. 0 < length ps) (ap (λ st. st.pairs) l.is) f)
 
       go : (outcome : Outcome) → Place rules hash_of pair ready outcome landed

@@ -37,8 +37,8 @@ module _ {K V S H : Type 0} where
         ahead = λ below. omega (
           arith,
           paid.ahead (omega (arith, below, shrunk)),
-          l.room.keeps,
-          ap full_capacity l.room.table,
+          l.growth_left.keeps,
+          ap full_capacity l.growth_left.table,
           moved,
           placed,
           shrunk,

@@ -5,7 +5,7 @@ use Rattle.std.specs.declared.alloc.AllocError.{AllocError}
 use Rattle.group_table.specs.Sizes.{full_capacity}
 use Rattle.lru_limits.specs.Rules.{Rules, Offers}
 use Rattle.lru_limits.specs.Admissions.{Terms, offers_of}
-use Rattle.lru_model.specs.State.{State, buckets, room, potential, IsSized}
+use Rattle.lru_model.specs.State.{State, buckets, growth_left, potential, IsSized}
 use Rattle.lru_model.specs.Place.{Place, Outcome, placed, refused, no_memory, unstored}
 use Rattle.lru_model.specs.Inserts.{Insert, replaced, not_replaced, no_memory_to_admit, not_admitted, admitted}
 use Rattle.lru_model.specs.GetOrInserts.{got, inserted as newly}
@@ -130,7 +130,7 @@ module _ {K V S H I : Type 0} {rules : Rules K V S} {offers : Offers K V S I} {n
       (calm_none landed new (settles_calm rules outcome landed result new rest)))
 
 module _ {K V S H : Type 0} (rules : Rules K V S) (n : ℕ) (old : State K V S H) (ok : IsSized old)
-    (full : room old ≡ 0) where
+    (full : growth_left old ≡ 0) where
   pub reserve_none : (result : Result (Unit {0}) _) (new : State K V S H) → Reserve rules n old result new
       → StoresNone old new
   reserve_none result new (unchanged why e) = rw e (calm_none old old (self_calm old))

@@ -75,7 +75,7 @@ module _ {K V S H : Type 0} where
   plain_leaves : (old new : State K V (S × List (K × V)) H) (left : Contents K V (S × List (K × V)))
       (c : Contents K V S) → plain_contents left ≡ c → Leaves old left new → Leaves (plain old) c (plain new)
   plain_leaves old new left c e leaves = subst (λ c. Leaves (plain old) c (plain new)) e
-      (record { is = ap plain leaves.is; room = leaves.room })
+      (record { is = ap plain leaves.is; growth_left = leaves.growth_left })
 
   plain_placed : (pair : K × V) (count spare moves : ℕ) (old new : State K V (S × List (K × V)) H)
       → IsPlaced pair count spare moves old new → IsPlaced pair count spare moves (plain old) (plain new)

@@ -2,7 +2,7 @@
 use Rattle.std.proofs.Common.{◌≡◌, ℕ, ◌+◌, ◌*◌, ◌-◌, ◌^◌, ◌<◌, ◌≤◌, length, ap, arith}
 use Rattle.group_table.specs.Change.{count_up}
 use Rattle.group_table.specs.Sizes.{full_capacity, IsBucketCount}
-use Rattle.lru_model.specs.State.{State, buckets, room, potential, IsSized, count_insert}
+use Rattle.lru_model.specs.State.{State, buckets, growth_left, potential, IsSized, count_insert}
 use Rattle.lru_model.specs.Theorems.{PaysByStoring, PaysForMoves}
 use Rattle.lru_model.proofs.TableSizes.SizedMarks.{fits}
 use Rattle.lru_model.proofs.TableSizes.Growth.{full_capacity-at_most}
@@ -79,7 +79,7 @@ module _ {K V S H : Type 0} where
   pub record IsBounded (st : State K V S H) : Type 0 where
     pub count : IsBucketCount (buckets st)
     pub addressable : buckets st < 2 ^ 63
-    pub fits : length st.pairs + room st ≤ full_capacity (buckets st)
+    pub fits : length st.pairs + growth_left st ≤ full_capacity (buckets st)
     pub moved : st.counts.moved < 2 ^ 64
     pub placed : st.counts.placed < 2 ^ 64
     pub shrunk : st.counts.shrunk < 2 ^ 64

@@ -100,11 +100,11 @@ module _ {K V S H : Type 0} (rules : Rules K V S) (hash_of : H → K → ℕ) (p
       })
   place_keeps outcome new q (not_grown b mid c (nothing_to_evict e o n)) = refused-not_placed (sym o ∙ q)
   place_keeps outcome new q (not_grown b mid c (finds_bucket n pos one half left gone fills o p)) =
-      eviction_keeps_half (omega (arith, pos, half), b.no_bucket.no_room) b.above_half mid c n one left gone new
+      eviction_keeps_half (omega (arith, pos, half), b.no_bucket.no_growth_left) b.above_half mid c n one left gone new
       (λ taken. omega (arith, half, taken)) (ap (λ st. st.pairs) p.state) p.table
   place_keeps outcome new q (not_grown b mid c (rehashes some n pos one half left gone m)) =
       let p = placed_if left new _ _ _ outcome q m in
-      eviction_keeps_half (some, b.no_bucket.no_room) b.above_half mid c n one left gone new
+      eviction_keeps_half (some, b.no_bucket.no_growth_left) b.above_half mid c n one left gone new
       (λ taken. omega (arith, half, taken)) (ap (λ st. st.pairs) p.state) p.table
 
   pub place_runs_out_half : IsRefusedGrowth rules old → (outcome : Outcome) (new : State K V S H) → outcome ≡ no_memory
@@ -132,7 +132,7 @@ module _ {K V S H : Type 0} (rules : Rules K V S) (hash_of : H → K → ℕ) (p
       placed-not_no_memory (sym o ∙ q)
   place_runs_out_keeps outcome new q (not_grown b mid c (rehashes some n pos one half left gone m)) = inr
       (record {
-        is_full = (some, b.no_bucket.no_room);
+        is_full = (some, b.no_bucket.no_growth_left);
         above_half = b.above_half;
         mid = mid;
         refused = c;

@@ -8,7 +8,7 @@ use Rattle.group_table.specs.Sizes.{full_capacity, least_power, below, buckets_f
 use Rattle.group_table.proofs.SizeLemmas.{takes_enough, full_capacity-small}
 use Rattle.lru_limits.specs.Rules.{Rules}
 use Rattle.lru_model.specs.Sizes.{same_table, new_table, table_with, target_from, target}
-use Rattle.lru_model.specs.State.{State, buckets, room, IsSized}
+use Rattle.lru_model.specs.State.{State, buckets, growth_left, IsSized}
 use Rattle.lru_model.specs.Reservations.{Reserve, unchanged, rehashed, reserved, asked_only, enough_room, too_many}
 use Rattle.lru_model.specs.Reservations.{no_such_table, no_memory_to_rehash}
 use Rattle.lru_model.specs.declared.results.ReserveError.{ReserveError}
@@ -80,7 +80,7 @@ module _ {K V S H : Type 0} (rules : Rules K V S) (n : ℕ) (old : State K V S H
   )
   reserved_list result new (asked_only l count bytes t f e) = rw e (refl, refl, refl, refl)
 
-  pub makes_room : (new : State K V S H) → IsSized old → Reserve rules n old (Ok tt) new → n ≤ room new
+  pub makes_room : (new : State K V S H) → IsSized old → Reserve rules n old (Ok tt) new → n ≤ growth_left new
   makes_room new ok (unchanged (enough_room s l r) e) = rw e s
   makes_room new ok (unchanged (too_many l r) e) = absurd cc
   makes_room new ok (unchanged (no_such_table l t r) e) = absurd cc
@@ -101,6 +101,6 @@ module _ {K V S H : Type 0} (rules : Rules K V S) (n : ℕ) (old : State K V S H
   makes_room new ok (asked_only l count bytes t (inr (d, r)) e) = absurd cc
 
   pub makes_room_if_ok : IsSized old → (result : Result (Unit {0}) ReserveError) (new : State K V S H)
-      → Reserve rules n old result new → OnOk result (n ≤ room new)
+      → Reserve rules n old result new → OnOk result (n ≤ growth_left new)
   makes_room_if_ok ok (Ok done) new step = makes_room new ok step
   makes_room_if_ok ok (Err e) new step = tt

@@ -5,10 +5,10 @@ use Rattle.std.proofs.Common.{sym, ap, ◌∙◌, subst, arith}
 use Rattle.std.specs.Prelude.{not, unwrap_or}
 use Rattle.std.proofs.lemmas.Option.{none-some}
 use Rattle.std.specs.declared.alloc.AllocError.{AllocError}
-use Rattle.group_table.specs.Bucket.{deleted, room as room_of}
+use Rattle.group_table.specs.Bucket.{deleted, growth_left as growth_left_of}
 use Rattle.lru_limits.specs.Rules.{Rules, Offers}
 use Rattle.lru_model.specs.Lists.{is_empty, lookup_entry}
-use Rattle.lru_model.specs.State.{State, Contents, contents, buckets, room, FirstFreeIs}
+use Rattle.lru_model.specs.State.{State, Contents, contents, buckets, growth_left, FirstFreeIs}
 use Rattle.lru_model.specs.Place.{Place, Outcome, placed, IsPlaced, HasPairsButNoGrowth}
 use Rattle.lru_model.specs.Inserts.{Insert, replaced, not_replaced, no_memory_to_admit, not_admitted, admitted}
 use Rattle.lru_model.specs.Inserts.{make_room}
@@ -27,7 +27,7 @@ module _ {K V S H I : Type 0} (rules : Rules K V S) (offers : Offers K V S I) (n
     Fits = (ready : State K V S H) → (ready.pairs ≡ old.pairs) × (ready.hasher ≡ old.hasher)
         → ready.table.marks ≡ old.table.marks → (outcome : Outcome) (landed : State K V S H)
         → Place rules hash_of pair ready outcome landed
-        → (outcome ≡ placed) × IsPlaced pair (buckets ready) (room landed) 0 ready landed × (room ready ≤ room landed + 1)
+        → (outcome ≡ placed) × IsPlaced pair (buckets ready) (growth_left landed) 0 ready landed × (growth_left ready ≤ growth_left landed + 1)
 
     added_if_fits : Fits → AcceptsNew rules offers names i v (contents old) pair → lookup_entry (names i) old.pairs ≡ None
         → Insert rules offers names hash_of i v old result new → IsAdded rules offers names i v pair old result new
@@ -41,7 +41,7 @@ module _ {K V S H I : Type 0} (rules : Rules K V S) (offers : Offers K V S I) (n
         let c : Contents K V S = record { pairs = old.pairs; limiter = s } in
         let way : make_room rules c ≡ c = rw g.1 refl in
         let stay : contents ready ≡ c = left_are _ _ ready l ∙ way in
-        let marks : ready.table.marks ≡ old.table.marks = l.room.untouched (ap (λ d. length d.pairs) stay) in
+        let marks : ready.table.marks ≡ old.table.marks = l.growth_left.untouched (ap (λ d. length d.pairs) stay) in
         let is = fits ready (ap (λ d. d.pairs) stay, ap (λ st. st.hasher) l.is) marks outcome landed
         (subst (λ g. Place rules hash_of g ready outcome landed) same p) in
         let end : Settles rules placed landed result new = subst (λ o. Settles rules o landed result new) is.0 t in
@@ -57,26 +57,26 @@ module _ {K V S H I : Type 0} (rules : Rules K V S) (offers : Offers K V S I) (n
           pairs = ap (λ d. d.pairs) left;
           limiter = rw (ap (λ d. d.limiter) left)
               (subst (λ o. offers.on_insert old.limiter (length old.pairs) i v s o) g.0 n);
-          table = end.1.room.table ∙ is.1.table ∙ l.room.table;
-          room = omega (arith, ap room_of marks, is.2, end.1.room.keeps);
+          table = end.1.growth_left.table ∙ is.1.table ∙ l.growth_left.table;
+          growth_left = omega (arith, ap growth_left_of marks, is.2, end.1.growth_left.keeps);
         }
 
     pub is_added : AcceptsNew rules offers names i v (contents old) pair → lookup_entry (names i) old.pairs ≡ None
-        → 0 < room old → Insert rules offers names hash_of i v old result new
+        → 0 < growth_left old → Insert rules offers names hash_of i v old result new
         → IsAdded rules offers names i v pair old result new
     is_added w absent some = added_if_fits (λ ready same marks outcome landed.
-        place_with_room rules pair ready hash_of (omega (arith, ap room_of marks, some)) outcome landed) w absent
+        place_with_room rules pair ready hash_of (omega (arith, ap growth_left_of marks, some)) outcome landed) w absent
 
     pub deleted_adds : AcceptsNew rules offers names i v (contents old) pair → lookup_entry (names i) old.pairs ≡ None
         → HasPairsButNoGrowth old → FirstFreeIs deleted (hash_of old.hasher pair.0) old.table.marks
         → Insert rules offers names hash_of i v old result new → IsAdded rules offers names i v pair old result new
     deleted_adds w absent full first = added_if_fits (λ ready same marks outcome landed p.
-        let no_room : room ready ≡ 0 = ap room_of marks ∙ full.1 in
-        let is = deleted_serves rules hash_of pair ready (omega (arith, ap length same.0, full.0)) no_room
+        let no_growth_left : growth_left ready ≡ 0 = ap growth_left_of marks ∙ full.1 in
+        let is = deleted_serves rules hash_of pair ready (omega (arith, ap length same.0, full.0)) no_growth_left
         (rw (same.1, marks) first) outcome landed p in (
           is.0,
           subst (λ spare. IsPlaced pair (buckets ready) spare 0 ready landed) (sym is.1.room_left) is.1,
-          omega (arith, no_room),
+          omega (arith, no_growth_left),
         )) w absent
 
 module _ {K V S H I : Type 0} (rules : Rules K V S) (offers : Offers K V S I) (names : I → K → Bool) (i : I) (v : V)
@@ -84,7 +84,7 @@ module _ {K V S H I : Type 0} (rules : Rules K V S) (offers : Offers K V S I) (n
   -- the limiter together with a list accepts it too, so the list stays
   pub passes_nothing : {hash_of : H → K → ℕ} (passed : List (K × V))
       → AcceptsNew rules offers names i v (contents old) pair
-      → lookup_entry (names i) old.pairs ≡ None → 0 < room old
+      → lookup_entry (names i) old.pairs ≡ None → 0 < growth_left old
       → InsertPasses rules offers names hash_of i v old result passed new → passed ≡ []
   passes_nothing {hash_of} passed w absent some step =
       (is_added (noting rules) (noting_offers offers) names i v pair (noted [] old) result (noted passed new) hash_of

@@ -17,7 +17,7 @@ use Rattle.lru_model.specs.Reservations.{too_many, no_such_table, no_memory_to_r
 use Rattle.lru_model.specs.Exact.{LookAlike}
 use Rattle.lru_model.specs.Shrinks.{Shrink, shrink_counted, kept, shrunk, no_memory_to_shrink}
 use Rattle.lru_model.specs.Sizes.{Target, target, no_table, same_table, new_table}
-use Rattle.lru_model.specs.State.{State, empty_table, buckets, room, MovesTo}
+use Rattle.lru_model.specs.State.{State, empty_table, buckets, growth_left, MovesTo}
 use Rattle.lru_model.specs.declared.results.ReserveError.{ReserveError}
 use Rattle.lru_model.specs.declared.results.ReserveError.TheVariants.{TooLarge, Refused, Memory}
 use Rattle.lru_model.proofs.Theorems.CallChanges.{room_cleared}
@@ -50,7 +50,7 @@ moved_to count sh = record {
 moved_shape : {K V S H : Type 0} (count : ℕ) (old new : State K V S H) → MovesTo count old new
     → shape new ≡ moved_to count (shape old)
 moved_shape count old new m =
-    let spare : room new ≡ full_capacity count - length old.pairs = omega (arith, m.exact) in
+    let spare : growth_left new ≡ full_capacity count - length old.pairs = omega (arith, m.exact) in
     (λ j. record { count = m.table j; spare = spare j; bare = record (m.state j) { table = empty_table } })
 
 abbrev pub is_memory : Result (Unit {0}) ReserveError → Bool
@@ -77,12 +77,12 @@ module _ {K V S H : Type 0} (rules : Rules K V S) (n : ℕ) (runs_out : Bool) wh
 module _ {K V S H : Type 0} (rules : Rules K V S) (n : ℕ) (old : State K V S H) where
   needs_growth_is : (runs_out : Bool) → NeedsGrowthFor n old
       → reserve_in rules n runs_out (shape old) ≡ reserve_to rules n runs_out (table_for n old) (shape old)
-  needs_growth_is runs_out l = rw (lt-ltb (length old.pairs + n) (2 ^ 64) l.1, lt-leb n (room old) l.0) refl
+  needs_growth_is runs_out l = rw (lt-ltb (length old.pairs + n) (2 ^ 64) l.1, lt-leb n (growth_left old) l.0) refl
 
   pub reserve_is : (result : Result (Unit {0}) ReserveError) (new : State K V S H) → Reserve rules n old result new
       → reserve_in rules n (is_memory result) (shape old) ≡ (result, shape new)
   reserve_is result new (unchanged (enough_room s l r) e) =
-      rw (r, lt-ltb (length old.pairs + n) (2 ^ 64) l, le-leb n (room old) s) (ap (λ st. (Ok tt, shape st)) (sym e))
+      rw (r, lt-ltb (length old.pairs + n) (2 ^ 64) l, le-leb n (growth_left old) s) (ap (λ st. (Ok tt, shape st)) (sym e))
   reserve_is result new (unchanged (too_many l r) e) =
       rw (r, le-ltb (length old.pairs + n) (2 ^ 64) l) (ap (λ st. (Err TooLarge, shape st)) (sym e))
   reserve_is result new (unchanged (no_such_table l t r) e) = needs_growth_is (is_memory result) l

@@ -16,7 +16,7 @@ use Rattle.lru_model.specs.Place.{nothing_to_evict, finds_bucket, rehashes, Fill
 use Rattle.lru_model.specs.Place.{CannotGrow, no_target, denied, table_for, Outcome, placed, refused, no_memory, asked}
 use Rattle.lru_model.specs.Place.{IsPlaced, IsPlacedIfMemory}
 use Rattle.lru_model.specs.Sizes.{Target, target, no_table, same_table, new_table}
-use Rattle.lru_model.specs.State.{State, empty_table, count_insert, Contents, buckets, room, contents, Leaves, pops}
+use Rattle.lru_model.specs.State.{State, empty_table, count_insert, Contents, buckets, growth_left, contents, Leaves, pops}
 use Rattle.lru_model.specs.State.{trim}
 use Rattle.lru_model.proofs.States.LeavingPairs.{oldest_leaves, known_is}
 use Rattle.lru_model.proofs.PairLists.Emptiness.{is_empty-some}
@@ -29,16 +29,16 @@ pub record Shape (K V S H : Type 0) : Type 0 where
 
 module _ {K V S H : Type 0} where
   abbrev pub shape : State K V S H → Shape K V S H
-  shape st = record { count = buckets st; spare = room st; bare = record st { table = empty_table } }
+  shape st = record { count = buckets st; spare = growth_left st; bare = record st { table = empty_table } }
 
   pub same_shape : {st other : State K V S H} → LookAlike st other → shape other ≡ shape st
   same_shape a =
-      (λ j. record { count = a.table j; spare = a.room j; bare = record (a.state j) { table = empty_table } })
+      (λ j. record { count = a.table j; spare = a.growth_left j; bare = record (a.state j) { table = empty_table } })
 
   pub look_alike : (st other : State K V S H) → shape other ≡ shape st → LookAlike st other
   look_alike st other e = record {
     table = ap (λ sh. sh.count) e;
-    room = ap (λ sh. sh.spare) e;
+    growth_left = ap (λ sh. sh.spare) e;
     state = ap (λ sh. record sh.bare { table = other.table }) e;
   }
 
@@ -56,9 +56,9 @@ module _ {K V S H : Type 0} where
   pub left_shape : (old : State K V S H) (c : Contents K V S) (new : State K V S H) → buckets old ≤ 16
       → Leaves old c new → shape new ≡ with_left c (shape old)
   left_shape old c new small l =
-      let spare : room new ≡ room old + length old.pairs - length c.pairs = omega
-      (arith, l.room.exact small, ap (λ st. length st.pairs) l.is) in
-      (λ j. record { count = l.room.table j; spare = spare j; bare = record (l.is j) { table = empty_table } })
+      let spare : growth_left new ≡ growth_left old + length old.pairs - length c.pairs = omega
+      (arith, l.growth_left.exact small, ap (λ st. length st.pairs) l.is) in
+      (λ j. record { count = l.growth_left.table j; spare = spare j; bare = record (l.is j) { table = empty_table } })
 
   abbrev landed : K × V → Shape K V S H → ℕ → ℕ → ℕ → Shape K V S H
   landed pair sh count spare moves = record {
@@ -73,7 +73,7 @@ module _ {K V S H : Type 0} where
       (λ j. record { count = p.table j; spare = p.room_left j; bare = record (p.state j) { table = empty_table } })
 
   fills_one : (hash : ℕ) (old new : State K V S H) → buckets old ≤ 16 → FillsBucket hash old.table new.table
-      → room new + 1 ≡ room old
+      → growth_left new + 1 ≡ growth_left old
   fills_one hash old new small fills =
       elim fills.spends [ inl e ↦ e.1 | inr d ↦ absurd (omega (arith, small, d.1)) ]
 
@@ -150,12 +150,12 @@ module _ {K V S H : Type 0} (rules : Rules K V S) (hash_of : H → K → ℕ) (p
         → full_capacity (buckets old) / 2 + n ≤ length old.pairs
         → OldestEvicted rules (hash_of old.hasher pair.0) n mid left
         → FillsBucket (hash_of old.hasher pair.0) left.table new.table
-        → outcome ≡ placed → IsPlaced pair (buckets old) (room new) 0 left new
+        → outcome ≡ placed → IsPlaced pair (buckets old) (growth_left new) 0 left new
         → evict rules pair (is_no_memory outcome) (shape mid) ≡ (outcome, shape new)
     found_is n left new outcome one half gone fills o p =
         let is = one_left n left one gone in
         let half_of = ap full_capacity same_table_mid in
-        let spare : (with_left (pops rules 1 (contents mid)) (shape mid)).spare - 1 ≡ room new = omega (
+        let spare : (with_left (pops rules 1 (contents mid)) (shape mid)).spare - 1 ≡ growth_left new = omega (
           arith,
           ap (λ sh. sh.spare) is,
           fills_one _ left new (omega (arith, small, same_table_mid, ap (λ sh. sh.count) is)) fills,
@@ -189,17 +189,17 @@ module _ {K V S H : Type 0} (rules : Rules K V S) (hash_of : H → K → ℕ) (p
     full_grows : (runs_out : Bool) → IsOutgrown (hash_of old.hasher pair.0) old
         → place_in rules pair runs_out (shape old) ≡ grow rules pair runs_out (table_for 1 old) (shape old)
     full_grows runs_out b = rw (
-      le-ltb 0 (room old) (le_of_eq b.no_bucket.no_room),
+      le-ltb 0 (growth_left old) (le_of_eq b.no_bucket.no_growth_left),
       lt-leb (length old.pairs + 1) (full_capacity (buckets old) / 2) b.above_half,
     ) refl
 
     pub place_is : (outcome : Outcome) (new : State K V S H) → Place rules hash_of pair old outcome new
         → place_in rules pair (is_no_memory outcome) (shape old) ≡ (outcome, shape new)
     place_is outcome new (in_bucket l f s o n) = let spends = fills_one _ old new small s in
-        rw (lt-ltb 0 (room old) (omega (arith, spends)))
+        rw (lt-ltb 0 (growth_left old) (omega (arith, spends)))
         (placed_is old _ _ _ outcome new o n _ (omega (arith, spends)))
     place_is outcome new (rehashed b l some m) = rw (
-      le-ltb 0 (room old) (le_of_eq b.no_room),
+      le-ltb 0 (growth_left old) (le_of_eq b.no_growth_left),
       le-leb (length old.pairs + 1) (full_capacity (buckets old) / 2) l,
     ) (if_memory_is old _ _ _ outcome new m)
     place_is outcome new (grown b count bytes t g m) = full_grows (is_no_memory outcome) b
@@ -247,7 +247,7 @@ module _ {K V S H : Type 0} (rules : Rules K V S) where
   settled_is : (outcome : Outcome) (mid : State K V S H) (result : Result Bool AllocError) (new : State K V S H)
       → buckets new ≤ 16 → Settles rules outcome mid result new → settled outcome (shape mid) ≡ (said result, shape new)
   settled_is placed mid result new small s = trimmed_is (contents mid) mid result new
-      (omega (arith, small, s.1.room.table)) s.0 s.1
+      (omega (arith, small, s.1.growth_left.table)) s.0 s.1
   settled_is refused mid result new small s = rw s.0 (ap (λ st. (Some false, shape st)) (sym s.1))
   settled_is no_memory mid result new small s = rw (said_err result s.0) (ap (λ st. (None, shape st)) (sym s.1))
 
@@ -301,7 +301,7 @@ module _ {K V S H I : Type 0} (rules : Rules K V S) (offers : Offers K V S I) (n
       insert_is (admitted a s pair n (ready, l, (outcome, mid, p, t))) =
           let start : State K V S H = record old { limiter = s } in
           let is = left_shape start (make_room rules (contents start)) ready small l in
-          let tiny : buckets ready ≤ 16 = omega (arith, small, l.room.table) in
+          let tiny : buckets ready ≤ 16 = omega (arith, small, l.growth_left.table) in
           rw a (
             s,
             Some pair,

@@ -5,7 +5,7 @@ use Rattle.std.proofs.Common.{refl, ap, ◌∙◌, subst, arith}
 use Rattle.group_table.specs.Sizes.{full_capacity}
 use Rattle.lru_limits.specs.Rules.{Rules}
 use Rattle.lru_model.specs.Sizes.{usage}
-use Rattle.lru_model.specs.State.{State, Counts, buckets, room, Contents, contents, Leaves}
+use Rattle.lru_model.specs.State.{State, Counts, buckets, growth_left, Contents, contents, Leaves}
 use Rattle.lru_model.specs.Place.{Outcome, placed, refused, no_memory}
 use Rattle.lru_model.specs.Inserts.{Settles}
 use Rattle.lru_model.proofs.Theorems.Moves.{leaves_keep}
@@ -19,9 +19,9 @@ module _ {K V S H : Type 0} where
     pub entry_bytes : new.entry_bytes ≡ old.entry_bytes
     pub counts : new.counts ≡ old.counts
     pub table : buckets new ≡ buckets old
-    pub keeps : room old ≤ room new
+    pub keeps : growth_left old ≤ growth_left new
     pub few : length new.pairs ≤ length old.pairs
-    pub fits : length old.pairs + room old ≤ full_capacity (buckets old) → length new.pairs + room new
+    pub fits : length old.pairs + growth_left old ≤ full_capacity (buckets old) → length new.pairs + growth_left new
         ≤ full_capacity (buckets old)
 
   pub limiter_calm : (st : State K V S H) (s : S) → Calm st (record st { limiter = s })
@@ -58,10 +58,10 @@ module _ {K V S H : Type 0} where
     max = ap (λ st. st.max) l.is;
     entry_bytes = ap (λ st. st.entry_bytes) l.is;
     counts = ap (λ st. st.counts) l.is;
-    table = l.room.table;
-    keeps = l.room.keeps;
-    few = omega (arith, l.room.keeps, l.room.at_most);
-    fits = λ h. omega (arith, h, l.room.at_most);
+    table = l.growth_left.table;
+    keeps = l.growth_left.keeps;
+    few = omega (arith, l.growth_left.keeps, l.growth_left.at_most);
+    fits = λ h. omega (arith, h, l.growth_left.at_most);
   }
 
   pub settles_calm : (rules : Rules K V S) (outcome : Outcome) (landed : State K V S H)

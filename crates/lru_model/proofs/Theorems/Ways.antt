@@ -6,7 +6,7 @@ use Rattle.group_table.specs.Sizes.{full_capacity, IsBucketCount}
 use Rattle.lru_limits.specs.Rules.{Rules, Offers}
 use Rattle.lru_limits.specs.Laws.{kept_value}
 use Rattle.lru_model.specs.Lists.{without, set_entry}
-use Rattle.lru_model.specs.State.{State, count_insert, buckets, room, potential, Contents, contents}
+use Rattle.lru_model.specs.State.{State, count_insert, buckets, growth_left, potential, Contents, contents}
 use Rattle.lru_model.specs.Sizes.{target, new_table}
 use Rattle.lru_model.specs.Place.{Place, in_bucket, rehashed, grown, not_grown, FillsBucket}
 use Rattle.lru_model.specs.Place.{nothing_to_evict, finds_bucket, rehashes, Outcome, placed, refused, no_memory}
@@ -124,11 +124,11 @@ module _ {K V S H : Type 0} (rules : Rules K V S) (R : Contents K V S → Conten
   place_lands outcome new (in_bucket l f s o n) = fills outcome new _ o n (λ ok. spends s)
     where
       spends : FillsBucket (hash_of old.hasher pair.0) old.table new.table
-          → full_capacity (buckets old) - 2 * room new ≤ potential old + 2
+          → full_capacity (buckets old) - 2 * growth_left new ≤ potential old + 2
       spends f = elim f.spends [ inl e ↦ omega (arith, e.1) | inr d ↦ omega (arith, d.2) ]
   place_lands outcome new (rehashed b l some m) =
       if_memory old _ _ _ outcome new m self (self_calm old) (inl (omega arith))
-      (λ ok. omega (arith, b.no_room, ok.fits)) same_little
+      (λ ok. omega (arith, b.no_growth_left, ok.fits)) same_little
   place_lands outcome new (grown b count bytes t g m) = if_memory (asked rules bytes old) count _ _ outcome new m
       (k.asked bytes (contents old)) (limiter_calm old _)
       (inr (record {
@@ -156,7 +156,7 @@ module _ {K V S H : Type 0} (rules : Rules K V S) (R : Contents K V S → Conten
           omega (arith, ap full_capacity four ∙ full_capacity-4, no_pairs)
       large ok (inr j) = omega (
         arith,
-        b.no_bucket.no_room,
+        b.no_bucket.no_growth_left,
         ok.fits,
         full_capacity-double j.0 (buckets old) count j.1
             (target_doubles j.0 old.max old.entry_bytes (buckets old) (length old.pairs + 1) count bytes j.1 t),
@@ -177,7 +177,7 @@ module _ {K V S H : Type 0} (rules : Rules K V S) (R : Contents K V S → Conten
       rw o (if_memory left _ _ 0 placed new p
       (k.trans r (leaves_keep R mid _ left lv (pops_keep rules R k n (contents mid))))
       (calm_trans old mid left s (leaves_calm mid _ left lv)) (inl (omega arith))
-      (λ ok. omega (arith, b.no_bucket.no_room)) same_little)
+      (λ ok. omega (arith, b.no_bucket.no_growth_left)) same_little)
   place_lands outcome new (not_grown b mid c (rehashes some n pos one half left gone m)) = let (r, s) = known mid c in
       let lv = oldest_leaves rules _ n mid left gone in
       if_memory left _ _ _ outcome new m
@@ -185,7 +185,7 @@ module _ {K V S H : Type 0} (rules : Rules K V S) (R : Contents K V S → Conten
       (calm_trans old mid left s (leaves_calm mid _ left lv)) (inl (omega arith))
       (λ ok. omega (
         arith,
-        b.no_bucket.no_room,
+        b.no_bucket.no_growth_left,
         half,
         s.few,
         ap (λ st. length st.pairs) lv.is,

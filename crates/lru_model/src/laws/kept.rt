@@ -7,7 +7,7 @@ ghost use Rattle.std.specs.List.{Contains};
 ghost use Rattle.std.specs.declared.alloc.AllocError.{AllocError};
 ghost use Rattle.lru_model.specs.Lists.{lookup_entry, without};
 ghost use Rattle.lru_model.specs.Sizes.{max_of_32_bits};
-ghost use Rattle.lru_model.specs.State.{State, contents, room, IsSized, empty_map};
+ghost use Rattle.lru_model.specs.State.{State, contents, growth_left, IsSized, empty_map};
 ghost use Rattle.lru_model.specs.Inserts.{Insert};
 ghost use Rattle.lru_model.specs.Callbacks.{InsertPasses};
 ghost use Rattle.lru_model.specs.Calls.{written};
@@ -56,18 +56,18 @@ pub fn inserts_with_room_are_exact<
 >()
     ensures list { (key : I) (value : V) (old : State K V L S) (result : Result Bool AllocError)
         (new : State K V L S) →
-        0 < room old →
+        0 < growth_left old →
         Insert L.rules L.offers I.names S.hash_of key value old result new →
         InsertsInList L.rules L.offers I.names key value (contents old) result (contents new) }
     ensures added { (key : I) (value : V) (pair : K × V) (old : State K V L S) (result : Result Bool AllocError)
         (new : State K V L S) →
-        0 < room old → lookup_entry (I.names key) old.pairs ≡ None →
+        0 < growth_left old → lookup_entry (I.names key) old.pairs ≡ None →
         AcceptsNew L.rules L.offers I.names key value (contents old) pair →
         Insert L.rules L.offers I.names S.hash_of key value old result new →
         IsAdded L.rules L.offers I.names key value pair old result new }
     ensures passed { (key : I) (value : V) (pair : K × V) (old : State K V L S) (result : Result Bool AllocError)
         (passed : List (K × V)) (new : State K V L S) →
-        0 < room old → lookup_entry (I.names key) old.pairs ≡ None →
+        0 < growth_left old → lookup_entry (I.names key) old.pairs ≡ None →
         AcceptsNew L.rules L.offers I.names key value (contents old) pair →
         InsertPasses L.rules L.offers I.names S.hash_of key value old result passed new → passed ≡ [] }
 {}
@@ -84,7 +84,7 @@ pub fn inserts_leave_the_newest<K: Eq + Hash + Drop, V: Drop, S: KeyHasher<K>>()
         LeavesTheNewest K.eq old.limiter key value old.pairs result new.pairs }
     ensures with_room { (key : K) (value : V) (old : State K V ByLength S) (result : Result Bool AllocError)
         (new : State K V ByLength S) →
-        length old.pairs ≤ old.limiter → 0 < room old →
+        length old.pairs ≤ old.limiter → 0 < growth_left old →
         Insert ⟦<ByLength as Limiter<K, V>>⟧.rules ⟦<ByLength as Insertion<K, V, K>>⟧.offers K.eq S.hash_of key value
         old result new →
         LeavesTheNewest K.eq old.limiter key value old.pairs result new.pairs }

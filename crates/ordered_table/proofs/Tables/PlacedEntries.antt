@@ -3,7 +3,7 @@ use Rattle.std.proofs.Common.{◌≡◌, ℕ, ◌+◌, ◌<◌, List, ◌∷◌,
 use Rattle.std.proofs.lemmas.List.{get_or-set_same}
 use Rattle.std.specs.Prelude.{Contains, option_map}
 use Rattle.group_table.specs.Link.{IsLinkType}
-use Rattle.group_table.specs.Bucket.{Slot, empty, entry_of, entry_at, marks_of, room, room_at}
+use Rattle.group_table.specs.Bucket.{Slot, empty, entry_of, entry_at, marks_of, growth_left, growth_left_at}
 use Rattle.group_table.specs.Probe.{filled}
 use Rattle.group_table.specs.Table.{Table, IsTable}
 use Rattle.group_table.specs.Change.{Places, MayFill}
@@ -19,8 +19,8 @@ use Rattle.ordered_table.proofs.Tables.PairSlots.{pair_of, marks_of-pair_slots, 
 use Rattle.ordered_table.proofs.Tables.PairSlots.{same_marks}
 use Rattle.ordered_table.proofs.Tables.PairSlots.{Fits-pair_slots, Fits-entries}
 
-pub linked_room : {K V N : Type 0} (slots : List (Slot (Entry K V N))) → 0 < room (marks_of (pair_slots slots))
-    → 0 < room (marks_of slots)
+pub linked_room : {K V N : Type 0} (slots : List (Slot (Entry K V N))) → 0 < growth_left (marks_of (pair_slots slots))
+    → 0 < growth_left (marks_of slots)
 linked_room slots some = rw (← marks_of-pair_slots slots) some
 
 module _ {N : Type 0} {number : N → ℕ} {link : ℕ → N} {none : N}
@@ -73,7 +73,7 @@ module _ {N : Type 0} {number : N → ℕ} {link : ℕ → N} {none : N}
 
     -- what is known of the table then
     pub record Placed : Type 0 where
-      pub lands : room (marks_of new.slots) + room_at (marks_of old.slots) b ≡ room (marks_of old.slots)
+      pub lands : growth_left (marks_of new.slots) + growth_left_at (marks_of old.slots) b ≡ growth_left (marks_of old.slots)
           → Lands before after hash pair b
       pub fits : (hash_of : K → ℕ)
           → ((hashes : ℕ → ℕ) → Fits old.slots hashes → Fits new.slots (with_hash hashes b hash))
@@ -88,7 +88,7 @@ module _ {N : Type 0} {number : N → ℕ} {link : ℕ → N} {none : N}
         slots = pairs ∙ pairs_set;
         order = whole_order laws linked_whole;
         insertions = insertions ∙ places.insertions;
-        room = rw (pairs, marks_of-pair_slots new.slots, marks_of-pair_slots old.slots) spends;
+        growth_left = rw (pairs, marks_of-pair_slots new.slots, marks_of-pair_slots old.slots) spends;
       };
       fits = λ hash_of fits was same.
           let now = rw pairs_set at (Fits-pair_slots new.slots _ (fits _ (Fits-entries old.slots _ was))) in

@@ -1,7 +1,7 @@
 -- An entry was taken out of the table, and its bucket out of the chain: what is left, seen as pairs.
 use Rattle.std.proofs.Common.{◌≡◌, ℕ, ◌+◌, List, length, ◌∙◌}
 use Rattle.group_table.specs.Link.{IsLinkType}
-use Rattle.group_table.specs.Bucket.{Slot, IsFull, marks_of, room, room_at}
+use Rattle.group_table.specs.Bucket.{Slot, IsFull, marks_of, growth_left, growth_left_at}
 use Rattle.group_table.specs.Change.{Removes}
 use Rattle.group_table.specs.Fits.{Fits}
 use Rattle.ordered_table.specs.declared.linked.Entry.{Entry}
@@ -17,8 +17,8 @@ module _ {K V N : Type 0} (s0 s1 s2 : List (Slot (Entry K V N))) (b : ℕ) (remo
   pub taken_removes : Removes (pair_slots s0) (pair_slots s2) b
   taken_removes = rw same (Removes-pair_slots s0 s1 b removes)
 
-  pub taken_room : room (marks_of s1) ≡ room (marks_of s0) + room_at (marks_of s1) b
-      → room (marks_of (pair_slots s2)) ≡ room (marks_of (pair_slots s0)) + room_at (marks_of (pair_slots s2)) b
+  pub taken_room : growth_left (marks_of s1) ≡ growth_left (marks_of s0) + growth_left_at (marks_of s1) b
+      → growth_left (marks_of (pair_slots s2)) ≡ growth_left (marks_of (pair_slots s0)) + growth_left_at (marks_of (pair_slots s2)) b
   taken_room frees = rw (same, marks_of-pair_slots s1, marks_of-pair_slots s0) frees
 
   pub taken_fits : IsFull s0 b → ((hash_at : ℕ → ℕ) → Fits s0 hash_at → Fits s1 hash_at) → (hash_of : K → ℕ)

@@ -2,7 +2,7 @@
 use Rattle.std.proofs.Common.{◌≡◌, ℕ, Bool, [], length, replicate, sym, ap, ◌∙◌, subst, arith}
 use Rattle.std.proofs.lemmas.List.{length-replicate}
 use Rattle.group_table.specs.Sizes.{full_capacity}
-use Rattle.group_table.specs.Bucket.{Mark, empty, marks_of, room}
+use Rattle.group_table.specs.Bucket.{Mark, empty, marks_of, growth_left}
 use Rattle.group_table.proofs.BucketLemmas.{length-marks_of}
 use Rattle.lru_limits.specs.Rules.{Rules}
 use Rattle.ordered_table.specs.OrderedTable.{OrderedTable, IsLinked, KeysFit, pairs_of, entries_in}
@@ -56,7 +56,7 @@ module _ {K V S H : Type 0} (rules : Rules K V S) (t u : OrderedTable K V)
               arith,
               placed,
               holds.map.paid.ahead below,
-              ap room marks,
+              ap growth_left marks,
               room_cleared (buckets (state_of t fields)),
               as_many,
               ap full_capacity as_many,

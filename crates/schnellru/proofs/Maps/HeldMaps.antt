@@ -2,7 +2,7 @@
 use Rattle.std.proofs.Common.{◌≡◌, ℕ, suc, ◌+◌, ◌-◌, ◌*◌, ◌^◌, ◌<◌, ◌≤◌, ◌⊎◌, Bool, true, false, cond, List, length}
 use Rattle.std.proofs.Common.{Some, sym, ap, ◌∙◌, subst, arith}
 use Rattle.group_table.specs.Sizes.{full_capacity}
-use Rattle.group_table.specs.Bucket.{Mark, marks_of, room, room_at, is_used, bucket_at}
+use Rattle.group_table.specs.Bucket.{Mark, marks_of, growth_left, growth_left_at, is_used, bucket_at}
 use Rattle.group_table.proofs.BucketLemmas.{length-marks_of, entry_count-marks_of}
 use Rattle.group_table.proofs.CountedMarks.{facts}
 use Rattle.lru_model.specs.Sizes.{usage}
@@ -29,8 +29,8 @@ module _ {K V S H : Type 0} (fields : Fields S H) where
     shrunk = s;
   }
 
-pub room_at-most : (marks : List Mark) (b : ℕ) → room_at marks b ≤ 1
-room_at-most marks b = go (is_used (bucket_at marks b))
+pub growth_left_at-most : (marks : List Mark) (b : ℕ) → growth_left_at marks b ≤ 1
+growth_left_at-most marks b = go (is_used (bucket_at marks b))
   where
     go : (y : Bool) → cond y 0 1 ≤ 1
     go true = omega arith
@@ -38,12 +38,12 @@ room_at-most marks b = go (is_used (bucket_at marks b))
 
 module _ {K V : Type 0} (old new : OrderedTable K V) (b : ℕ) (first : IsLinked old) (last : IsLinked new)
     (table : length new.slots ≡ length old.slots) (one : suc (length new.order) ≡ length old.order)
-    (freed : room (marks_of new.slots) ≡ room (marks_of old.slots) + room_at (marks_of new.slots) b) where
+    (freed : growth_left (marks_of new.slots) ≡ growth_left (marks_of old.slots) + growth_left_at (marks_of new.slots) b) where
   pub frees_room : GivesBack (length (pairs_of old)) (length (pairs_of new)) (marks_of old.slots) (marks_of new.slots)
   frees_room = record {
     table = same;
     keeps = omega (arith, freed);
-    at_most = omega (arith, freed, news, olds, one, room_at-most (marks_of new.slots) b);
+    at_most = omega (arith, freed, news, olds, one, growth_left_at-most (marks_of new.slots) b);
     exact = λ small. omega (
       arith,
       news,
@@ -121,7 +121,7 @@ module _ {K V S H : Type 0} (eq : K → K → Bool) (hash_of : H → K → ℕ) 
               arith,
               placed,
               holds.map.paid.ahead below,
-              ap (λ m. full_capacity (length m) - 2 * room m) marks,
+              ap (λ m. full_capacity (length m) - 2 * growth_left m) marks,
             );
           };
         };

@@ -15,13 +15,13 @@ pub record IsKept {K V : Type 0} (old new : MutBor (Vec (K × V) Global)) (pair 
 
 module _ {K V F : Type 0} (closure : Mut F (K × (V × Unit {0})) (Unit {0})) (kept : F → MutBor (Vec (K × V) Global))
     (keeps : (f : F) (pair : K × V) (g : F) → Called closure f (pair.0, (pair.1, tt)) tt g
-    → IsKept (kept f) (kept g) pair) (first : F) (room : ℕ) where
+    → IsKept (kept f) (kept g) pair) (first : F) (growth_left : ℕ) where
   -- what it has after it got these
   pub record AllKept (xs : List (K × V)) (f : F) : Type 0 where
     pub same : (kept f).ghost_name ≡ (kept first).ghost_name
-    pub capacity : vec_capacity (kept f).now ≡ room
-    pub items : length xs ≤ room → (kept f).now.items ≡ xs
-    pub len : length xs ≤ room → vec_len (kept f).now ≡ length xs
+    pub capacity : vec_capacity (kept f).now ≡ growth_left
+    pub items : length xs ≤ growth_left → (kept f).now.items ≡ xs
+    pub len : length xs ≤ growth_left → vec_len (kept f).now ≡ length xs
 
   one_more : (xs : List (K × V)) (f : F) (pair : K × V) (g : F) → AllKept xs f
       → Called closure f (pair.0, (pair.1, tt)) tt g → AllKept (xs ++ pair ∷ []) g
@@ -31,14 +31,14 @@ module _ {K V F : Type 0} (closure : Mut F (K × (V × Unit {0})) (Unit {0})) (k
         same = one.same ∙ all.same;
         capacity = one.capacity ∙ all.capacity;
         items = λ fits.
-            let few : length xs ≤ room = omega (arith, fits, more) in
+            let few : length xs ≤ growth_left = omega (arith, fits, more) in
             one.items (omega (arith, fits, more, all.capacity, all.len few)) ∙ ap (λ l. l ++ pair ∷ []) (all.items few);
         len = λ fits.
-            let few : length xs ≤ room = omega (arith, fits, more) in
+            let few : length xs ≤ growth_left = omega (arith, fits, more) in
             omega (arith, one.len (omega (arith, fits, more, all.capacity, all.len few)), all.len few, more);
       }
 
-  pub all_kept : (passed : List (K × V)) (last : F) → vec_capacity (kept first).now ≡ room
+  pub all_kept : (passed : List (K × V)) (last : F) → vec_capacity (kept first).now ≡ growth_left
       → (kept first).now.items ≡ [] → vec_len (kept first).now ≡ 0 → CalledWith closure first passed last
       → AllKept passed last
   all_kept passed last capacity none empty took = chained_keeps _ AllKept one_more passed first last (record {

@@ -4,7 +4,7 @@ use Rattle.std.proofs.Common.{slice_set, subst, Bool, None}
 use Rattle.std.specs.Prelude.{option_to_list}
 use Rattle.std.proofs.lemmas.List.{length-set, get_or-set_same}
 use Rattle.group_table.specs.Sizes.{full_capacity}
-use Rattle.group_table.specs.Bucket.{empty, full, entry_of, marks_of, room}
+use Rattle.group_table.specs.Bucket.{empty, full, entry_of, marks_of, growth_left}
 use Rattle.group_table.specs.Bucket.{IsFull}
 use Rattle.group_table.specs.Probe.{hash_tag, filled}
 use Rattle.group_table.specs.Change.{count_up, placings}
@@ -23,7 +23,7 @@ use Rattle.schnellru.specs.Inside.Holds.{table_state, state_of, Holds}
 use Rattle.ordered_table.proofs.Tables.OrderCuts.{entries-apart}
 use Rattle.ordered_table.proofs.Chains.Orders.{Lacks, lacks_unless}
 use Rattle.lru_model.proofs.TableSizes.FilledBuckets.{fills_free}
-use Rattle.schnellru.proofs.Maps.HeldMaps.{sized_same, room_at-most}
+use Rattle.schnellru.proofs.Maps.HeldMaps.{sized_same, growth_left_at-most}
 use Rattle.lru_model.proofs.Theorems.Potential.{pays_placing}
 use Rattle.lru_model.proofs.Theorems.PaidMoves.{paid_after}
 
@@ -53,7 +53,7 @@ module _ {K V : Type 0} (t u : OrderedTable K V) (hash : ℕ) (pair : K × V) (b
   pub lands_fills : {n entry_bytes max : ℕ} {counts : Counts} → IsSound n entry_bytes max (marks_of t.slots) counts
       → FillsBucket hash (table_state t) (table_state u)
   lands_fills sound = fills_free (table_state t) (table_state u) sound hash b
-      (subst (λ n. b < n) (sym (length-marks_of t.slots)) lands_within) lands.first lands.room
+      (subst (λ n. b < n) (sym (length-marks_of t.slots)) lands_within) lands.first lands.growth_left
       (ap marks_of lands.slots ∙ marks_of-set t.slots b (filled hash pair)) lands.order
 
   placed : u.insertions.placed ≡ count_up t.insertions.placed 1
@@ -67,7 +67,7 @@ module _ {K V : Type 0} (t u : OrderedTable K V) (hash : ℕ) (pair : K × V) (b
       placed = placed i;
     }
 
-    pub lands_placed : IsPlaced pair (buckets (state_of t fields)) (room (marks_of u.slots)) 0 (state_of t fields)
+    pub lands_placed : IsPlaced pair (buckets (state_of t fields)) (growth_left (marks_of u.slots)) 0 (state_of t fields)
         (state_of u fields)
     lands_placed = record {
       table = length-marks_of u.slots ∙ lands_length ∙ sym (length-marks_of t.slots);
@@ -82,7 +82,7 @@ module _ {K V : Type 0} (t u : OrderedTable K V) (hash : ℕ) (pair : K × V) (b
         → IsPaid (potential (state_of u fields)) (state_of u fields).counts
     lands_paid paid = paid_after (state_of t fields) (state_of u fields)
         (pays_placing (state_of t fields) (state_of u fields) 0 sized.placed sized.shrunk counts_insert
-        (omega (arith, lands.room, room_at-most (marks_of t.slots) b, ap full_capacity lands_placed.table)))
+        (omega (arith, lands.growth_left, growth_left_at-most (marks_of t.slots) b, ap full_capacity lands_placed.table)))
         sized.moved (omega (arith, sized.table.addressable, lands_placed.table)) paid
 
     pub lands_holds : {eq : K → K → Bool} (hash_of : H → K → ℕ) → Holds eq hash_of t fields → IsLinked u

@@ -1,7 +1,7 @@
 -- A map keeps its pairs and their order when all of them move into another table.
 use Rattle.std.proofs.Common.{◌≡◌, ℕ, ◌+◌, ◌*◌, ◌<◌, ◌≤◌, inr, Bool, length, Some, sym, ap, ◌∙◌, subst, arith}
 use Rattle.group_table.specs.Sizes.{full_capacity}
-use Rattle.group_table.specs.Bucket.{marks_of, room}
+use Rattle.group_table.specs.Bucket.{marks_of, growth_left}
 use Rattle.group_table.specs.Change.{count_up, some_moved, placings}
 use Rattle.group_table.proofs.BucketLemmas.{length-marks_of}
 use Rattle.group_table.proofs.ChangeLemmas.{placings-moved}
@@ -16,7 +16,7 @@ use Rattle.schnellru.proofs.Maps.HeldMaps.{sized_by}
 
 module _ {K V S H : Type 0} (t u : OrderedTable K V) (count : ℕ) (linked : IsLinked t) (next : IsLinked u)
     (table : length u.slots ≡ count)
-    (pairs : pairs_of u ≡ pairs_of t) (left : room (marks_of u.slots) + length t.order ≡ full_capacity count)
+    (pairs : pairs_of u ≡ pairs_of t) (left : growth_left (marks_of u.slots) + length t.order ≡ full_capacity count)
     (counted : u.insertions ≡ some_moved t.insertions (length t.order)) (fields : Fields S H) where
   pub placed : u.insertions.placed ≡ t.insertions.placed
   placed = ap (λ c. c.placed) counted

@@ -36,7 +36,7 @@ module _ {K V S H : Type 0} where
       → Leaves (noted before old) (record { pairs = left.pairs; limiter = (left.limiter, after) }) (noted after new)
   noted_leaves before after old new left leaves = record {
     is = ap (noted after) leaves.is;
-    room = leaves.room;
+    growth_left = leaves.growth_left;
   }
 
 module _ {K V S : Type 0} (rules : Rules K V S) (before : List (K × V)) (s : S) (pair : K × V) where
@@ -60,7 +60,7 @@ module _ {K V S H : Type 0} (rules : Rules K V S) (before : List (K × V)) (old 
           limiter = s;
           table = new.table;
         }) (noted_notified rules before old.limiter pair gone step.pair);
-    room = step.state.room;
+    growth_left = step.state.growth_left;
   }
 
   pub noted_pop : PopOldest rules old (Some pair) new →

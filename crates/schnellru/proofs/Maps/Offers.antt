@@ -21,17 +21,17 @@ promoted_leaves : {K V S H : Type 0} (names : K → Bool) (old mid : State K V S
     → Leaves old left mid
     → Leaves old (record { pairs = front names left.pairs; limiter = left.limiter }) (promoted names mid)
 promoted_leaves names old mid left leaves =
-    let as_many = length-front_pairs names mid.pairs in let room = leaves.room in record {
+    let as_many = length-front_pairs names mid.pairs in let growth_left = leaves.growth_left in record {
       is = λ i. record (leaves.is i) {
         pairs = front names (leaves.is i).pairs;
         table = (promoted names mid).table;
       };
-      room = record {
-        table = room.table;
-        keeps = room.keeps;
-        at_most = omega (arith, room.at_most, as_many);
-        exact = λ small. omega (arith, room.exact small, as_many);
-        untouched = λ e. room.untouched (sym as_many ∙ e);
+      growth_left = record {
+        table = growth_left.table;
+        keeps = growth_left.keeps;
+        at_most = omega (arith, growth_left.at_most, as_many);
+        exact = λ small. omega (arith, growth_left.exact small, as_many);
+        untouched = λ e. growth_left.untouched (sym as_many ∙ e);
       };
     }
 

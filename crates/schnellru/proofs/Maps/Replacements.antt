@@ -3,7 +3,7 @@ use Rattle.std.proofs.Common.{◌≡◌, ℕ, suc, ◌+◌, Bool, true, false, r
 use Rattle.std.specs.Cmp.{IsEquivalence}
 use Rattle.std.proofs.lemmas.List.{length-set}
 use Rattle.std.proofs.lemmas.Option.{same_Some}
-use Rattle.group_table.specs.Bucket.{bucket_at, entry_at, refilled, marks_of, room, room_at}
+use Rattle.group_table.specs.Bucket.{bucket_at, entry_at, refilled, marks_of, growth_left, growth_left_at}
 use Rattle.group_table.specs.Change.{Removes}
 use Rattle.group_table.proofs.ChangeLemmas.{length-removed}
 use Rattle.group_table.proofs.RefillLemmas.{entry_at-refilled, marks_of-refilled}
@@ -39,7 +39,7 @@ module _ {K V S : Type 0} (rules : Rules K V S) (by : Replaced K V S) (old new :
     slots = subst (λ p. Removes (with_pair old b p).slots new.slots b) pair_is out.takes.removed;
     order = out.takes.order;
     insertions = out.takes.insertions;
-    room = out.takes.room ∙ ap (λ m. room m + room_at (marks_of new.slots) b) (marks_of-refilled old.slots b (k, v));
+    growth_left = out.takes.growth_left ∙ ap (λ m. growth_left m + growth_left_at (marks_of new.slots) b) (marks_of-refilled old.slots b (k, v));
     notified = out.notified ∙ (λ i.
         (rules.on_removed (notified i) ((taken_is ∙ pair_is) i).0 ((taken_is ∙ pair_is) i).1).limiter);
   }
@@ -92,11 +92,11 @@ module _ {K V S H : Type 0} (by : Replaced K V S) (old new : OrderedTable K V) (
             pairs = replaced_pairs i;
             counts = counts_of (step.insertions i) fields;
           };
-          room = record {
+          growth_left = record {
             table = ap length marks;
-            keeps = omega (arith, ap room marks);
-            at_most = omega (arith, ap room marks, lengths);
-            exact = λ _. omega (arith, ap room marks, lengths);
+            keeps = omega (arith, ap growth_left marks);
+            at_most = omega (arith, ap growth_left marks, lengths);
+            exact = λ _. omega (arith, ap growth_left marks, lengths);
             untouched = λ _. marks;
           };
         }
@@ -128,8 +128,8 @@ module _ {K V S H : Type 0} (by : Replaced K V S) (old new : OrderedTable K V) (
         pairs = removed_pairs i;
         counts = counts_of (step.insertions i) fields;
       };
-      room = frees_room old new b first next removed_length (ap (λ o. suc (length o)) step.order
-          ∙ fewer) step.room;
+      growth_left = frees_room old new b first next removed_length (ap (λ o. suc (length o)) step.order
+          ∙ fewer) step.growth_left;
     }
 
     removed_holds : (hash_of : H → K → ℕ) → Holds eq hash_of old fields

@@ -2,7 +2,7 @@
 use Rattle.std.proofs.Common.{◌≡◌, ℕ, ◌+◌, ◌<◌, ◌≤◌, ◌⊎◌, inl, inr, Bool, length, Option, Some, sym, ap, ◌∙◌}
 use Rattle.std.proofs.Common.{subst, arith}
 use Rattle.group_table.specs.Sizes.{full_capacity, buckets_for}
-use Rattle.group_table.specs.Bucket.{marks_of, room}
+use Rattle.group_table.specs.Bucket.{marks_of, growth_left}
 use Rattle.group_table.specs.Change.{count_up, some_moved}
 use Rattle.group_table.proofs.BucketLemmas.{length-marks_of}
 use Rattle.lru_model.specs.Sizes.{usage}
@@ -28,7 +28,7 @@ module _ {K V S H : Type 0} (fields : Fields S H) (t : OrderedTable K V) (linked
 
 module _ {K V S H : Type 0} (t u : OrderedTable K V) (count : ℕ) (linked : IsLinked t) (next : IsLinked u)
     (table : length u.slots ≡ count)
-    (pairs : pairs_of u ≡ pairs_of t) (left : room (marks_of u.slots) + length t.order ≡ full_capacity count)
+    (pairs : pairs_of u ≡ pairs_of t) (left : growth_left (marks_of u.slots) + length t.order ≡ full_capacity count)
     (insertions : u.insertions ≡ some_moved t.insertions (length t.order)) (fields : Fields S H) where
   abbrev pub counted : Fields S H
   counted = record fields { shrunk = count_up fields.shrunk (length (pairs_of t)) }

@@ -43,9 +43,9 @@ module _ {K V S : Type 0} (rules : Rules K V S) (t u : OrderedTable K V) (b : �
         pairs = pairs_are i;
         counts = counts_of (out.takes.insertions i) fields;
       };
-      room = frees_room t u b first next (length-removed t.slots u.slots b out.takes.removed)
+      growth_left = frees_room t u b first next (length-removed t.slots u.slots b out.takes.removed)
           (ap (λ o. suc (length o)) out.takes.order
-          ∙ shorter t first b (full_by_entry (bucket_at t.slots b) out.pair out.takes.pair)) out.takes.room;
+          ∙ shorter t first b (full_by_entry (bucket_at t.slots b) out.pair out.takes.pair)) out.takes.growth_left;
     }
 
     pub taken_holds : {eq : K → K → Bool} → IsEquivalence eq → (hash_of : H → K → ℕ) → Holds eq hash_of t fields

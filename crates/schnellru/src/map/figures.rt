@@ -3,7 +3,7 @@ ghost use Rattle.std.specs.Prelude.{◌≡◌, ◌+◌, ◌<◌, length, Some};
 ghost use Rattle.std.specs.Borrow.{sem};
 ghost use Rattle.lru_model.specs.Lists.{is_empty};
 ghost use Rattle.lru_model.specs.Sizes.{usage, IsGreatestUsage};
-ghost use Rattle.lru_model.specs.State.{IsMap, buckets, room};
+ghost use Rattle.lru_model.specs.State.{IsMap, buckets, growth_left};
 
 use crate::map::LruMap;
 use group_table::LinkType;
@@ -57,9 +57,9 @@ impl<K: Eq + Hash, V, L: Limiter<K, V>, S: KeyHasher<K>> LruMap<K, V, L, S> {
     ///
     /// After schnellru's `LruMap::guaranteed_capacity`.
     pub fn guaranteed_capacity(&self) -> usize
-        ensures { result ≡ length self.now.pairs + room self.now }
+        ensures { result ≡ length self.now.pairs + growth_left self.now }
     {
-        self.entries.len() + self.entries.room()
+        self.entries.len() + self.entries.growth_left()
     }
 
     /// Returns the bytes of the table, or 0 without buckets: `entry_bytes` for each bucket, full or not, together
@@ -171,10 +171,10 @@ impl<K: Eq + Hash, V, L: Limiter<K, V>, S: KeyHasher<K>> LruMap<K, V, L, S> {
 
     #[inline]
     pub(super) fn growth_left(&self) -> usize
-        ensures room { result ≡ room self.now }
+        ensures growth_left { result ≡ growth_left self.now }
         ensures map { IsMap K.eq self.now }
     {
-        self.entries.room()
+        self.entries.growth_left()
     }
 
     #[inline]

@@ -1,7 +1,7 @@
 //! Inserting a key that is not there.
 ghost use Rattle.std.specs.Prelude.{◌≡◌, ◌∷◌, None, IsTrue};
 ghost use Rattle.lru_model.specs.Lists.{lookup_entry};
-ghost use Rattle.lru_model.specs.State.{contents, room};
+ghost use Rattle.lru_model.specs.State.{contents, growth_left};
 ghost use Rattle.lru_model.specs.Inserts.{Insert, PlacesNew, PlacesAndTrims};
 ghost use Rattle.lru_model.specs.Place.{HasNoBucket};
 ghost use Rattle.lru_model.specs.MayTake.{MayTakeEach, MayTakeNew};
@@ -131,7 +131,7 @@ impl<K: Eq + Hash, V, L: Limiter<K, V>, S: KeyHasher<K>> LruMap<K, V, L, S> {
         requires callable { MayTakeEach L.rules F.FnMut ((key, value) ∷ self.old.pairs) sink.old }
         requires hash { hash ≡ S.hash_of self.old.hasher key }
         requires absent { lookup_entry (K.eq key) self.old.pairs ≡ None }
-        requires no_room { room self.old ≡ 0 }
+        requires no_growth_left { growth_left self.old ≡ 0 }
         ensures passed { Passes F.FnMut sink.old sink.new (λ before after. PlacesAndTrims (noting L.rules)
             S.hash_of (key, value) (noted before self.old) result (noted after self.new)) }
     {

@@ -1,7 +1,7 @@
 //! Growth ahead of inserts.
 ghost use Rattle.std.specs.Prelude.{◌≡◌, ◌+◌, ◌/◌, ◌<◌, ◌≤◌, length, OnOk};
 ghost use Rattle.group_table.specs.Sizes.{full_capacity};
-ghost use Rattle.lru_model.specs.State.{buckets, room, IsMap};
+ghost use Rattle.lru_model.specs.State.{buckets, growth_left, IsMap};
 ghost use Rattle.lru_model.specs.Reservations.{NeedsGrowthFor, Reserve};
 
 use crate::map::LruMap;
@@ -37,7 +37,7 @@ impl<K: Eq + Hash, V, L: Limiter<K, V>, S: KeyHasher<K>> LruMap<K, V, L, S> {
     pub fn try_reserve(&mut self, n: usize) -> Result<(), ReserveError>
         ensures step { Reserve L.rules n self.old result self.new }
         ensures pairs { self.new.pairs ≡ self.old.pairs }
-        ensures room { OnOk result (n ≤ room self.new) }
+        ensures growth_left { OnOk result (n ≤ growth_left self.new) }
         ensures map { IsMap K.eq self.new }
     {
         let pairs = match self.len().checked_add(n) {

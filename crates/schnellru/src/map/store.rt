@@ -4,7 +4,7 @@ ghost use Rattle.std.specs.Prelude.{Ok, OnOk, OnErr, IfErr, IsOk};
 ghost use Rattle.group_table.specs.Sizes.{IsPowerFromFour, full_capacity};
 ghost use Rattle.lru_model.specs.Lists.{lookup_entry};
 ghost use Rattle.lru_model.specs.Sizes.{usage};
-ghost use Rattle.lru_model.specs.State.{buckets, room, IsAhead};
+ghost use Rattle.lru_model.specs.State.{buckets, growth_left, IsAhead};
 ghost use Rattle.lru_model.specs.Place.{Place, Evicts, IsPlacedInTable, IsPlacedByMove, FillsBucket, HasNoBucket};
 ghost use Rattle.lru_model.specs.Place.{IsOutgrown, outcome_of, unstored};
 ghost use Rattle.lru_model.specs.Callbacks.{noting, noted};
@@ -23,12 +23,12 @@ impl<K: Eq + Hash, V, L: Limiter<K, V>, S: KeyHasher<K>> LruMap<K, V, L, S> {
     pub(super) fn store_in_room(&mut self, hash: u64, pair: (K, V))
         requires hash { hash ≡ S.hash_of self.old.hasher pair.0 }
         requires absent { lookup_entry (K.eq pair.0) self.old.pairs ≡ None }
-        requires room { 0 < room self.old }
+        requires growth_left { 0 < growth_left self.old }
         ensures placed { IsPlacedInTable pair self.old self.new }
         ensures fills { FillsBucket hash self.old.table self.new.table }
         ensures within { length self.old.pairs < full_capacity (buckets self.old) }
-        ensures spends { length self.old.pairs + room self.old ≡ full_capacity (buckets self.old) →
-            room self.new + 1 ≡ room self.old }
+        ensures spends { length self.old.pairs + growth_left self.old ≡ full_capacity (buckets self.old) →
+            growth_left self.new + 1 ≡ growth_left self.old }
     {
         self.entries.place(hash, pair);
     }

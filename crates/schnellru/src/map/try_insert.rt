@@ -2,7 +2,7 @@
 ghost use Rattle.std.specs.Prelude.{◌≡◌, ◌∷◌, ◌<◌, true, false, None, Ok, OnOk, OnErr, IfErr, IsTrue, length};
 ghost use Rattle.lru_limits.specs.Admissions.{offers_of};
 ghost use Rattle.lru_model.specs.Lists.{lookup_entry};
-ghost use Rattle.lru_model.specs.State.{IsMap, contents, room};
+ghost use Rattle.lru_model.specs.State.{IsMap, contents, growth_left};
 ghost use Rattle.lru_model.specs.Inserts.{Insert};
 ghost use Rattle.lru_model.specs.Runs.{Step, Run};
 ghost use Rattle.lru_model.specs.TryInserts.{TryInsert, IsReady, IsUnready, can_store};
@@ -50,7 +50,7 @@ impl<K: Eq + Hash + Drop, V: Drop, L: Admission<K, V> + Copy, S: KeyHasher<K>> L
         ensures within { OnOk result (L.rules.is_over_the_limit self.new.limiter (length self.new.pairs) ≡ false) }
         ensures returned { IfErr result (λ back. back ≡ (key, value)) }
         ensures keeps { OnErr result (self.new.pairs ≡ self.old.pairs) }
-        ensures unchanged { 0 < room self.old → OnErr result (self.new ≡ self.old) }
+        ensures unchanged { 0 < growth_left self.old → OnErr result (self.new ≡ self.old) }
         ensures map { IsMap K.eq self.new }
     {
         let hash = self.hasher.hash_named(&key);
@@ -88,7 +88,7 @@ impl<K: Eq + Hash + Drop, V: Drop, L: Admission<K, V> + Copy, S: KeyHasher<K>> L
     fn get_ready_for(&mut self, key: &K, value: &V) -> bool
         requires storable { can_store L.terms L.rules key.now value.now (contents self.old) ≡ true }
         ensures ready { IsTrue result → IsReady L.rules self.old self.new }
-        ensures growth { IsTrue result → 0 < room self.new }
+        ensures growth { IsTrue result → 0 < growth_left self.new }
         ensures storable { IsTrue result → can_store L.terms L.rules key.now value.now (contents self.new) ≡ true }
         ensures unready { result ≡ false → IsUnready L.terms L.rules key.now value.now self.old self.new }
     {
@@ -116,7 +116,7 @@ impl<K: Eq + Hash + Drop, V: Drop, L: Admission<K, V> + Copy, S: KeyHasher<K>> L
     fn add(&mut self, hash: u64, key: K, value: V)
         requires hash { (k : K) → IsTrue (K.eq key k) → hash ≡ S.hash_of self.old.hasher k }
         requires absent { lookup_entry (K.eq key) self.old.pairs ≡ None }
-        requires room { 0 < room self.old }
+        requires growth_left { 0 < growth_left self.old }
         requires storable { can_store L.terms L.rules key value (contents self.old) ≡ true }
         ensures { Insert L.rules (offers_of L.terms) K.eq S.hash_of key value self.old (Ok true) self.new }
     {

@@ -12,5 +12,5 @@ returns-clause-added c =
     let absent = ap (lookup_entry (nat_eq c.args.key)) stay ∙ c.requires in
     let accepts = offers_of-accepts all_terms no_rules nat_eq c.args.key c.args.value (contents mid) refl refl in
     let law = c.inserts_with_room_are_exact.ensures.added c.args.key c.args.value (c.args.key, c.args.value) mid in
-    (law c.insert.result c.insert.new.self c.in_ok-try_reserve.ensures.room absent accepts c.insert.ensures.step).pairs
+    (law c.insert.result c.insert.new.self c.in_ok-try_reserve.ensures.growth_left absent accepts c.insert.ensures.step).pairs
     ∙ ap (λ pairs. (c.args.key, c.args.value) ∷ pairs) stay

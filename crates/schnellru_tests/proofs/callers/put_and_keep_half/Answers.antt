@@ -40,7 +40,7 @@ module _ {K V H : Type 0} (offers : Offers K V ℕ K) (names : K → K → Bool)
       let was : ready.pairs ≡ old.pairs = ap (λ st. st.pairs) l.is in
       elim (adds ready landed p) [
         | inl all ↦ inl (stay ∙ all ∙ ap (λ pairs. pair ∷ pairs) was)
-        | inr full ↦ inr (subst (λ n. full_capacity n / 2 ≤ length new.pairs) l.room.table
+        | inr full ↦ inr (subst (λ n. full_capacity n / 2 ≤ length new.pairs) l.growth_left.table
             (subst (λ pairs. full_capacity (buckets ready) / 2 ≤ length pairs) (sym stay) (half ready landed full p)))
       ]
   lands s ready landed l refused p t = let e = sym yes ∙ t.0 in absurd cc

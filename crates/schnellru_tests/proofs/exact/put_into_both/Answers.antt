@@ -13,6 +13,6 @@ returns c =
     let listed = c.inserts_with_room_are_exact.ensures.list key value in
     (c.inserts_are_exact_unless_refused.ensures.alike (λ s pair. at_once) key value (contents one) (Ok kept)
     (Ok kept_too) left left_too (offers_if-determined _) refl refl
-    (listed one (Ok kept) c.insert.new.self c.requires.room.0 c.in_ok-insert.ensures.step)
+    (listed one (Ok kept) c.insert.new.self c.requires.growth_left.0 c.in_ok-insert.ensures.step)
     (subst (λ d. InsertsInList length_rules length_offers nat_eq key value d (Ok kept_too) left_too) (sym c.requires.same)
-    (listed other (Ok kept_too) c.insert-2.new.self c.requires.room.1 c.in_ok-insert-2.ensures.step))).1
+    (listed other (Ok kept_too) c.insert-2.new.self c.requires.growth_left.1 c.in_ok-insert-2.ensures.step))).1

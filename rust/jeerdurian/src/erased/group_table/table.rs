@@ -35,7 +35,7 @@ mod relocation;
 /// ```
 pub struct Table<T> {
     // Not next to `len`: the compiler would join the changes of both into one load and one store, which is slower.
-    room: usize,
+    growth_left: usize,
     control: Control,
     entries: Entries<T>,
     placed: u64,
@@ -46,7 +46,14 @@ pub struct Table<T> {
 impl<T> Table<T> {
     /// Makes a table of no buckets, which takes no memory. It rejects each entry until `relocate` gives it buckets.
     pub const fn new(alloc: Global) -> Self {
-        Table { control: Control::new(alloc), entries: Entries::new(alloc), room: 0, len: 0, placed: 0, moved: 0 }
+        Table {
+            control: Control::new(alloc),
+            entries: Entries::new(alloc),
+            growth_left: 0,
+            len: 0,
+            placed: 0,
+            moved: 0,
+        }
     }
 
     /// Makes a table of `buckets` empty buckets: none, or a power of two from 4 on, and with 16 more at most
@@ -71,7 +78,7 @@ impl<T> Table<T> {
                 return Err(error);
             }
         };
-        Ok(Table { control, entries, room: full_capacity(buckets), len: 0, placed: 0, moved: 0 })
+        Ok(Table { control, entries, growth_left: full_capacity(buckets), len: 0, placed: 0, moved: 0 })
     }
 
     /// Returns the bucket of the first entry that `f` accepts, of those with the tag of the hash, its top 7 bits.
@@ -114,7 +121,7 @@ impl<T> Table<T> {
         self.len -= 1;
         let gives_room = ones_if_empty_neighbours(&self.control, b);
         // To subtract all ones is to add 1.
-        self.room = self.room.wrapping_sub(gives_room);
+        self.growth_left = self.growth_left.wrapping_sub(gives_room);
         let byte = emptied_byte(gives_room);
         empty_bucket(&mut self.control, &mut self.entries, b, byte)
     }
@@ -126,7 +133,7 @@ impl<T> Table<T> {
     /// and reads 16 control bytes at once, usually of one group or two.
     ///
     /// ```text
-    /// if table.room() > 0 {
+    /// if table.growth_left() > 0 {
     ///     let b = table.place(9, "b");
     ///     assert_eq!(rt; table.find(9, |entry| *entry == "b"), Some(b));
     /// }
@@ -147,12 +154,12 @@ impl<T> Table<T> {
     /// free bucket is empty.
     #[inline(always)]
     pub fn try_place(&mut self, hash: u64, entry: T) -> Result<usize, T> {
-        if is_without_buckets(&self.control, self.room) {
+        if is_without_buckets(&self.control, self.growth_left) {
             return Err(entry);
         }
         let b = first_free(&self.control, hash);
         let spent = room_taken(self.control.byte(b));
-        if self.room < spent {
+        if self.growth_left < spent {
             return Err(entry);
         }
         self.fill_free(b, spent, hash, entry);
@@ -163,13 +170,13 @@ impl<T> Table<T> {
     fn fill_free(&mut self, b: usize, spent: usize, hash: u64, entry: T) {
         self.len += 1;
         fill_bucket(&mut self.control, &mut self.entries, b, tag_of(hash), entry);
-        self.room -= spent;
+        self.growth_left -= spent;
         self.placed = self.placed.saturating_add(1);
     }
 
     fn empty_buckets(&mut self) {
         self.control.clear();
-        self.room = full_capacity(self.control.buckets());
+        self.growth_left = full_capacity(self.control.buckets());
     }
 
     fn free_unused(self) {
@@ -184,7 +191,7 @@ impl<T> Table<T> {
         // SAFETY: each field is read once, and the whole is not dropped.
         let entries = unsafe { ::core::ptr::read(&whole.entries) };
         // SAFETY: each field is read once, and the whole is not dropped.
-        let _room = unsafe { ::core::ptr::read(&whole.room) };
+        let _growth_left = unsafe { ::core::ptr::read(&whole.growth_left) };
         // SAFETY: each field is read once, and the whole is not dropped.
         let _len = unsafe { ::core::ptr::read(&whole.len) };
         // SAFETY: each field is read once, and the whole is not dropped.
@@ -217,18 +224,18 @@ impl<T> Table<T> {
     /// It does nothing if all growth is left, because then no bucket is full or deleted.
     pub fn clear(&mut self) {
         let most = full_capacity(self.control.buckets());
-        if self.room == most {
+        if self.growth_left == most {
             return;
         }
         drop_entries(&self.control, &mut self.entries, self.len);
         self.control.clear();
-        self.room = most;
+        self.growth_left = most;
         self.len = 0;
     }
 }
 
 // Returns whether there are no buckets. With growth left there are some, and the control bytes are not read.
 #[inline]
-fn is_without_buckets(control: &Control, room: usize) -> bool {
-    room == 0 && control.is_empty()
+fn is_without_buckets(control: &Control, growth_left: usize) -> bool {
+    growth_left == 0 && control.is_empty()
 }

@@ -51,8 +51,8 @@ impl<K, V, N: LinkType> LinkedTable<K, V, N> {
     }
 
     #[inline]
-    pub(crate) fn room(&self) -> usize {
-        self.chain.table.room()
+    pub(crate) fn growth_left(&self) -> usize {
+        self.chain.table.growth_left()
     }
 
     #[inline]

@@ -71,8 +71,8 @@ impl<K, V, N: LinkType> OrderedTable<K, V, N> {
 
     /// Returns how many empty buckets may still be filled.
     #[inline]
-    pub fn room(&self) -> usize {
-        self.linked.room()
+    pub fn growth_left(&self) -> usize {
+        self.linked.growth_left()
     }
 
     /// Returns how many pairs were put into the table. A pair that moves is not counted again.

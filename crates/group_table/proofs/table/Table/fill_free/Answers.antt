@@ -8,7 +8,7 @@ use Rattle.group_table.proofs.TableLemmas.{IsTable-by, room_by}
 use Rattle.group_table.proofs.WriteLemmas.{slots_of-written}
 use Rattle.group_table.proofs.FitsLemmas.{Fits-placed}
 use Rattle.group_table.proofs.PlaceLemmas.{free_within, free_none, free_spends, IsValid-placed, entry_count-placed}
-use Rattle.group_table.proofs.PlaceLemmas.{room-placed}
+use Rattle.group_table.proofs.PlaceLemmas.{growth_left-placed}
 use Rattle.group_table.proofs.table.Table.fill_free.Goals as goal
 
 pub overflow_add-self : goal.overflow_add-self
@@ -37,7 +37,7 @@ pub overflow_sub-self : goal.overflow_sub-self
 overflow_sub-self g c = omega (
   arith,
   rw (← c.self.view_is) at c.requires.within,
-  room_by c.self.inside.control c.self.inside.entries c.self.inside.room c.self.invariant.0,
+  room_by c.self.inside.control c.self.inside.entries c.self.inside.growth_left c.self.invariant.0,
 )
 
 pub invariant_of-self : goal.invariant_of-self
@@ -62,15 +62,15 @@ returns-clause-placed g c =
       insertions = ap (λ n. record { placed = n; moved = c.self.inside.moved }) c.saturating_add-self-inside.ensures;
     }
 
-pub returns-clause-room : goal.returns-clause-room
-returns-clause-room g c =
+pub returns-clause-growth_left : goal.returns-clause-growth_left
+returns-clause-growth_left g c =
     let bucket = rw (← c.self.view_is) at c.requires.bucket in let first = rw (← c.self.view_is) at c.requires.first in
     let valid = c.self.invariant.0 in
     let within = free_within valid _ bucket first.free_there in
     let spends = free_spends valid _ bucket first.free_there _ (rw (← c.self.view_is) at c.requires.spent)
     (rw (← c.self.view_is) at c.requires.within) in
     rw (← c.self.view_is, c.fill_bucket.ensures.control, c.fill_bucket.ensures.entries)
-    (room-placed valid c.args.b spends c.tag_of.result c.args.entry within c.tag_of.ensures.tag)
+    (growth_left-placed valid c.args.b spends c.tag_of.result c.args.entry within c.tag_of.ensures.tag)
 
 pub returns-clause-fits : goal.returns-clause-fits
 returns-clause-fits g c hash_of fits =

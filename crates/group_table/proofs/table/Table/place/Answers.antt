@@ -44,11 +44,11 @@ fill_free-requires-clause-first g c =
 
 pub fill_free-requires-clause-spent : goal.fill_free-requires-clause-spent
 fill_free-requires-clause-spent g c =
-    let valid = c.self.invariant.0 in let room = rw (← c.self.view_is) at c.requires in
-    let some = some_buckets valid room in
+    let valid = c.self.invariant.0 in let growth_left = rw (← c.self.view_is) at c.requires in
+    let some = some_buckets valid growth_left in
     let one = spends_one valid _ _ some c.first_free-b.ensures c.byte.ensures c.room_taken-spent.ensures in
     let spends = place_spends valid _ _ some c.first_free-b.ensures c.byte.ensures c.room_taken-spent.ensures
-    (omega (arith, one, room, room_by _ _ _ valid)) in
+    (omega (arith, one, growth_left, room_by _ _ _ valid)) in
     rw (← c.self.view_is) (sym (room_spent valid c.first_free-b.result spends))
 
 pub fill_free-requires-clause-within : goal.fill_free-requires-clause-within

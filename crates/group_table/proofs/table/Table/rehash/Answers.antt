@@ -7,16 +7,16 @@ use Rattle.group_table.specs.Layout.{slots_of, IsValid}
 use Rattle.group_table.specs.Relocation.{KeepsHashes, GivesHashes}
 use Rattle.group_table.proofs.BucketLemmas.{used_count-split}
 use Rattle.group_table.proofs.LayoutLemmas.{length-laid_out}
-use Rattle.group_table.proofs.FreshLemmas.{room-fresh}
+use Rattle.group_table.proofs.FreshLemmas.{growth_left-fresh}
 use Rattle.group_table.proofs.TableLemmas.{IsTable-by}
-use Rattle.group_table.proofs.RelocationLemmas.{room-none_deleted, entry_count-laid_out, entries_are}
+use Rattle.group_table.proofs.RelocationLemmas.{growth_left-none_deleted, entry_count-laid_out, entries_are}
 use Rattle.group_table.proofs.table.Table.rehash.Goals as goal
 
-pub returns-then-self-eq0-clause-room : goal.returns-then-self-eq0-clause-room
-returns-then-self-eq0-clause-room g c =
+pub returns-then-self-eq0-clause-growth_left : goal.returns-then-self-eq0-clause-growth_left
+returns-then-self-eq0-clause-growth_left g c =
     let none : entry_count c.args.self.now.slots ≡ 0 = rw (← c.self.view_is) (omega (arith, c.self.invariant.1)) in
-    let room = room-fresh g.row.T.Denot (length c.args.self.now.slots) in
-    rw c.empty_buckets.ensures.slots (omega (arith, room, none))
+    let growth_left = growth_left-fresh g.row.T.Denot (length c.args.self.now.slots) in
+    rw c.empty_buckets.ensures.slots (omega (arith, growth_left, none))
 
 pub returns-in_err-links-clause-table : goal.returns-in_err-links-clause-table
 returns-in_err-links-clause-table g c = rw (← c.self.view_is) (IsTable-by _ _ _ c.self.invariant.0)
@@ -112,8 +112,8 @@ returns-clause-renumbered g c =
       moves = rw (entries_are _ _ laid_out) again.moves;
     }))
 
-pub returns-clause-room : goal.returns-clause-room
-returns-clause-room g c =
+pub returns-clause-growth_left : goal.returns-clause-growth_left
+returns-clause-growth_left g c =
     let again = c.place_again.ensures in
     let moved = returns-clause-entries g c in
     let slots = slots_of c.place_again.new.control c.place_again.new.entries in
@@ -122,7 +122,7 @@ returns-clause-room g c =
     ap full_capacity same in
     let within : entry_count slots ≤ full_capacity (length slots) =
     omega (arith, capacity, again.valid.room_left, used_count-split slots) in
-    rw (← moved) (room-none_deleted slots again.none_deleted within)
+    rw (← moved) (growth_left-none_deleted slots again.none_deleted within)
 
 pub returns-clause-hashes : goal.returns-clause-hashes
 returns-clause-hashes g c hash_at =

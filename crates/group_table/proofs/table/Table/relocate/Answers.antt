@@ -6,20 +6,20 @@ use Rattle.group_table.specs.Relocation.{KeepsHashes, GivesHashes}
 use Rattle.group_table.proofs.LayoutLemmas.{length-laid_out}
 use Rattle.group_table.proofs.SizeLemmas.{full_capacity-small}
 use Rattle.group_table.proofs.TableLemmas.{IsTable-by}
-use Rattle.group_table.proofs.FreshLemmas.{Fits-fresh, room-fresh}
-use Rattle.group_table.proofs.RelocationLemmas.{room-none_deleted, entry_count-laid_out, entries_are}
+use Rattle.group_table.proofs.FreshLemmas.{Fits-fresh, growth_left-fresh}
+use Rattle.group_table.proofs.RelocationLemmas.{growth_left-none_deleted, entry_count-laid_out, entries_are}
 use Rattle.group_table.proofs.table.Table.relocate.Goals as goal
 
 pub returns-in_err-fresh-clause-table : goal.returns-in_err-fresh-clause-table
 returns-in_err-fresh-clause-table g c = rw (← c.self.view_is) (IsTable-by _ _ _ c.self.invariant.0)
 
-pub returns-then-self-eq0-clause-room : goal.returns-then-self-eq0-clause-room
-returns-then-self-eq0-clause-room g c =
+pub returns-then-self-eq0-clause-growth_left : goal.returns-then-self-eq0-clause-growth_left
+returns-then-self-eq0-clause-growth_left g c =
     let is : c.replace.new.dest.slots ≡ replicate c.args.buckets empty =
     ap (λ t. t.slots) c.replace.ensures.after ∙ ap (λ v. v.slots) c.fresh.view_is ∙ c.in_ok-fresh.ensures.slots in
     let none : entry_count c.args.self.now.slots ≡ 0 = rw (← c.self.view_is) (omega (arith, c.self.invariant.1)) in
-    let room = room-fresh g.row.T.Denot c.args.buckets in
-    rw is (omega (arith, room, none))
+    let growth_left = growth_left-fresh g.row.T.Denot c.args.buckets in
+    rw is (omega (arith, growth_left, none))
 
 pub returns-then-self-eq0-clause-hashes : goal.returns-then-self-eq0-clause-hashes
 returns-then-self-eq0-clause-hashes g c hash_at gives moved_hash_of moved =
@@ -79,8 +79,8 @@ returns-clause-entries g c =
     ap entry_count is ∙ c.move_entries.ensures.entries ∙ sym (entry_count-laid_out _ _ parts.laid_out)
     ∙ ap entry_count was
 
-pub returns-clause-room : goal.returns-clause-room
-returns-clause-room g c =
+pub returns-clause-growth_left : goal.returns-clause-growth_left
+returns-clause-growth_left g c =
     let is = ap (λ t. t.slots) c.self-2.view_is in
     let moved : entry_count c.move_entries.new.fresh.slots ≡ entry_count c.args.self.now.slots =
     sym (ap entry_count is) ∙ returns-clause-entries g c in
@@ -88,7 +88,7 @@ returns-clause-room g c =
     c.move_entries.ensures.buckets ∙ ap (λ t. length t.slots) c.replace-2.ensures.after
     ∙ ap length c.in_ok-fresh.ensures.slots ∙ length-replicate _ _ in
     rw (is, ← moved)
-    (room-none_deleted c.move_entries.new.fresh.slots c.move_entries.ensures.none_deleted
+    (growth_left-none_deleted c.move_entries.new.fresh.slots c.move_entries.ensures.none_deleted
     (rw (moved, long) c.requires.within))
 
 pub returns-clause-hashes : goal.returns-clause-hashes

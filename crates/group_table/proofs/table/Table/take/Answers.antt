@@ -2,7 +2,7 @@ use Rattle.std.proofs.Common.{◌<◌, ◌-◌, ◌^◌, length, arith}
 use Rattle.group_table.specs.Layout.{slots_of}
 use Rattle.group_table.proofs.LayoutLemmas.{length-laid_out, entries_within, full_within, full_byte, is_some_entry}
 use Rattle.group_table.proofs.LayoutLemmas.{entry_at-full}
-use Rattle.group_table.proofs.RemoveLemmas.{room_gained, removed, room-removed, entry_count-pos}
+use Rattle.group_table.proofs.RemoveLemmas.{room_gained, removed, growth_left-removed, entry_count-pos}
 use Rattle.group_table.proofs.ControlLemmas.{buckets_are}
 use Rattle.group_table.proofs.PlaceLemmas.{some_empty_byte}
 use Rattle.group_table.proofs.FitsLemmas.{Fits-removed}
@@ -50,7 +50,7 @@ invariant_of-self g c =
     let gives = c.ones_if_empty_neighbours-gives_room.ensures in
     let emptied = rw (buckets_are _ _ valid.laid_out) at gives.2 in
     let r = removed _ _ _ valid c.args.b there gives.0 emptied in
-    let small : c.self.inside.room < 2 ^ 64 - 1 =
+    let small : c.self.inside.growth_left < 2 ^ 64 - 1 =
     omega (arith, room_within _ _ _ valid, entries_within _ _ valid.laid_out, valid.laid_out.fits) in
     rw (
       c.empty_bucket.ensures.control,
@@ -80,8 +80,8 @@ returns-clause-removed g c =
     )
     r.removes
 
-pub returns-clause-room : goal.returns-clause-room
-returns-clause-room g c =
+pub returns-clause-growth_left : goal.returns-clause-growth_left
+returns-clause-growth_left g c =
     let there = rw (← c.self.view_is) at c.requires in
     let gives = c.ones_if_empty_neighbours-gives_room.ensures in
     let emptied = rw (buckets_are _ _ c.self.invariant.0.laid_out) at gives.2 in
@@ -92,7 +92,7 @@ returns-clause-room g c =
       c.empty_bucket.ensures.entries,
       c.emptied_byte-byte.ensures gives.0 gives.1,
     )
-    (room-removed _ _ _ c.self.invariant.0 c.args.b there _ _ r)
+    (growth_left-removed _ _ _ c.self.invariant.0 c.args.b there _ _ r)
 
 pub returns-clause-fits : goal.returns-clause-fits
 returns-clause-fits g c hash_of fits =

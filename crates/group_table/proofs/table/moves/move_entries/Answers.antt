@@ -29,8 +29,8 @@ loop-b-init g c = record {
   hashes = λ hash_at gives moved_hash_of same. Fits-none c.args.fresh.now.slots moved_hash_of c.requires.all_empty;
 }
 
-pub place_fresh-requires-clause-room : goal.place_fresh-requires-clause-room
-place_fresh-requires-clause-room g c =
+pub place_fresh-requires-clause-growth_left : goal.place_fresh-requires-clause-growth_left
+place_fresh-requires-clause-growth_left g c =
     let l = c.loop-b.invariant in
     let whole = c.args.old.now in
     let within : c.loop-b.b < length whole = omega arith in

@@ -40,4 +40,4 @@ returns-clause-ready c = λ ok.
 pub returns-clause-finds : goal.returns-clause-finds
 returns-clause-finds c = λ ok _.
     let done = succeeded c.try_reserve.result (sym c.is_ok.ensures.value ∙ ok) in
-    rw done at c.try_reserve.ensures.room
+    rw done at c.try_reserve.ensures.growth_left

@@ -18,7 +18,7 @@ no_lack {k} {v} {ready} {new} key is finds (new_key, inr short) =
     let absent = ap is_some (lookup-entry (same_bytes k) ready.pairs ∙ ap (option_map (λ p. p.1)) new_key) in
     let some_room = finds (subst (λ bytes. is_some (lookup (λ (y : Bytes). bytes_eq bytes y.items) ready.pairs) ≡ false)
     is absent) in
-    omega (arith, some_room, short.no_room)
+    omega (arith, some_room, short.no_growth_left)
 
 pub unreachable-requires : goal.unreachable-requires
 unreachable-requires c =

@@ -35,11 +35,11 @@ returns-clause-pairs g c =
     (ap (entries_in (pair_slots c.rewrite.new.self.table.slots)) order
     ∙ pairs-moved renumbers c.rewrite.new.self.table.slots c.rewrite.ensures.pairs c.self.invariant)
 
-pub returns-clause-room : goal.returns-clause-room
-returns-clause-room g c =
+pub returns-clause-growth_left : goal.returns-clause-growth_left
+returns-clause-growth_left g c =
     let marks = same_marks c.renumber_entries.new.table.slots c.rewrite.new.self.table.slots c.rewrite.ensures.pairs in
     rw (← c.self.view_is, marks_of-pair_slots c.rewrite.new.self.table.slots, marks, ← c.self.invariant.count)
-    c.in_ok-links.ensures.room
+    c.in_ok-links.ensures.growth_left
 
 pub returns-clause-fits : goal.returns-clause-fits
 returns-clause-fits g c =

@@ -37,7 +37,7 @@ returns g c =
     (inl (linked_room _ (rw (← c.self.view_is) at c.requires))) new.table new.newest new.oldest e.pairs e.insertions
     e.chain in
     record {
-      placed = rw (← c.self.view_is) (c.place-b.result, p.lands c.place-b.ensures.room);
+      placed = rw (← c.self.view_is) (c.place-b.result, p.lands c.place-b.ensures.growth_left);
       fits = λ hash_of fits same. p.fits hash_of c.place-b.ensures.fits (rw (← c.self.view_is) at fits) same;
       linked = p.is_linked c.place-b.ensures.table;
     }

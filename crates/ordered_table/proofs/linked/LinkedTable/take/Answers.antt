@@ -45,7 +45,7 @@ returns g c =
       removed = taken_removes _ _ _ c.args.b removed same;
       order = taken_order _ _ _ c.args.b removed same laws whole full chain;
       insertions = same_insertions;
-      room = taken_room _ _ _ c.args.b removed same c.take-pair.ensures.room;
+      growth_left = taken_room _ _ _ c.args.b removed same c.take-pair.ensures.growth_left;
       fits = taken_fits _ _ _ c.args.b removed same full c.take-pair.ensures.fits;
       linked = IsLinked-view laws (invariant_of-self g c)
           (rw (same_marks c.take-pair.new.self.slots c.close_gap.new.self.table.slots same)

@@ -32,7 +32,7 @@ returns-in-Ok g c =
     let p = placed g.met.N.LinkType.laws c.self.invariant c.newest_entry.ensures.pair c.in-Ok.ensures.placed
     c.in-Ok.ensures.may_fill new.table new.newest new.oldest e.pairs e.insertions e.chain in
     record {
-      placed = rw (← c.self.view_is) (c.in-Ok.b, p.lands c.in-Ok.ensures.room);
+      placed = rw (← c.self.view_is) (c.in-Ok.b, p.lands c.in-Ok.ensures.growth_left);
       fits = λ hash_of fits same. p.fits hash_of c.in-Ok.ensures.fits (rw (← c.self.view_is) at fits) same;
       linked = p.is_linked c.try_place.ensures.table;
       returned = tt;

@@ -18,6 +18,6 @@ returns-clause-taken g c = let took = c.take.ensures in rw (← c.self.view_is, 
     order = ap (λ o. in_front o c.take.new.self.order) c.settle.ensures.none ∙ took.order
         ∙ ap (without_bucket c.oldest-b.result) c.settle.ensures.order;
     insertions = took.insertions ∙ c.settle.ensures.insertions;
-    room = took.room;
+    growth_left = took.growth_left;
   },
 )

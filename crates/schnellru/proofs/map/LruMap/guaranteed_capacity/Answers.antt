@@ -11,7 +11,7 @@ overflow_add-result g c =
     omega (
       arith,
       c.len.ensures.len,
-      c.room.ensures.room,
+      c.growth_left.ensures.growth_left,
       pairs-length t c.self.invariant.linked,
       sized.taken,
       (facts sized.table).within,
@@ -25,6 +25,6 @@ returns g c =
     (omega (
       arith,
       c.len.ensures.len,
-      c.room.ensures.room,
+      c.growth_left.ensures.growth_left,
       pairs-length c.self.inside.entries c.self.invariant.linked,
     ))

@@ -1,5 +1,5 @@
 use Rattle.std.proofs.Common.{[], Ok, inl, refl, ap, subst, arith, sym}
-use Rattle.lru_model.specs.State.{buckets, room}
+use Rattle.lru_model.specs.State.{buckets, growth_left}
 use Rattle.lru_model.specs.Place.{placed, in_bucket, FillsBucket}
 use Rattle.lru_model.specs.Callbacks.{noted}
 use Rattle.schnellru.proofs.Maps.NotedStates.{noted_placed}
@@ -56,7 +56,7 @@ returns g c = record {
       let put = in_bucket stored.within (inl (omega (arith, c.growth_left.ensures, c.if-growth_left-eq0.false)))
       (subst (λ h. FillsBucket h ready.table new.table) is
       stored.fills) refl
-      (noted_placed mid c.args.pair (buckets ready) (room new) 0 ready new stored.placed) in
+      (noted_placed mid c.args.pair (buckets ready) (growth_left new) 0 ready new stored.placed) in
       let left = ap Ok c.evict_over_limit.ensures.left in
       (after, in_all, (noted mid ready, way, (placed, noted mid new, put, (left, trimmed))));
 }

@@ -24,7 +24,7 @@ returns-in_err-move_to-clause-succeeds g c = λ none same.
 pub invariant_of-self-2 : goal.invariant_of-self-2
 invariant_of-self-2 g c =
     let m = c.self.inside in let e = c.in_ok-move_to.ensures in let holds = c.self.invariant in
-    moves_holds m.entries c.move_to.new.self c.args.count holds.linked e.linked e.buckets e.pairs e.room e.insertions
+    moves_holds m.entries c.move_to.new.self c.args.count holds.linked e.linked e.buckets e.pairs e.growth_left e.insertions
     _ _ _ holds e.fits
     c.requires.reached (rw (← c.self.view_is) at c.requires.usable) (rw (← c.self.view_is) at c.requires.half)
 
@@ -32,7 +32,7 @@ pub returns-clause-moved : goal.returns-clause-moved
 returns-clause-moved g c =
     let m = c.self.inside in let e = c.in_ok-move_to.ensures in
     rw (← c.self.view_is)
-    (moves_to m.entries c.move_to.new.self c.args.count c.self.invariant.linked e.linked e.buckets e.pairs e.room
+    (moves_to m.entries c.move_to.new.self c.args.count c.self.invariant.linked e.linked e.buckets e.pairs e.growth_left
     e.insertions _)
 
 pub returns-clause-map : goal.returns-clause-map

@@ -65,7 +65,7 @@ invariant_of-self-2 g c =
     (c.len-len.ensures.len ∙ sym (pairs-length m.entries holds.linked)) in
     let hash_of = g.S.KeyHasher.hash_of in
     subst (λ n. Holds g.K.PartialEq.eq hash_of c.move_to.new.self (record rest { shrunk = n })) (sym rises)
-    (shrinks_holds m.entries c.move_to.new.self c.in-Some.count holds.linked e.linked e.buckets e.pairs e.room
+    (shrinks_holds m.entries c.move_to.new.self c.in-Some.count holds.linked e.linked e.buckets e.pairs e.growth_left
     e.insertions rest g.K.PartialEq.eq hash_of holds e.fits
     (omega (arith, c.if-buckets-count.false, c.buckets.ensures.buckets)))
 
@@ -85,7 +85,7 @@ returns-clause-step g c =
     (shrunk c.in-Some.count (is, fewer) refl
     (subst (λ n. MovesTo c.in-Some.count (shrink_counted st)
     (state_of c.move_to.new.self (record rest { shrunk = n }))) (sym rises)
-    (shrinks_to m.entries c.move_to.new.self c.in-Some.count holds.linked e.linked e.buckets e.pairs e.room
+    (shrinks_to m.entries c.move_to.new.self c.in-Some.count holds.linked e.linked e.buckets e.pairs e.growth_left
     e.insertions rest)))
 
 pub returns-clause-map : goal.returns-clause-map

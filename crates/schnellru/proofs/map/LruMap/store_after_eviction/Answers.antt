@@ -2,7 +2,7 @@ use Rattle.std.proofs.Common.{◌≡◌, ◌/◌, ◌<◌, ◌≤◌, suc, None,
 use Rattle.std.proofs.Common.{arith}
 use Rattle.group_table.specs.Sizes.{full_capacity}
 use Rattle.lru_model.specs.Lists.{lookup_entry}
-use Rattle.lru_model.specs.State.{buckets, room}
+use Rattle.lru_model.specs.State.{buckets, growth_left}
 use Rattle.lru_model.specs.Place.{HasPairsButNoGrowth}
 use Rattle.lru_model.specs.MayTake.{MayTakeEach}
 use Rattle.lru_model.specs.Callbacks.{noting, noted}
@@ -19,7 +19,7 @@ store_after_move-requires-clause-absent g c =
     let i = c.evictions.invariant in
     subst (λ p. lookup_entry (g.K.PartialEq.eq p.0) c.take_oldest-key.new.self.pairs ≡ None) (sym i.same_pair)
     (left_absent g.L.Limiter.rules c.args.hash c.args.pair c.args.self.now c.evictions.self c.take_oldest-key.new.self
-    c.bucket_count-buckets.ensures.map.sized (c.requires.some, c.requires.outgrown.no_bucket.no_room)
+    c.bucket_count-buckets.ensures.map.sized (c.requires.some, c.requires.outgrown.no_bucket.no_growth_left)
     i.n i.gone i.stuck c.take_oldest-key.ensures.step.state
     (g.K.PartialEq.eq c.args.pair.0) c.requires.absent)
 
@@ -40,7 +40,7 @@ store_in_bucket-requires-clause-absent g c =
     let i = c.evictions.invariant in
     subst (λ p. lookup_entry (g.K.PartialEq.eq p.0) c.take_oldest-key.new.self.pairs ≡ None) (sym i.same_pair)
     (left_absent g.L.Limiter.rules c.args.hash c.args.pair c.args.self.now c.evictions.self c.take_oldest-key.new.self
-    c.bucket_count-buckets.ensures.map.sized (c.requires.some, c.requires.outgrown.no_bucket.no_room)
+    c.bucket_count-buckets.ensures.map.sized (c.requires.some, c.requires.outgrown.no_bucket.no_growth_left)
     i.n i.gone i.stuck c.take_oldest-key.ensures.step.state
     (g.K.PartialEq.eq c.args.pair.0) c.requires.absent)
 
@@ -62,7 +62,7 @@ returns-then-len-half-clause-passed g c =
       after,
       has,
       rehashes_then (noting rules) c.args.hash c.args.pair (noted before old) (noted mid st) (noted more u)
-          sized (c.requires.some, c.requires.outgrown.no_bucket.no_room) i.n gone i.stuck
+          sized (c.requires.some, c.requires.outgrown.no_bucket.no_growth_left) i.n gone i.stuck
           (noted_pop rules mid st u pair c.take_oldest-key.ensures.step) (noted after c.store_after_move.new.self) _ few
           (rw (i.same_pair, same) at step),
     )
@@ -84,9 +84,9 @@ returns-in-Ok-clause-passed g c =
       more,
       takes_more g.F.FnMut first mid c.evictions.sink pair c.sink.new.self had c.sink.ensures,
       finds (noting rules) c.args.hash c.args.pair (noted before old) (noted mid st) (noted more u)
-          sized (c.requires.some, c.requires.outgrown.no_bucket.no_room) i.n gone i.stuck
+          sized (c.requires.some, c.requires.outgrown.no_bucket.no_growth_left) i.n gone i.stuck
           (noted_pop rules mid st u pair c.take_oldest-key.ensures.step) (noted more new) enough
-          (noted_placed more c.args.pair (buckets u) (room new) 0 u new placed)
+          (noted_placed more c.args.pair (buckets u) (growth_left new) 0 u new placed)
           c.in-Ok.ensures.fills,
     )
 
@@ -131,7 +131,7 @@ evictions-smaller g c =
     let i = c.evictions.invariant in
     let one = one_fewer g.L.Limiter.rules c.args.hash c.args.pair c.args.self.now c.evictions.self
     c.take_oldest-key.new.self c.bucket_count-buckets.ensures.map.sized
-    (c.requires.some, c.requires.outgrown.no_bucket.no_room) i.n i.gone i.stuck c.take_oldest-key.ensures.step.state in
+    (c.requires.some, c.requires.outgrown.no_bucket.no_growth_left) i.n i.gone i.stuck c.take_oldest-key.ensures.step.state in
     let fewer : length c.store_in_bucket.new.self.pairs < length c.evictions.self.pairs = omega
     (arith, one, ap (λ st. length st.pairs) c.in-Err.ensures.unchanged) in fewer
 
@@ -141,7 +141,7 @@ evictions-preserved g c =
     let rules = g.L.Limiter.rules in let old = c.args.self.now in let st = c.evictions.self in
     let u = c.take_oldest-key.new.self in let pair = c.take_oldest-key.result in
     let sized = c.bucket_count-buckets.ensures.map.sized in
-    let is_full : HasPairsButNoGrowth old = (c.requires.some, c.requires.outgrown.no_bucket.no_room) in
+    let is_full : HasPairsButNoGrowth old = (c.requires.some, c.requires.outgrown.no_bucket.no_growth_left) in
     let takes = c.full_capacity-half.ensures ∙ ap full_capacity c.bucket_count-buckets.ensures.count in
     let enough : full_capacity (buckets old) / 2 ≤ length u.pairs = omega
     (arith, takes, c.len.ensures.len, c.if-len-half.false) in

@@ -60,7 +60,7 @@ returns-in-None-clause-passed g c =
 pub store_after_move-requires-clause-paid : goal.store_after_move-requires-clause-paid
 store_after_move-requires-clause-paid g c = λ few.
     let map = c.self.invariant.map in
-    let none = rw (← c.self.view_is) at c.requires.outgrown.no_bucket.no_room in
+    let none = rw (← c.self.view_is) at c.requires.outgrown.no_bucket.no_growth_left in
     omega (arith, map.paid.ahead few, fits map.sized, none)
 
 pub store_after_move-requires-clause-callable : goal.store_after_move-requires-clause-callable

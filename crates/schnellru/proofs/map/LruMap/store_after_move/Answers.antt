@@ -1,6 +1,6 @@
 use Rattle.std.proofs.Common.{◌-◌, ◌∷◌, length, ap, sym, ◌∙◌, subst, arith, rules}
 use Rattle.group_table.specs.Sizes.{full_capacity}
-use Rattle.lru_model.specs.State.{room}
+use Rattle.lru_model.specs.State.{growth_left}
 use Rattle.lru_model.specs.Place.{IsPlaced, unstored}
 use Rattle.lru_model.specs.Callbacks.{noting, noted}
 use Rattle.lru_model.specs.MayTake.{MayTakeEach}
@@ -8,12 +8,12 @@ use Rattle.schnellru.proofs.Maps.NotedStates.{noted_placed}
 use Rattle.lru_model.proofs.TableSizes.Growth.{full_capacity-some}
 use Rattle.schnellru.proofs.map.LruMap.store_after_move.Goals as goal
 
-pub store_in_room-requires-clause-room : goal.store_in_room-requires-clause-room
-store_in_room-requires-clause-room g c =
+pub store_in_room-requires-clause-growth_left : goal.store_in_room-requires-clause-growth_left
+store_in_room-requires-clause-growth_left g c =
     omega (
       arith,
       c.in-Ok.ensures.moved.exact,
-      ap room c.count_moves.ensures,
+      ap growth_left c.count_moves.ensures,
       c.requires.half,
       full_capacity-some c.args.count c.requires.count,
     )

@@ -1,6 +1,6 @@
 use Rattle.std.proofs.Common.{◌≡◌, ◌+◌, ◌<◌, length, sym, subst}
 use Rattle.group_table.specs.Sizes.{full_capacity}
-use Rattle.lru_model.specs.State.{buckets, room}
+use Rattle.lru_model.specs.State.{buckets, growth_left}
 use Rattle.schnellru.specs.Inside.Holds.{state_of, table_state}
 use Rattle.lru_model.proofs.TableSizes.FilledBuckets.{fills_exact}
 use Rattle.schnellru.specs.Inside.Fields.{fields_of}
@@ -42,7 +42,7 @@ pub returns-clause-spends : goal.returns-clause-spends
 returns-clause-spends g c =
     let m = c.self.inside in
     let rest = fields_of m (g.L.LinkType.LinkType.number g.L.LinkType.LinkType.MAX) in
-    subst (λ st. length st.pairs + room st ≡ full_capacity (buckets st) → room (state_of c.place.new.self rest) + 1
-    ≡ room st) c.self.view_is
+    subst (λ st. length st.pairs + growth_left st ≡ full_capacity (buckets st) → growth_left (state_of c.place.new.self rest) + 1
+    ≡ growth_left st) c.self.view_is
     (fills_exact (table_state m.entries) (table_state c.place.new.self) c.self.invariant.map.sized c.args.hash
     (rw (← c.self.view_is) at (returns-clause-fills g c)))

@@ -17,11 +17,11 @@ returns-in-None-clause-step g c =
 
 pub returns-then-n-growth_left-clause-step : goal.returns-then-n-growth_left-clause-step
 returns-then-n-growth_left-clause-step g c = unchanged
-    (enough_room (omega (arith, c.if-n-growth_left.true, c.growth_left.ensures.room))
+    (enough_room (omega (arith, c.if-n-growth_left.true, c.growth_left.ensures.growth_left))
     (omega (arith, c.in-Some.ensures.0, c.len.ensures.len)) refl) refl
 
-pub returns-then-full_capacity-pairs-clause-room : goal.returns-then-full_capacity-pairs-clause-room
-returns-then-full_capacity-pairs-clause-room g c =
+pub returns-then-full_capacity-pairs-clause-growth_left : goal.returns-then-full_capacity-pairs-clause-growth_left
+returns-then-full_capacity-pairs-clause-growth_left g c =
     makes_room_if_ok g.L.Limiter.rules c.args.n c.args.self.now c.len.ensures.map.sized c.reserve_larger.result
     c.reserve_larger.new.self c.reserve_larger.ensures.step
 
@@ -48,7 +48,7 @@ returns-in-Ok-clause-step g c =
     let st = c.args.self.now in let table = c.bucket_count-buckets.ensures in
     let takes = c.full_capacity.ensures ∙ ap full_capacity table.count in let len = c.len.ensures.len in
     let needs_growth : NeedsGrowthFor c.args.n st =
-    (omega (arith, c.growth_left.ensures.room, c.if-n-growth_left.false), omega (arith, c.in-Some.ensures.0, len)) in
+    (omega (arith, c.growth_left.ensures.growth_left, c.if-n-growth_left.false), omega (arith, c.in-Some.ensures.0, len)) in
     let same = stays c.args.n st table.map.sized (omega (arith, c.if-n-growth_left.false))
     (omega (arith, c.if-full_capacity-pairs.false, takes, c.in-Some.ensures.1, len)) in
     rehashed needs_growth same refl (rw table.count at c.in-Ok.ensures.moved)
@@ -58,7 +58,7 @@ returns-in-Err-clause-step g c =
     let st = c.args.self.now in let table = c.bucket_count-buckets.ensures in
     let takes = c.full_capacity.ensures ∙ ap full_capacity table.count in let len = c.len.ensures.len in
     let needs_growth : NeedsGrowthFor c.args.n st =
-    (omega (arith, c.growth_left.ensures.room, c.if-n-growth_left.false), omega (arith, c.in-Some.ensures.0, len)) in
+    (omega (arith, c.growth_left.ensures.growth_left, c.if-n-growth_left.false), omega (arith, c.in-Some.ensures.0, len)) in
     let same = stays c.args.n st table.map.sized (omega (arith, c.if-n-growth_left.false))
     (omega (arith, c.if-full_capacity-pairs.false, takes, c.in-Some.ensures.1, len)) in
     let some = some_there st.pairs (λ none. false≢true (c.in-Err.ensures.succeeds none table.count)) in

@@ -32,7 +32,14 @@ impl<T> Table<T> {
         }
         let control = self.control.copied(alloc)?;
         let entries = copy_entries(&control, &self.entries, &f)?;
-        Ok(Table { control, entries, room: self.room, len: self.len, placed: self.placed, moved: self.moved })
+        Ok(Table {
+            control,
+            entries,
+            growth_left: self.growth_left,
+            len: self.len,
+            placed: self.placed,
+            moved: self.moved,
+        })
     }
 }
 

@@ -35,8 +35,8 @@ impl<T> Table<T> {
     /// Returns the growth left: how many more entries find an empty bucket for sure. It is the most entries that the
     /// table may hold, less the buckets that are full or deleted.
     #[inline]
-    pub fn room(&self) -> usize {
-        self.room
+    pub fn growth_left(&self) -> usize {
+        self.growth_left
     }
 
     /// Returns how many insertions the table has made. A moved entry counts as one insertion. A count that reaches

@@ -15,7 +15,7 @@ impl<T> Table<T> {
     pub(crate) fn place_fresh(&mut self, hash: u64, entry: T) -> usize {
         let b = first_free(&self.control, hash);
         fill_bucket(&mut self.control, &mut self.entries, b, tag_of(hash), entry);
-        self.room -= 1;
+        self.growth_left -= 1;
         self.len += 1;
         b
     }

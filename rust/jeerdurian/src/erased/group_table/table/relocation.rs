@@ -79,7 +79,7 @@ impl<T> Table<T> {
         let fresh = Control::with_buckets(alloc, buckets)?;
         let before = mem::replace(&mut self.control, fresh);
         place_again(&before, &mut self.control, &mut self.entries, &mut links, &hash_of);
-        self.room = full_capacity(buckets) - self.len;
+        self.growth_left = full_capacity(buckets) - self.len;
         self.moved = self.moved.saturating_add(self.len as u64);
         Ok(links)
     }

@@ -49,7 +49,7 @@ impl<K: Eq + Hash, V, L: Limiter<K, V>, S: KeyHasher<K>> LruMap<K, V, L, S> {
     ///
     /// After schnellru's `LruMap::guaranteed_capacity`.
     pub fn guaranteed_capacity(&self) -> usize {
-        self.entries.len() + self.entries.room()
+        self.entries.len() + self.entries.growth_left()
     }
 
     /// Returns the bytes of the table, or 0 without buckets: `entry_bytes` for each bucket, full or not, together
@@ -144,7 +144,7 @@ impl<K: Eq + Hash, V, L: Limiter<K, V>, S: KeyHasher<K>> LruMap<K, V, L, S> {
 
     #[inline]
     pub(super) fn growth_left(&self) -> usize {
-        self.entries.room()
+        self.entries.growth_left()
     }
 
     #[inline]

@@ -6,7 +6,7 @@ use Rattle.lru_replay.proofs.lines.line.Line.extend.Goals as goal
 
 pub loop-byte-init : goal.loop-byte-init
 loop-byte-init c = record {
-  room = c.requires;
+  growth_left = c.requires;
   so_far = sym (ap (take HELD) (append-nil c.args.self.now) ∙ take_all HELD c.args.self.now c.requires);
 }
 
@@ -15,11 +15,11 @@ loop-byte-preserved c =
     let s = c.loop-byte in
     let piece = c.args.piece.now in
     let b = get_or piece s.byte-index 0 in
-    let short : length s.self < HELD = omega (arith, s.invariant.room, c.if-len-eq-HELD.false) in
+    let short : length s.self < HELD = omega (arith, s.invariant.growth_left, c.if-len-eq-HELD.false) in
     let one : take (s.byte-index + 1) piece ≡ take s.byte-index piece ++ b ∷ [] = take_more piece s.byte-index 0
     (search rules) in
     record {
-      room = rw c.push.ensures (simp length-append (omega (arith, short)));
+      growth_left = rw c.push.ensures (simp length-append (omega (arith, short)));
       so_far = c.push.ensures ∙ kept_more HELD _ _ b s.invariant.so_far short
           ∙ ap (take HELD) (append_assoc c.args.self.now (take s.byte-index piece) (b ∷ [])
           ∙ ap (λ l. c.args.self.now ++ l) (sym one));

@@ -4,7 +4,7 @@ use Rattle.lru_replay.proofs.lines.line.Line.extend.Given as goal
 
 abbrev pub invariant-loop-byte : goal.invariant-loop-byte
 invariant-loop-byte l = record {
-  room : length l.self ≤ HELD;
+  growth_left : length l.self ≤ HELD;
   so_far : l.self
       ≡ take HELD (l.initial.self ++ take l.byte-index l.piece);
 }

@@ -1,5 +1,5 @@
 use Rattle.group_table.proofs.TableLemmas.{IsTable-by, room_by}
-use Rattle.group_table.proofs.table.Table.room.Goals as goal
+use Rattle.group_table.proofs.table.Table.growth_left.Goals as goal
 
 pub returns-clause-value : goal.returns-clause-value
 returns-clause-value g c = rw (← c.self.view_is) (room_by _ _ _ c.self.invariant.0)

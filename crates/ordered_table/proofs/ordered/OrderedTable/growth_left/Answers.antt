@@ -1,5 +1,5 @@
 use Rattle.ordered_table.proofs.Tables.PromotedOrders.{linked_promoted}
-use Rattle.ordered_table.proofs.ordered.OrderedTable.room.Goals as goal
+use Rattle.ordered_table.proofs.ordered.OrderedTable.growth_left.Goals as goal
 
 pub returns-clause-linked : goal.returns-clause-linked
 returns-clause-linked g c =
