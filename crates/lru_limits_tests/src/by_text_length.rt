@@ -1,6 +1,6 @@
 //! A limiter of your own with a running total: by the length of the texts that are the values of a map.
 //! `docs/LIMITERS.md` explains it.
-ghost use Rattle.std.specs.Prelude.{◌≡◌, ◌+◌, ◌-◌, Some, None, nat_lt, string_len, if◌then◌else◌, refl};
+ghost use Rattle.std.specs.Prelude.{◌≡◌, ◌+◌, ◌-◌, true, Some, None, nat_lt, string_len, if◌then◌else◌, refl};
 ghost use Rattle.lru_limits.specs.Budget.{can_add};
 ghost use Rattle.lru_limits.specs.Stores.{answers, given-adds, refused-keeps, replaced-exchanges};
 
