@@ -82,7 +82,7 @@ module _ {K : Type 0} {eq : K → K → Bool} (laws : IsEquivalence eq) where
                   (rest.kept x (is_in_without laws x key others other ∙ in_others) (rw other at here))
 
   module _ (h : ℕ) (left : List K) where
-    -- a demand policy served this with at most so many misses
+    -- a demand policy served this with at most `most` misses
     abbrev Demanded : List K → List K → ℕ → Type 0
     Demanded keys trace most = (demanded : ℕ) × (other : List K) × Served (Demands eq h) other keys trace demanded
         × (demanded ≤ most)
