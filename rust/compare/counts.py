@@ -1,30 +1,32 @@
 #!/usr/bin/env python3
-"""Counts the instructions of an operation, by callgrind in `run` alone: `counts.py PROGRAM [SIZE [LOAD..]]`.
+"""Counts the instructions of an operation, by callgrind: `counts.py PROGRAM [SIZE [LOAD..]]`.
 
-Each count is the difference of two runs, of which one has twice the operations: the fill and the last walk are left out."""
+It counts what the function `operate` takes for OPERATIONS operations on a filled map, and for the load `fill` what the
+function `fill` takes. The seeds of a hasher are random, so a row is the mean of RUNS runs (1 if nothing is set)."""
 import os
 import re
 import subprocess
 import sys
 
-ENGINES = ["schnellru", "here", "schnellru,hash-here", "here,hash-schnellru"]
+ENGINES = os.environ.get("ENGINES", "schnellru|here|schnellru,hash-here|here,hash-schnellru").split("|")
 LOADS = ["fill", "get-hit", "get-miss", "peek-hit", "replace", "evict", "remove+insert", "zipf-get-or-insert"]
-OPERATIONS = 20000
+OPERATIONS = 40000
+RUNS = int(os.environ.get("RUNS", "1"))
 
 
-def instructions(program, engine, count, size, load):
-    done = subprocess.run(["valgrind", "--tool=callgrind", "--callgrind-out-file=/dev/null", "--toggle-collect=*loads*run*",
-                           program, "1", str(size), load],
-                          env=dict(os.environ, ENGINES=engine, COUNT=str(count), ONE="1"), capture_output=True, text=True)
+def instructions(program, engine, size, load):
+    function = "fill" if load == "fill" else "operate"
+    done = subprocess.run(["valgrind", "--tool=callgrind", "--callgrind-out-file=/dev/null",
+                           f"--toggle-collect=*operations::{function}*", program, "1", size, load],
+                          env=dict(os.environ, ENGINES=engine, COUNT=str(1 if load == "fill" else OPERATIONS)), capture_output=True,
+                          text=True)
     return int(re.search(r"Collected\s*:\s+([\d,]+)", done.stderr)[1].replace(",", ""))
 
 
 def each(program, engine, size, load):
-    if load == "fill":
-        few, many = 7 << 12, 7 << 13
-        return (instructions(program, engine, 1, many, load) - instructions(program, engine, 1, few, load)) / few
-    twice = instructions(program, engine, 2 * OPERATIONS, size, load)
-    return (twice - instructions(program, engine, OPERATIONS, size, load)) / OPERATIONS
+    """The instructions of an operation, in the mean of the runs. A fill runs once."""
+    runs = [instructions(program, engine, size, load) for _ in range(RUNS)]
+    return sum(runs) / RUNS / (int(size) if load == "fill" else OPERATIONS)
 
 
 def main():
@@ -33,7 +35,7 @@ def main():
     print("instructions an operation", *ENGINES)
     for load in sys.argv[3:] or LOADS:
         row = [each(program, engine, size, load) for engine in ENGINES]
-        print(f"{load:20}", *(f"{it:9.1f} {it / row[0]:5.2f}x" for it in row))
+        print(f"{load:20}", *(f"{it:9.1f} {it / row[0]:5.2f}x" for it in row), flush=True)
 
 
 if __name__ == "__main__":

@@ -1,8 +1,8 @@
 //! The eight loads: which operations each makes, and how their time is taken.
 //!
-//! The time of a load is the difference of two times, of a fill with the load and of a fill alone, each the best of
-//! several rounds in which the engines take turns. ENGINES (names with | between them), COUNT (operations) and ONE (one
-//! fill) are for counts.py.
+//! A cache is filled, and then the operations are made; each part is timed alone. A time is the best of several rounds,
+//! in which the engines take turns. ENGINES (names with | between them) and COUNT (operations) are for counts.py, which
+//! counts the instructions of `fill` or of `operate`.
 use std::hint::black_box;
 use std::time::Instant;
 
@@ -25,9 +25,34 @@ pub trait Cache {
     fn sum(&self, s: u64) -> u64;
 }
 
-#[inline(never)]
-pub fn run<C: Cache>(capacity: usize, kinds: &[Kind], keys: &[u64]) -> u64 {
+/// What a run took, in seconds, and a sum of the answers.
+pub struct Run {
+    fill: f64,
+    operate: f64,
+    answer: u64,
+}
+
+/// Fills a cache with the first `filled` keys, and makes the other operations.
+pub fn run<C: Cache>(capacity: usize, filled: usize, kinds: &[Kind], keys: &[u64]) -> Run {
     let mut cache = C::make(capacity);
+    let start = Instant::now();
+    fill(&mut cache, &keys[..filled]);
+    let fill = start.elapsed().as_secs_f64();
+    let start = Instant::now();
+    let sum = operate(&mut cache, &kinds[filled..], &keys[filled..]);
+    let operate = start.elapsed().as_secs_f64();
+    Run { fill, operate, answer: black_box(cache.sum(sum)) }
+}
+
+#[inline(never)]
+fn fill<C: Cache>(cache: &mut C, keys: &[u64]) {
+    for &key in keys {
+        cache.insert(key, key ^ 7);
+    }
+}
+
+#[inline(never)]
+fn operate<C: Cache>(cache: &mut C, kinds: &[Kind], keys: &[u64]) -> u64 {
     let mut sum = 0u64;
     for (kind, &key) in kinds.iter().zip(keys) {
         match kind {
@@ -38,7 +63,7 @@ pub fn run<C: Cache>(capacity: usize, kinds: &[Kind], keys: &[u64]) -> u64 {
             Kind::GetOrInsert => sum = sum.wrapping_add(cache.get_or_insert(key)),
         }
     }
-    cache.sum(sum)
+    sum
 }
 
 struct Random(u64);
@@ -61,7 +86,7 @@ impl Random {
     }
 }
 
-pub type Engine = (&'static str, fn(usize, &[Kind], &[u64]) -> u64);
+pub type Engine = (&'static str, fn(usize, usize, &[Kind], &[u64]) -> Run);
 
 const LOADS: [&str; 8] =
     ["fill", "get-hit", "get-miss", "peek-hit", "replace", "evict", "remove+insert", "zipf-get-or-insert"];
@@ -83,12 +108,6 @@ fn operation(load: &str, i: u64, n: u64, random: &mut Random) -> (Kind, u64) {
     }
 }
 
-fn seconds(f: impl FnOnce() -> u64) -> (f64, u64) {
-    let start = Instant::now();
-    let answer = black_box(f());
-    (start.elapsed().as_secs_f64(), answer)
-}
-
 /// Prints the line of a load on `n` keys.
 fn measure(load: &str, n: u64, rounds: usize, count: u64, capacity: usize, engines: &[Engine]) {
     let operations = if load == "fill" { 0 } else { count };
@@ -96,26 +115,21 @@ fn measure(load: &str, n: u64, rounds: usize, count: u64, capacity: usize, engin
     let fill = (0..n).map(|i| (Kind::Insert, spread(i)));
     let all = fill.chain((0..operations).map(|i| operation(load, i, n, &mut random)));
     let (kinds, keys): (Vec<Kind>, Vec<u64>) = all.unzip();
-    let fills = if std::env::var("ONE").is_ok() { 1 } else { (count / n).max(1) };
-    let filled = n as usize;
-    let mut best = vec![(f64::INFINITY, f64::INFINITY); engines.len()];
+    let fills = if operations == 0 { (count / n).max(1) } else { 1 };
+    let mut best = vec![f64::INFINITY; engines.len()];
     let mut expected = None;
     for _ in 0..rounds {
-        for (engine, (whole, part)) in engines.iter().zip(&mut best) {
-            let fill_all = || (0..fills).fold(0, |s, _| s ^ engine.1(capacity, &kinds[..filled], &keys[..filled]));
-            *part = part.min(seconds(fill_all).0 / fills as f64);
-            if operations > 0 {
-                let (time, answer) = seconds(|| engine.1(capacity, &kinds, &keys));
-                *whole = whole.min(time);
-                assert_eq!(*expected.get_or_insert(answer), answer, "{load}: {} answers otherwise", engine.0);
-            }
+        for (engine, best) in engines.iter().zip(&mut best) {
+            let runs: Vec<Run> = (0..fills).map(|_| engine.1(capacity, n as usize, &kinds, &keys)).collect();
+            let answer = runs[0].answer;
+            assert_eq!(*expected.get_or_insert(answer), answer, "{load}: {} answers otherwise", engine.0);
+            *best = best.min(match operations {
+                0 => runs.iter().map(|it| it.fill).sum::<f64>() / (fills * n) as f64,
+                _ => runs[0].operate / operations as f64,
+            });
         }
     }
-    let each = |(whole, part): &(f64, f64)| match operations {
-        0 => part * 1e9 / n as f64,
-        _ => (whole - part) * 1e9 / operations as f64,
-    };
-    println!("{load} {n} {}", best.iter().map(|it| format!("{:.2}", each(it))).collect::<Vec<_>>().join(" "));
+    println!("{load} {n} {}", best.iter().map(|it| format!("{:.2}", it * 1e9)).collect::<Vec<_>>().join(" "));
 }
 
 /// Times the loads that the arguments name, ROUNDS [SIZES [LOAD..]]. `capacity_of_fill` is the capacity under which a fill

@@ -40,15 +40,16 @@ impl<K: Eq + Hash, V, L: Limiter<K, V>, S: KeyHasher<K>> LruMap<K, V, L, S> {
         if OrderedTable::<K, V, L::LinkType>::entry_bytes() > SMALL {
             self.insert_in_line(hash, key, value, sink)
         } else {
-            self.insert_by_call(hash, key, value, sink)
+            self.insert_by_call(key, hash, value, sink)
         }
     }
 
+    // The hash is the third argument: its product is in that register.
     #[inline(never)]
     fn insert_by_call<I: LookupKey<K>, F: FnMut(K, V)>(
         &mut self,
-        hash: u64,
         key: I,
+        hash: u64,
         value: V,
         sink: &mut F,
     ) -> Result<bool, AllocError>
