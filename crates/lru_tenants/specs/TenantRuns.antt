@@ -22,7 +22,6 @@ use Rattle.lru_tenants.specs.declared.call.TenantCall.{TenantCall}
 use Rattle.lru_tenants.specs.declared.call.TenantCall.TheVariants as calls
 
 module _ {N K V : Type 0} where
-  -- the tenant that the call names
   abbrev pub named : TenantCall N K V → N
   named (calls.Open name budget) = name
   named (calls.Put name key value) = name
@@ -133,7 +132,7 @@ module _ {N K V L S : Type 0} (rules : Rules K V L) (offers : Offers K V L K) (c
   TenantStep (calls.Close name) old answer new = (result : Result ℕ TenantError)
       × OfOpen Closes old result new × (answer ≡ answers.Closed result)
 
-  -- the same, and its cost is within its budget then
+  -- and its cost is within its budget then
   abbrev pub KeptStep : TenantCall N K V → Option (State K V L S) → TenantAnswer V → Option (State K V L S) → Type 0
   KeptStep call old answer new = TenantStep call old answer new × IfSome new (IsTenant eq cost account budget_of)
 
