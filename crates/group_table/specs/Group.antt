@@ -22,7 +22,7 @@ pub record IsProbe (buckets hash : ℕ) (probe : Probe) : Type 0 where
   pub stride : 16 ≤ probe.stride
 
 module _ {T : Type 0} (slots : List (Slot T)) where
-  -- how many lanes of a group are buckets of their own
+  -- how many lanes of a group are distinct buckets
   abbrev pub width : ℕ
   width = min 16 (length slots)
 

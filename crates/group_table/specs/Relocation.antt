@@ -11,7 +11,7 @@ module _ {N : Type 0} (number : N → ℕ) (none : N) where
 
 -- Below, `old b` is the entry that was in the old bucket b, if there was one.
 module _ {T N : Type 0} (number : N → ℕ) (none : N) (old : ℕ → Option T) (new : List (Slot T)) (links : List N) where
-  -- each entry is where its link leads to, in a bucket of its own, and no other entry is there
+  -- each entry is where its link leads to, and no other entry is there
   pub record Moves : Type 0 where
     pub moved : (b : ℕ) (entry : T) → old b ≡ Some entry → entry_at new (moved_to number none links b) ≡ Some entry
     pub others : (b : ℕ) → old b ≡ None → slice_index_or links b none ≡ none

@@ -110,7 +110,7 @@ pub record Copies (old copy : BytesMap) : Type 0 where
   pub entries : texts copy.pairs ≡ texts old.pairs
   pub rest : copy ≡ record old { pairs = copy.pairs }
 
--- The oldest entry is removed and copied into two buffers, if it fits. Otherwise its lengths alone are returned.
+-- The oldest entry is removed and copied into two buffers, if it fits. Otherwise only its lengths are returned.
 pub data Pops (old : BytesMap) (answer : Popped) (key key_left value value_left : List ℕ)
     (new : BytesMap) : Type 0 where
   none : last old.pairs ≡ None → answer ≡ no_entry → key_left ≡ key → value_left ≡ value → new ≡ old →
@@ -137,10 +137,10 @@ FindsMemory key ready = has_bytes key ready ≡ false → 1 ≤ growth_left read
 
 -- A put, and what it returns.
 pub data Puts (key value : List ℕ) (old : BytesMap) (code : ℕ) (new : BytesMap) : Type 0 where
-  -- The key alone is over the budget: nothing changes. (Such a key is not there, if the total is the sum of the weights
-  -- and within the budget.)
+  -- The key by itself is over the budget: nothing changes. (Such a key is not there, if the total is the sum of the
+  -- weights and within the budget.)
   too_long : old.limiter.limit < length key → code ≡ 1 → new ≡ old → Puts key value old code new
-  -- The entry alone is over the budget: it is not stored, and the key is removed.
+  -- The entry by itself is over the budget: it is not stored, and the key is removed.
   too_heavy : old.limiter.limit < weight (length key) (length value) → code ≡ 1 →
       (value_gone : Option Bytes) → Remove bytes_rules (names_bytes key) old value_gone new →
       Puts key value old code new

@@ -41,7 +41,7 @@ module _ {N K V L S : Type 0} where
   abbrev pub tenant : (N → Bool) → Cache N K V L S → Option (State K V L S)
   tenant named cache = lookup named cache.tenants
 
-  -- the empty map with which a tenant opens, if the limiter is made so, and links reach below max
+  -- the empty map with which a tenant opens, if the limiter is made so, and a link is a number below max
   abbrev pub fresh : (ℕ → L) → ℕ → Cache N K V L S → ℕ → State K V L S
   fresh made max cache budget = empty_map (made budget) cache.hasher cache.entry_bytes max
 
