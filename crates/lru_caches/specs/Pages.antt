@@ -87,11 +87,9 @@ module _ {B D E S : Type 0} (d : device.Ghosts D B E S) where
   IsFault old new NoBlock = ⊥
   IsFault old new Broken = ⊥
 
-  -- why a flush fails
   abbrev pub IsFlushCause : D → D → PageError E → Type 0
   IsFlushCause old new e = IsFault old new e ⊎ ((e ≡ Broken) × (d.is_usable old ≡ false))
 
-  -- why a call on page n fails
   abbrev pub IsCause : ℕ → D → D → PageError E → Type 0
   IsCause n old new e = IsFault old new e ⊎ ((e ≡ Broken) × (d.is_usable old ≡ false))
       ⊎ ((e ≡ NoBlock) × (d.has old n ≡ false)) ⊎ (e ≡ Memory)
