@@ -41,7 +41,7 @@ module _ {T : Type 0} (slots : List (Slot T)) where
       → bucket_at (marks_of slots) ((start + lane) % length slots) ≢ empty
 
 module _ {T F : Type 0} (closure : Mut F (Bor T × Unit {0}) Bool) (slots : List (Slot T)) (tag start : ℕ) (f : F) where
-  -- f was asked about the buckets with the tag, in the order of the lanes, and refused all but the last, which is b
+  -- f was called for the buckets with the tag, in the order of the lanes, and rejected all but the last, which is b
   pub record AcceptsIn (b : ℕ) (g : F) : Type 0 where
     pub lanes : ℕ
     pub in_group : lanes ≤ width slots
@@ -51,7 +51,7 @@ module _ {T F : Type 0} (closure : Mut F (Bor T × Unit {0}) Bool) (slots : List
     pub refused : RejectsEach closure slots f asked between
     pub accepted : Answers closure slots between b true g
 
-  -- f refused all buckets with the tag
+  -- f rejected all buckets with the tag
   abbrev pub RejectsGroup : F → Type 0
   RejectsGroup g = RejectsEach closure slots f (tagged_lanes slots tag start (width slots)) g
 
