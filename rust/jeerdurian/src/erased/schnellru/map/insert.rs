@@ -151,8 +151,7 @@ impl<K: Eq + Hash, V, L: Limiter<K, V>, S: KeyHasher<K>> LruMap<K, V, L, S> {
 
     /// As `insert_full`, for a key whose hash is known.
     ///
-    /// The hash must be the key's by the map's hasher, as `map.hasher().hash_named(&key)` returns it. The prover checks
-    /// that.
+    /// The hash must be what `map.hasher().hash_named(&key)` returns. The prover checks that.
     ///
     /// ```text
     /// let hash = map.hasher().hash_named(&5);
