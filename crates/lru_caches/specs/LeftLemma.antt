@@ -43,7 +43,7 @@ module _ (seen : List ℕ → List ℕ) (events : List Event) (n : ℕ) where
       go None e = tt
       go (Some x) e = subst (λ o. IsLeft seen o block) (left_fits events n x e) is
 
-  -- the same of what is seen
+  -- a crash may leave what is known, as it is seen
   pub left_is_seen : (block : List ℕ) → option_map seen (known events n) ≡ Some block
       → IsLeft seen (left events n) block
   left_is_seen block is = go (known events n) refl is

@@ -66,7 +66,7 @@ module _ {N K V L S : Type 0} where
   abbrev pub budgets : (L → ℕ) → Cache N K V L S → ℕ
   budgets budget cache = sum_by (λ map. budget map.limiter) (values_of cache.tenants)
 
-  -- the same sum, once the tenant whose name passes the test has this budget
+  -- the sum of the budgets, once the tenant whose name passes the test has this one
   abbrev pub budgets_with : (L → ℕ) → (N → Bool) → ℕ → Cache N K V L S → ℕ
   budgets_with budget named own cache =
       budgets budget cache - unwrap_or (option_map (λ map. budget map.limiter) (tenant named cache)) 0 + own
