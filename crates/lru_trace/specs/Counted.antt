@@ -16,6 +16,7 @@ pub record Counted : Type 0 where
   pub counts : List ℕ
   pub references : ℕ
 
+-- the number of a key
 abbrev pub number_in : List (String Global × ℕ) → List ℕ → Option ℕ
 number_in names key = lookup (λ name. bytes_eq key (string_bytes name)) names
 

@@ -17,17 +17,21 @@ ratio_text n = decimal (n / 10000) ++ (codes "." ++ (decimal (n / 1000 % 10) ++ 
     ++ (decimal (n / 10 % 10) ++ decimal (n % 10)))))
 
 module _ (trace : List (List ℕ)) where
+  -- how many references miss in n places
   abbrev pub missed : ℕ → ℕ
   missed n = misses bytes_eq n [] trace
 
+  -- how many keys there are
   abbrev pub keys : ℕ
   keys = length (recency bytes_eq (past_after [] trace))
 
+  -- the line of a size
   abbrev pub size_text : ℕ → List ℕ
   size_text n = codes "places " ++ (decimal n ++ (codes " hits " ++ (decimal (length trace - missed n)
       ++ (codes " misses " ++ (decimal (missed n) ++ (codes " ratio "
       ++ (ratio_text (part (missed n) (length trace) 10000) ++ codes "\n")))))))
 
+  -- the bar of a size
   abbrev pub bar_text : ℕ → List ℕ
   bar_text n = replicate (12 - length (decimal n)) 32 ++ (decimal n ++ (codes " |"
       ++ (replicate (part (missed n) (length trace) 50) 35 ++ codes "\n")))
@@ -43,6 +47,7 @@ module _ (trace : List (List ℕ)) where
   head_text malformed = codes "references " ++ (decimal (length trace) ++ (codes " keys " ++ (decimal keys
       ++ (codes " malformed " ++ (decimal malformed ++ codes "\n")))))
 
+  -- the report
   abbrev pub report_text : List ℕ → ℕ → List ℕ
   report_text sizes malformed = head_text malformed ++ (flat_map size_text sizes ++ bars_text 64 0)
 
