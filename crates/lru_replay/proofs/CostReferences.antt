@@ -1,5 +1,5 @@
 -- What makes a reference on a map with a limit of cost.
-use Rattle.std.proofs.Common.{◌≡◌, ℕ, ◌+◌, ◌*◌, ◌^◌, ◌≤◌, ◌<◌, Bool, true, List, ◌∷◌, length}
+use Rattle.std.proofs.Common.{◌≡◌, ℕ, ◌+◌, ◌*◌, ◌≤◌, Bool, true, List, ◌∷◌}
 use Rattle.std.proofs.Common.{Some, Ok, sum_by, refl, sym, ap, ◌∙◌, subst, arith}
 use Rattle.std.proofs.lemmas.Map.{length-set_value}
 use Rattle.std.proofs.lemmas.Map.Entries.{length-keys_of}
@@ -130,14 +130,26 @@ module _ {K V H : Type 0} {eq : K → K → Bool} (laws : IsEquivalence eq) (wei
             refl ends.says h;
       }
 
+  -- a value that is stored costs what its key costs
+  stored_cost : (key : K) (w : V) (old : State K V Budget H) → Keeps old → lookup (eq key) old.pairs ≡ Some w
+      → weight key w ≡ cost key
+  stored_cost key w old keeps found =
+      let (p, at) = value_there (eq key) old.pairs w found in
+      let named = found_named (eq key) old.pairs p at in
+      let value : w ≡ p.1 = same_Some w p.1
+      (sym found ∙ lookup-entry (eq key) old.pairs ∙ ap (option_map (λ q. q.1)) at) in
+      ap (weight key) value ∙ alike.pairs key p.0 p.1 named
+      ∙ each_found weight cost (eq key) old.pairs p at keeps.each ∙ sym (alike.keys key p.0 named)
+
   pub got_refers : (key : K) (w left : V) (old : State K V Budget H) → Keeps old → lookup (eq key) old.pairs ≡ Some w
-      → weight key left ≡ cost key
+      → weight key left ≡ weight key w
       → Reference (of_cost eq weight cost) key old (written (eq key) left (promoted (eq key) old))
-  got_refers key w left old keeps found priced = go (value_there (eq key) old.pairs w found)
+  got_refers key w left old keeps found kept = go (value_there (eq key) old.pairs w found)
     where
       go : (p : K × V) × (lookup_entry (eq key) old.pairs ≡ Some p)
           → Reference (of_cost eq weight cost) key old (written (eq key) left (promoted (eq key) old))
       go (p, at) =
+          let priced = kept ∙ stored_cost key w old keeps found in
           let named = found_named (eq key) old.pairs p at in
           let first : eq p.0 key ≡ true = laws.symm p.0 key ∙ named in
           let others = without (eq key) old.pairs in
@@ -168,15 +180,8 @@ module _ {K V H : Type 0} {eq : K → K → Bool} (laws : IsEquivalence eq) (wei
 
   pub promoted_refers : (key : K) (w : V) (old : State K V Budget H) → Keeps old → lookup (eq key) old.pairs ≡ Some w
       → Reference (of_cost eq weight cost) key old (promoted (eq key) old)
-  promoted_refers key w old keeps found =
-      let (p, at) = value_there (eq key) old.pairs w found in
-      let named = found_named (eq key) old.pairs p at in
-      let value : w ≡ p.1 = same_Some w p.1
-      (sym found ∙ lookup-entry (eq key) old.pairs ∙ ap (option_map (λ q. q.1)) at) in
-      let priced : weight key w ≡ cost key = ap (weight key) value ∙ alike.pairs key p.0 p.1 named
-      ∙ each_found weight cost (eq key) old.pairs p at keeps.each ∙ sym (alike.keys key p.0 named) in
-      subst (Reference (of_cost eq weight cost) key old) (read_back (eq key) old w found)
-      (got_refers key w w old keeps found priced)
+  promoted_refers key w old keeps found = subst (Reference (of_cost eq weight cost) key old) (read_back (eq key) old w found)
+      (got_refers key w w old keeps found refl)
 
   pub known_costs : {hash_of : H → K → ℕ} → Known {V = V} (of_cost eq weight cost) (budget_terms weight) (by_weight weight) hash_of
       (λ s key v. (weight key v ≡ cost key) × (cost key ≤ s.limit))

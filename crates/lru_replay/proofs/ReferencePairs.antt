@@ -1,5 +1,5 @@
 -- The same references, or calls, on two maps.
-use Rattle.std.proofs.Common.{◌≡◌, ℕ, ◌≤◌, Bool, true, List, length, take, sym, ap, subst, arith, ◌∙◌}
+use Rattle.std.proofs.Common.{◌≡◌, ℕ, ◌≤◌, Bool, true, List, length, take, sym, subst, arith, ◌∙◌}
 use Rattle.std.proofs.lemmas.Map.Entries.{length-keys_of}
 use Rattle.std.specs.Cmp.{IsEquivalence}
 use Rattle.lru_model.specs.Lists.{keys_of}

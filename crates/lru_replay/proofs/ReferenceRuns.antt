@@ -1,5 +1,5 @@
 -- Programs that make references, one after another.
-use Rattle.std.proofs.Common.{◌≡◌, ℕ, ◌+◌, ◌≤◌, ◌<◌, Bool, true, cond, List, [], ◌∷◌, ◌++◌, length, take}
+use Rattle.std.proofs.Common.{◌≡◌, ℕ, ◌+◌, ◌≤◌, Bool, true, cond, List, length, take}
 use Rattle.std.proofs.Common.{refl, sym, ap, ◌∙◌, subst, arith}
 use Rattle.std.proofs.lemmas.List.{take_all}
 use Rattle.std.proofs.lemmas.Map.Entries.{length-keys_of}
@@ -14,7 +14,7 @@ use Rattle.lru_theory.proofs.Affordable.{within_equal}
 use Rattle.lru_theory.proofs.EqualKeys.{equal_refl, equal_trans, is_in_equal, refer_equal, call_equal, recency_distinct}
 use Rattle.lru_theory.proofs.Lists.{cached_is, faults_is}
 use Rattle.lru_theory.proofs.LongerTraces.{cached_more, faults_more, called_more}
-use Rattle.lru_replay.specs.References.{Cache, Reference, Referenced, begins, refers, reads, of_length, of_cost}
+use Rattle.lru_replay.specs.References.{Cache, Referenced, begins, refers, reads, of_length, of_cost}
 use Rattle.lru_replay.specs.References.{Did, nothing, does_more}
 
 -- what is proved of a kind of cache: references leave equal keys of equal keys

@@ -28,8 +28,8 @@ pub fn maps_keep_to_their_cost<K: Eq + Hash + Drop, V: Drop, S: KeyHasher<K>>()
         max_of_32_bits) }
 {}
 
-/// Each of these calls makes a reference if it returns `Ok`, and if the pair that it inserts or writes costs what its key
-/// costs, which is within the limit.
+/// Each of these calls makes a reference if it returns `Ok`. The pair that it inserts costs what its key costs, which is
+/// within the limit, and a value that is written through a get costs what the value before it costs.
 pub fn calls_make_references<K: Eq + Hash + Drop, V: Drop, S: KeyHasher<K>>()
     ensures inserts { (weight : K → V → ℕ) (cost : K → ℕ) (key : K) (value : V) (kept : Bool)
         (old new : State K V Budget S) →
@@ -45,7 +45,7 @@ pub fn calls_make_references<K: Eq + Hash + Drop, V: Drop, S: KeyHasher<K>>()
     ensures gets { (weight : K → V → ℕ) (cost : K → ℕ) (names : K → Bool) (key : K) (value left : V)
         (old : State K V Budget S) →
         CostsAlike K.eq weight cost → KeepsToCost weight cost old →
-        names ≡ K.eq key → lookup names old.pairs ≡ Some value → weight key left ≡ cost key →
+        names ≡ K.eq key → lookup names old.pairs ≡ Some value → weight key left ≡ weight key value →
         Reference (of_cost K.eq weight cost) key old (written names left (promoted names old)) }
     ensures promotes { (weight : K → V → ℕ) (cost : K → ℕ) (names : K → Bool) (key : K) (value : V)
         (old : State K V Budget S) →

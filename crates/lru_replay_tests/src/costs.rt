@@ -16,7 +16,7 @@ use lru_replay::costs::{
 use schnellru::{ByCost, LruMap, RandomState};
 use std::alloc::{AllocError, Global};
 use std::test::Fail;
-use test_helpers::{Random, check};
+use test_helpers::check;
 
 /// Where values come from. The text determines of how many bytes its value is.
 trait Source {
@@ -121,4 +121,35 @@ impl Source for Bytes {
         bytes.push(0)?;
         Ok(bytes)
     }
+}
+
+/// Whether a value of each text is within the limit.
+fn are_short(texts: &[String], limit: u64) -> bool
+    ensures { result ≡ true → All (λ text. string_len text + 1 ≤ limit) texts.now }
+{
+    for text in texts {
+        if text.len() as u64 >= limit {
+            return false;
+        }
+    }
+    true
+}
+
+fn loads(alloc: Global, texts: &[String], limits: (u64, u64)) -> Option<(u64, u64)> {
+    if limits.0 > limits.1 || limits.1 > 1000 || !are_short(texts, limits.0) {
+        return None;
+    }
+    compare(alloc, texts, limits, &Bytes(alloc)).ok()
+}
+
+#[test]
+fn larger_limits_load_less(rt: HostRuntime) -> Result<(), Fail> {
+    let mut texts = Vec::new(rt.alloc());
+    for key in [1, 22, 1, 333, 22, 1u64] {
+        texts.push(format!(in rt.alloc(); "{key}")?)?;
+    }
+    for (limits, counts) in [((4, 5), (6, 5)), ((8, 9), (5, 3))] {
+        check!(rt; loads(rt.alloc(), &texts, limits) == Some(counts));
+    }
+    Ok(())
 }

@@ -15,10 +15,10 @@ returns g c =
           (known_costs laws weight cost alike).insert key value old kept new keeps (priced, cheap) sized h;
       tries = λ weight cost key value old new alike keeps sized priced cheap h.
           tries_refers (known_costs laws weight cost alike) key value old new keeps sized (priced, cheap) h;
-      gets = λ weight cost names key value left old alike keeps same found priced.
+      gets = λ weight cost names key value left old alike keeps same found kept.
           subst (λ test. Reference (of_cost eq weight cost) key old (written test left (promoted test old))) (sym same)
           (got_refers laws weight cost alike key value left old keeps
-          (subst (λ test. lookup test old.pairs ≡ Some value) same found) priced);
+          (subst (λ test. lookup test old.pairs ≡ Some value) same found) kept);
       promotes = λ weight cost names key value old alike keeps same found.
           subst (λ test. Reference (of_cost eq weight cost) key old (promoted test old)) (sym same)
           (promoted_refers laws weight cost alike key value old keeps
