@@ -71,6 +71,18 @@ fn read_through<L: Source>(
     Ok(count)
 }
 
+/// Makes an empty map for such values.
+fn map_within<L: Source>(alloc: Global, limit: u64) -> LruMap<String, Vec<u8>, ByCost>
+    requires small { limit < 2 ^ 63 }
+    requires dear { (text : String) → limit < 234881023 * L.size text }
+    ensures keeps { KeepsToCost (λ key bytes. vec_len bytes) L.size result }
+    ensures empty { result.pairs ≡ [] }
+    ensures limit { result.limiter.limit ≡ limit }
+{
+    maps_keep_to_their_cost::<String, Vec<u8>, RandomState>();
+    LruMap::new(alloc, ByCost::new(limit), [1, 2, 3, 4], 40)
+}
+
 /// Reads the texts through two new maps. The one with the larger limit loads no more values.
 fn compare<L: Source>(
     alloc: Global,
@@ -84,20 +96,9 @@ fn compare<L: Source>(
     requires cheap { All (λ text. L.size text ≤ limits.0) texts.now }
     ensures fewer { IfOk result (λ counts. counts.1 ≤ counts.0) }
 {
-    maps_keep_to_their_cost::<String, Vec<u8>, RandomState>();
     lru_theory::a_larger_budget_never_misses_more::<String>();
-    let mut small: LruMap<String, Vec<u8>, ByCost> = LruMap::new(
-        alloc,
-        ByCost::new(limits.0),
-        [1, 2, 3, 4],
-        40,
-    );
-    let mut large: LruMap<String, Vec<u8>, ByCost> = LruMap::new(
-        alloc,
-        ByCost::new(limits.1),
-        [1, 2, 3, 4],
-        40,
-    );
+    let mut small = map_within::<L>(alloc, limits.0);
+    let mut large = map_within::<L>(alloc, limits.1);
     Ok((
         read_through(&mut small, texts, source)?,
         read_through(&mut large, texts, source)?,

@@ -1,4 +1,4 @@
-use Rattle.std.proofs.Common.{◌≤◌, ℕ, sym, subst, get_or}
+use Rattle.std.proofs.Common.{◌≤◌, refl, sym, subst}
 use Rattle.std.proofs.lemmas.List.Elements.{All-get_or}
 use Rattle.lru_replay.proofs.ReferenceLoops.{loop_begins, loop_goes_on, loop_ends}
 use Rattle.lru_replay_tests.proofs.costs.read_through.Goals as goal
@@ -22,5 +22,5 @@ pub returns : goal.returns
 returns g c = let run = loop_ends c.loop-text.invariant c.loop-text-test.false in record {
   run = run;
   count = c.references_keep_the_newest.ensures.misses _ _ c.args.texts.now c.loop-text.count c.args.map.now c.loop-text.map
-      (alike g) run;
+      (record { keys = g.met.L.Source.alike; pairs = λ key other bytes same. refl }) run;
 }

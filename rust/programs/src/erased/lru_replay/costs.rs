@@ -11,8 +11,8 @@ use crate::rattle_std::hash::Hash;
 /// A new map keeps to its cost, if its limit is below 2 ^ 63, and 234,881,023 entries of no key are within it.
 pub fn maps_keep_to_their_cost<K: Eq + Hash, V, S: KeyHasher<K>>() {}
 
-/// Each of these calls makes a reference if it returns `Ok`, and if the pair that it inserts or writes costs what its key
-/// costs, which is within the limit.
+/// Each of these calls makes a reference if it returns `Ok`. The pair that it inserts costs what its key costs, which is
+/// within the limit, and a value that is written through a get costs what the value before it costs.
 pub fn calls_make_references<K: Eq + Hash, V, S: KeyHasher<K>>() {}
 
 /// So do `ensure_newest` and `get_or_insert`, whose closure is `make`.

@@ -6,7 +6,7 @@ use crate::rattle_std::prelude::*;
 
 use crate::erased::schnellru::{ByCost, LruMap, RandomState};
 use crate::programs::lru_replay::costs::{calls_make_references, maps_keep_to_their_cost, references_keep_the_newest};
-use crate::programs::test_helpers::{Random, check};
+use crate::programs::test_helpers::check;
 use crate::rattle_std::alloc::{AllocError, Global};
 use crate::rattle_std::test::Fail;
 
@@ -45,6 +45,12 @@ fn read_through<L: Source>(
     Ok(count)
 }
 
+/// Makes an empty map for such values.
+fn map_within<L: Source>(alloc: Global, limit: u64) -> LruMap<String, Vec<u8>, ByCost> {
+    maps_keep_to_their_cost::<String, Vec<u8>, RandomState>();
+    LruMap::new(alloc, ByCost::new(limit), [1, 2, 3, 4], 40)
+}
+
 /// Reads the texts through two new maps. The one with the larger limit loads no more values.
 fn compare<L: Source>(
     alloc: Global,
@@ -52,10 +58,9 @@ fn compare<L: Source>(
     limits: (u64, u64),
     source: &L,
 ) -> Result<(u64, u64), AllocError> {
-    maps_keep_to_their_cost::<String, Vec<u8>, RandomState>();
     crate::erased::lru_theory::a_larger_budget_never_misses_more::<String>();
-    let mut small: LruMap<String, Vec<u8>, ByCost> = LruMap::new(alloc, ByCost::new(limits.0), [1, 2, 3, 4], 40);
-    let mut large: LruMap<String, Vec<u8>, ByCost> = LruMap::new(alloc, ByCost::new(limits.1), [1, 2, 3, 4], 40);
+    let mut small = map_within::<L>(alloc, limits.0);
+    let mut large = map_within::<L>(alloc, limits.1);
     Ok((read_through(&mut small, texts, source)?, read_through(&mut large, texts, source)?))
 }
 
@@ -71,4 +76,36 @@ impl Source for Bytes {
         bytes.push(0)?;
         Ok(bytes)
     }
+}
+
+/// Whether a value of each text is within the limit.
+fn are_short(texts: &[String], limit: u64) -> bool {
+    for text in texts {
+        if text.len() as u64 >= limit {
+            return false;
+        }
+    }
+    true
+}
+
+fn loads(alloc: Global, texts: &[String], limits: (u64, u64)) -> Option<(u64, u64)> {
+    if limits.0 > limits.1 || limits.1 > 1000 || !are_short(texts, limits.0) {
+        return None;
+    }
+    compare(alloc, texts, limits, &Bytes(alloc)).ok()
+}
+
+#[test]
+fn larger_limits_load_less() {
+    let run = |rt: HostRuntime| -> Result<(), Fail> {
+        let mut texts = Vec::new(rt.alloc());
+        for key in [1, 22, 1, 333, 22, 1u64] {
+            texts.push(format!(in rt.alloc(); "{key}")?)?;
+        }
+        for (limits, counts) in [((4, 5), (6, 5)), ((8, 9), (5, 3))] {
+            check!(rt; loads(rt.alloc(), &texts, limits) == Some(counts));
+        }
+        Ok(())
+    };
+    run(HostRuntime).passes();
 }
