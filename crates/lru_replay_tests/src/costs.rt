@@ -2,6 +2,7 @@
 ghost use Rattle.std.specs.Prelude.{◌≡◌, ◌≤◌, ◌<◌, ◌+◌, ◌*◌, ◌^◌, ℕ, [], true, IfOk, OnOk, string_len, vec_len};
 ghost use Rattle.std.specs.List.{All};
 ghost use Rattle.std.specs.String.{string_eq};
+ghost use Rattle.lru_limits.specs.Budget.{pair_cost};
 ghost use Rattle.lru_model.specs.Lists.{keys_of};
 ghost use Rattle.lru_replay.specs.References.{KeepsToCost, Reference, Referenced, of_cost};
 ghost use Rattle.lru_theory.specs.Budgets.{faults_within};
@@ -13,7 +14,7 @@ ghost use Rattle.lru_theory.proofs.EqualKeys.{equal_long};
 use lru_replay::costs::{
     calls_make_references, maps_keep_to_their_cost, references_keep_the_newest,
 };
-use schnellru::{ByCost, LruMap, RandomState};
+use schnellru::{ByCost, ByWeight, LruMap, RandomState};
 use std::alloc::{AllocError, Global};
 use std::test::Fail;
 use test_helpers::check;
@@ -103,6 +104,22 @@ fn compare<L: Source>(
         read_through(&mut small, texts, source)?,
         read_through(&mut large, texts, source)?,
     ))
+}
+
+/// Inserts a text under a number, with a limit of weight. If an entry costs what its key costs, this is a reference.
+fn insert_weighed(
+    map: &mut LruMap<u64, String, ByWeight<16>>,
+    key: u64,
+    text: String,
+) -> Result<bool, AllocError>
+    ensures { (cost : ℕ → ℕ) → KeepsToCost (λ key text. pair_cost 16 key (string_len text)) cost map.old →
+        pair_cost 16 key (string_len text) ≡ cost key → cost key ≤ map.old.limiter.limit →
+        OnOk result (Reference (of_cost nat_eq (λ key text. pair_cost 16 key (string_len text)) cost) key map.old
+        map.new) }
+{
+    calls_make_references::<u64, String, RandomState>();
+    let kept = map.insert(key, text)?;
+    Ok(kept)
 }
 
 /// A source of the bytes of a text, and one byte more.
