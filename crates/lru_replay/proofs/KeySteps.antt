@@ -19,11 +19,11 @@ use Rattle.lru_theory.specs.Inclusion.{removes as removal_of, clears as all_remo
 use Rattle.lru_theory.specs.Traces.{AreEqual, is_in}
 use Rattle.lru_theory.proofs.EqualKeys.{equal_refl, both_equal}
 use Rattle.lru_replay.specs.References.{Does}
-use Rattle.lru_replay.proofs.ReferenceSteps.{Known, reserve_is}
+use Rattle.lru_replay.proofs.ReferenceSteps.{KnownLengths, reserve_is}
 use Rattle.lru_replay.proofs.StoredCounts.{keys_without, there, absent}
 
 module _ {K V H : Type 0} {eq : K → K → Bool} {hash_of : H → K → ℕ} (laws : IsEquivalence eq)
-    (known : Known V eq hash_of) where
+    (known : KnownLengths V eq hash_of) where
   same_keys : (xs ys : List K) → xs ≡ ys → AreEqual eq xs ys
   same_keys xs ys e = subst (AreEqual eq xs) e (equal_refl laws xs)
 
@@ -32,7 +32,7 @@ module _ {K V H : Type 0} {eq : K → K → Bool} {hash_of : H → K → ℕ} (l
       → AreEqual eq (keys_of new.pairs) (after_call eq old.limiter call (keys_of old.pairs)) → Does eq call old new
   step_does call old new sized step keys = record {
     keys = keys;
-    limiter = known.limiter old new step;
+    limit = known.limiter old new step;
     keeps = λ keeps. known.goes_on old new keeps sized step;
   }
 
@@ -74,7 +74,7 @@ module _ {K V H : Type 0} {eq : K → K → Bool} {hash_of : H → K → ℕ} (l
       → Reserve length_rules n old result new → Does eq looks old new
   reserves_does n result old new sized h = step_does looks old new sized (reserves n result h)
       (same_keys (keys_of new.pairs) (keys_of old.pairs)
-      (ap keys_of (reserve_is laws known n old result new h).0))
+      (ap keys_of (reserve_is length_rules (λ s bytes. (refl, refl)) n old result new h).0))
 
   pub shrinks_does : (result : Result Bool AllocError) (old new : State K V ℕ H) → IsSized new
       → Shrink old result new → Does eq looks old new
@@ -85,9 +85,9 @@ module _ {K V H : Type 0} {eq : K → K → Bool} {hash_of : H → K → ℕ} (l
   pub writes_does : (names : K → Bool) (value : V) (old : State K V ℕ H) → Does eq looks old (written names value old)
   writes_does names value old = record {
     keys = same_keys (keys_of (written names value old).pairs) (keys_of old.pairs) (keys-set_value names old.pairs value);
-    limiter = refl;
+    limit = refl;
     keeps = known.written names value old;
   }
 
   pub looks_does : (st : State K V ℕ H) → Does eq looks st st
-  looks_does st = record { keys = equal_refl laws (keys_of st.pairs); limiter = refl; keeps = λ keeps. keeps }
+  looks_does st = record { keys = equal_refl laws (keys_of st.pairs); limit = refl; keeps = λ keeps. keeps }

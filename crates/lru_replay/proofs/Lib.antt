@@ -33,6 +33,7 @@ pub mod ReferenceRuns
 pub mod ReferenceSteps
 pub mod KeySteps
 pub mod StoredCounts
-pub mod BudgetLists
-pub mod BudgetSteps
-pub mod BudgetCounts
+pub mod CostLists
+pub mod CostSteps
+pub mod CostReferences
+pub mod CostMaps

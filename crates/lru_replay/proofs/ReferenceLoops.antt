@@ -1,6 +1,6 @@
 -- For callers: a loop that makes references, one for each key of a trace, and a copy of a text.
 use Rattle.std.proofs.Common.{◌≡◌, ℕ, ◌+◌, ◌≤◌, ◌<◌, Bool, true, false, cond, List, [], ◌∷◌, ◌++◌, length, take, get_or}
-use Rattle.std.proofs.Common.{Some, None, sym, ap, ◌∙◌, subst, arith}
+use Rattle.std.proofs.Common.{Some, None, refl, sym, ap, ◌∙◌, subst, arith}
 use Rattle.std.proofs.lemmas.Cmp.{nat_list_eq_equiv}
 use Rattle.std.proofs.lemmas.List.{take_all, take_more}
 use Rattle.std.specs.Str.{bytes_eq}
@@ -8,11 +8,10 @@ use Rattle.std.specs.String.{string_eq, string_bytes}
 use Rattle.std.specs.declared.alloc.Global.{Global}
 use Rattle.std.specs.declared.string.String.{String}
 use Rattle.lru_model.proofs.CallerLemmas.{no_pair}
-use Rattle.lru_model.specs.Kept.{KeepsToLength}
 use Rattle.lru_model.specs.Lists.{keys_of, lookup, without}
 use Rattle.lru_model.specs.State.{State}
 use Rattle.lru_theory.specs.Traces.{is_in, fault, refer}
-use Rattle.lru_replay.specs.References.{Reference, Referenced, begins, refers, Loops}
+use Rattle.lru_replay.specs.References.{Cache, Reference, Referenced, begins, refers, Loops}
 use Rattle.lru_replay.proofs.StoredCounts.{there, absent, value_there, keys_taken, keys_without}
 
 module _ {K V : Type 0} (eq : K → K → Bool) (key : K) where
@@ -32,29 +31,31 @@ module _ {K V : Type 0} (eq : K → K → Bool) (key : K) where
   pub fault_absent : (pairs : List (K × V)) → lookup (eq key) pairs ≡ None → 1 ≡ fault eq key (keys_of pairs)
   fault_absent pairs none = ap (λ b. cond b 0 1) (sym (absent (eq key) pairs (no_pair (eq key) pairs none)))
 
-module _ {K V H : Type 0} {eq : K → K → Bool} {old : State K V ℕ H} {trace : List K} where
-  pub loop_begins : KeepsToLength old → Loops eq old trace 0 0 old
-  loop_begins keeps = record { run = begins; keeps = keeps; few = omega arith }
+module _ {K V S H : Type 0} {cache : Cache K V S H} {old : State K V S H} {trace : List K} where
+  pub loop_begins : cache.Keeps old → Loops cache old trace 0 0 old
+  loop_begins keeps = record { run = begins; limit = refl; keeps = keeps; few = omega arith }
 
   -- one reference more, which missed so often
-  pub loop_goes_on : {i missed : ℕ} {key : K} {mid new : State K V ℕ H} (more : ℕ) → Loops eq old trace i missed mid
-      → i < length trace → key ≡ get_or trace i key → Reference eq key mid new → more ≡ fault eq key (keys_of mid.pairs)
-      → Loops eq old trace (i + 1) (missed + more) new
+  pub loop_goes_on : {i missed : ℕ} {key : K} {mid new : State K V S H} (more : ℕ) → Loops cache old trace i missed mid
+      → i < length trace → key ≡ get_or trace i key → Reference cache key mid new
+      → more ≡ fault cache.eq key (keys_of mid.pairs) → Loops cache old trace (i + 1) (missed + more) new
   loop_goes_on {i} {missed} {key} {mid} {new} more loop less is h counted =
       let longer : take (i + 1) trace ≡ take i trace ++ key ∷ [] =
       take_more trace i key less ∙ ap (λ one. take i trace ++ one ∷ []) (sym is) in record {
         run = rw (longer, counted) (refers key (take i trace) missed mid new loop.run h);
+        limit = h.does.limit ∙ loop.limit;
         keeps = h.does.keeps loop.keeps;
-        few = omega (arith, loop.few, counted, one (is_in eq key (keys_of mid.pairs)));
+        few = omega (arith, loop.few, counted, one (is_in cache.eq key (keys_of mid.pairs)));
       }
     where
       one : (b : Bool) → cond b 0 1 ≤ 1
       one true = omega arith
       one false = omega arith
 
-  pub loop_ends : {i missed : ℕ} {new : State K V ℕ H} → Loops eq old trace i missed new → length trace ≤ i
-      → Referenced eq old trace missed new
-  loop_ends {i} {missed} {new} loop all = subst (λ t. Referenced eq old t missed new) (take_all i trace all) loop.run
+  pub loop_ends : {i missed : ℕ} {new : State K V S H} → Loops cache old trace i missed new → length trace ≤ i
+      → Referenced cache old trace missed new
+  loop_ends {i} {missed} {new} loop all =
+      subst (λ t. Referenced cache old t missed new) (take_all i trace all) loop.run
 
 -- a copy of a text equals it
 pub copy_equal : (copy text : String Global) → string_bytes copy ≡ string_bytes text → string_eq copy text ≡ true

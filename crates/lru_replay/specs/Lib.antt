@@ -11,4 +11,3 @@ pub mod Output
 pub mod LineRuns
 pub mod Replay
 pub mod References
-pub mod BudgetReferences

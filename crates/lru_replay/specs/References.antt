@@ -1,48 +1,106 @@
--- What a program does to the keys of a map with a maximum length, whichever calls it makes.
---     eq        when two keys are equal
-use Rattle.std.specs.Prelude.{◌≡◌, ℕ, ◌+◌, ◌<◌, ◌≤◌, Bool, List, [], ◌∷◌, ◌++◌, take}
+-- What a program does to the keys of a map that is an LRU cache, whichever calls it makes: with a maximum length, or with
+-- a limit of cost.
+use Rattle.std.specs.Prelude.{◌≡◌, ℕ, ◌+◌, ◌*◌, ◌^◌, ◌<◌, ◌≤◌, Bool, true, List, [], ◌∷◌, ◌++◌, length, take, sum_by}
+use Rattle.std.specs.List.{AllByRecursion}
 use Rattle.group_table.specs.Change.{count_up}
+use Rattle.lru_limits.specs.Budget.{Budget}
+use Rattle.lru_model.specs.Exact.{HasTableFor}
 use Rattle.lru_model.specs.Kept.{KeepsToLength}
 use Rattle.lru_model.specs.Lists.{keys_of}
-use Rattle.lru_model.specs.State.{State}
-use Rattle.lru_theory.specs.Inclusion.{KeyCall, refers as references, looks, after_call}
-use Rattle.lru_theory.specs.Traces.{AreEqual, fault}
+use Rattle.lru_model.specs.State.{State, IsSized}
+use Rattle.lru_model.specs.Theorems.{IsSummed}
+use Rattle.lru_theory.specs.Budgets.{refer_within}
+use Rattle.lru_theory.specs.Inclusion.{KeyCall, after_call}
+use Rattle.lru_theory.specs.Traces.{AreEqual, fault, refer}
+
+-- A kind of cache that a map may be.
+pub record Cache (K V S H : Type 0) : Type 1 where
+  -- when two keys are equal
+  pub eq : K → K → Bool
+  -- the limit, as a number
+  pub limit : S → ℕ
+  -- the keys after a reference to the key, with this limit
+  pub refer : ℕ → K → List K → List K
+  -- with this limit each key that is missed is stored
+  pub Stores : ℕ → Type 0
+  -- what holds of the map before and after each reference
+  pub Keeps : State K V S H → Type 0
+
+-- equal keys cost the same, alone and with a value
+pub record CostsAlike {K V : Type 0} (eq : K → K → Bool) (weight : K → V → ℕ) (cost : K → ℕ) : Type 0 where
+  pub keys : (key other : K) → eq key other ≡ true → cost key ≡ cost other
+  pub pairs : (key other : K) (value : V) → eq key other ≡ true → weight key value ≡ weight other value
+
+-- Each pair costs what its key costs, and the total is their sum, at most the limit. Keys that cost at most the limit
+-- together are at most `most`, and there is a table for 8 * (most + 1) pairs.
+pub record KeepsToCost {K V H : Type 0} (weight : K → V → ℕ) (cost : K → ℕ) (st : State K V Budget H) : Type 0 where
+  pub each : AllByRecursion (λ pair. weight pair.0 pair.1 ≡ cost pair.0) st.pairs
+  pub summed : IsSummed weight (λ budget. budget.cost) st
+  pub within : st.limiter.cost ≤ st.limiter.limit
+  pub fits : st.limiter.limit < 2 ^ 63
+  pub most : ℕ
+  pub few : (keys : List K) → sum_by cost keys ≤ st.limiter.limit → length keys ≤ most
+  pub tables : HasTableFor (8 * (most + 1)) st
+  pub sized : IsSized st
 
 module _ {K V H : Type 0} (eq : K → K → Bool) where
-  -- The keys are what this call leaves of them, and the map keeps to its length if it did before.
-  pub record Does (call : KeyCall K) (old new : State K V ℕ H) : Type 0 where
-    pub keys : AreEqual eq (keys_of new.pairs) (after_call eq old.limiter call (keys_of old.pairs))
-    pub limiter : new.limiter ≡ old.limiter
-    pub keeps : KeepsToLength old → KeepsToLength new
+  -- a map with a maximum length, which stores nothing if that is 0
+  abbrev pub of_length : Cache K V ℕ H
+  of_length = record { eq = eq; limit = λ n. n; refer = refer eq; Stores = λ n. 0 < n; Keeps = KeepsToLength }
 
-  -- A reference to a key. The key is the newest afterwards, and the others keep their order, up to the length (`does`).
-  -- An entry was stored if the key was not there, unless the length is 0 (`stored`).
-  pub record Reference (key : K) (old new : State K V ℕ H) : Type 0 where
-    pub does : Does (references key) old new
-    pub stored : 0 < old.limiter → new.counts.placed ≡ count_up old.counts.placed (fault eq key (keys_of old.pairs))
+  -- a map with a limit of cost, if each pair costs `weight` of its key and value, which is `cost` of its key
+  abbrev pub of_cost : (K → V → ℕ) → (K → ℕ) → Cache K V Budget H
+  of_cost weight cost = record {
+    eq = eq;
+    limit = λ budget. budget.limit;
+    refer = refer_within eq cost;
+    Stores = λ n. Unit {0};
+    Keeps = KeepsToCost weight cost;
+  }
+
+module _ {K V S H : Type 0} (cache : Cache K V S H) where
+  -- The map has these keys now, and still its limit.
+  pub record LeavesKeys (left : List K) (old new : State K V S H) : Type 0 where
+    pub keys : AreEqual cache.eq (keys_of new.pairs) left
+    pub limit : cache.limit new.limiter ≡ cache.limit old.limiter
+    pub keeps : cache.Keeps old → cache.Keeps new
+
+  -- A reference to a key. The key is the newest afterwards, and the others keep their order, up to the limit (`does`).
+  -- An entry was stored if the key was not there, unless nothing can be stored (`stored`).
+  pub record Reference (key : K) (old new : State K V S H) : Type 0 where
+    pub does : LeavesKeys (cache.refer (cache.limit old.limiter) key (keys_of old.pairs)) old new
+    pub stored : cache.Stores (cache.limit old.limiter)
+        → new.counts.placed ≡ count_up old.counts.placed (fault cache.eq key (keys_of old.pairs))
 
   -- The program read the map, or wrote values. The keys keep their order, and no entry was stored.
-  pub record Reads (old new : State K V ℕ H) : Type 0 where
-    pub does : Does looks old new
+  pub record Reads (old new : State K V S H) : Type 0 where
+    pub does : LeavesKeys (keys_of old.pairs) old new
     pub stored : new.counts.placed ≡ old.counts.placed
 
   -- From the map `old` the program made the references of a trace, one after another, and left the map `new`. The number
   -- `missed` counts those that did not find their key. Between references it may have read.
-  pub data Referenced (old : State K V ℕ H) : (trace : List K) (missed : ℕ) (new : State K V ℕ H) → Type 0 where
+  pub data Referenced (old : State K V S H) : (trace : List K) (missed : ℕ) (new : State K V S H) → Type 0 where
     begins : Referenced old [] 0 old
-    refers : (key : K) (trace : List K) (missed : ℕ) (mid new : State K V ℕ H) → Referenced old trace missed mid →
-        Reference key mid new → Referenced old (trace ++ key ∷ []) (missed + fault eq key (keys_of mid.pairs)) new
-    reads : (trace : List K) (missed : ℕ) (mid new : State K V ℕ H) → Referenced old trace missed mid →
+    refers : (key : K) (trace : List K) (missed : ℕ) (mid new : State K V S H) → Referenced old trace missed mid →
+        Reference key mid new →
+        Referenced old (trace ++ key ∷ []) (missed + fault cache.eq key (keys_of mid.pairs)) new
+    reads : (trace : List K) (missed : ℕ) (mid new : State K V S H) → Referenced old trace missed mid →
         Reads mid new → Referenced old trace missed new
+
+  -- A loop made the references of the first i keys of a trace, and missed this often.
+  pub record Loops (old : State K V S H) (trace : List K) (i missed : ℕ) (new : State K V S H) : Type 0 where
+    pub run : Referenced old (take i trace) missed new
+    pub limit : cache.limit new.limiter ≡ cache.limit old.limiter
+    pub keeps : cache.Keeps new
+    pub few : missed ≤ i
+
+module _ {K V H : Type 0} (eq : K → K → Bool) where
+  -- the keys of a map with a maximum length are what this call leaves of them
+  abbrev pub Does : KeyCall K → State K V ℕ H → State K V ℕ H → Type 0
+  Does call old = LeavesKeys (of_length eq) (after_call eq old.limiter call (keys_of old.pairs)) old
 
   -- From the map `old` the program did this to the keys, one call after another, and left the map `new`.
   pub data Did (old : State K V ℕ H) : (calls : List (KeyCall K)) (new : State K V ℕ H) → Type 0 where
     nothing : Did old [] old
     does_more : (call : KeyCall K) (calls : List (KeyCall K)) (mid new : State K V ℕ H) → Did old calls mid →
         Does call mid new → Did old (calls ++ call ∷ []) new
-
-  -- A loop made the references of the first i keys of a trace, and missed this often. The map keeps to its length.
-  pub record Loops (old : State K V ℕ H) (trace : List K) (i missed : ℕ) (new : State K V ℕ H) : Type 0 where
-    pub run : Referenced old (take i trace) missed new
-    pub keeps : KeepsToLength new
-    pub few : missed ≤ i

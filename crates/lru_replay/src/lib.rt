@@ -7,8 +7,8 @@
 //! [`laws`]; those on programs that refer to keys, by any calls, are in [`references`] (`docs/THEORY.md`).
 #![tactic(auto)]
 
-pub mod budgets;
 pub mod calls;
+pub mod costs;
 pub mod laws;
 pub mod lines;
 pub mod references;

@@ -1,6 +1,6 @@
 //! Programs that make references: what they leave of a map with `ByLength`, and how often they miss. The functions do
 //! nothing: their contracts are the theorems. `docs/THEORY.md` says each in words.
-ghost use Rattle.std.specs.Prelude.{◌≡◌, ℕ, ◌+◌, ◌-◌, ◌*◌, ◌^◌, ◌≤◌, ◌<◌, Bool, [], ◌∷◌, ◌++◌, List, length, take, true};
+ghost use Rattle.std.specs.Prelude.{◌≡◌, ℕ, ◌+◌, ◌-◌, ◌*◌, ◌≤◌, ◌<◌, Bool, List, length, take, true};
 ghost use Rattle.std.specs.Prelude.{Some, None, Ok, Option, Result, IsOk};
 ghost use Rattle.std.specs.declared.alloc.AllocError.{AllocError};
 ghost use Rattle.std.specs.List.{IsDistinct};
@@ -19,7 +19,7 @@ ghost use Rattle.lru_model.specs.declared.results.ReserveError.{ReserveError};
 ghost use Rattle.lru_theory.specs.Inclusion.{KeyCall, IsIncluded};
 ghost use Rattle.lru_theory.specs.Policies.{Loads, Demands, Bypasses, Served};
 ghost use Rattle.lru_theory.specs.Traces.{AreEqual, is_in, recency, misses, past_after};
-ghost use Rattle.lru_replay.specs.References.{Does, Reference, Referenced, Did};
+ghost use Rattle.lru_replay.specs.References.{Does, Reference, Referenced, Did, of_length};
 
 use lru_limits::{Admission, ByLength, Insertion, KeyHasher, Limiter};
 use lru_model::laws;
@@ -34,25 +34,25 @@ pub fn calls_make_references<K: Eq + Hash + Drop, V: Drop, S: KeyHasher<K>>()
         KeepsToLength old → IsSized new →
         Insert ⟦<ByLength as Limiter<K, V>>⟧.rules ⟦<ByLength as Insertion<K, V, K>>⟧.offers K.eq S.hash_of key value
         old (Ok kept) new →
-        Reference K.eq key old new }
+        Reference (of_length K.eq) key old new }
     ensures tries { (key : K) (value : V) (old new : State K V ByLength S) →
         KeepsToLength old → IsSized new →
         TryInsert ⟦<ByLength as Admission<K, V>>⟧.terms ⟦<ByLength as Limiter<K, V>>⟧.rules key value old K.eq
         S.hash_of (Ok tt) new →
-        Reference K.eq key old new }
+        Reference (of_length K.eq) key old new }
     ensures gets { (names : K → Bool) (key : K) (value left : V) (old : State K V ByLength S) →
         names ≡ K.eq key → length old.pairs ≤ old.limiter → IsSized old → lookup names old.pairs ≡ Some value →
-        Reference K.eq key old (written names left (promoted names old)) }
+        Reference (of_length K.eq) key old (written names left (promoted names old)) }
     ensures promotes { (names : K → Bool) (key : K) (value : V) (old : State K V ByLength S) →
         names ≡ K.eq key → length old.pairs ≤ old.limiter → IsSized old → lookup names old.pairs ≡ Some value →
-        Reference K.eq key old (promoted names old) }
+        Reference (of_length K.eq) key old (promoted names old) }
     ensures remembers { (key : K) (value : V) (kept : Result Bool AllocError) (old new : State K V ByLength S) →
         KeepsToLength old → IsSized new → IsOk kept →
         MakesNewest ⟦<ByLength as Limiter<K, V>>⟧.rules ⟦<ByLength as Insertion<K, V, K>>⟧.offers K.eq S.hash_of
         (λ made. made ≡ value) key old kept new →
-        Reference K.eq key old new }
+        Reference (of_length K.eq) key old new }
     ensures equal { (key other : K) (old new : State K V ByLength S) →
-        K.eq other key ≡ true → Reference K.eq other old new → Reference K.eq key old new }
+        K.eq other key ≡ true → Reference (of_length K.eq) other old new → Reference (of_length K.eq) key old new }
 {
     laws::inserts_leave_the_newest::<K, V, S>();
     laws::maps_keep_to_their_length::<K, V, S>();
@@ -69,7 +69,7 @@ pub fn gets_that_insert_make_references<
     ensures { (make : F) (key : K) (kept : Bool) (old new : State K V ByLength S) → KeepsToLength old → IsSized new →
         MakesNewest ⟦<ByLength as Limiter<K, V>>⟧.rules ⟦<ByLength as Insertion<K, V, K>>⟧.offers K.eq S.hash_of
         (F.post make) key old (Ok kept) new →
-        Reference K.eq key old new }
+        Reference (of_length K.eq) key old new }
 {
     laws::inserts_leave_the_newest::<K, V, S>();
     laws::maps_keep_to_their_length::<K, V, S>();
@@ -87,7 +87,7 @@ pub fn gets_that_insert_if_made_make_references<
     ensures { (make : F) (key : K) (kept : Bool) (old new : State K V ByLength S) → KeepsToLength old → IsSized new →
         MakesNewestIfMade ⟦<ByLength as Limiter<K, V>>⟧.rules ⟦<ByLength as Insertion<K, V, K>>⟧.offers K.eq S.hash_of
         (F.post make) key old (Ok kept) new →
-        Reference K.eq key old new }
+        Reference (of_length K.eq) key old new }
 {
     laws::inserts_leave_the_newest::<K, V, S>();
     laws::maps_keep_to_their_length::<K, V, S>();
@@ -118,19 +118,6 @@ pub fn calls_change_the_keys<K: Eq + Hash + Drop, V: Drop, S: KeyHasher<K>>()
     laws::calls_keep_the_length::<K, V, ByLength, S>();
 }
 
-/// A reference more in a program that made those of a trace: one that found its key (`hits`), and one that did not
-/// (`misses`). The map still keeps to its length (`keeps`).
-pub fn programs_make_references<K: Eq + Hash + Drop, V: Drop, S: KeyHasher<K>>()
-    ensures hits { (trace : List K) (missed : ℕ) (key : K) (value : V) (old mid new : State K V ByLength S) →
-        Referenced K.eq old trace missed mid → lookup (K.eq key) mid.pairs ≡ Some value → Reference K.eq key mid new →
-        Referenced K.eq old (trace ++ key ∷ []) missed new }
-    ensures misses { (trace : List K) (missed : ℕ) (key : K) (old mid new : State K V ByLength S) →
-        Referenced K.eq old trace missed mid → lookup (K.eq key) mid.pairs ≡ None → Reference K.eq key mid new →
-        Referenced K.eq old (trace ++ key ∷ []) (missed + 1) new }
-    ensures keeps { (trace : List K) (missed : ℕ) (old new : State K V ByLength S) →
-        Referenced K.eq old trace missed new → KeepsToLength old → KeepsToLength new }
-{}
-
 /// A program that makes the references of a trace leaves the keys that were referenced last, `max_length` of them
 /// (`keys`). It misses exactly at the references whose reuse distance is at least `max_length`, and at the first to each
 /// key (`misses`); the keys before count as referenced, the oldest first. The map counts the misses (`stored`): `placed`,
@@ -138,14 +125,14 @@ pub fn programs_make_references<K: Eq + Hash + Drop, V: Drop, S: KeyHasher<K>>()
 pub fn references_keep_the_newest<K: Eq + Hash + Drop, V: Drop, S: KeyHasher<K>>()
     ensures keys { (trace : List K) (missed : ℕ) (old new : State K V ByLength S) →
         IsDistinct K.eq (keys_of old.pairs) → length old.pairs ≤ old.limiter →
-        Referenced K.eq old trace missed new →
+        Referenced (of_length K.eq) old trace missed new →
         AreEqual K.eq (keys_of new.pairs) (take old.limiter (recency K.eq (past_after (keys_of old.pairs) trace))) }
     ensures misses { (trace : List K) (missed : ℕ) (old new : State K V ByLength S) →
         IsDistinct K.eq (keys_of old.pairs) → length old.pairs ≤ old.limiter →
-        Referenced K.eq old trace missed new →
+        Referenced (of_length K.eq) old trace missed new →
         missed ≡ misses K.eq old.limiter (keys_of old.pairs) trace }
     ensures stored { (trace : List K) (missed : ℕ) (old new : State K V ByLength S) →
-        Referenced K.eq old trace missed new → 0 < old.limiter → IsSized old →
+        Referenced (of_length K.eq) old trace missed new → 0 < old.limiter → IsSized old →
         new.counts.placed ≡ count_up old.counts.placed missed }
 {}
 
@@ -154,11 +141,11 @@ pub fn references_keep_the_newest<K: Eq + Hash + Drop, V: Drop, S: KeyHasher<K>>
 /// included in the larger one, which is less, it misses at least as often (`misses`).
 pub fn more_capacity_never_misses_more<K: Eq + Hash + Drop, V: Drop, S: KeyHasher<K>>()
     ensures front { (trace : List K) (missed other_missed : ℕ) (old small other large : State K V ByLength S) →
-        Referenced K.eq old trace missed small → Referenced K.eq other trace other_missed large →
+        Referenced (of_length K.eq) old trace missed small → Referenced (of_length K.eq) other trace other_missed large →
         old.limiter ≤ other.limiter → AreEqual K.eq (keys_of old.pairs) (take old.limiter (keys_of other.pairs)) →
         AreEqual K.eq (keys_of small.pairs) (take old.limiter (keys_of large.pairs)) }
     ensures misses { (trace : List K) (missed other_missed : ℕ) (old small other large : State K V ByLength S) →
-        Referenced K.eq old trace missed small → Referenced K.eq other trace other_missed large →
+        Referenced (of_length K.eq) old trace missed small → Referenced (of_length K.eq) other trace other_missed large →
         old.limiter ≤ other.limiter →
         IsIncluded K.eq old.limiter other.limiter (keys_of old.pairs) (keys_of other.pairs) →
         other_missed ≤ missed }
@@ -186,19 +173,19 @@ pub fn a_smaller_map_is_included<K: Eq + Hash + Drop, V: Drop, S: KeyHasher<K>>(
 pub fn maps_are_competitive<K: Eq + Hash + Drop, V: Drop, S: KeyHasher<K>>()
     ensures loads { (trace : List K) (missed : ℕ) (old new : State K V ByLength S) (h paid : ℕ) (first left : List K) →
         IsDistinct K.eq (keys_of old.pairs) → length old.pairs ≤ old.limiter →
-        Referenced K.eq old trace missed new → h ≤ old.limiter →
+        Referenced (of_length K.eq) old trace missed new → h ≤ old.limiter →
         Served (Loads K.eq h) left first trace paid →
         (old.limiter + 1 - h) * missed ≤ old.limiter * paid + (old.limiter + 1 - h) * length first }
     ensures demands { (trace : List K) (missed : ℕ) (old new : State K V ByLength S) (h paid : ℕ)
         (first left : List K) →
         IsDistinct K.eq (keys_of old.pairs) → length old.pairs ≤ old.limiter →
-        Referenced K.eq old trace missed new → h ≤ old.limiter → length first ≤ h →
+        Referenced (of_length K.eq) old trace missed new → h ≤ old.limiter → length first ≤ h →
         Served (Demands K.eq h) left first trace paid →
         (old.limiter + 1 - h) * missed ≤ old.limiter * paid + (old.limiter + 1 - h) * length first }
     ensures bypasses { (trace : List K) (missed : ℕ) (old new : State K V ByLength S) (h paid : ℕ)
         (first left : List K) →
         IsDistinct K.eq (keys_of old.pairs) → length old.pairs ≤ old.limiter →
-        Referenced K.eq old trace missed new → h ≤ old.limiter →
+        Referenced (of_length K.eq) old trace missed new → h ≤ old.limiter →
         Served (Bypasses K.eq h) left first trace paid →
         (old.limiter - h) * missed ≤ old.limiter * paid + (old.limiter - h) * length first }
 {

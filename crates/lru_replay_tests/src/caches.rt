@@ -4,7 +4,7 @@ ghost use Rattle.std.specs.declared.alloc.AllocError.{AllocError};
 ghost use Rattle.lru_caches.specs.Answers.{AreAnswers, loads};
 ghost use Rattle.lru_model.specs.Kept.{KeepsToLength};
 ghost use Rattle.lru_model.specs.Lists.{keys_of};
-ghost use Rattle.lru_replay.specs.References.{Reference};
+ghost use Rattle.lru_replay.specs.References.{Reference, of_length};
 ghost use Rattle.lru_theory.specs.Traces.{refer};
 
 use lru_caches::{BlockDevice, Loader, Memo, PageCache, PageError};
@@ -16,7 +16,7 @@ fn answer<F: Fn(u64) -> u64>(memo: &mut Memo<u64, u64, F, ByLength>, key: u64) -
     requires callable { F.IsAlwaysCallable memo.old.function }
     requires known { AreAnswers nat_eq (F.post memo.old.function) memo.old.map.pairs }
     requires keeps { KeepsToLength memo.old.map }
-    ensures { (kept : Result Bool AllocError) × (IsOk kept → Reference nat_eq key memo.old.map memo.new.map) }
+    ensures { (kept : Result Bool AllocError) × (IsOk kept → Reference (of_length nat_eq) key memo.old.map memo.new.map) }
 {
     calls_make_references::<u64, u64, RandomState>();
     memo.answer(key)
@@ -31,7 +31,7 @@ fn load<F: Fn(u64) -> Result<u64, u64>>(
     requires known { AreAnswers nat_eq (loads (F.post loader.old.function)) loader.old.map.pairs }
     requires keeps { KeepsToLength loader.old.map }
     ensures { IfOk result (λ value. (kept : Result Bool AllocError) ×
-        (IsOk kept → Reference nat_eq key loader.old.map loader.new.map)) }
+        (IsOk kept → Reference (of_length nat_eq) key loader.old.map loader.new.map)) }
 {
     calls_make_references::<u64, u64, RandomState>();
     let value = loader.load(key)?;

@@ -9,6 +9,8 @@ mod caches;
 #[cfg(test)]
 mod callers;
 #[cfg(test)]
+mod costs;
+#[cfg(test)]
 mod examples;
 #[cfg(test)]
 mod references;

@@ -3,7 +3,7 @@ ghost use Rattle.std.specs.Prelude.{◌≡◌, ◌≤◌, ◌<◌, ◌-◌, ◌+
 ghost use Rattle.std.specs.String.{string_eq};
 ghost use Rattle.lru_model.specs.Kept.{KeepsToLength};
 ghost use Rattle.lru_model.specs.Lists.{keys_of};
-ghost use Rattle.lru_replay.specs.References.{Reference, Referenced};
+ghost use Rattle.lru_replay.specs.References.{Reference, Referenced, of_length};
 ghost use Rattle.lru_theory.specs.Policies.{Loads, Served};
 ghost use Rattle.lru_theory.specs.Traces.{fault, misses};
 
@@ -21,7 +21,7 @@ fn compute_at_miss<F: Fn(&String) -> u64>(
 ) -> Result<u64, AllocError>
     requires callable { F.IsAlwaysCallable compute.now }
     requires keeps { KeepsToLength map.old }
-    ensures reference { OnOk result (Reference string_eq text.now map.old map.new) }
+    ensures reference { OnOk result (Reference (of_length string_eq) text.now map.old map.new) }
     ensures computed { IfOk result (λ count. count ≡ fault string_eq text.now (keys_of map.old.pairs)) }
 {
     calls_make_references::<String, u64, RandomState>();
@@ -41,7 +41,7 @@ pub fn read_through<F: Fn(&String) -> u64>(
 ) -> Result<u64, AllocError>
     requires callable { F.IsAlwaysCallable compute.now }
     requires keeps { KeepsToLength map.old }
-    ensures run { IfOk result (λ count. Referenced string_eq map.old texts.now count map.new) }
+    ensures run { IfOk result (λ count. Referenced (of_length string_eq) map.old texts.now count map.new) }
     ensures count { IfOk result
         (λ count. count ≡ misses string_eq map.old.limiter (keys_of map.old.pairs) texts.now) }
 {

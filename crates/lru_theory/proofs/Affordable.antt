@@ -2,10 +2,12 @@
 use Rattle.std.proofs.Common.{◌≡◌, ℕ, zero, suc, ◌+◌, ◌-◌, ◌≤◌, Bool, true, false, cond, List, [], ◌∷◌, length, take}
 use Rattle.std.proofs.Common.{refl, ap, arith, inl, inr}
 use Rattle.std.proofs.lemmas.Bool.{lt-leb, le-leb, cases_lt}
-use Rattle.std.specs.Prelude.{◌||◌}
+use Rattle.std.specs.Cmp.{IsEquivalence}
+use Rattle.std.specs.Prelude.{◌||◌, nat_le}
 use Rattle.std.specs.Set.{remove_key}
-use Rattle.lru_theory.specs.Traces.{is_in}
+use Rattle.lru_theory.specs.Traces.{is_in, AreEqual}
 use Rattle.lru_theory.specs.Budgets.{affordable, refer_within, cached_within, faults_within}
+use Rattle.lru_theory.proofs.EqualKeys.{head_equal, tail_equal, both_equal, without_equal}
 
 -- xs is ys as far as it goes
 pub data Front {K : Type 0} : List K → List K → Type 0 where
@@ -101,3 +103,28 @@ module _ {K : Type 0} (cost : K → ℕ) where
     | inl dear ↦ rw (lt-leb (cost key) n dear) (omega arith)
     | inr cheap ↦ rw (le-leb (cost key) n cheap) (omega (arith, cheap, affords_within (n - cost key) keys))
   ]
+
+-- if equal keys cost the same, equal lists are afforded as far, and references leave equal lists
+module _ {K : Type 0} {eq : K → K → Bool} (laws : IsEquivalence eq) (cost : K → ℕ)
+    (same : (x y : K) → eq x y ≡ true → cost x ≡ cost y) where
+  pub affords_equal : (n : ℕ) (xs ys : List K) → AreEqual eq xs ys
+      → AreEqual eq (affordable cost n xs) (affordable cost n ys)
+  affords_equal n [] [] e = refl
+  affords_equal n [] (y ∷ ys) e = absurd cc
+  affords_equal n (x ∷ xs) [] e = absurd cc
+  affords_equal n (x ∷ xs) (y ∷ ys) e =
+      let first = head_equal eq x xs y ys e in
+      rw (same x y first) (go (nat_le (cost y) n) (affords_equal (n - cost y) xs ys (tail_equal eq x xs y ys e)))
+    where
+      go : (b : Bool) → AreEqual eq (affordable cost (n - cost y) xs) (affordable cost (n - cost y) ys)
+          → AreEqual eq (cond b (x ∷ affordable cost (n - cost y) xs) [])
+          (cond b (y ∷ affordable cost (n - cost y) ys) [])
+      go true ih = both_equal eq x (affordable cost (n - cost y) xs) y (affordable cost (n - cost y) ys)
+          (head_equal eq x xs y ys e) ih
+      go false ih = refl
+
+  pub within_equal : (n : ℕ) (key : K) (xs ys : List K) → AreEqual eq xs ys
+      → AreEqual eq (refer_within eq cost n key xs) (refer_within eq cost n key ys)
+  within_equal n key xs ys e = affords_equal n (key ∷ remove_key (eq key) xs) (key ∷ remove_key (eq key) ys)
+      (both_equal eq key (remove_key (eq key) xs) key (remove_key (eq key) ys) (laws.refl key)
+      (without_equal laws key xs ys e))

@@ -6,7 +6,7 @@ use Rattle.std.specs.Prelude.{◌&&◌, not}
 use Rattle.std.specs.Set.{remove_key}
 use Rattle.lru_theory.specs.Traces.{is_in, fault}
 use Rattle.lru_theory.specs.Policies.{Loads, Bypasses, Served, ends, serves, outside}
-use Rattle.lru_theory.specs.Best.{put, min_refer, bypass_refer, faults_by}
+use Rattle.lru_theory.specs.Best.{put, min_refer, bypass_refer, faults_ahead}
 use Rattle.lru_theory.proofs.Nexts.{Ordered, soon, due, Left, left, ordered_put, due_put, ordered_take, due_take, due_zero}
 use Rattle.lru_theory.proofs.Nexts.{absent_take}
 use Rattle.lru_theory.proofs.Inclusions.{clash}
@@ -117,7 +117,7 @@ module _ {K : Type 0} {eq : K → K → Bool} (laws : IsEquivalence eq) where
       → IsAhead c (key ∷ trace) keys old → IsStep key old p new → Step c p key trace keys new (refer key trace keys))
     where
       pub no_better : (new : List K) (c : ℕ) (trace keys old : List K) (paid : ℕ) → Ordered eq trace keys
-          → IsAhead c trace keys old → Served IsStep new old trace paid → faults_by eq refer keys trace ≤ paid + c
+          → IsAhead c trace keys old → Served IsStep new old trace paid → faults_ahead eq refer keys trace ≤ paid + c
       no_better new c _ keys _ _ o ahead ends = omega arith
       no_better new c _ keys _ _ o ahead (serves key trace old mid one paid is run) =
           let s = step c one key trace keys old mid o ahead is in
@@ -131,7 +131,7 @@ module _ {K : Type 0} {eq : K → K → Bool} (laws : IsEquivalence eq) where
   from_none trace d = omega (arith, near_few laws d trace [])
 
   pub bypass_best : (n : ℕ) (trace new : List K) (paid : ℕ) → Served (Bypasses eq n) new [] trace paid
-      → faults_by eq (bypass_refer eq n) [] trace ≤ paid
+      → faults_ahead eq (bypass_refer eq n) [] trace ≤ paid
   bypass_best n trace new paid run = omega (
     arith,
     no_better (Bypasses eq n) (bypass_refer eq n)
@@ -141,7 +141,7 @@ module _ {K : Type 0} {eq : K → K → Bool} (laws : IsEquivalence eq) where
   )
 
   pub min_best : (n : ℕ) (trace new : List K) (paid : ℕ) → Served (Loads eq n) new [] trace paid
-      → faults_by eq (min_refer eq n) [] trace ≤ paid
+      → faults_ahead eq (min_refer eq n) [] trace ≤ paid
   min_best n trace new paid run = omega (
     arith,
     no_better (Loads eq n) (min_refer eq n)

@@ -7,7 +7,7 @@ use Rattle.std.specs.Prelude.{◌||◌, nat_le}
 use Rattle.std.specs.Set.{remove_key}
 use Rattle.lru_theory.specs.Traces.{is_in, refer, fault, faults}
 use Rattle.lru_theory.specs.Policies.{Loads, Bypasses, Served, ends, serves, outside}
-use Rattle.lru_theory.specs.Best.{until, put, min_refer, bypass_refer, faults_by}
+use Rattle.lru_theory.specs.Best.{until, put, min_refer, bypass_refer, faults_ahead}
 use Rattle.lru_theory.proofs.Inclusions.{clash}
 
 module _ {K : Type 0} {eq : K → K → Bool} (laws : IsEquivalence eq) where
@@ -100,7 +100,7 @@ module _ {K : Type 0} {eq : K → K → Bool} (laws : IsEquivalence eq) where
           later false d e = e
 
   pub min_run : (n : ℕ) (trace keys : List K)
-      → (left : List K) × Served (Loads eq (suc n)) left keys trace (faults_by eq (min_refer eq (suc n)) keys trace)
+      → (left : List K) × Served (Loads eq (suc n)) left keys trace (faults_ahead eq (min_refer eq (suc n)) keys trace)
   min_run n [] keys = (keys, ends)
   min_run n (key ∷ trace) keys =
       let rest = take n (remove_key (eq key) keys) in
@@ -117,10 +117,10 @@ module _ {K : Type 0} {eq : K → K → Bool} (laws : IsEquivalence eq) where
           outside_self keys,
         );
       } in
-      (last, serves key trace keys new (fault eq key keys) (faults_by eq (min_refer eq (suc n)) new trace) step run)
+      (last, serves key trace keys new (fault eq key keys) (faults_ahead eq (min_refer eq (suc n)) new trace) step run)
 
   pub bypass_run : (n : ℕ) (trace keys : List K)
-      → (left : List K) × Served (Bypasses eq n) left keys trace (faults_by eq (bypass_refer eq n) keys trace)
+      → (left : List K) × Served (Bypasses eq n) left keys trace (faults_ahead eq (bypass_refer eq n) keys trace)
   bypass_run n [] keys = (keys, ends)
   bypass_run n (key ∷ trace) keys =
       let rest = remove_key (eq key) keys in
@@ -142,10 +142,10 @@ module _ {K : Type 0} {eq : K → K → Bool} (laws : IsEquivalence eq) where
           outside_self keys,
         );
       } in
-      (last, serves key trace keys new (fault eq key keys) (faults_by eq (bypass_refer eq n) new trace) step run)
+      (last, serves key trace keys new (fault eq key keys) (faults_ahead eq (bypass_refer eq n) new trace) step run)
 
   pub min_run_of : (n : ℕ) (trace : List K) → 0 < n
-      → (left : List K) × Served (Loads eq n) left [] trace (faults_by eq (min_refer eq n) [] trace)
+      → (left : List K) × Served (Loads eq n) left [] trace (faults_ahead eq (min_refer eq n) [] trace)
   min_run_of zero trace some = absurd (omega (arith, some))
   min_run_of (suc n) trace some = min_run n trace []
 

@@ -1,19 +1,21 @@
 -- One reference more, or one call.
 use Rattle.std.proofs.Common.{◌≡◌, ℕ, ◌+◌, Bool, cond, List, [], ◌∷◌, ◌++◌, refl, arith}
-use Rattle.lru_theory.specs.Traces.{is_far, misses, refer, cached, faults, fault, past_after}
+use Rattle.lru_theory.specs.Traces.{is_far, misses, cached_by, faults_by, fault, past_after}
 use Rattle.lru_theory.specs.Inclusion.{KeyCall, after_call, after_calls}
 
-module _ {K : Type 0} (eq : K → K → Bool) (n : ℕ) where
+module _ {K : Type 0} (eq : K → K → Bool) (refer : K → List K → List K) where
   pub cached_more : (trace : List K) (key : K) (keys : List K)
-      → cached eq n keys (trace ++ key ∷ []) ≡ refer eq n key (cached eq n keys trace)
+      → cached_by refer keys (trace ++ key ∷ []) ≡ refer key (cached_by refer keys trace)
   cached_more [] key keys = refl
-  cached_more (x ∷ trace) key keys = cached_more trace key (refer eq n x keys)
+  cached_more (x ∷ trace) key keys = cached_more trace key (refer x keys)
 
   pub faults_more : (trace : List K) (key : K) (keys : List K)
-      → faults eq n keys (trace ++ key ∷ []) ≡ faults eq n keys trace + fault eq key (cached eq n keys trace)
+      → faults_by eq refer keys (trace ++ key ∷ [])
+      ≡ faults_by eq refer keys trace + fault eq key (cached_by refer keys trace)
   faults_more [] key keys = omega arith
-  faults_more (x ∷ trace) key keys = omega (arith, faults_more trace key (refer eq n x keys))
+  faults_more (x ∷ trace) key keys = omega (arith, faults_more trace key (refer x keys))
 
+module _ {K : Type 0} (eq : K → K → Bool) (n : ℕ) where
   pub called_more : (calls : List (KeyCall K)) (call : KeyCall K) (keys : List K)
       → after_calls eq n (calls ++ call ∷ []) keys ≡ after_call eq n call (after_calls eq n calls keys)
   called_more [] call keys = refl

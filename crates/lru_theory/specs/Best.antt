@@ -27,13 +27,13 @@ module _ {K : Type 0} (eq : K → K → Bool) where
   bypass_refer n key trace keys = take n (put trace key (remove_key (eq key) keys))
 
   -- how many references of the trace do not find their key, if a reference changes the keys so
-  abbrev pub faults_by : (K → List K → List K → List K) → List K → List K → ℕ
-  faults_by refer keys [] = 0
-  faults_by refer keys (key ∷ trace) = fault eq key keys + faults_by refer (refer key trace keys) trace
+  abbrev pub faults_ahead : (K → List K → List K → List K) → List K → List K → ℕ
+  faults_ahead refer keys [] = 0
+  faults_ahead refer keys (key ∷ trace) = fault eq key keys + faults_ahead refer (refer key trace keys) trace
 
   -- how often MIN with n places misses, from no keys, and MIN with bypass
   abbrev pub min_misses : ℕ → List K → ℕ
-  min_misses n trace = faults_by (min_refer n) [] trace
+  min_misses n trace = faults_ahead (min_refer n) [] trace
 
   abbrev pub bypass_misses : ℕ → List K → ℕ
-  bypass_misses n trace = faults_by (bypass_refer n) [] trace
+  bypass_misses n trace = faults_ahead (bypass_refer n) [] trace

@@ -1,9 +1,9 @@
 -- LRU caches with a limit of cost.
 --     eq        when two keys are equal
 --     cost      what each key costs
-use Rattle.std.specs.Prelude.{ℕ, ◌+◌, ◌-◌, Bool, nat_le, if◌then◌else◌, List, [], ◌∷◌}
+use Rattle.std.specs.Prelude.{ℕ, ◌-◌, Bool, nat_le, if◌then◌else◌, List, [], ◌∷◌}
 use Rattle.std.specs.Set.{remove_key}
-use Rattle.lru_theory.specs.Traces.{fault}
+use Rattle.lru_theory.specs.Traces.{cached_by, faults_by}
 
 module _ {K : Type 0} (cost : K → ℕ) where
   -- the first keys, up to the last with which they cost at most n together
@@ -17,12 +17,9 @@ module _ {K : Type 0} (eq : K → K → Bool) (cost : K → ℕ) where
   abbrev pub refer_within : ℕ → K → List K → List K
   refer_within n key keys = affordable cost n (key ∷ remove_key (eq key) keys)
 
-  -- and after a trace, if these were its keys before
+  -- its keys after a trace, and how many references of the trace did not find their key
   abbrev pub cached_within : ℕ → List K → List K → List K
-  cached_within n keys [] = keys
-  cached_within n keys (key ∷ trace) = cached_within n (refer_within n key keys) trace
+  cached_within n = cached_by (refer_within n)
 
-  -- how many references of the trace did not find their key in that cache
   abbrev pub faults_within : ℕ → List K → List K → ℕ
-  faults_within n keys [] = 0
-  faults_within n keys (key ∷ trace) = fault eq key keys + faults_within n (refer_within n key keys) trace
+  faults_within n = faults_by eq (refer_within n)

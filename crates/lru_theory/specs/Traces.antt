@@ -6,6 +6,11 @@ use Rattle.std.specs.Cmp.Lexicographic.{pointwise}
 use Rattle.std.specs.List.{list_any}
 use Rattle.std.specs.Set.{remove_key}
 
+-- The keys of a cache after a trace, if these were its keys before, and a reference changes the keys so.
+abbrev pub cached_by : {K : Type 0} → (K → List K → List K) → List K → List K → List K
+cached_by refer keys [] = keys
+cached_by refer keys (key ∷ trace) = cached_by refer (refer key keys) trace
+
 module _ {K : Type 0} (eq : K → K → Bool) where
   -- the key is one of these
   abbrev pub is_in : K → List K → Bool
@@ -43,19 +48,21 @@ module _ {K : Type 0} (eq : K → K → Bool) where
   abbrev pub refer : ℕ → K → List K → List K
   refer n key keys = take n (key ∷ remove_key (eq key) keys)
 
-  -- and after a trace, if these were its keys before
-  abbrev pub cached : ℕ → List K → List K → List K
-  cached n keys [] = keys
-  cached n keys (key ∷ trace) = cached n (refer n key keys) trace
-
   -- 1 if the key is not there, and 0 if it is
   abbrev pub fault : K → List K → ℕ
   fault key keys = if is_in key keys then 0 else 1
 
   -- how many references of the trace did not find their key in that cache
+  abbrev pub faults_by : (K → List K → List K) → List K → List K → ℕ
+  faults_by refer keys [] = 0
+  faults_by refer keys (key ∷ trace) = fault key keys + faults_by refer (refer key keys) trace
+
+  -- both for an LRU cache of n places
+  abbrev pub cached : ℕ → List K → List K → List K
+  cached n = cached_by (refer n)
+
   abbrev pub faults : ℕ → List K → List K → ℕ
-  faults n keys [] = 0
-  faults n keys (key ∷ trace) = fault key keys + faults n (refer n key keys) trace
+  faults n = faults_by (refer n)
 
 -- the past after the references of a trace
 abbrev pub past_after : {K : Type 0} → List K → List K → List K

@@ -1,4 +1,4 @@
-use Rattle.lru_replay.proofs.ReferenceRuns.{after, after_keys, after_misses}
+use Rattle.lru_replay.proofs.ReferenceRuns.{after, after_keys, after_misses, length_is}
 use Rattle.lru_replay.proofs.references.references_keep_the_newest.Goals as goal
 
 pub returns : goal.returns
@@ -7,5 +7,5 @@ returns g c =
     record {
       keys = λ trace missed old new distinct within run. after_keys laws old distinct within trace missed new run;
       misses = λ trace missed old new distinct within run. after_misses laws old distinct within trace missed new run;
-      stored = λ trace missed old new run some sized. (after laws old trace missed new run).stored some sized;
+      stored = λ trace missed old new run some sized. (after (length_is laws) old trace missed new run).stored some sized;
     }

@@ -10,8 +10,8 @@
 #[allow(unused_imports)]
 use crate::rattle_std::prelude::*;
 
-pub mod budgets;
 pub mod calls;
+pub mod costs;
 pub mod laws;
 pub mod lines;
 pub mod references;

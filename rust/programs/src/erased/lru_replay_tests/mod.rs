@@ -12,6 +12,8 @@ mod caches;
 #[cfg(test)]
 mod callers;
 #[cfg(test)]
+mod costs;
+#[cfg(test)]
 mod examples;
 #[cfg(test)]
 mod references;
