@@ -28,7 +28,7 @@ fn traced(alloc: Global, mut lines: &[u8], fails: bool) -> (Result<TraceEnd, Tra
     let bytes = Vec::new(alloc);
     let mut output = Output { bytes, fails };
     let mut progress = Progress::new(alloc, None::<Vec<u8>>);
-    let end = trace(alloc, &mut lines, &mut output, &mut progress);
+    let end = trace(alloc, false, &mut lines, &mut output, &mut progress);
     (end, output.bytes)
 }
 
@@ -61,7 +61,13 @@ fn of_the_progress(rt: HostRuntime) -> Result<(), Fail> {
     let mut report = Vec::new(alloc);
     let mut shown = Vec::new(alloc);
     let mut progress = Progress::new(alloc, Some(&mut shown));
-    let end = trace(alloc, &mut input.as_slice(), &mut report, &mut progress);
+    let end = trace(
+        alloc,
+        false,
+        &mut input.as_slice(),
+        &mut report,
+        &mut progress,
+    );
     check!(rt; end == Ok(TraceEnd::Done));
     drop(progress);
     check!(rt; shown.as_slice() == b"1000000 lines\n2000000 lines\n".as_slice());
