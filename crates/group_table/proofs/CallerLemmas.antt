@@ -30,7 +30,6 @@ module _ {T F : Type 0} (closure : Mut F (Bor T × Unit {0}) Bool) (slots : List
       let next = (tests _ _ _ h.1.called).1 in
       refused_fail asked g (subst (λ j. RejectsEach closure slots j asked g) next h.2) k (omega arith)
 
-  -- what was found passes
   pub Finds-test : (hash b : ℕ) → Finds closure slots hash f b → (entry : T) × (entry_at slots b ≡ Some entry)
       × (test entry ≡ true)
   Finds-test hash b found =

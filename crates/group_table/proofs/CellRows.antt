@@ -31,7 +31,7 @@ module _ (R : RattleType) where
   abbrev τ : Ty
   τ = lone R.mir
 
-  -- the row begins at.1 bytes into the block at.0, and the way to its place b is a word
+  -- the row begins at.1 bytes into the block at.0, and the offset of its place b fits a word
   abbrev pub Lies : Ptr → ℕ → ℕ × ℕ → Type 0
   Lies start b at = (start ≡ block_ptr at.0 at.1) × (size < 2 ^ 64) × (b * size < 2 ^ 64)
 

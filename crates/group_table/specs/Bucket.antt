@@ -1,4 +1,4 @@
--- What is in the buckets of a table: in full (slots), or without tags and entries (marks, the bucket states).
+-- What is in the buckets of a table: in full (slots), or only the bucket states (`Mark`).
 use Rattle.std.specs.Prelude.{◌≡◌, ℕ, ◌-◌, if◌then◌else◌, Bool, true, false, List, length, map, count_by}
 use Rattle.std.specs.Prelude.{slice_index_or, nat_eq, Option, Some, None, IsTrue}
 use Rattle.group_table.specs.Sizes.{full_capacity}
@@ -13,11 +13,9 @@ pub record Tagged (T : Type 0) : Type 0 where
   pub tag : ℕ
   pub entry : T
 
--- a bucket with what a full one holds
 abbrev pub Slot : Type 0 → Type 0
 Slot T = Bucket (Tagged T)
 
--- a bucket without it
 abbrev pub Mark : Type 0
 Mark = Bucket (Unit {0})
 
@@ -38,19 +36,15 @@ module _ {A : Type 0} where
   is_used deleted = true
   is_used (full held) = true
 
-  -- what is in a bucket
   abbrev pub bucket_at : List (Bucket A) → ℕ → Bucket A
   bucket_at buckets b = slice_index_or buckets b empty
 
-  -- the bucket is full
   abbrev pub IsFull : List (Bucket A) → ℕ → Type 0
   IsFull buckets b = IsTrue (is_full (bucket_at buckets b))
 
-  -- the bucket is empty
   abbrev pub IsEmpty : List (Bucket A) → ℕ → Type 0
   IsEmpty buckets b = bucket_at buckets b ≡ empty
 
-  -- how many buckets are full
   abbrev pub entry_count : List (Bucket A) → ℕ
   entry_count buckets = count_by is_full buckets
 
@@ -59,7 +53,7 @@ module _ {A : Type 0} where
   mark_of deleted = deleted
   mark_of (full held) = full tt
 
-  -- the marks of a table's buckets
+  -- the states of the buckets
   abbrev pub marks_of : List (Bucket A) → List Mark
   marks_of buckets = map mark_of buckets
 
@@ -67,7 +61,6 @@ module _ {A : Type 0} where
 unfoldable pub growth_left : List Mark → ℕ
 growth_left marks = full_capacity (length marks) - count_by is_used marks
 
--- what a bucket counts in the room: one if it is empty
 abbrev pub growth_left_at : List Mark → ℕ → ℕ
 growth_left_at marks b = if is_used (bucket_at marks b) then 0 else 1
 
@@ -77,7 +70,6 @@ module _ {T : Type 0} where
   entry_of deleted = None
   entry_of (full held) = Some held.entry
 
-  -- the entry in a bucket
   abbrev pub entry_at : List (Slot T) → ℕ → Option T
   entry_at slots b = entry_of (bucket_at slots b)
 
@@ -86,7 +78,7 @@ module _ {T : Type 0} where
   has_tag tag deleted = false
   has_tag tag (full held) = nat_eq held.tag tag
 
-  -- the bucket as it is with another entry in it
+  -- the bucket with another entry
   abbrev pub refilled : Slot T → T → Slot T
   refilled empty entry = empty
   refilled deleted entry = deleted

@@ -5,7 +5,7 @@ use Rattle.group_table.specs.Control.{buckets_of, IsCircle}
 use Rattle.group_table.specs.Lanes.{HasLane}
 use Rattle.group_table.specs.declared.full_buckets.FullBuckets.{FullBuckets}
 
--- the lanes are the full ones of their group from a bucket on, and no bucket from there to the group is full
+-- from `from` on, the lanes are the full buckets of the group, and no bucket before the group is full
 pub record IsAhead (control : List ℕ) (walk : FullBuckets) (from : ℕ) : Type 0 where
   pub circle : IsCircle control
   pub within : from ≤ buckets_of control

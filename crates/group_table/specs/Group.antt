@@ -22,7 +22,7 @@ pub record IsProbe (buckets hash : ℕ) (probe : Probe) : Type 0 where
   pub stride : 16 ≤ probe.stride
 
 module _ {T : Type 0} (slots : List (Slot T)) where
-  -- how many lanes of a group are buckets of their own
+  -- how many lanes of a group are distinct buckets
   abbrev pub width : ℕ
   width = min 16 (length slots)
 
@@ -30,21 +30,18 @@ module _ {T : Type 0} (slots : List (Slot T)) where
   abbrev pub tagged_lanes : ℕ → ℕ → ℕ → List ℕ
   tagged_lanes tag start lanes = tagged slots tag (λ lane. (start + lane) % length slots) lanes
 
-  -- the bucket at the lane is empty
   abbrev pub IsEmptyLane : ℕ → ℕ → Type 0
   IsEmptyLane start lane = bucket_at (marks_of slots) ((start + lane) % length slots) ≡ empty
 
-  -- some of the first lanes is empty
   abbrev pub HasEmptyLane : ℕ → ℕ → Type 0
   HasEmptyLane start lanes = (lane : ℕ) × (lane < lanes) × IsEmptyLane start lane
 
-  -- none of the first lanes is empty
   abbrev pub HasNoEmptyLane : ℕ → ℕ → Type 0
   HasNoEmptyLane start lanes = (lane : ℕ) → lane < lanes
       → bucket_at (marks_of slots) ((start + lane) % length slots) ≢ empty
 
 module _ {T F : Type 0} (closure : Mut F (Bor T × Unit {0}) Bool) (slots : List (Slot T)) (tag start : ℕ) (f : F) where
-  -- f was asked about the buckets with the tag, in the order of the lanes, and refused all but the last, which is b
+  -- f was called for the buckets with the tag, in the order of the lanes, and rejected all but the last, which is b
   pub record AcceptsIn (b : ℕ) (g : F) : Type 0 where
     pub lanes : ℕ
     pub in_group : lanes ≤ width slots
@@ -54,7 +51,7 @@ module _ {T F : Type 0} (closure : Mut F (Bor T × Unit {0}) Bool) (slots : List
     pub refused : RejectsEach closure slots f asked between
     pub accepted : Answers closure slots between b true g
 
-  -- f refused all buckets with the tag
+  -- f rejected all buckets with the tag
   abbrev pub RejectsGroup : F → Type 0
   RejectsGroup g = RejectsEach closure slots f (tagged_lanes slots tag start (width slots)) g
 
@@ -64,11 +61,10 @@ module _ {T F : Type 0} (closure : Mut F (Bor T × Unit {0}) Bool) (slots : List
   SearchesGroup Ended g = RejectsGroup g × HasEmptyLane slots start (width slots)
   SearchesGroup GoesOn g = RejectsGroup g × HasNoEmptyLane slots start (width slots)
 
--- the byte is a tag, which says that the bucket is full
+-- the byte is a tag
 abbrev pub full_at : List ℕ → ℕ → Bool
 full_at control b = nat_lt (slice_index control b) deleted_byte
 
--- the byte says that the bucket is empty
 abbrev pub IsEmptyAt : List ℕ → ℕ → Type 0
 IsEmptyAt control b = slice_index control b ≡ empty_byte
 

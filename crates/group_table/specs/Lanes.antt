@@ -7,20 +7,17 @@ use Rattle.std.specs.Int.{w16, bit_at, trailing_zeros}
 abbrev pub IsMaskOf : (ℕ → Type 0) → List ℕ → ℕ → Type 0
 IsMaskOf P bytes mask = (lane : ℕ) → (bit_at mask lane ≡ 1) ↔ ((lane < 16) × P (slice_index bytes lane))
 
--- the same of the sixteen bytes from a place on
+-- of the sixteen bytes from a place on
 abbrev pub IsMaskAt : (ℕ → Type 0) → List ℕ → ℕ → ℕ → Type 0
 IsMaskAt P bytes start mask = (lane : ℕ) → (bit_at mask lane ≡ 1) ↔ ((lane < 16) × P (slice_index bytes (start + lane)))
 
--- the mask holds the lane
 abbrev pub HasLane : ℕ → ℕ → Type 0
 HasLane mask lane = bit_at mask lane ≡ 1
 
--- the lowest lane of a mask that holds one
 abbrev pub lowest : ℕ → ℕ
 lowest mask = trailing_zeros w16 mask
 
--- After the bytes of the buckets, the bytes of the first buckets are repeated. With 4 or 8 buckets, bytes of empty
--- buckets are between.
+-- With 4 or 8 buckets, bytes of empty buckets are between the bytes and their repetition.
 pub record IsRepeated (control : List ℕ) (buckets : ℕ) : Type 0 where
   pub again : (p : ℕ) → max 16 buckets ≤ p → p < buckets + 16
       → slice_index control p ≡ slice_index control (p - max 16 buckets)

@@ -13,9 +13,7 @@ narrowest_most = 255
 pub record IsLinkType {N : Type 0} (number : N → ℕ) (link : ℕ → N) (most : N) : Type 0 where
   -- the link of a number below the number of `MAX` has that number
   pub number_of_link : (n : ℕ) → n < number most → number (link n) ≡ n
-  -- links of equal numbers are equal
   pub equal_by_number : (a b : N) → number a ≡ number b → a ≡ b
-  -- a link has at least eight bits
   pub wide_enough : narrowest_most ≤ number most
 
 -- so it is not `MAX`
@@ -24,7 +22,7 @@ pub link_below : {N : Type 0} {number : N → ℕ} {link : ℕ → N} {most : N}
 link_below {N} {number} {link} {most} laws n below same =
     absurd (omega (arith, laws.number_of_link n below, ap number same, below))
 
--- each number up to most is a link of its own, and most itself stands for no bucket
+-- each number up to most is its own link, and most itself names no bucket
 pub numbers_are_links : (most : ℕ) → narrowest_most ≤ most → IsLinkType (λ n. n) (λ n. n) most
 numbers_are_links most wide = record {
   number_of_link = λ n below. refl;

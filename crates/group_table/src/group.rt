@@ -7,9 +7,8 @@ ghost use Rattle.group_table.specs.Lanes.{IsMaskOf, HasLane, lowest};
 use crate::control::{DELETED, EMPTY};
 use std::simd::prelude::*;
 
-/// Returns the lanes that hold the tag, of the control bytes of sixteen neighbouring buckets.
-///
-/// Bit i of the result is set if and only if byte i is the tag. `docs/TABLE.md` shows a table of masks.
+/// Returns the lanes of the tag in the control bytes of sixteen neighbouring buckets: bit i of the result is set if and
+/// only if byte i is the tag. `docs/TABLE.md` shows masks.
 ///
 /// ```
 /// let bytes: [u8; 16] = [0, 255, 128, 5, 255, 255, 255, 255, 255, 255, 255, 255, 255, 255, 255, 255];
@@ -26,8 +25,6 @@ pub fn match_tag(bytes: &[u8; 16], tag: u8) -> u16
 
 /// Returns the lanes of empty buckets, whose byte is 255.
 ///
-/// Bit i of the result is set if and only if bucket i is empty.
-///
 /// ```
 /// let bytes: [u8; 16] = [0, 255, 128, 5, 255, 255, 255, 255, 255, 255, 255, 255, 255, 255, 255, 255];
 /// assert_eq!(rt; match_empty(&bytes), 0xfff2);
@@ -40,8 +37,6 @@ pub fn match_empty(bytes: &[u8; 16]) -> u16
 }
 
 /// Returns the lanes of free buckets, whose byte has the top bit set: 255 if empty, 128 if deleted.
-///
-/// Bit i of the result is set if and only if bucket i is free.
 ///
 /// ```
 /// let bytes: [u8; 16] = [0, 255, 128, 5, 255, 255, 255, 255, 255, 255, 255, 255, 255, 255, 255, 255];

@@ -57,7 +57,6 @@ hash_of_bytes = hash_by input_of_bytes random_builds.ghosts default_hashes.ghost
 abbrev pub weight : ℕ → ℕ → ℕ
 weight key value = pair_cost 64 key value
 
--- what the limiter says
 abbrev pub bytes_rules : Rules Bytes Bytes Budget
 bytes_rules = by_weight (λ k v. weight (vec_len k) (vec_len v))
 
@@ -81,7 +80,6 @@ answer_of (Some value) = record { len = length value.items; found = true }
 abbrev pub Reads : Option Bytes → Value → List ℕ → List ℕ → Type 0
 Reads value answer buffer left = (answer ≡ answer_of value) × (left ≡ poured_from value buffer)
 
--- no entry
 abbrev pub no_entry : Popped
 no_entry = record { key_len = 0; value_len = 0; found = false; removed = false }
 
@@ -101,7 +99,6 @@ Shows (Some pair) answer key key_left value value_left = (answer ≡ lengths_of 
     × (key_left ≡ (if fits pair key value then poured pair.0.items key else key))
     × (value_left ≡ (if fits pair key value then poured pair.1.items value else value))
 
--- the bytes of each key and each value
 abbrev pub texts : List (Bytes × Bytes) → List (List ℕ × List ℕ)
 texts pairs = map (λ pair. (pair.0.items, pair.1.items)) pairs
 
@@ -110,7 +107,7 @@ pub record Copies (old copy : BytesMap) : Type 0 where
   pub entries : texts copy.pairs ≡ texts old.pairs
   pub rest : copy ≡ record old { pairs = copy.pairs }
 
--- The oldest entry is removed and copied into two buffers, if it fits. Otherwise its lengths alone are returned.
+-- The oldest entry is removed and copied into two buffers, if it fits. Otherwise only its lengths are returned.
 pub data Pops (old : BytesMap) (answer : Popped) (key key_left value value_left : List ℕ)
     (new : BytesMap) : Type 0 where
   none : last old.pairs ≡ None → answer ≡ no_entry → key_left ≡ key → value_left ≡ value → new ≡ old →
@@ -122,7 +119,6 @@ pub data Pops (old : BytesMap) (answer : Popped) (key key_left value value_left 
       answer ≡ lengths_of pair true → key_left ≡ poured pair.0.items key → value_left ≡ poured pair.1.items value →
       PopOldest bytes_rules old (Some pair) new → Pops old answer key key_left value value_left new
 
--- a key with these bytes is there
 abbrev pub has_bytes : List ℕ → BytesMap → Bool
 has_bytes key map = is_some (lookup (names_bytes key) map.pairs)
 
@@ -137,10 +133,10 @@ FindsMemory key ready = has_bytes key ready ≡ false → 1 ≤ growth_left read
 
 -- A put, and what it returns.
 pub data Puts (key value : List ℕ) (old : BytesMap) (code : ℕ) (new : BytesMap) : Type 0 where
-  -- The key alone is over the budget: nothing changes. (Such a key is not there, if the total is the sum of the weights
-  -- and within the budget.)
+  -- The key by itself is over the budget: nothing changes. (Such a key is not there, if the total is the sum of the
+  -- weights and within the budget.)
   too_long : old.limiter.limit < length key → code ≡ 1 → new ≡ old → Puts key value old code new
-  -- The entry alone is over the budget: it is not stored, and the key is removed.
+  -- The entry by itself is over the budget: it is not stored, and the key is removed.
   too_heavy : old.limiter.limit < weight (length key) (length value) → code ≡ 1 →
       (value_gone : Option Bytes) → Remove bytes_rules (names_bytes key) old value_gone new →
       Puts key value old code new

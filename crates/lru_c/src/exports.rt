@@ -1,4 +1,4 @@
-//! The functions that C calls. `bindings/c/lru.h` declares them, without `alloc`, which passes nothing.
+//! The functions that C calls. `bindings/c/lru.h` documents each, without `alloc`, which passes nothing.
 //!
 //! On a handle without a map, `lru_new` makes a map, and `lru_clone` drops the map of the copy. Every other call
 //! changes nothing, and returns that there is nothing.
@@ -31,7 +31,6 @@ use std::alloc::Global;
 // A bucket contains a key, a value and two links of 32 bits.
 const ENTRY_BYTES: usize = 24;
 
-/// Returns the version of these functions and structs, `LRU_ABI_VERSION` of `lru.h`.
 #[unsafe(no_mangle)]
 pub extern "C" fn lru_abi_version() -> u32
     ensures { result ≡ 3 }
@@ -39,9 +38,6 @@ pub extern "C" fn lru_abi_version() -> u32
     3
 }
 
-/// Makes an empty map of at most `max_length` entries, whose hasher has these seeds. Returns whether it did.
-///
-/// A map that the handle had is dropped.
 #[unsafe(no_mangle)]
 pub extern "C" fn lru_new(alloc: Global, lru: &mut Lru, max_length: u32, seeds: &[u64; 4]) -> bool
     ensures made { result ≡ true → lru.new.map ≡ Some (empty_map max_length (seeded seeds.now) 24 max_of_32_bits) }
@@ -58,7 +54,6 @@ pub extern "C" fn lru_new(alloc: Global, lru: &mut Lru, max_length: u32, seeds: 
     }
 }
 
-/// Drops the map.
 #[unsafe(no_mangle)]
 pub extern "C" fn lru_free(alloc: Global, lru: &mut Lru)
     ensures { lru.new.map ≡ None }
@@ -66,7 +61,6 @@ pub extern "C" fn lru_free(alloc: Global, lru: &mut Lru)
     drop(lru.take(alloc));
 }
 
-/// Inserts a key with a value, as the newest entry. Writes the evicted entry to `evicted`, if there is one.
 #[unsafe(no_mangle)]
 pub extern "C" fn lru_insert(
     alloc: Global,
@@ -88,8 +82,6 @@ pub extern "C" fn lru_insert(
     }
 }
 
-/// Inserts a key with a value, as the newest entry. Returns `STORED`, `REJECTED`, `OUT_OF_MEMORY` or `NO_MAP`. The
-/// evicted entry is not reported; `lru_insert` reports it.
 #[unsafe(no_mangle)]
 pub extern "C" fn lru_put(alloc: Global, lru: &mut Lru, key: u64, value: u64) -> u32
     ensures { OnMap (result ≡ 3) (λ old new. (done : Result Bool AllocError) × (result ≡ put_code done)
@@ -105,7 +97,6 @@ pub extern "C" fn lru_put(alloc: Global, lru: &mut Lru, key: u64, value: u64) ->
     }
 }
 
-/// Returns the value of a key, whose entry becomes the newest.
 #[unsafe(no_mangle)]
 pub extern "C" fn lru_get(alloc: Global, lru: &mut Lru, key: u64) -> Found
     ensures { OnMap (result ≡ found_of None) (λ old new. (result ≡ found_of (lookup (nat_eq key) old.pairs))
@@ -121,7 +112,6 @@ pub extern "C" fn lru_get(alloc: Global, lru: &mut Lru, key: u64) -> Found
     }
 }
 
-/// Returns the value of a key.
 #[unsafe(no_mangle)]
 pub extern "C" fn lru_peek(alloc: Global, lru: &mut Lru, key: u64) -> Found
     ensures { OnMap (result ≡ found_of None)
@@ -137,7 +127,6 @@ pub extern "C" fn lru_peek(alloc: Global, lru: &mut Lru, key: u64) -> Found
     }
 }
 
-/// Returns whether the key is in the map, which stays as it is.
 #[unsafe(no_mangle)]
 pub extern "C" fn lru_contains(alloc: Global, lru: &mut Lru, key: u64) -> bool
     ensures { OnMap (result ≡ false)
@@ -153,7 +142,6 @@ pub extern "C" fn lru_contains(alloc: Global, lru: &mut Lru, key: u64) -> bool
     }
 }
 
-/// Makes the entry of a key the newest. Returns whether there is one.
 #[unsafe(no_mangle)]
 pub extern "C" fn lru_promote(alloc: Global, lru: &mut Lru, key: u64) -> bool
     ensures { OnMap (result ≡ false) (λ old new. (result ≡ is_some (lookup (nat_eq key) old.pairs))
@@ -169,7 +157,6 @@ pub extern "C" fn lru_promote(alloc: Global, lru: &mut Lru, key: u64) -> bool
     }
 }
 
-/// Removes the entry of a key, and returns its value.
 #[unsafe(no_mangle)]
 pub extern "C" fn lru_remove(alloc: Global, lru: &mut Lru, key: u64) -> Found
     ensures { OnMap (result ≡ found_of None) (λ old new. (value : Option ℕ) × (result ≡ found_of value)
@@ -185,7 +172,6 @@ pub extern "C" fn lru_remove(alloc: Global, lru: &mut Lru, key: u64) -> Found
     }
 }
 
-/// Removes the oldest entry, and returns it.
 #[unsafe(no_mangle)]
 pub extern "C" fn lru_pop_oldest(alloc: Global, lru: &mut Lru) -> Pair
     ensures { OnMap (result ≡ pair_of None) (λ old new. (pair : Option (ℕ × ℕ)) × (result ≡ pair_of pair)
@@ -201,7 +187,6 @@ pub extern "C" fn lru_pop_oldest(alloc: Global, lru: &mut Lru) -> Pair
     }
 }
 
-/// Returns the oldest entry.
 #[unsafe(no_mangle)]
 pub extern "C" fn lru_peek_oldest(alloc: Global, lru: &mut Lru) -> Pair
     ensures { OnMap (result ≡ pair_of None)
@@ -217,7 +202,6 @@ pub extern "C" fn lru_peek_oldest(alloc: Global, lru: &mut Lru) -> Pair
     }
 }
 
-/// Returns the newest entry.
 #[unsafe(no_mangle)]
 pub extern "C" fn lru_peek_newest(alloc: Global, lru: &mut Lru) -> Pair
     ensures { OnMap (result ≡ pair_of None)
@@ -233,7 +217,6 @@ pub extern "C" fn lru_peek_newest(alloc: Global, lru: &mut Lru) -> Pair
     }
 }
 
-/// Copies the newest entries, newest first, until the slice is full or no entry is left. Returns how many it copied.
 #[unsafe(no_mangle)]
 pub extern "C" fn lru_copy_newest(alloc: Global, lru: &mut Lru, entries: &mut [Entry]) -> usize
     ensures { OnMap ((result ≡ 0) × (entries.new ≡ entries.old))
@@ -250,7 +233,6 @@ pub extern "C" fn lru_copy_newest(alloc: Global, lru: &mut Lru, entries: &mut [E
     }
 }
 
-/// Returns the number of entries, which is at most the maximum length.
 #[unsafe(no_mangle)]
 pub extern "C" fn lru_len(alloc: Global, lru: &mut Lru) -> usize
     ensures { OnMap (result ≡ 0) (λ old new. (result ≡ length old.pairs) × (result ≤ old.limiter) × (new ≡ old))
@@ -266,7 +248,6 @@ pub extern "C" fn lru_len(alloc: Global, lru: &mut Lru) -> usize
     }
 }
 
-/// Returns the maximum length.
 #[unsafe(no_mangle)]
 pub extern "C" fn lru_max_length(alloc: Global, lru: &mut Lru) -> u32
     ensures { OnMap (result ≡ 0) (λ old new. (result ≡ old.limiter) × (new ≡ old)) lru.old.map lru.new.map }
@@ -281,7 +262,6 @@ pub extern "C" fn lru_max_length(alloc: Global, lru: &mut Lru) -> u32
     }
 }
 
-/// Returns the number of entries that the table holds without taking memory.
 #[unsafe(no_mangle)]
 pub extern "C" fn lru_capacity(alloc: Global, lru: &mut Lru) -> usize
     ensures { OnMap (result ≡ 0)
@@ -297,7 +277,6 @@ pub extern "C" fn lru_capacity(alloc: Global, lru: &mut Lru) -> usize
     }
 }
 
-/// Returns the number of bytes of the table.
 #[unsafe(no_mangle)]
 pub extern "C" fn lru_memory_usage(alloc: Global, lru: &mut Lru) -> usize
     ensures { OnMap (result ≡ 0)
@@ -313,7 +292,6 @@ pub extern "C" fn lru_memory_usage(alloc: Global, lru: &mut Lru) -> usize
     }
 }
 
-/// Removes all entries. The map keeps the memory of its table.
 #[unsafe(no_mangle)]
 pub extern "C" fn lru_clear(alloc: Global, lru: &mut Lru)
     ensures { OnMap ⊤ (λ old new. new ≡ cleared length_rules old) lru.old.map lru.new.map }
@@ -324,7 +302,6 @@ pub extern "C" fn lru_clear(alloc: Global, lru: &mut Lru)
     }
 }
 
-/// Makes the table large enough for `additional` more entries. Returns whether it is.
 #[unsafe(no_mangle)]
 pub extern "C" fn lru_reserve(alloc: Global, lru: &mut Lru, additional: usize) -> bool
     ensures { OnMap (result ≡ false) (λ old new. (done : Result (Unit {0}) ReserveError) × (result ≡ is_ok done)
@@ -340,8 +317,6 @@ pub extern "C" fn lru_reserve(alloc: Global, lru: &mut Lru, additional: usize) -
     }
 }
 
-/// Shrinks the table to as few buckets as hold the entries. Returns false, and changes nothing, if it ran out of
-/// memory.
 #[unsafe(no_mangle)]
 pub extern "C" fn lru_shrink(alloc: Global, lru: &mut Lru) -> bool
     ensures { OnMap (result ≡ false) (λ old new. (done : Result Bool AllocError) × (result ≡ is_ok done)
@@ -357,7 +332,6 @@ pub extern "C" fn lru_shrink(alloc: Global, lru: &mut Lru) -> bool
     }
 }
 
-/// Sets the most entries that the map may have, and evicts the oldest entries beyond it.
 #[unsafe(no_mangle)]
 pub extern "C" fn lru_set_max_length(alloc: Global, lru: &mut Lru, max_length: u32)
     ensures { OnMap ⊤ (λ old new. Trims length_rules (record old { limiter = max_length }) new
@@ -369,8 +343,6 @@ pub extern "C" fn lru_set_max_length(alloc: Global, lru: &mut Lru, max_length: u
     }
 }
 
-/// Makes a copy of the map: the same entries in the same order, with the same maximum length, seeds and capacity.
-/// Returns whether it did. A map that the handle of the copy had is dropped.
 #[unsafe(no_mangle)]
 pub extern "C" fn lru_clone(alloc: Global, lru: &mut Lru, copy: &mut Lru) -> bool
     ensures kept { lru.new.map ≡ lru.old.map }

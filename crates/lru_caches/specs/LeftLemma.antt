@@ -4,7 +4,6 @@ use Rattle.std.proofs.Common.{sym, ◌∙◌, ap, subst, unwrap_or, option_map}
 use Rattle.std.proofs.lemmas.Option.{none-some}
 use Rattle.lru_caches.specs.Files.{Event, known, known_after, left, left_after, or_else, IsLeft, synced, unsynced}
 
--- one is the other, if both are there
 abbrev pub Fits : Option (List ℕ) → Option (List ℕ) → Type 0
 Fits kept block = (x : List ℕ) → kept ≡ Some x → block ≡ Some x
 
@@ -44,7 +43,7 @@ module _ (seen : List ℕ → List ℕ) (events : List Event) (n : ℕ) where
       go None e = tt
       go (Some x) e = subst (λ o. IsLeft seen o block) (left_fits events n x e) is
 
-  -- the same of what is seen
+  -- a crash may leave what is known, as it is seen
   pub left_is_seen : (block : List ℕ) → option_map seen (known events n) ≡ Some block
       → IsLeft seen (left events n) block
   left_is_seen block is = go (known events n) refl is

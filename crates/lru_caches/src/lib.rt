@@ -1,10 +1,9 @@
 //! Caches above the verified LRU map.
 //!
 //! [`PageCache`] keeps the blocks of a [`BlockDevice`] that were used last, and writes them back when they are evicted
-//! or flushed. After a flush that returned `Ok`, a crash leaves what it showed. [`FileDevice`] and [`HashedFileDevice`]
-//! are devices over a [`Durable`] file. [`Memo`] stores the newest results of a function, [`Loader`] of
-//! one that may fail, and [`MemoTable`] of one that calls itself. [`OrderedMap`] is a hash map in the order of
-//! insertion.
+//! or flushed. [`FileDevice`] and [`HashedFileDevice`] are devices over a [`Durable`] file. [`Memo`] stores the newest
+//! results of a function, [`Loader`] of one that may fail, and [`MemoTable`] of one that calls itself. [`OrderedMap`]
+//! is a hash map in the order of insertion.
 #![tactic(auto)]
 
 mod device;

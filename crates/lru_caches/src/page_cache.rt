@@ -18,7 +18,7 @@ use thiserror::Error;
 mod pages;
 
 /// Why a call on a page cache failed. A call that fails changes no block that the cache shows, unless a `sync` of the
-/// device failed in it: then later calls return `Broken`, unless they read a cached page.
+/// device failed in it.
 ///
 /// The text contains the text of the device's error, so a `PageError<E>` is `Display` if `E` is.
 ///
@@ -45,8 +45,7 @@ pub enum PageError<E> {
 /// A write-back cache of the blocks of a device.
 ///
 /// It keeps the pages that were used last, up to its capacity. A write changes only the cached page: the page is then
-/// dirty, and goes to the device when it is evicted or flushed. So it shows the cached page at each number, or else the
-/// block of the device.
+/// dirty, and goes to the device when it is evicted or flushed.
 ///
 /// After a `flush` that returned `Ok`, a crash leaves each block as it was shown at that flush or was written later;
 /// `docs/CACHES.md` says what this supposes of a disk. After a `sync` that failed, each call but `discard`, and reads
@@ -88,8 +87,7 @@ impl<B: Copy, D: BlockDevice<B>, S: KeyHasher<u64>> Model for PageCache<B, D, S>
 impl<B: Copy, D: BlockDevice<B>> PageCache<B, D, RandomState> {
     /// Makes an empty cache of a device, for at most `capacity` pages, or for one page if that is 0.
     ///
-    /// Everyone knows the seeds of the default hasher, and can choose block numbers that collide. If strangers choose
-    /// the numbers, call `with_hasher`.
+    /// If strangers choose the block numbers, call `with_hasher`.
     ///
     /// Cost: `O(1)`, and no memory.
     ///

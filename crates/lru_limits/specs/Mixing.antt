@@ -36,7 +36,7 @@ written h bytes =
 abbrev pub closed : Mixer → ℕ
 closed h = h.state
 
--- each word of the seed is joined to a constant of its own, and two of them make one key
+-- each word of the seed is joined to its own constant, and two of them make one key
 abbrev pub seeded : List ℕ → Mixer
 seeded words = record {
   state = bit_xor (slice_index words 0) 0x6a09_e667_f3bc_c908;

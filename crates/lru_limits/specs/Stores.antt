@@ -49,7 +49,6 @@ pub given-is : {S K V : Type 0} (accepts : Bool) (s : S) (k : K) (v : V) (t : S)
 given-is true s k v t p h = ap (λ o. unwrap_or o (k, v)) h.pair
 given-is false s k v t p h = let e = h.pair in cc
 
--- so a test that holds of each key and itself holds of the key that is returned
 pub given-names : {S K V : Type 0} {accepts : Bool} {s t : S} {i k : K} {v w : V} (E : K → K → Bool)
     → ((x : K) → IsTrue (E x x)) → ReturnsPairIf accepts s i v t (Some (k, w)) → IsTrue (E i k)
 given-names {accepts} {s} {t} {i} {k} {v} {w} E reflexive h =
@@ -57,7 +56,7 @@ given-names {accepts} {s} {t} {i} {k} {v} {w} E reflexive h =
 
 -- Below, a limiter accepts or not; if it accepts, s becomes s', and elsewhere it stays s.
 
--- A pair that is returned for storage adds its cost, if s' has that much more than s.
+-- Such a pair adds its cost, if s' has that much more than s.
 pub given-adds : {K V S : Type 0} (cost : K → V → ℕ) (account : S → ℕ) (accepts : Bool) (s s' : S) (i : K) (v : V)
     (t : S) (k : K) (w : V) → account s' ≡ account s + cost i v
     → ReturnsPairIf accepts (if accepts then s' else s) i v t (Some (k, w)) → account t ≡ account s + cost k w
@@ -65,13 +64,12 @@ given-adds cost account true s s' i v t k w more h = ap account h.limiter ∙ mo
     (sym (given-is true s' i v t (k, w) h))
 given-adds cost account false s s' i v t k w more h = let e = h.pair in cc
 
--- A rejected element changes nothing.
 pub refused-keeps : {K V S : Type 0} (account : S → ℕ) (accepts : Bool) (s s' : S) (i : K) (v : V) (t : S)
     → ReturnsPairIf accepts (if accepts then s' else s) i v t None → account t ≡ account s
 refused-keeps account true s s' i v t h = let e = h.pair in cc
 refused-keeps account false s s' i v t h = ap account h.limiter
 
--- A replacement subtracts the cost of the old value, and adds the cost of the value that stays, if s' has that changed.
+-- A replacement exchanges the costs, if s' has that changed.
 pub replaced-exchanges : {K V S : Type 0} (cost : K → V → ℕ) (account : S → ℕ) (accepts : Bool) (s s' : S) (k : K)
     (v w : V) → account s' ≡ account s - cost k v + cost k w
     → cost k v ≤ account s → account (if accepts then s' else s) ≡ account s - cost k v

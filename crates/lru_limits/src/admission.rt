@@ -9,9 +9,8 @@ use std::hash::Hash;
 
 /// Accepts or rejects entries, and stores what it accepts as it came.
 ///
-/// Every such limiter is an [`Insertion`], can be in [`crate::Both`], and permits `try_insert`. The impl defines
-/// `terms`: which entries it accepts, and the limiter after that. For a limiter that never changes, `never_changes` of
-/// `specs/Admissions.antt` defines the terms in one line.
+/// Every such limiter is an [`Insertion`], can be in [`crate::Both`], and permits `try_insert`. For a limiter that
+/// never changes, `never_changes` of `specs/Admissions.antt` makes the terms.
 ///
 /// ```
 /// let mut limiter = ByLength::new(0);

@@ -8,9 +8,9 @@ use std::hash::{BuildHasher, Hash};
 
 /// A value that names at most one key, up to equality, and hashes as that key does.
 ///
-/// It is implemented for every key itself, and for `&str` if the keys are `String`s: `"a".is_key(&key)` returns whether
-/// the key is the text `a`. An impl of your own says by `names` which key it names, computes that test in `is_key`, and
-/// proves two laws. A derived `Hash` of a struct with one field writes what the field writes.
+/// It is implemented for every key itself, and for `&str` if the keys are `String`s. An impl of your own says by
+/// `names` which key it names, computes that test in `is_key`, and proves two laws. A derived `Hash` of a struct with
+/// one field writes what the field writes.
 ///
 /// ```
 /// let key = String::from_str(rt.alloc(), "a")?;

@@ -68,8 +68,7 @@ pub trait Limiter<K, V> {
 ///
 /// `I` is the key itself, or something that names the key and becomes it only if it is stored, as a `&str` that becomes
 /// a `String`. The impl defines `offers`: what may be stored of an offered entry, when an offer may run out of memory,
-/// and what a replacement does. A limiter that stores entries as they come implements [`crate::Admission`], and has this
-/// trait by that.
+/// and what a replacement does. Each [`crate::Admission`] is one.
 ///
 /// ```
 /// let mut limiter = ByCost::new(3);
@@ -119,7 +118,6 @@ pub trait Insertion<K: Eq + Hash, V, I: LookupKey<K>>: Limiter<K, V> {
         ensures new_value { new_value.new ≡
             (offers.on_replace self.old length old_key.old new_key old_value.old new_value.old).new_value };
 
-    /// The offered key names the key of the entry to store, and a replacement leaves the stored key equal to what it
-    /// was.
+    /// The offered key names the key of the stored entry, and a replacement leaves an equal key.
     ghost laws: { IsInsertion I.names K.eq offers };
 }

@@ -6,8 +6,6 @@ mod body;
 #[cfg(test)]
 mod both;
 #[cfg(test)]
-mod bounds;
-#[cfg(test)]
 mod by_text_length;
 #[cfg(test)]
 mod examples;
@@ -17,7 +15,5 @@ mod few;
 mod limiters;
 #[cfg(test)]
 mod removed_keys;
-#[cfg(test)]
-mod spread;
 #[cfg(test)]
 mod two_fields;

@@ -27,7 +27,6 @@ abbrev pub is_above : Option ℕ → ℕ → Bool
 is_above None sum = false
 is_above (Some limit) sum = nat_lt limit sum
 
--- what a contract sees of a cache
 pub record Cache (N K V L S : Type 0) : Type 0 where
   -- the open tenants by their names, in an order that means nothing
   pub tenants : List (N × State K V L S)
@@ -42,7 +41,7 @@ module _ {N K V L S : Type 0} where
   abbrev pub tenant : (N → Bool) → Cache N K V L S → Option (State K V L S)
   tenant named cache = lookup named cache.tenants
 
-  -- the empty map with which a tenant opens, if the limiter is made so, and links reach below max
+  -- the empty map with which a tenant opens, if the limiter is made so, and a link is a number below max
   abbrev pub fresh : (ℕ → L) → ℕ → Cache N K V L S → ℕ → State K V L S
   fresh made max cache budget = empty_map (made budget) cache.hasher cache.entry_bytes max
 
@@ -60,7 +59,6 @@ module _ {N K V L S : Type 0} where
   On eq name Does old answer new =
       (left : Option (State K V L S)) × Does (tenant (eq name) old) answer left × Leaves eq name left old new
 
-  -- `IsTenant` holds of the map of each tenant
   abbrev pub AreTenants : (K → K → Bool) → (K → V → ℕ) → (L → ℕ) → (L → ℕ) → Cache N K V L S → Type 0
   AreTenants eq cost account budget cache = All (IsTenant eq cost account budget) (values_of cache.tenants)
 
@@ -68,7 +66,7 @@ module _ {N K V L S : Type 0} where
   abbrev pub budgets : (L → ℕ) → Cache N K V L S → ℕ
   budgets budget cache = sum_by (λ map. budget map.limiter) (values_of cache.tenants)
 
-  -- the same sum, once the tenant whose name passes the test has this budget
+  -- the sum of the budgets, once the tenant whose name passes the test has this one
   abbrev pub budgets_with : (L → ℕ) → (N → Bool) → ℕ → Cache N K V L S → ℕ
   budgets_with budget named own cache =
       budgets budget cache - unwrap_or (option_map (λ map. budget map.limiter) (tenant named cache)) 0 + own

@@ -18,7 +18,7 @@ module _ {N K V L S : Type 0} where
   CacheRun eq old (did ∷ more) new = (mid : Cache N K V L S) × (did.found ≡ tenant (eq did.name) old)
       × Leaves eq did.name did.left old mid × CacheRun eq mid more new
 
-  -- Each call that names the tenant found what the one before it left. The last one left the new.
+  -- Each call that names the tenant found what the one before it left. The last one left the new state.
   abbrev pub Chain : (N → Bool) → Option (State K V L S) → List (Did N K V L S) → Option (State K V L S) → Type 0
   Chain own old [] new = new ≡ old
   Chain own old (did ∷ more) new = ((own did.name ≡ true) × (did.found ≡ old) × Chain own did.left more new)

@@ -22,7 +22,6 @@ use Rattle.lru_tenants.specs.declared.call.TenantCall.{TenantCall}
 use Rattle.lru_tenants.specs.declared.call.TenantCall.TheVariants as calls
 
 module _ {N K V : Type 0} where
-  -- the tenant that the call names
   abbrev pub named : TenantCall N K V → N
   named (calls.Open name budget) = name
   named (calls.Put name key value) = name
@@ -55,7 +54,7 @@ module _ {K V L S : Type 0} where
   OfOpen does None answer new = (answer ≡ Err NotOpen) × (new ≡ None)
   OfOpen does (Some map) answer new = does map answer new
 
-  -- the same, of a call that never fails then, and leaves the tenant open
+  -- a call that never fails on a tenant that is open, and leaves it open
   abbrev pub IfOpen : {R : Type 0} → (State K V L S → R → State K V L S → Type 0) → Option (State K V L S)
       → Result R TenantError → Option (State K V L S) → Type 0
   IfOpen {R} does = OfOpen (λ map answer new.
@@ -133,7 +132,7 @@ module _ {N K V L S : Type 0} (rules : Rules K V L) (offers : Offers K V L K) (c
   TenantStep (calls.Close name) old answer new = (result : Result ℕ TenantError)
       × OfOpen Closes old result new × (answer ≡ answers.Closed result)
 
-  -- the same, and its cost is within its budget then
+  -- a step after which the tenant's cost is within its budget
   abbrev pub KeptStep : TenantCall N K V → Option (State K V L S) → TenantAnswer V → Option (State K V L S) → Type 0
   KeptStep call old answer new = TenantStep call old answer new × IfSome new (IsTenant eq cost account budget_of)
 

@@ -28,8 +28,7 @@ use totals::is_above;
 
 /// A cache for many tenants, each with a name. Each tenant has a map, limited by its own budget.
 ///
-/// The limiter `L` says what an entry costs: with `ByCost` only its value, with `ByWeight<OVERHEAD>` its key and its
-/// value, and `OVERHEAD` for the entry itself. `S` hashes names and keys. The budgets of all tenants add up to at most
+/// The limiter `L` says what an entry costs. `S` hashes names and keys. The budgets of all tenants add up to at most
 /// the total limit, if `set_total_limit` set one.
 ///
 /// In the examples of the calls, `cache` has one open tenant, 1, with a budget of 3 and the entry (7, 2), unless the
@@ -227,9 +226,9 @@ impl<
 
     /// Inserts a key with a value, as the newest entry of the tenant. Returns whether the key is there afterwards.
     ///
-    /// It is an `insert` into the map of the tenant. `ByCost` and `ByWeight` reject an entry that by itself costs more
-    /// than the budget, or that would take the tenant's total past `u64::MAX`; if the key is there, its entry is
-    /// removed then. Otherwise its oldest entries are evicted until the total is within the budget.
+    /// It is an `insert` into the map of the tenant. The limiter rejects an entry that by itself costs more than the
+    /// budget, or that would take the tenant's total past `u64::MAX`; if the key is there, its entry is removed then.
+    /// Otherwise its oldest entries are evicted until the total is within the budget.
     ///
     /// ```
     /// assert_eq!(rt; cache.put(&1, 8, 1), Ok(true));

@@ -1,4 +1,4 @@
-//! Tests of `lru_trace`: a curve, the report, and memory.
+//! Tests of what no clause of `lru_trace` says.
 #![tactic(auto)]
 
 #[cfg(test)]

@@ -1,6 +1,5 @@
-//! Traces of lines: the progress, the report, a first line without sizes, and a flush that fails.
+//! Traces of lines: the progress, and a flush that fails.
 use lru_trace::{Progress, TraceEnd, TraceError, trace};
-use std::alloc::Global;
 use std::io::{self, ErrorKind, Write};
 use std::test::Fail;
 use test_helpers::check;
@@ -8,7 +7,6 @@ use test_helpers::check;
 #[derive(Drop)]
 struct Output {
     bytes: Vec<u8>,
-    fails: bool,
 }
 
 impl Write for Output {
@@ -17,13 +15,11 @@ impl Write for Output {
     }
 
     fn flush(&mut self) -> io::Result<()> {
-        if self.fails {
-            return Err(io::Error::from(ErrorKind::StorageFull));
-        }
-        Ok(())
+        Err(io::Error::from(ErrorKind::StorageFull))
     }
 }
 
+<<<<<<< HEAD
 fn traced(alloc: Global, mut lines: &[u8], fails: bool) -> (Result<TraceEnd, TraceError>, Vec<u8>) {
     let bytes = Vec::new(alloc);
     let mut output = Output { bytes, fails };
@@ -33,22 +29,20 @@ fn traced(alloc: Global, mut lines: &[u8], fails: bool) -> (Result<TraceEnd, Tra
 }
 
 /// Two keys are a power of two, so the chart ends with their number.
+=======
+>>>>>>> 3c8f294733c8b0d53000cb0b9868966fd142d4e1
 #[test]
-fn of_the_report(rt: HostRuntime) {
-    let (end, report) = traced(rt.alloc(), b"2\na\nb", false);
-    let text =
-        b"references 2 keys 2 malformed 0\nplaces 2 hits 0 misses 2 ratio 1.0000\n           1 |\
-        ##################################################\n           2 |\
-        ##################################################\n";
-    check!(rt; (end, report.as_slice()) == (Ok(TraceEnd::Done), text.as_slice()));
-}
-
-/// A word that is no number, and a flush that fails.
-#[test]
-fn of_other_ends(rt: HostRuntime) {
-    let (end, report) = traced(rt.alloc(), b"1 2 x\na\n", false);
-    check!(rt; (end, report.len()) == (Ok(TraceEnd::NoSizes), 0));
-    let (end, _report) = traced(rt.alloc(), b"1\na\n", true);
+fn of_a_flush_that_fails(rt: HostRuntime) {
+    let mut output = Output {
+        bytes: Vec::new(rt.alloc()),
+    };
+    let mut progress = Progress::new(rt.alloc(), None::<Vec<u8>>);
+    let end = trace(
+        rt.alloc(),
+        &mut b"1\na\n".as_slice(),
+        &mut output,
+        &mut progress,
+    );
     check!(rt; end == Err(TraceError::Write));
 }
 

@@ -14,7 +14,7 @@ abbrev pub lends_pair : (K V N : RattleType) → link_type.Ghosts N.Denot
 lends_pair K V N links t b r = Lends (linked_row K V N links) (pair_row K V) t r
     (λ last. with_pair t.now b (last.key, last.value))
 
--- the same for a table below, whose links are its order
+-- of a table below, whose links are its order
 abbrev pub lends_linked_pair : (K V N : RattleType) → link_type.Ghosts N.Denot
     → MutBor (OrderedTable K.Denot V.Denot) → ℕ → MutBor (Pair K.Denot V.Denot) → Fml
 lends_linked_pair K V N links t b r = Lends (links_row K V N links) (pair_row K V) t r

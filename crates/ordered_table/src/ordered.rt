@@ -28,7 +28,7 @@ pub struct Pair<K, V> {
     pub value: V,
 }
 
-/// A table of buckets, the full ones of which are in an order, newest first. `N` is the type of its links.
+/// A table whose full buckets are in an order, newest first. `N` is the type of its links.
 ///
 /// A contract sees it as its `slots` and the `order` of the full ones, and as the number of its `insertions`. A caller
 /// computes the hashes; the keys fit the table (`KeysFit`) as long as equal keys get the same hash.

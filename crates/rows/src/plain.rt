@@ -11,7 +11,7 @@ pub enum Limit {
     Unlimited,
 }
 
-/// If memory runs out they are not what the calls make of them, and no trial agrees.
+/// Out of memory its pairs are wrong, and no trial agrees.
 #[derive(Drop)]
 pub(crate) struct Plain {
     pub(crate) limit: Limit,

@@ -11,6 +11,8 @@ mod library;
 mod memory;
 mod rattle_std;
 #[cfg(test)]
+mod spread;
+#[cfg(test)]
 mod unseen;
 #[cfg(test)]
 mod worked;

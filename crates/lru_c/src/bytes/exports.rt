@@ -1,4 +1,4 @@
-//! The functions that C calls on a map of byte strings. `bindings/c/lru.h` declares them, without `alloc`.
+//! The functions that C calls on a map of byte strings. `bindings/c/lru.h` documents each, without `alloc`.
 //!
 //! On a handle without a map, `lru_bytes_new` makes a map, and `lru_bytes_clone` drops the map of the copy. Every other
 //! call changes nothing, and returns that there is nothing.
@@ -23,10 +23,6 @@ use std::alloc::Global;
 // A bucket contains two vectors of 24 bytes and two links of 64 bits.
 const ENTRY_BYTES: usize = 64;
 
-/// Makes an empty map whose entries weigh at most `budget` bytes, and whose hasher has these seeds. Returns whether it
-/// did.
-///
-/// A map that the handle had is dropped.
 #[unsafe(no_mangle)]
 pub extern "C" fn lru_bytes_new(
     alloc: Global,
@@ -49,7 +45,6 @@ pub extern "C" fn lru_bytes_new(
     }
 }
 
-/// Drops the map. The handle has none afterwards.
 #[unsafe(no_mangle)]
 pub extern "C" fn lru_bytes_free(alloc: Global, lru: &mut LruBytes)
     ensures { lru.new.map ≡ None }
@@ -57,11 +52,6 @@ pub extern "C" fn lru_bytes_free(alloc: Global, lru: &mut LruBytes)
     drop(lru.take(alloc));
 }
 
-/// Inserts a copy of the value under a copy of the key, as the newest entry, and evicts the oldest entries while the
-/// map is over its budget. Returns a code, as `lru_put` does.
-///
-/// `REJECTED`: the entry by itself weighs more than the budget (tested), and the entry of the key was removed.
-/// `OUT_OF_MEMORY`: nothing has changed.
 #[unsafe(no_mangle)]
 pub extern "C" fn lru_bytes_put(alloc: Global, lru: &mut LruBytes, key: &[u8], value: &[u8]) -> u32
     ensures { OnMap (result ≡ 3) (λ old new. Puts key.now value.now old result new) lru.old.map lru.new.map }
@@ -76,7 +66,6 @@ pub extern "C" fn lru_bytes_put(alloc: Global, lru: &mut LruBytes, key: &[u8], v
     }
 }
 
-/// Copies the value of a key into the buffer, if it fits, and makes its entry the newest. Returns the length.
 #[unsafe(no_mangle)]
 pub extern "C" fn lru_bytes_get(
     alloc: Global,
@@ -98,7 +87,6 @@ pub extern "C" fn lru_bytes_get(
     }
 }
 
-/// Copies the value of a key into the buffer, if it fits. Returns the length.
 #[unsafe(no_mangle)]
 pub extern "C" fn lru_bytes_peek(
     alloc: Global,
@@ -120,7 +108,6 @@ pub extern "C" fn lru_bytes_peek(
     }
 }
 
-/// Returns whether the key is in the map, which stays as it is.
 #[unsafe(no_mangle)]
 pub extern "C" fn lru_bytes_contains(alloc: Global, lru: &mut LruBytes, key: &[u8]) -> bool
     ensures { OnMap (result ≡ false)
@@ -137,7 +124,6 @@ pub extern "C" fn lru_bytes_contains(alloc: Global, lru: &mut LruBytes, key: &[u
     }
 }
 
-/// Removes the entry of a key. Returns whether there was one.
 #[unsafe(no_mangle)]
 pub extern "C" fn lru_bytes_remove(alloc: Global, lru: &mut LruBytes, key: &[u8]) -> bool
     ensures { OnMap (result ≡ false) (λ old new. (value : Option Bytes) × (result ≡ is_some value)
@@ -153,8 +139,6 @@ pub extern "C" fn lru_bytes_remove(alloc: Global, lru: &mut LruBytes, key: &[u8]
     }
 }
 
-/// Copies the key and the value of the oldest entry into the buffers, and removes the entry, if both fit. If one does
-/// not fit, nothing changes.
 #[unsafe(no_mangle)]
 pub extern "C" fn lru_bytes_pop_oldest(
     alloc: Global,
@@ -175,7 +159,6 @@ pub extern "C" fn lru_bytes_pop_oldest(
     }
 }
 
-/// Copies the key and the value of the oldest entry into the buffers, if both fit. Returns their lengths.
 #[unsafe(no_mangle)]
 pub extern "C" fn lru_bytes_peek_oldest(
     alloc: Global,
@@ -197,7 +180,6 @@ pub extern "C" fn lru_bytes_peek_oldest(
     }
 }
 
-/// Copies the entry at this index in the order of use, counted from 0, the newest.
 #[unsafe(no_mangle)]
 pub extern "C" fn lru_bytes_peek_at(
     alloc: Global,
@@ -220,7 +202,6 @@ pub extern "C" fn lru_bytes_peek_at(
     }
 }
 
-/// Returns the number of entries.
 #[unsafe(no_mangle)]
 pub extern "C" fn lru_bytes_len(alloc: Global, lru: &mut LruBytes) -> usize
     ensures { OnMap (result ≡ 0) (λ old new. (result ≡ length old.pairs) × (new ≡ old)) lru.old.map lru.new.map }
@@ -235,7 +216,6 @@ pub extern "C" fn lru_bytes_len(alloc: Global, lru: &mut LruBytes) -> usize
     }
 }
 
-/// Returns what the entries weigh together, by the count that the map keeps.
 #[unsafe(no_mangle)]
 pub extern "C" fn lru_bytes_cost(alloc: Global, lru: &mut LruBytes) -> u64
     ensures { OnMap (result ≡ 0) (λ old new. (result ≡ old.limiter.cost) × (new ≡ old)) lru.old.map lru.new.map }
@@ -250,7 +230,6 @@ pub extern "C" fn lru_bytes_cost(alloc: Global, lru: &mut LruBytes) -> u64
     }
 }
 
-/// Returns the budget.
 #[unsafe(no_mangle)]
 pub extern "C" fn lru_bytes_budget(alloc: Global, lru: &mut LruBytes) -> u64
     ensures { OnMap (result ≡ 0) (λ old new. (result ≡ old.limiter.limit) × (new ≡ old)) lru.old.map lru.new.map }
@@ -265,7 +244,6 @@ pub extern "C" fn lru_bytes_budget(alloc: Global, lru: &mut LruBytes) -> u64
     }
 }
 
-/// Sets the budget, and evicts the oldest entries while the entries together weigh more.
 #[unsafe(no_mangle)]
 pub extern "C" fn lru_bytes_set_budget(alloc: Global, lru: &mut LruBytes, budget: u64)
     ensures { OnMap ⊤ (λ old new.
@@ -279,10 +257,6 @@ pub extern "C" fn lru_bytes_set_budget(alloc: Global, lru: &mut LruBytes, budget
     }
 }
 
-/// Makes a copy of the map: the same entries in the same order, with the same budget, seeds and capacity. Returns
-/// whether it did.
-///
-/// A map that the handle of the copy had is dropped.
 #[unsafe(no_mangle)]
 pub extern "C" fn lru_bytes_clone(alloc: Global, lru: &mut LruBytes, copy: &mut LruBytes) -> bool
     ensures kept { lru.new.map ≡ lru.old.map }
@@ -304,7 +278,6 @@ pub extern "C" fn lru_bytes_clone(alloc: Global, lru: &mut LruBytes, copy: &mut 
     }
 }
 
-/// Removes all entries. The map keeps the memory of its table.
 #[unsafe(no_mangle)]
 pub extern "C" fn lru_bytes_clear(alloc: Global, lru: &mut LruBytes)
     ensures { OnMap ⊤ (λ old new. new ≡ cleared bytes_rules old) lru.old.map lru.new.map }

@@ -2,8 +2,8 @@ use std::fs::File;
 use std::io;
 use std::io::Cursor;
 
-/// A file with a call that is to make its bytes outlast a crash. That it does is a premise of a file device, which
-/// calls it when it syncs, and not again after an error.
+/// A file with a call that is to make its bytes outlast a crash. A file device supposes that it does; it calls it when
+/// it syncs, and not again after an error.
 ///
 /// ```
 /// assert!(rt; Cursor::new([0u8; 4]).make_durable().is_ok());

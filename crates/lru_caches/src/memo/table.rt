@@ -68,8 +68,7 @@ impl<K: Copy + Eq + Hash, V, Q: Question<K, V>, L: Insertion<K, V, K>> MemoTable
 > {
     /// Makes an empty table.
     ///
-    /// Everyone knows the seeds of the default hasher: if strangers choose the keys, call `with_hasher`. Cost: `O(1)`,
-    /// and no memory.
+    /// If strangers choose the keys, call `with_hasher`. Cost: `O(1)`, and no memory.
     ///
     /// ```
     /// let mut squares = MemoTable::new(alloc, ByLength::new(9), Squares);
@@ -92,8 +91,7 @@ impl<K: Copy + Eq + Hash, V, Q: Question<K, V>, L: Insertion<K, V, K>, S: KeyHas
     L,
     S,
 > {
-    /// Makes an empty table as `new` does, with this hasher of keys. `entry_bytes` is as for `LruMap::with_hasher`:
-    /// only a limiter by memory looks at it.
+    /// Makes an empty table as `new` does, with this hasher of keys, and `entry_bytes` as for `LruMap::with_hasher`.
     ///
     /// ```
     /// let seeded = RandomState::with_seeds([5, 6, 7, 8]);

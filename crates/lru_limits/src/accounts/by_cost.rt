@@ -50,7 +50,7 @@ impl ByCost {
 
     /// Returns the same limiter with another limit. The sum stays.
     ///
-    /// `map.set_limiter(map.limiter().with_limit(n))` sets the limit of a map, and evicts what is over it.
+    /// `map.set_limiter(map.limiter().with_limit(n))` sets the limit of a map.
     ///
     /// ```
     /// let lower = limiter.with_limit(1);

@@ -50,8 +50,6 @@ impl<const OVERHEAD: u64> ByWeight<OVERHEAD> {
 
     /// Returns the same limiter with another limit. The sum stays.
     ///
-    /// `map.set_limiter(map.limiter().with_limit(n))` sets the limit of a map, and evicts what is over it.
-    ///
     /// ```
     /// let lower = limiter.with_limit(10);
     /// assert_eq!(rt; (lower.limit(), lower.cost()), (10, 19));

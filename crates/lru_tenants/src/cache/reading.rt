@@ -26,8 +26,7 @@ impl<N: Eq + Hash, K: Eq + Hash, V, L: Budgeted<K, V>, S: KeyHasher<K> + Copy> T
 
     /// Returns a tenant's value of a key, and makes its entry the tenant's newest.
     ///
-    /// `String` keys are looked up by a `&str`, as `cache.get(&1, &"a")`. The value is lent only for reading, so its
-    /// cost stays.
+    /// The value is lent only for reading, so its cost stays.
     ///
     /// ```
     /// assert_eq!(rt; cache.get(&1, &7), Ok(Some(&2)));

@@ -160,7 +160,7 @@ impl<'a, K, V, N: LinkType> Clone for Values<'a, K, V, N> {
 }
 
 impl<K, V, N: LinkType> OrderedTable<K, V, N> {
-    /// Returns an iterator over the keys, newest first. The order stays.
+    /// Returns an iterator over the keys, newest first.
     ///
     /// Cost: `O(1)`, and so is each step of the walk from either end.
     pub fn keys(&self) -> Keys<'_, K, V, N>
@@ -170,7 +170,7 @@ impl<K, V, N: LinkType> OrderedTable<K, V, N> {
         Keys { walk: self.iter() }
     }
 
-    /// Returns an iterator over the values, newest first. The order stays.
+    /// Returns an iterator over the values, newest first.
     ///
     /// Cost: `O(1)`, and so is each step of the walk from either end.
     pub fn values(&self) -> Values<'_, K, V, N>

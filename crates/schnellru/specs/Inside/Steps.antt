@@ -27,8 +27,7 @@ pub record IsRemoved {K V S : Type 0} (rules : Rules K V S) (by : Replaced K V S
   pub growth_left : growth_left_of (marks_of new.slots) ≡ growth_left_of (marks_of old.slots) + growth_left_at (marks_of new.slots) b
   pub notified : limiter ≡ (rules.on_removed by.limiter by.key by.old_value).limiter
 
--- The pair in a bucket was evicted or removed. The limiter was notified, and the pair is returned as the limiter leaves
--- it.
+-- The pair in a bucket was evicted or removed. The limiter was notified, and the pair is returned with its changes.
 pub record IsTakenOut {K V S : Type 0} (rules : Rules K V S) (b : ℕ) (old new : OrderedTable K V) (limiter : S)
     (result : K × V) (after : S) : Type 0 where
   pub pair : K × V

@@ -34,7 +34,7 @@ module _ (K V L S N H : RattleType) (key : HashMembers K.Denot)
   lends_or r = LendsSoOk (map_row K V L S N H key limits links hashed hash) V m r
       (λ n w. Made (lent_or_none r) n w) (λ n. LendsNone (lent_or_none r) n)
 
-  -- the same for a result that is `Ok None` if the key is not there
+  -- what the map ends as, if the result is `Ok None` when the key is not there
   abbrev pub lends_made : Result (Option (MutBor V.Denot)) E → Fml
   lends_made r = follows_so (map_row K V L S N H key limits links hashed hash) V m.ghost_name
       (name_lent r)

@@ -65,12 +65,12 @@ impl<K: Eq + Hash + Drop, V: Drop, L: Limiter<K, V>, S: KeyHasher<K>> LruMap<K, 
 }
 
 impl<K: Eq + Hash, V: Drop, L: Limiter<K, V>, S: KeyHasher<K>> LruMap<K, V, L, S> {
-    /// As `insert`, and passes to the callback the entries that the map loses, with what `on_removed` wrote to them:
-    /// the evicted entries, oldest first, the entry that is removed because its new value is rejected, and an entry
-    /// that `on_insert` returned but the map could not store.
+    /// As `insert`, and passes to the callback, with what `on_removed` wrote to them: the evicted entries, oldest
+    /// first, the entry that is removed because its new value is rejected, and an entry that `on_insert` returned but
+    /// the map could not store.
     ///
     /// Each is passed on once, even if the result is an `Err`; that this is before the limiter is called again is only
-    /// tested. A replaced value is not passed on, but dropped before anything is evicted.
+    /// tested. A replaced value is not passed on.
     ///
     /// ```
     /// let mut left = None;
@@ -194,8 +194,7 @@ impl<K: Eq + Hash, V, L: Limiter<K, V>, S: KeyHasher<K>> LruMap<K, V, L, S> {
 
     /// As `insert_full`, for a key whose hash is known.
     ///
-    /// The hash must be the key's by the map's hasher, as `map.hasher().hash_named(&key)` returns it. The prover checks
-    /// that.
+    /// The hash must be what `map.hasher().hash_named(&key)` returns. The prover checks that.
     ///
     /// ```
     /// let hash = map.hasher().hash_named(&5);

@@ -7,9 +7,8 @@ use crate::rattle_std::prelude::*;
 use crate::erased::group_table::control::{DELETED, EMPTY};
 use crate::rattle_std::simd::prelude::*;
 
-/// Returns the lanes that hold the tag, of the control bytes of sixteen neighbouring buckets.
-///
-/// Bit i of the result is set if and only if byte i is the tag. `docs/TABLE.md` shows a table of masks.
+/// Returns the lanes of the tag in the control bytes of sixteen neighbouring buckets: bit i of the result is set if and
+/// only if byte i is the tag. `docs/TABLE.md` shows masks.
 ///
 /// ```text
 /// let bytes: [u8; 16] = [0, 255, 128, 5, 255, 255, 255, 255, 255, 255, 255, 255, 255, 255, 255, 255];
@@ -22,8 +21,6 @@ pub fn match_tag(bytes: &[u8; 16], tag: u8) -> u16 {
 
 /// Returns the lanes of empty buckets, whose byte is 255.
 ///
-/// Bit i of the result is set if and only if bucket i is empty.
-///
 /// ```text
 /// let bytes: [u8; 16] = [0, 255, 128, 5, 255, 255, 255, 255, 255, 255, 255, 255, 255, 255, 255, 255];
 /// assert_eq!(rt; match_empty(&bytes), 0xfff2);
@@ -34,8 +31,6 @@ pub fn match_empty(bytes: &[u8; 16]) -> u16 {
 }
 
 /// Returns the lanes of free buckets, whose byte has the top bit set: 255 if empty, 128 if deleted.
-///
-/// Bit i of the result is set if and only if bucket i is free.
 ///
 /// ```text
 /// let bytes: [u8; 16] = [0, 255, 128, 5, 255, 255, 255, 255, 255, 255, 255, 255, 255, 255, 255, 255];

@@ -20,13 +20,12 @@ mod relocation;
 
 /// A hash table of numbered buckets, each of which is empty, deleted or full.
 ///
-/// It sees no key and stores no hash: the caller gives the hash, and a search calls the caller's closure with each
-/// entry that may be the one. An entry keeps its bucket until it is taken out, or all entries are moved.
-/// `docs/TABLE.md` explains its rules, which hashbrown's raw table has, too.
+/// It sees no key and stores no hash: the caller gives the hash, and a search calls the caller's closure. An entry
+/// keeps its bucket until it is taken out, or all entries are moved. `docs/TABLE.md` explains the rules.
 ///
-/// A table of B buckets has B + 16 control bytes and B places for entries. Only `with_buckets`, `relocate`, `rehash`
-/// and `clone_with` ask for memory. `get`, `get_mut`, `take` and the figures take O(1). `find`, `place` and `try_place`
-/// take O(1) if the hashes are spread, and at worst O(B). All other calls take O(B).
+/// Only `with_buckets`, `relocate`, `rehash` and `clone_with` ask for memory. `get`, `get_mut`, `take` and the figures
+/// take O(1). `find`, `place` and `try_place` take O(1) if the hashes are spread, and at worst O(B) for B buckets. All
+/// other calls take O(B).
 ///
 /// ```text
 /// let mut table = Table::with_buckets(alloc, 8)?;
@@ -59,8 +58,8 @@ impl<T> Table<T> {
     /// Makes a table of `buckets` empty buckets: none, or a power of two from 4 on, and with 16 more at most
     /// `isize::MAX`.
     ///
-    /// It takes the bytes of a `T` for each bucket for the entries, and then a byte for each bucket and 16 more for the
-    /// control bytes, each in one request. It takes time O(buckets). No buckets take no memory.
+    /// It takes the bytes of a `T` for each bucket, and then `buckets` + 16 control bytes, each in one request. It
+    /// takes time O(buckets). No buckets take no memory.
     ///
     /// # Errors
     ///
@@ -85,8 +84,6 @@ impl<T> Table<T> {
     ///
     /// `f` is called with one entry after another in the order of the search; that it is called with each at most once
     /// is only tested. `None` says that it rejected each entry of that hash.
-    ///
-    /// It reads 16 control bytes at once, usually of one group or two, and an entry for each call.
     #[inline]
     pub fn find<F: FnMut(&T) -> bool>(&self, hash: u64, f: F) -> Option<usize> {
         if self.control.is_empty_at(hash) {
@@ -113,8 +110,7 @@ impl<T> Table<T> {
     /// Takes the entry out of a full bucket.
     ///
     /// The bucket is then empty, which gives growth left back, if every 16 neighbouring buckets around it contain an
-    /// empty one. Otherwise it is deleted, so that no search that went past it ends there. Up to 16 buckets it is
-    /// always empty.
+    /// empty one, as up to 16 buckets they do. Otherwise it is deleted, so that no search that went past it ends there.
     #[inline(always)]
     pub fn take(&mut self, b: usize) -> T {
         full!(self.control.byte(b));
@@ -129,8 +125,8 @@ impl<T> Table<T> {
     /// Puts an entry with this hash into the first free bucket in the order of a search, and returns its number. There
     /// must be growth left, so that each free bucket may take an entry.
     ///
-    /// An empty bucket takes one of the growth left, a deleted one none. It asks for no memory, moves no other entry,
-    /// and reads 16 control bytes at once, usually of one group or two.
+    /// An empty bucket takes one of the growth left, a deleted one none. It asks for no memory, and moves no other
+    /// entry.
     ///
     /// ```text
     /// if table.growth_left() > 0 {

@@ -13,8 +13,8 @@ pub(crate) mod table;
 
 /// A function with its newest results, up to a limit, so that it is not called again at the same key.
 ///
-/// It is proved that each result is right, and that a call is a step of a map: the stored answer becomes the newest, or
-/// the result is inserted (`step` of `answer`).
+/// Each result is right, and each call is a step of a map: the stored answer becomes the newest, or the result is
+/// inserted (`step` of `answer`).
 ///
 /// ```text
 /// let mut squares = Memo::new(alloc, ByLength::new(9), |n: u64| n.wrapping_mul(n));
@@ -29,8 +29,7 @@ pub struct Memo<K: Copy + Eq + Hash, V, F, L: Insertion<K, V, K>, S: KeyHasher<K
 impl<K: Copy + Eq + Hash, V, F: Fn(K) -> V, L: Insertion<K, V, K>> Memo<K, V, F, L, RandomState> {
     /// Makes a memo of a function, with no results yet.
     ///
-    /// Everyone knows the seeds of the default hasher: if strangers choose the keys, call `with_hasher`. Cost: `O(1)`,
-    /// and no memory.
+    /// If strangers choose the keys, call `with_hasher`. Cost: `O(1)`, and no memory.
     ///
     /// ```text
     /// let mut squares = Memo::new(alloc, ByLength::new(9), |n: u64| n.wrapping_mul(n));
@@ -41,8 +40,8 @@ impl<K: Copy + Eq + Hash, V, F: Fn(K) -> V, L: Insertion<K, V, K>> Memo<K, V, F,
 }
 
 impl<K: Copy + Eq + Hash, V, F: Fn(K) -> V, L: Insertion<K, V, K>, S: KeyHasher<K>> Memo<K, V, F, L, S> {
-    /// Makes a memo of a function as `new` does, with this hasher of keys. `entry_bytes` is as for
-    /// `LruMap::with_hasher`: only a limiter by memory looks at it.
+    /// Makes a memo of a function as `new` does, with this hasher of keys, and `entry_bytes` as for
+    /// `LruMap::with_hasher`.
     ///
     /// ```text
     /// let seeded = RandomState::with_seeds([5, 6, 7, 8]);

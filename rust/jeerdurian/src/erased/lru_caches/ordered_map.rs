@@ -85,7 +85,7 @@ impl<K: Eq + Hash, V, S: KeyHasher<K>> OrderedMap<K, V, S> {
 
     /// Returns whether a key is in the map.
     ///
-    /// `String` keys are looked up by a `&str`, as `map.contains_key(&"a")`. Cost: `O(1)` expected.
+    /// Cost: `O(1)` expected.
     ///
     /// ```text
     /// assert!(rt; map.contains_key(&1) && !map.contains_key(&9));

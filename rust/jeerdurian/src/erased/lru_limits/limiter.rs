@@ -60,8 +60,7 @@ pub trait Limiter<K, V> {
 ///
 /// `I` is the key itself, or something that names the key and becomes it only if it is stored, as a `&str` that becomes
 /// a `String`. The impl defines `offers`: what may be stored of an offered entry, when an offer may run out of memory,
-/// and what a replacement does. A limiter that stores entries as they come implements [`crate::Admission`], and has this
-/// trait by that.
+/// and what a replacement does. Each [`crate::Admission`] is one.
 ///
 /// ```text
 /// let mut limiter = ByCost::new(3);

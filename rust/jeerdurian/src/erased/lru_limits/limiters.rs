@@ -22,8 +22,7 @@ pub use storing::Storing;
 pub use unlimited::Unlimited;
 pub use unlimited_compact::UnlimitedCompact;
 
-/// A map has links of 32 bits under `ByLength`, `ByMemoryUsage`, `ByBytes` and `UnlimitedCompact`, and of 64 bits under
-/// `Unlimited`, `ByCost` and `ByWeight`. Under `Storing` it has the links of the limiter inside, and under `Both` the
-/// links of the first limiter. The links of a map under the limiters of this crate, without `ByBytes`, `ByWeight` and
-/// `Both`.
+/// The links of a map have 32 bits under `ByLength`, `ByMemoryUsage`, `ByBytes` and `UnlimitedCompact`, and 64 bits
+/// under `Unlimited`, `ByCost` and `ByWeight`. `Storing` has the links of the limiter inside, and `Both` those of the
+/// first limiter. Proved here: all but those of `ByBytes`, `ByWeight` and `Both`.
 pub fn limiters_fix_their_links<K, V, C: Costed, L: Limiter<K, V>>() {}

@@ -2,8 +2,7 @@
 //! The table of an LRU map: a bucket table whose entries are in an order, newest first.
 //!
 //! [`OrderedTable`] moves a pair to either end of the order, and takes one out of it, in constant time. It knows no
-//! limit and calls no limiter: `LruMap` of `schnellru` adds both, and its counts. [`Walk`] walks the order from both
-//! ends, [`Keys`] and [`Values`] a part of each pair.
+//! limit and calls no limiter: `LruMap` of `schnellru` adds both.
 
 #[allow(unused_imports)]
 use crate::rattle_std::prelude::*;

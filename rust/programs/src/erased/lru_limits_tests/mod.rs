@@ -9,8 +9,6 @@ mod body;
 #[cfg(test)]
 mod both;
 #[cfg(test)]
-mod bounds;
-#[cfg(test)]
 mod by_text_length;
 #[cfg(test)]
 mod examples;
@@ -20,7 +18,5 @@ mod few;
 mod limiters;
 #[cfg(test)]
 mod removed_keys;
-#[cfg(test)]
-mod spread;
 #[cfg(test)]
 mod two_fields;

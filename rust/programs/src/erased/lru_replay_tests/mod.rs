@@ -14,8 +14,6 @@ mod callers;
 #[cfg(test)]
 mod examples;
 #[cfg(test)]
-mod misses;
-#[cfg(test)]
 mod references;
 #[cfg(test)]
 mod refused;

@@ -32,8 +32,7 @@ impl<T> Table<T> {
         self.len
     }
 
-    /// Returns the growth left: how many more entries find an empty bucket for sure. It is the most entries that the
-    /// table may hold, less the buckets that are full or deleted.
+    /// Returns the growth left: how many more entries find an empty bucket for sure.
     #[inline]
     pub fn growth_left(&self) -> usize {
         self.growth_left

@@ -6,8 +6,8 @@ use crate::rattle_std::fs::File;
 use crate::rattle_std::io;
 use crate::rattle_std::io::Cursor;
 
-/// A file with a call that is to make its bytes outlast a crash. That it does is a premise of a file device, which
-/// calls it when it syncs, and not again after an error.
+/// A file with a call that is to make its bytes outlast a crash. A file device supposes that it does; it calls it when
+/// it syncs, and not again after an error.
 ///
 /// ```text
 /// assert!(rt; Cursor::new([0u8; 4]).make_durable().is_ok());

@@ -11,8 +11,8 @@ use crate::rattle_std::hash::Hash;
 /// A memo of a function that may fail, such as a read of a file. It stores the newest values that were loaded, up to a
 /// limit, and no failure.
 ///
-/// It is proved that each value is right, that a failure changes nothing, and that any other call is a step of a map, as
-/// for a `Memo` (`step` of `load`).
+/// Each value is right, a failure changes nothing, and any other call is a step of a map, as for a `Memo` (`step` of
+/// `load`).
 ///
 /// The function may borrow what it reads by `&`.
 ///
@@ -31,8 +31,7 @@ pub struct Loader<K: Copy + Eq + Hash, V: Copy, F, L: Insertion<K, V, K>, S: Key
 impl<K: Copy + Eq + Hash, V: Copy, E, F: Fn(K) -> Result<V, E>, L: Insertion<K, V, K>> Loader<K, V, F, L, RandomState> {
     /// Makes a loader by a function, with no values yet.
     ///
-    /// Everyone knows the seeds of the default hasher: if strangers choose the keys, call `with_hasher`. Cost: `O(1)`,
-    /// and no memory.
+    /// If strangers choose the keys, call `with_hasher`. Cost: `O(1)`, and no memory.
     ///
     /// ```text
     /// let mut blocks = Loader::new(alloc, ByLength::new(9), |n: usize| disk.get(n).copied().ok_or(n));
@@ -45,8 +44,8 @@ impl<K: Copy + Eq + Hash, V: Copy, E, F: Fn(K) -> Result<V, E>, L: Insertion<K, 
 impl<K: Copy + Eq + Hash, V: Copy, E, F: Fn(K) -> Result<V, E>, L: Insertion<K, V, K>, S: KeyHasher<K>>
     Loader<K, V, F, L, S>
 {
-    /// Makes a loader by a function as `new` does, with this hasher of keys. `entry_bytes` is as for
-    /// `LruMap::with_hasher`: only a limiter by memory looks at it.
+    /// Makes a loader by a function as `new` does, with this hasher of keys, and `entry_bytes` as for
+    /// `LruMap::with_hasher`.
     ///
     /// ```text
     /// let seeded = RandomState::with_seeds([5, 6, 7, 8]);

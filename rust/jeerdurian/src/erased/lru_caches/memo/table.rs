@@ -38,8 +38,7 @@ pub struct MemoTable<K: Copy + Eq + Hash, V, Q: Question<K, V>, L: Insertion<K, 
 impl<K: Copy + Eq + Hash, V, Q: Question<K, V>, L: Insertion<K, V, K>> MemoTable<K, V, Q, L, RandomState> {
     /// Makes an empty table.
     ///
-    /// Everyone knows the seeds of the default hasher: if strangers choose the keys, call `with_hasher`. Cost: `O(1)`,
-    /// and no memory.
+    /// If strangers choose the keys, call `with_hasher`. Cost: `O(1)`, and no memory.
     ///
     /// ```text
     /// let mut squares = MemoTable::new(alloc, ByLength::new(9), Squares);
@@ -50,8 +49,7 @@ impl<K: Copy + Eq + Hash, V, Q: Question<K, V>, L: Insertion<K, V, K>> MemoTable
 }
 
 impl<K: Copy + Eq + Hash, V, Q: Question<K, V>, L: Insertion<K, V, K>, S: KeyHasher<K>> MemoTable<K, V, Q, L, S> {
-    /// Makes an empty table as `new` does, with this hasher of keys. `entry_bytes` is as for `LruMap::with_hasher`:
-    /// only a limiter by memory looks at it.
+    /// Makes an empty table as `new` does, with this hasher of keys, and `entry_bytes` as for `LruMap::with_hasher`.
     ///
     /// ```text
     /// let seeded = RandomState::with_seeds([5, 6, 7, 8]);

@@ -9,8 +9,6 @@ use crate::erased::lru_limits::accounts::Summing;
 /// A limiter with a running total that keeps within a budget: a map is over the limit if and only if the total is above
 /// the budget.
 ///
-/// `ByCost` and `ByWeight` are such limiters.
-///
 /// ```text
 /// let mut limiter = <ByCost as Budgeted<u64, u64>>::with_budget(3);
 /// Budgeted::<u64, u64>::set_budget(&mut limiter, 5);

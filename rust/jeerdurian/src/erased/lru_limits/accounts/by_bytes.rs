@@ -11,14 +11,13 @@ use crate::erased::lru_limits::limiter::Limiter;
 /// Limits the bytes of the table and of what the entries own, together: `ByBytes::new(200 << 20)` is 200 MiB. A contract
 /// sees it as its limit, the bytes that the entries own, and the bytes of the table.
 ///
-/// It permits a table if the table fits beside what the entries own, and rejects an entry or a new value whose entry
-/// does not fit beside the table. So after each call of the map `memory_usage` and what the entries own are together at
-/// most the limit (`calls_keep_the_bytes` of `lru_model`), if each value that is written through a reference owns what
-/// it owned before, and no lower limit is set. While the table grows, the old table exists, too: at its peak the map
-/// takes the limit and the bytes of the old table.
+/// It permits a table if the table fits beside what the entries own, and rejects an entry or a new value that does not
+/// fit beside the table. So after each call of the map `memory_usage` and what the entries own are together at most the
+/// limit, under the premises of `calls_keep_the_bytes` of `lru_model`. While the table grows, the old table exists,
+/// too.
 ///
-/// `shrink_to_fit` does not notify the limiter, which counts the larger table until the table grows again.
-/// `map.set_limiter(map.limiter().with_table(map.memory_usage() as u64))` makes it count the smaller one.
+/// `shrink_to_fit` does not notify the limiter. `map.set_limiter(map.limiter().with_table(map.memory_usage() as u64))`
+/// makes it count the smaller table.
 ///
 /// ```text
 /// let mut limiter = ByBytes::new(200);
@@ -49,7 +48,7 @@ impl ByBytes {
 
     /// Returns the same limiter with another limit.
     ///
-    /// `map.set_limiter(map.limiter().with_limit(n))` sets the limit of a map, and evicts what is over it.
+    /// `map.set_limiter(map.limiter().with_limit(n))` sets the limit of a map.
     ///
     /// ```text
     /// assert_eq!(rt; limiter.with_limit(300).limit(), 300);

@@ -14,8 +14,8 @@ use crate::erased::lru_limits::limiter::Limiter;
 /// and a value replaced, if both accept it. If either rejects it, neither changes. Both are notified of each entry that
 /// is evicted or removed: the second gets it with what the first wrote.
 ///
-/// `Both` uses the links of the first limiter. If the first has a running total, so has `Both`: put the limiter by a
-/// cost first. `map.limiter().0` is the first limiter.
+/// `Both` uses the links of the first limiter, and its running total, if it has one: put the limiter by a cost first.
+/// `map.limiter().0` is the first limiter.
 ///
 /// ```text
 /// let mut limiter = Both(ByCost::new(9), ByLength::new(3));

@@ -9,8 +9,8 @@ use crate::erased::lru_limits::limiter::Limiter;
 
 /// Turns a limiter into one that stores each entry as it comes, and accepts every new value of a stored key.
 ///
-/// Implement [`Limiter`] for your own type, and put it into a map as `Storing(limiter)`: `Storing` implements
-/// [`Admission`] for it. `map.limiter().0` is your limiter.
+/// Put your [`Limiter`] into a map as `Storing(limiter)`: it implements [`Admission`]. `map.limiter().0` is your
+/// limiter.
 ///
 /// ```text
 /// let limiter = Storing(ByLength::new(3));

@@ -33,8 +33,7 @@ impl<K: Eq + Hash, V, L: Limiter<K, V>, S: KeyHasher<K>> LruMap<K, V, L, S> {
         Some(self.value_in_mut(b))
     }
 
-    /// Returns the value of an entry that `is_eq` accepts. The order stays. `is_eq` is called as `get_by_hash` calls
-    /// it.
+    /// Returns the value of an entry that `is_eq` accepts, which is called as by `get_by_hash`. The order stays.
     ///
     /// ```text
     /// let hash = RandomState::default().hash_one(&1u64);
@@ -51,7 +50,7 @@ impl<K: Eq + Hash, V, L: Limiter<K, V>, S: KeyHasher<K>> LruMap<K, V, L, S> {
     }
 
     /// Lends the value of an entry that `is_eq` accepts, for writing. The order stays. The limiter is not notified of
-    /// what is written. `is_eq` is called as `get_by_hash` calls it.
+    /// what is written. `is_eq` is called as by `get_by_hash`.
     ///
     /// ```text
     /// let hash = RandomState::default().hash_one(&1u64);

@@ -12,7 +12,7 @@ impl<K: Eq + Hash, V, L: Limiter<K, V>, S: KeyHasher<K>> LruMap<K, V, L, S> {
     /// Lends the value of a key for writing, and makes its entry the newest. `None` says that the key is not there. The
     /// limiter is not notified of what is written.
     ///
-    /// `String` keys are looked up by a `&str`, as `map.get(&"a")`; `docs/LIMITERS.md` shows look-up keys of your own.
+    /// `String` keys are looked up by a `&str`, as `map.get(&"a")`.
     ///
     /// ```text
     /// if let Some(value) = map.get(&1) {

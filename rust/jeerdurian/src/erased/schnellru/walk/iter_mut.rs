@@ -39,7 +39,7 @@ impl<'a, K: Eq + Hash, V, L: Limiter<K, V>, S: KeyHasher<K>> IterMut<'a, K, V, L
         self.end.saturating_sub(self.start)
     }
 
-    /// Lends the newest entry that is left, its value for writing until the next call. `None` says that no entry is
+    /// Lends the newest entry that is left until the next call, with its value for writing. `None` says that none is
     /// left.
     ///
     /// The prover carries no contract on this type of result into a caller's proof; write `len` and `lend_next` there.

@@ -40,7 +40,7 @@ impl BuildHasher for Live<'_> {
 type Map<'a> = LruMap<Live<'a>, Live<'a>, Storing<Live<'a>>, Live<'a>>;
 
 /// Copies a map of seven pairs while this number of clones is allowed. Returns whether the copy takes a clone for each
-/// key, each value, the limiter and the hasher, and whether a copy that is refused one drops what it made.
+/// key, each value, the limiter and the hasher, and whether a copy drops what it made if a clone fails.
 fn is_cloned_once(map: &Map, lives: &Lives, allowed: u64) -> bool {
     lives.clones.set(allowed);
     let is_made = map.try_clone().is_ok();

@@ -155,31 +155,6 @@ fn what_trims_evict_is_dropped() {
     run(HostRuntime).passes();
 }
 
-fn most_values_at_an_eviction<'a>(map: &mut Map<'a>, key: Live<'a>, value: Live<'a>, lives: &'a Lives) -> u64 {
-    let mut most = 0;
-    let inserted = map.insert_with(key, value, &mut |key, value| {
-        if lives.values.get() > most {
-            most = lives.values.get();
-        }
-        drop((key, value));
-    });
-    drop(inserted.is_ok());
-    most
-}
-
-/// A replaced value is dropped before an entry is evicted, and so is not among the values that live at that moment.
-#[test]
-fn a_replaced_value_is_dropped_first() {
-    let run = |rt: HostRuntime| -> () {
-        let lives = Lives::new();
-        let mut map = map_of_lives(rt.alloc(), 3, ANY);
-        let is_filled = fill_with(&mut map, &lives, 3);
-        let most = most_values_at_an_eviction(&mut map, lives.key(2), lives.value(2), &lives);
-        check!(rt; is_filled & (most == 3) & lives.are(2));
-    };
-    run(HostRuntime).passes();
-}
-
 fn ask<'a>(map: &mut Map<'a>, call: u64, hash: u64, value: Live<'a>) {
     if call == 0 {
         drop(map.try_pop_oldest(move |_, other| if *other == value { Ok(()) } else { Err(0u8) }));
