@@ -19,13 +19,14 @@ ratio_text n = decimal (n / 10000) ++ (codes "." ++ (decimal (n / 1000 % 10) ++ 
 
 -- `best`: whether the report says how often the best possible policies miss, too.
 module _ (trace : List (List ℕ)) where
+  -- how many references miss in n places
   abbrev pub missed : ℕ → ℕ
   missed n = misses bytes_eq n [] trace
 
+  -- how many keys there are
   abbrev pub keys : ℕ
   keys = length (recency bytes_eq (past_after [] trace))
 
-<<<<<<< HEAD
   -- how often MIN misses in n places, and MIN with bypass
   abbrev pub best_text : Bool → ℕ → List ℕ
   best_text false n = []
@@ -35,13 +36,10 @@ module _ (trace : List (List ℕ)) where
   -- the line of a size
   abbrev pub size_text : Bool → ℕ → List ℕ
   size_text best n = codes "places " ++ (decimal n ++ (codes " hits " ++ (decimal (length trace - missed n)
-=======
-  abbrev pub size_text : ℕ → List ℕ
-  size_text n = codes "places " ++ (decimal n ++ (codes " hits " ++ (decimal (length trace - missed n)
->>>>>>> 3c8f294733c8b0d53000cb0b9868966fd142d4e1
       ++ (codes " misses " ++ (decimal (missed n) ++ (codes " ratio "
       ++ (ratio_text (part (missed n) (length trace) 10000) ++ (best_text best n ++ codes "\n"))))))))
 
+  -- the bar of a size
   abbrev pub bar_text : ℕ → List ℕ
   bar_text n = replicate (12 - length (decimal n)) 32 ++ (decimal n ++ (codes " |"
       ++ (replicate (part (missed n) (length trace) 50) 35 ++ codes "\n")))
@@ -57,14 +55,9 @@ module _ (trace : List (List ℕ)) where
   head_text malformed = codes "references " ++ (decimal (length trace) ++ (codes " keys " ++ (decimal keys
       ++ (codes " malformed " ++ (decimal malformed ++ codes "\n")))))
 
-<<<<<<< HEAD
   -- the report
   abbrev pub report_text : Bool → List ℕ → ℕ → List ℕ
   report_text best sizes malformed = head_text malformed ++ (flat_map (size_text best) sizes ++ bars_text 64 0)
-=======
-  abbrev pub report_text : List ℕ → ℕ → List ℕ
-  report_text sizes malformed = head_text malformed ++ (flat_map size_text sizes ++ bars_text 64 0)
->>>>>>> 3c8f294733c8b0d53000cb0b9868966fd142d4e1
 
 -- What is written of these lines: nothing unless the first names sizes.
 abbrev pub output : Bool → List (List ℕ) → Option (List ℕ)

@@ -19,18 +19,6 @@ impl Write for Output {
     }
 }
 
-<<<<<<< HEAD
-fn traced(alloc: Global, mut lines: &[u8], fails: bool) -> (Result<TraceEnd, TraceError>, Vec<u8>) {
-    let bytes = Vec::new(alloc);
-    let mut output = Output { bytes, fails };
-    let mut progress = Progress::new(alloc, None::<Vec<u8>>);
-    let end = trace(alloc, false, &mut lines, &mut output, &mut progress);
-    (end, output.bytes)
-}
-
-/// Two keys are a power of two, so the chart ends with their number.
-=======
->>>>>>> 3c8f294733c8b0d53000cb0b9868966fd142d4e1
 #[test]
 fn of_a_flush_that_fails(rt: HostRuntime) {
     let mut output = Output {
@@ -39,6 +27,7 @@ fn of_a_flush_that_fails(rt: HostRuntime) {
     let mut progress = Progress::new(rt.alloc(), None::<Vec<u8>>);
     let end = trace(
         rt.alloc(),
+        false,
         &mut b"1\na\n".as_slice(),
         &mut output,
         &mut progress,
