@@ -13,9 +13,11 @@ pub record Tagged (T : Type 0) : Type 0 where
   pub tag : ℕ
   pub entry : T
 
+-- a bucket with what a full one holds
 abbrev pub Slot : Type 0 → Type 0
 Slot T = Bucket (Tagged T)
 
+-- a bucket without it
 abbrev pub Mark : Type 0
 Mark = Bucket (Unit {0})
 
@@ -36,15 +38,19 @@ module _ {A : Type 0} where
   is_used deleted = true
   is_used (full held) = true
 
+  -- what is in a bucket
   abbrev pub bucket_at : List (Bucket A) → ℕ → Bucket A
   bucket_at buckets b = slice_index_or buckets b empty
 
+  -- the bucket is full
   abbrev pub IsFull : List (Bucket A) → ℕ → Type 0
   IsFull buckets b = IsTrue (is_full (bucket_at buckets b))
 
+  -- the bucket is empty
   abbrev pub IsEmpty : List (Bucket A) → ℕ → Type 0
   IsEmpty buckets b = bucket_at buckets b ≡ empty
 
+  -- how many buckets are full
   abbrev pub entry_count : List (Bucket A) → ℕ
   entry_count buckets = count_by is_full buckets
 
@@ -61,6 +67,7 @@ module _ {A : Type 0} where
 unfoldable pub growth_left : List Mark → ℕ
 growth_left marks = full_capacity (length marks) - count_by is_used marks
 
+-- what a bucket adds to the growth left: one if it is empty
 abbrev pub growth_left_at : List Mark → ℕ → ℕ
 growth_left_at marks b = if is_used (bucket_at marks b) then 0 else 1
 
@@ -70,6 +77,7 @@ module _ {T : Type 0} where
   entry_of deleted = None
   entry_of (full held) = Some held.entry
 
+  -- the entry in a bucket
   abbrev pub entry_at : List (Slot T) → ℕ → Option T
   entry_at slots b = entry_of (bucket_at slots b)
 

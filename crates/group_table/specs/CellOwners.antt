@@ -26,6 +26,7 @@ module _ (R : RattleType) where
   place_lent block o (Some entry) = shared_of R entry block o
   place_lent block o None = nothing
 
+  -- what a `&` to places one behind the other reaches
   abbrev pub places_lent : ℕ → ℕ → List (Option R.Denot) → Lft → Fml
   places_lent block o [] = nothing
   places_lent block o (held ∷ more) = beside (place_lent block o held) (places_lent block (o + type_size R) more)
@@ -34,6 +35,7 @@ module _ (R : RattleType) where
   abbrev pub addressable : List (Option R.Denot) → Fml
   addressable held = flt (length held * type_size R) (2 ^ 63)
 
+  -- all places of a block that begins there
   abbrev pub owns_cells : Ptr → List (Option R.Denot) → Fml
   owns_cells (block_ptr block o) held = fsep (addressable held) (places block o held)
   owns_cells null_ptr held = ffalse

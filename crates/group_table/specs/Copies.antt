@@ -14,9 +14,11 @@ module _ {T F : Type 0} (closure : Shared F (Bor T × Unit {0}) (Result T AllocE
   IsCopyOf (full held) copy = (made : T) × FnReturnsAt closure f held.entry (Ok made)
       × (copy ≡ full (record held { entry = made }))
 
+  -- bucket by bucket
   abbrev pub Copies : List (Slot T) → List (Slot T) → Type 0
   Copies old new = AllZip IsCopyOf old new
 
+  -- a place for an entry, as the fields have it
   abbrev pub IsPlaceCopy : Option T → Option T → Type 0
   IsPlaceCopy None copy = copy ≡ None
   IsPlaceCopy (Some entry) copy = (made : T) × FnReturnsAt closure f entry (Ok made) × (copy ≡ Some made)

@@ -6,15 +6,18 @@ use Rattle.group_table.specs.Bytes.{empty_byte, deleted_byte, IsTag}
 use Rattle.group_table.specs.Bucket.{Slot, Mark, empty, deleted, full, bucket_at, is_used, marks_of}
 
 module _ {T : Type 0} where
+  -- the control byte of a bucket
   abbrev pub byte_of : Slot T → ℕ
   byte_of empty = empty_byte
   byte_of deleted = deleted_byte
   byte_of (full held) = held.tag
 
+  -- a bucket by its control byte and its entry
   abbrev pub slot_of : ℕ → Option T → Slot T
   slot_of byte (Some entry) = full (record { tag = byte; entry = entry })
   slot_of byte None = if nat_eq byte deleted_byte then deleted else empty
 
+  -- the buckets by their control bytes and entries
   abbrev pub slots_of : List ℕ → List (Option T) → List (Slot T)
   slots_of bytes [] = []
   slots_of [] (entry ∷ entries) = []

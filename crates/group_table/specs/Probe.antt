@@ -2,9 +2,11 @@
 use Rattle.std.specs.Prelude.{◌≡◌, ◌≢◌, ℕ, ◌+◌, ◌*◌, ◌/◌, ◌%◌, ◌^◌, ◌<◌, Bool, false, List, length, IsTrue}
 use Rattle.group_table.specs.Bucket.{Slot, Mark, empty, full, bucket_at, is_full}
 
+-- the top 7 bits of a hash
 abbrev pub hash_tag : ℕ → ℕ
 hash_tag hash = hash / 2 ^ 57
 
+-- a bucket that is filled by an entry of this hash: it has the tag of the hash
 abbrev pub filled : {T : Type 0} → ℕ → T → Slot T
 filled hash entry = full (record { tag = hash_tag hash; entry = entry })
 
@@ -13,6 +15,7 @@ filled hash entry = full (record { tag = hash_tag hash; entry = entry })
 abbrev pub probed : ℕ → ℕ → ℕ → ℕ
 probed buckets hash step = (hash + 8 * (step / 16) * (step / 16 + 1) + step % 16) % buckets
 
+-- the first bucket in an order that is not full
 pub record IsFirst (full_at : ℕ → Bool) (order : ℕ → ℕ) (b : ℕ) : Type 0 where
   pub step : ℕ
   pub there : order step ≡ b
@@ -20,6 +23,7 @@ pub record IsFirst (full_at : ℕ → Bool) (order : ℕ → ℕ) (b : ℕ) : Ty
   pub full_before : (before : ℕ) → before < step → IsTrue (full_at (order before))
 
 module _ (marks : List Mark) (hash : ℕ) where
+  -- what is in the bucket that a search visits at a step
   abbrev pub mark_probed : ℕ → Mark
   mark_probed step = bucket_at marks (probed (length marks) hash step)
 
@@ -29,5 +33,6 @@ module _ (marks : List Mark) (hash : ℕ) where
     pub there : probed (length marks) hash step ≡ b
     pub goes_on : (before : ℕ) → before / 16 < step / 16 → mark_probed before ≢ empty
 
+  -- the first bucket in the order of a search that is empty or deleted
   abbrev pub IsFirstFree : ℕ → Type 0
   IsFirstFree = IsFirst (λ b. is_full (bucket_at marks b)) (probed (length marks) hash)

@@ -6,6 +6,7 @@ use Rattle.group_table.specs.Bucket.{Slot, entry_at, entry_count, IsFull}
 use Rattle.group_table.specs.Fits.{Fits}
 
 module _ {N : Type 0} (number : N → ℕ) (none : N) where
+  -- the number of the bucket that the entry of an old one moved to, by these links
   abbrev pub moved_to : List N → ℕ → ℕ
   moved_to links b = number (slice_index_or links b none)
 
@@ -32,6 +33,7 @@ module _ {T N : Type 0} (number : N → ℕ) (none : N) where
     pub one_each : length links ≡ length old
     pub moves : Moves number none (entry_at old) new links
 
+  -- without entries there is nothing to renumber
   abbrev pub Renumbers : List (Slot T) → List (Slot T) → List N → Type 0
   Renumbers old new links = ((entry_count old ≡ 0) × (links ≡ [])) ⊎ IsRenumbering old new links
 

@@ -13,6 +13,7 @@ abbrev pub tagged : {T : Type 0} → List (Slot T) → ℕ → (ℕ → ℕ) →
 tagged slots tag order steps = filter (λ b. has_tag tag (bucket_at slots b)) (map order (range_with_len 0 steps))
 
 module _ {T : Type 0} (slots : List (Slot T)) (hash : ℕ) where
+  -- the buckets with the tag of the hash, among the buckets of the first steps of a search
   abbrev pub candidates : ℕ → List ℕ
   candidates steps = tagged slots (hash_tag hash) (probed (length slots) hash) steps
 

@@ -6,6 +6,7 @@ use Rattle.std.specs.Prelude.{Some, None}
 abbrev pub IsPowerFromFour : ℕ → Type 0
 IsPowerFromFour buckets = (k : ℕ) × (buckets ≡ 4 * 2 ^ k)
 
+-- none, or a power of two from 4 on
 abbrev pub IsBucketCount : ℕ → Type 0
 IsBucketCount buckets = (buckets ≡ 0) ⊎ IsPowerFromFour buckets
 
@@ -22,6 +23,7 @@ first_power_from (suc tries) n power = if nat_le n power then power else first_p
 unfoldable pub least_power : ℕ → ℕ
 least_power n = first_power_from 64 n 1
 
+-- n, if it is below the limit
 abbrev pub below : ℕ → ℕ → Option ℕ
 below limit n = if nat_lt n limit then Some n else None
 

@@ -13,6 +13,7 @@ pub record Table (T : Type 0) : Type 0 where
   pub slots : List (Slot T)
   pub insertions : Insertions
 
+-- the table after a write through `get_mut(b)`
 abbrev pub with_entry : {T : Type 0} → Table T → ℕ → T → Table T
 with_entry t b entry = record t { slots = slice_set t.slots b (refilled (bucket_at t.slots b) entry) }
 

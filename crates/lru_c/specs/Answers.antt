@@ -37,6 +37,7 @@ filled [] slots = slots
 filled (pair ∷ pairs) [] = []
 filled (pair ∷ pairs) (slot ∷ slots) = record { key = pair.0; value = pair.1 } ∷ filled pairs slots
 
+-- how many pairs fit into the slots
 abbrev pub fitting : List (ℕ × ℕ) → List Entry → ℕ
 fitting [] slots = 0
 fitting (pair ∷ pairs) [] = 0
@@ -47,6 +48,7 @@ abbrev pub noting_other : ℕ → Option (ℕ × ℕ) → ℕ × ℕ → Option 
 noting_other key None pair = if nat_eq key pair.0 then None else Some pair
 noting_other key (Some noted) pair = Some noted
 
+-- the first pair of another key
 abbrev pub first_other : ℕ → List (ℕ × ℕ) → Option (ℕ × ℕ)
 first_other key [] = None
 first_other key (pair ∷ pairs) = if nat_eq key pair.0 then first_other key pairs else Some pair

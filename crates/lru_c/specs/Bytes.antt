@@ -57,6 +57,7 @@ hash_of_bytes = hash_by input_of_bytes random_builds.ghosts default_hashes.ghost
 abbrev pub weight : ℕ → ℕ → ℕ
 weight key value = pair_cost 64 key value
 
+-- what the limiter says
 abbrev pub bytes_rules : Rules Bytes Bytes Budget
 bytes_rules = by_weight (λ k v. weight (vec_len k) (vec_len v))
 
@@ -80,6 +81,7 @@ answer_of (Some value) = record { len = length value.items; found = true }
 abbrev pub Reads : Option Bytes → Value → List ℕ → List ℕ → Type 0
 Reads value answer buffer left = (answer ≡ answer_of value) × (left ≡ poured_from value buffer)
 
+-- no entry
 abbrev pub no_entry : Popped
 no_entry = record { key_len = 0; value_len = 0; found = false; removed = false }
 
@@ -99,6 +101,7 @@ Shows (Some pair) answer key key_left value value_left = (answer ≡ lengths_of 
     × (key_left ≡ (if fits pair key value then poured pair.0.items key else key))
     × (value_left ≡ (if fits pair key value then poured pair.1.items value else value))
 
+-- the bytes of each key and each value
 abbrev pub texts : List (Bytes × Bytes) → List (List ℕ × List ℕ)
 texts pairs = map (λ pair. (pair.0.items, pair.1.items)) pairs
 
@@ -119,6 +122,7 @@ pub data Pops (old : BytesMap) (answer : Popped) (key key_left value value_left 
       answer ≡ lengths_of pair true → key_left ≡ poured pair.0.items key → value_left ≡ poured pair.1.items value →
       PopOldest bytes_rules old (Some pair) new → Pops old answer key key_left value value_left new
 
+-- a key with these bytes is there
 abbrev pub has_bytes : List ℕ → BytesMap → Bool
 has_bytes key map = is_some (lookup (names_bytes key) map.pairs)
 

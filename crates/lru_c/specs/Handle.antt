@@ -25,9 +25,11 @@ use Rattle.schnellru.specs.contracts.map.LruMap as lru_map
 abbrev pub Map : Type 0
 Map = State ℕ ℕ ℕ Mixer
 
+-- it has at most as many entries as its maximum length
 abbrev pub IsWithinLength : Map → Type 0
 IsWithinLength map = length map.pairs ≤ map.limiter
 
+-- the hash of a key
 abbrev pub hash_of : Mixer → ℕ → ℕ
 hash_of = hash_by u64_hash.ghosts.hash_input random_builds.ghosts default_hashes.ghosts
 
@@ -37,6 +39,7 @@ map_row = lru_map.the_row u64 u64 by_length.the_row random_state.the_row u32 def
     u64_hash.ghosts (length_limits.ghosts u64 u64) u32_link.ghosts
     (record { hash_of = hash_of }) random_builds.ghosts default_hashes.ghosts
 
+-- the type `Option<LruMap<u64, u64>>`
 abbrev pub maybe_row : RattleType
 maybe_row = option.the_row map_row
 

@@ -66,6 +66,7 @@ abbrev pub IsLeft : (List ℕ → List ℕ) → Option (List ℕ) → List ℕ �
 IsLeft seen None block = Unit {0}
 IsLeft seen (Some only) block = block ≡ seen only
 
+-- how many of the calls failed
 abbrev pub failures_after : ℕ → ℕ → ℕ
 failures_after zero old = suc old
 failures_after (suc zero) old = old

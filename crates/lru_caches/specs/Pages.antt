@@ -9,21 +9,26 @@ use Rattle.lru_caches.specs.declared.page_cache.pages.Page.{Page}
 use Rattle.lru_caches.specs.declared.page_cache.PageError.{PageError}
 use Rattle.lru_caches.specs.declared.page_cache.PageError.TheVariants.{Device, Memory, NoBlock, Broken}
 
+-- what a contract sees of a cache
 pub record Cached (B D : Type 0) : Type 0 where
   -- the cached pages by their numbers, newest first: each has a block, and is dirty or clean
   pub pages : List (ℕ × Page B)
+  -- how many pages there may be
   pub capacity : ℕ
   pub device : D
 
 module _ {B : Type 0} where
+  -- there is a page, and it is dirty
   abbrev pub is_dirty : Option (Page B) → Bool
   is_dirty None = false
   is_dirty (Some page) = page.is_dirty
 
+  -- the same pages, all of them clean
   abbrev pub cleaned : List (ℕ × Page B) → List (ℕ × Page B)
   cleaned pages = map (λ p. (p.0, record { block = p.1.block; is_dirty = false })) pages
 
 module _ {B D : Type 0} where
+  -- the cache has a page of this number
   abbrev pub IsCached : ℕ → Cached B D → Type 0
   IsCached n cache = IsTrue (is_some (lookup (nat_eq n) cache.pages))
 
@@ -81,15 +86,18 @@ module _ {B D E S : Type 0} (d : device.Ghosts D B E S) where
     pub usable : d.is_usable new ≡ d.is_usable old
     pub honest : d.IsHonest new → d.IsHonest old
 
+  -- the device failed in the call
   abbrev pub IsFault : D → D → PageError E → Type 0
   IsFault old new (Device e) = d.faults new ≢ d.faults old
   IsFault old new Memory = ⊥
   IsFault old new NoBlock = ⊥
   IsFault old new Broken = ⊥
 
+  -- why a flush fails
   abbrev pub IsFlushCause : D → D → PageError E → Type 0
   IsFlushCause old new e = IsFault old new e ⊎ ((e ≡ Broken) × (d.is_usable old ≡ false))
 
+  -- why a call on page n fails
   abbrev pub IsCause : ℕ → D → D → PageError E → Type 0
   IsCause n old new e = IsFault old new e ⊎ ((e ≡ Broken) × (d.is_usable old ≡ false))
       ⊎ ((e ≡ NoBlock) × (d.has old n ≡ false)) ⊎ (e ≡ Memory)

@@ -13,6 +13,7 @@ pub record IsBudgeted {K V S : Type 0} (rules : Rules K V S) (offers : Offers K 
     (accepts : S → K → V → Bool) (made : ℕ → S) (rebudgeted : ℕ → S → S) : Type 0 where
   -- a map is over the limit if and only if the running total is above the budget
   pub over : (s : S) (n : ℕ) → rules.is_over_the_limit s n ≡ nat_lt (budget s) (account s)
+  -- no callback changes the budget
   pub offered : (s : S) (n : ℕ) (k : K) (v : V) (t : S) (given : Option (K × V)) → offers.on_insert s n k v t given
       → budget t ≡ budget s
   pub replaced : (s : S) (n : ℕ) (k i : K) (v w : V) → budget (offers.on_replace s n k i v w).limiter ≡ budget s

@@ -23,9 +23,11 @@ length_offers = offers_of length_terms
 abbrev pub memory_rules : {K V : Type 0} → Rules K V ℕ
 memory_rules = plain (λ _ _. false) (λ most bytes. nat_le bytes most)
 
+-- nothing is over the limit, and any growth is permitted
 abbrev pub no_rules : {K V S : Type 0} → Rules K V S
 no_rules = plain (λ _ _. false) (λ _ _. true)
 
+-- pairs are stored as they come
 abbrev pub all_terms : {K V S : Type 0} → Terms K V S
 all_terms = never_changes (λ _ _ _. true)
 

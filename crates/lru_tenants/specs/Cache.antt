@@ -27,6 +27,7 @@ abbrev pub is_above : Option ℕ → ℕ → Bool
 is_above None sum = false
 is_above (Some limit) sum = nat_lt limit sum
 
+-- what a contract sees of a cache
 pub record Cache (N K V L S : Type 0) : Type 0 where
   -- the open tenants by their names, in an order that means nothing
   pub tenants : List (N × State K V L S)
@@ -59,6 +60,7 @@ module _ {N K V L S : Type 0} where
   On eq name Does old answer new =
       (left : Option (State K V L S)) × Does (tenant (eq name) old) answer left × Leaves eq name left old new
 
+  -- `IsTenant` holds of the map of each tenant
   abbrev pub AreTenants : (K → K → Bool) → (K → V → ℕ) → (L → ℕ) → (L → ℕ) → Cache N K V L S → Type 0
   AreTenants eq cost account budget cache = All (IsTenant eq cost account budget) (values_of cache.tenants)
 

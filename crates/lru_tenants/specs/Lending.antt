@@ -12,6 +12,7 @@ use Rattle.lru_tenants.specs.Cache.{Cache}
 use Rattle.lru_tenants.specs.contracts.cache.TenantCache.{the_row}
 use mathlib.Core.Option.{none}
 
+-- what `L.Budgeted` gives a clause
 abbrev pub BudgetMembers : Type 0 → Type 0 → Type 0 → Type 0
 BudgetMembers K V L = record {
   rules : Rules K V L;

@@ -22,6 +22,7 @@ use Rattle.lru_tenants.specs.declared.call.TenantCall.{TenantCall}
 use Rattle.lru_tenants.specs.declared.call.TenantCall.TheVariants as calls
 
 module _ {N K V : Type 0} where
+  -- the tenant that the call names
   abbrev pub named : TenantCall N K V → N
   named (calls.Open name budget) = name
   named (calls.Put name key value) = name

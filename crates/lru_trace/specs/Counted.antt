@@ -18,6 +18,7 @@ pub record Counted : Type 0 where
   -- the number of the key of each reference, if the curve keeps them
   pub kept : Option (List ℕ)
 
+-- the number of a key
 abbrev pub number_in : List (String Global × ℕ) → List ℕ → Option ℕ
 number_in names key = lookup (λ name. bytes_eq key (string_bytes name)) names
 

@@ -17,6 +17,7 @@ abbrev pub lines_of : List ℕ → List (List ℕ)
 lines_of [] = []
 lines_of (b ∷ bytes) = if b == 10 then [] ∷ lines_of bytes else onto_first b (lines_of bytes)
 
+-- a line and its line feed
 abbrev pub fed : List ℕ → List ℕ
 fed line = line ++ 10 ∷ []
 
@@ -50,5 +51,6 @@ is_key line = nat_lt 0 (length line) && (nat_le (length line) 64 && is_utf8 line
 abbrev pub trace_of : List (List ℕ) → List (List ℕ)
 trace_of lines = filter is_key lines
 
+-- how many of the lines spell no key
 abbrev pub malformed_in : List (List ℕ) → ℕ
 malformed_in lines = length (filter (λ line. not (is_key line)) lines)

@@ -40,6 +40,7 @@ pub record NoSizesRead (from to : Option (List ℕ)) (best : Bool) : Type 0 wher
   pub one : length (lines_of input) ≤ 1
   pub none : output best (lines_of input) ≡ None
 
+-- some bytes were read
 abbrev pub SomeRead : Option (List ℕ) → Option (List ℕ) → Type 0
 SomeRead from to = (part : List ℕ) × Consumes from to part
 
@@ -66,6 +67,7 @@ Ends best from to old new (Err errors.Read) = SomeRead from to × Keeps old new
 Ends best from to old new (Err errors.Memory) = SomeRead from to × Keeps old new
 Ends best from to old new (Err errors.Write) = Reported from to best (Begins old new)
 
+-- the exit status of each end
 abbrev pub status_of : Result TraceEnd TraceError → ℕ
 status_of (Ok ends.Done) = 0
 status_of (Ok ends.NoSizes) = 1

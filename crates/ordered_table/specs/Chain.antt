@@ -19,6 +19,7 @@ abbrev pub pair_slots : {K V N : Type 0} → List (Slot (Entry K V N)) → List 
 pair_slots slots = map pair_slot slots
 
 module _ {N : Type 0} (link : ℕ → N) (none : N) where
+  -- the link to a bucket, or to none
   abbrev pub link_to : Option ℕ → N
   link_to None = none
   link_to (Some b) = link b
@@ -109,15 +110,19 @@ module _ {K V N : Type 0} (number : N → ℕ) (link : ℕ → N) (none : N) whe
     pub same : length slots ≡ length before
     pub others : (c : ℕ) → c ≢ b → bucket_at slots c ≡ bucket_at before c
 
+  -- the links of a chain keep this order
   abbrev pub KeepsOrder : Chain K V N → List ℕ → Type 0
   KeepsOrder chain = IsChain chain.table.slots chain.newest chain.oldest
 
+  -- a bucket with these links is about to be taken out of a chain with this order
   abbrev pub HasGap : Chain K V N → List ℕ → ℕ → N → N → Type 0
   HasGap chain = IsGap chain.table.slots chain.newest chain.oldest
 
+  -- the links keep an order of some buckets, and this one is among them
   abbrev pub InChain : Chain K V N → ℕ → Type 0
   InChain chain b = (order : List ℕ) × KeepsOrder chain order × Contains order b
 
+  -- the links keep an order of some buckets, and this one is not among them
   abbrev pub OutOfChain : Chain K V N → ℕ → Type 0
   OutOfChain chain b = (order : List ℕ) × KeepsOrder chain order × (Contains order b → ⊥)
 

@@ -18,6 +18,7 @@ pub record OrderedTable (K V : Type 0) : Type 0 where
   -- how many insertions the table has made
   pub insertions : Insertions
 
+-- the buckets without this one
 abbrev pub without_bucket : ℕ → List ℕ → List ℕ
 without_bucket b order = filter (λ c. not (nat_eq c b)) order
 
@@ -26,26 +27,32 @@ abbrev pub in_front : Option ℕ → List ℕ → List ℕ
 in_front None order = order
 in_front (Some b) order = b ∷ without_bucket b order
 
+-- the bucket after this one in the order, if there is one
 abbrev pub bucket_after : ℕ → List ℕ → Option ℕ
 bucket_after b [] = None
 bucket_after b (c ∷ cs) = if nat_eq c b then first cs else bucket_after b cs
 
+-- the bucket before this one in the order, if there is one
 abbrev pub bucket_before : ℕ → List ℕ → Option ℕ
 bucket_before b [] = None
 bucket_before b (c ∷ []) = None
 bucket_before b (c ∷ d ∷ ds) = if nat_eq d b then Some c else bucket_before b (d ∷ ds)
 
+-- the entries of these buckets
 abbrev pub entries_in : {T : Type 0} → List (Slot T) → List ℕ → List T
 entries_in slots [] = []
 entries_in slots (b ∷ bs) = option_to_list (entry_at slots b) ++ entries_in slots bs
 
 module _ {K V : Type 0} where
+  -- the pairs, newest first
   abbrev pub pairs_of : OrderedTable K V → List (K × V)
   pairs_of t = entries_in t.slots t.order
 
+  -- the table with another pair in a full bucket
   abbrev pub with_pair : OrderedTable K V → ℕ → K × V → OrderedTable K V
   with_pair t b pair = record t { slots = slice_set t.slots b (refilled (bucket_at t.slots b) pair) }
 
+  -- the hash of the key in a bucket
   abbrev pub hash_in : (K → ℕ) → List (Slot (K × V)) → ℕ → ℕ
   hash_in hash_of slots b = unwrap_or (option_map (λ pair. hash_of pair.0) (entry_at slots b)) 0
 

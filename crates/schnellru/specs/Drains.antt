@@ -6,6 +6,7 @@ use Rattle.lru_model.specs.State.{State}
 use Rattle.schnellru.specs.declared.walk.drain.Drain.{Drain}
 
 module _ {K V L S N H : Type 0} where
+  -- the map that a drain takes from, as it is now
   abbrev pub drain_map : Drain K V L S N H → State K V L S
   drain_map d = d.map.now
 
@@ -13,6 +14,7 @@ module _ {K V L S N H : Type 0} where
   abbrev pub drain_lender : Drain K V L S N H → GName
   drain_lender d = d.map.ghost_name
 
+  -- how many pairs are left
   abbrev pub drain_left : Drain K V L S N H → Count
   drain_left d = at_most (length (drain_map d).pairs)
 

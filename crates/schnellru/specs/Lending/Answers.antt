@@ -17,17 +17,21 @@ module _ {V E : Type 0} where
   is_kept (Ok o) = Ok (is_some o)
   is_kept (Err e) = Err e
 
+  -- a value is lent
   abbrev pub IsLent : Result (Option (MutBor V)) E → Type 0
   IsLent r = is_kept r ≡ Ok true
 
+  -- no value is lent
   abbrev pub NoneLent : Result (Option (MutBor V)) E → Type 0
   NoneLent r = is_kept r ≡ Ok true → ⊥
 
+  -- the value that is lent, if one is
   abbrev pub value_lent : Result (Option (MutBor V)) E → Option V
   value_lent (Ok (Some x)) = Some x.now
   value_lent (Ok None) = None
   value_lent (Err e) = None
 
+  -- the ghost name of the reference that is lent, if one is
   abbrev pub name_lent : Result (Option (MutBor V)) E → maybe.Option GName
   name_lent (Ok (Some x)) = maybe.some x.ghost_name
   name_lent (Ok None) = maybe.none

@@ -1,17 +1,15 @@
 // Erased from crates/lru_trace_tests/src/lines.rt: do not edit.
-//! Traces of lines: the progress, the report, a first line without sizes, and a flush that fails.
+//! Traces of lines: the progress, and a flush that fails.
 #[allow(unused_imports)]
 use crate::rattle_std::prelude::*;
 
 use crate::erased::lru_trace::{Progress, TraceEnd, TraceError, trace};
 use crate::programs::test_helpers::check;
-use crate::rattle_std::alloc::Global;
 use crate::rattle_std::io::{self, ErrorKind, Write};
 use crate::rattle_std::test::Fail;
 
 struct Output {
     bytes: Vec<u8>,
-    fails: bool,
 }
 
 impl Write for Output {
@@ -20,41 +18,16 @@ impl Write for Output {
     }
 
     fn flush(&mut self) -> io::Result<()> {
-        if self.fails {
-            return Err(io::Error::from(ErrorKind::StorageFull));
-        }
-        Ok(())
+        Err(io::Error::from(ErrorKind::StorageFull))
     }
 }
 
-fn traced(alloc: Global, mut lines: &[u8], fails: bool) -> (Result<TraceEnd, TraceError>, Vec<u8>) {
-    let bytes = Vec::new(alloc);
-    let mut output = Output { bytes, fails };
-    let mut progress = Progress::new(alloc, None::<Vec<u8>>);
-    let end = trace(alloc, false, &mut lines, &mut output, &mut progress);
-    (end, output.bytes)
-}
-
-/// Two keys are a power of two, so the chart ends with their number.
 #[test]
-fn of_the_report() {
+fn of_a_flush_that_fails() {
     let run = |rt: HostRuntime| -> () {
-        let (end, report) = traced(rt.alloc(), b"2\na\nb", false);
-        let text = b"references 2 keys 2 malformed 0\nplaces 2 hits 0 misses 2 ratio 1.0000\n           1 |\
-        ##################################################\n           2 |\
-        ##################################################\n";
-        check!(rt; (end, report.as_slice()) == (Ok(TraceEnd::Done), text.as_slice()));
-    };
-    run(HostRuntime).passes();
-}
-
-/// A word that is no number, and a flush that fails.
-#[test]
-fn of_other_ends() {
-    let run = |rt: HostRuntime| -> () {
-        let (end, report) = traced(rt.alloc(), b"1 2 x\na\n", false);
-        check!(rt; (end, report.len()) == (Ok(TraceEnd::NoSizes), 0));
-        let (end, _report) = traced(rt.alloc(), b"1\na\n", true);
+        let mut output = Output { bytes: Vec::new(rt.alloc()) };
+        let mut progress = Progress::new(rt.alloc(), None::<Vec<u8>>);
+        let end = trace(rt.alloc(), false, &mut b"1\na\n".as_slice(), &mut output, &mut progress);
         check!(rt; end == Err(TraceError::Write));
     };
     run(HostRuntime).passes();
