@@ -27,7 +27,6 @@ module _ (trace : List (List ℕ)) where
   abbrev pub keys : ℕ
   keys = length (recency bytes_eq (past_after [] trace))
 
-<<<<<<< HEAD
   -- how often MIN misses in n places, and MIN with bypass
   abbrev pub best_text : Bool → ℕ → List ℕ
   best_text false n = []
@@ -40,14 +39,6 @@ module _ (trace : List (List ℕ)) where
       ++ (codes " misses " ++ (decimal (missed n) ++ (codes " ratio "
       ++ (ratio_text (part (missed n) (length trace) 10000) ++ (best_text best n ++ codes "\n"))))))))
 
-=======
-  -- the line of a size
-  abbrev pub size_text : ℕ → List ℕ
-  size_text n = codes "places " ++ (decimal n ++ (codes " hits " ++ (decimal (length trace - missed n)
-      ++ (codes " misses " ++ (decimal (missed n) ++ (codes " ratio "
-      ++ (ratio_text (part (missed n) (length trace) 10000) ++ codes "\n")))))))
-
->>>>>>> 8a3a3fe2ba1f55bd31e08d52c9e0ebc5994c8bf0
   -- the bar of a size
   abbrev pub bar_text : ℕ → List ℕ
   bar_text n = replicate (12 - length (decimal n)) 32 ++ (decimal n ++ (codes " |"
@@ -65,13 +56,8 @@ module _ (trace : List (List ℕ)) where
       ++ (codes " malformed " ++ (decimal malformed ++ codes "\n")))))
 
   -- the report
-<<<<<<< HEAD
   abbrev pub report_text : Bool → List ℕ → ℕ → List ℕ
   report_text best sizes malformed = head_text malformed ++ (flat_map (size_text best) sizes ++ bars_text 64 0)
-=======
-  abbrev pub report_text : List ℕ → ℕ → List ℕ
-  report_text sizes malformed = head_text malformed ++ (flat_map size_text sizes ++ bars_text 64 0)
->>>>>>> 8a3a3fe2ba1f55bd31e08d52c9e0ebc5994c8bf0
 
 -- What is written of these lines: nothing unless the first names sizes.
 abbrev pub output : Bool → List (List ℕ) → Option (List ℕ)
