@@ -1,9 +1,10 @@
-"""Writes the files of `cases`: traces, and the reports that `trace` must print, counted by a plain list for each size.
+"""Writes `stdout` and the files of `cases`: traces, and the reports that `trace` must print, counted by a plain list for each size.
 
-`rt try --cases cases` and the tests of rust/programs run them."""
+NAME.args has the argument of a case. `rt try --cases cases` and the tests of rust/programs run them."""
 import pathlib
 
-FOLDER = pathlib.Path(__file__).resolve().parent / "cases"
+HERE = pathlib.Path(__file__).resolve().parent
+FOLDER = HERE / "cases"
 CASES = {
     "empty": b"",
     "no_sizes": b"1 2 x\na\n",
@@ -23,6 +24,8 @@ CASES = {
     "empty_lines": b"1\n\n\na\n\n",
     "steps": b"1 2 4 8\n" + b"".join(b"%d\n" % (i * i % 17) for i in range(200)),
 }
+
+BEST = ["one_key_often", "all_different", "cycle", "limits", "no_text", "steps"]
 
 
 def text(line):
@@ -46,7 +49,26 @@ def misses(keys, places):
     return count
 
 
-def report(trace):
+def best_misses(keys, places, bypass):
+    """Counts the misses of MIN in a plain list, or those of MIN with bypass: it evicts the key that comes last again."""
+    def comes(key, after):
+        return keys.index(key, after) if key in keys[after:] else len(keys)
+
+    cache, count = [], 0
+    for now, key in enumerate(keys):
+        if key in cache:
+            cache.remove(key)
+        else:
+            count += 1
+        while len(cache) >= max(places, 1) and not bypass:
+            cache.remove(max(cache, key=lambda it: comes(it, now + 1)))
+        cache.append(key)
+        while len(cache) > places:
+            cache.remove(max(cache, key=lambda it: comes(it, now + 1)))
+    return count
+
+
+def report(trace, best=False):
     """Returns the report, or nothing if the first line names no sizes."""
     lines = trace.split(b"\n")
     if lines[-1] == b"":
@@ -60,7 +82,10 @@ def report(trace):
     for places in map(int, words):
         missed = misses(keys, places)
         ratio = missed * 10000 // n if n else 0
-        out += f"places {places} hits {n - missed} misses {missed} ratio {ratio // 10000}.{ratio % 10000:04}\n"
+        out += f"places {places} hits {n - missed} misses {missed} ratio {ratio // 10000}.{ratio % 10000:04}"
+        if best:
+            out += f" min {best_misses(keys, places, False)} bypass {best_misses(keys, places, True)}"
+        out += "\n"
     places = 1
     while True:
         missed = misses(keys, places)
@@ -73,3 +98,8 @@ def report(trace):
 for name, trace in CASES.items():
     (FOLDER / name).write_bytes(trace)
     (FOLDER / f"{name}.stdout").write_bytes(report(trace))
+for name in BEST:
+    (FOLDER / f"{name}_best").write_bytes(CASES[name])
+    (FOLDER / f"{name}_best.args").write_text("--best\n")
+    (FOLDER / f"{name}_best.stdout").write_bytes(report(CASES[name], True))
+(HERE / "stdout").write_bytes(report((HERE / "stdin").read_bytes(), True))

@@ -1,7 +1,7 @@
 -- Keys in the order of their next references.
 use Rattle.std.proofs.Common.{◌≡◌, ℕ, zero, suc, ◌+◌, ◌≤◌, ◌<◌, min, Bool, true, false, cond, List, [], ◌∷◌, take}
 use Rattle.std.proofs.Common.{refl, sym, ap, ◌∙◌, subst, arith, inl, inr, ◌⊎◌}
-use Rattle.std.proofs.lemmas.Bool.{lt-ltb, le-ltb, le-leb, lt-leb, cases_lt}
+use Rattle.std.proofs.lemmas.Bool.{lt-ltb, le-ltb, le-leb, lt-leb, cases_lt, or_parts}
 use Rattle.std.specs.Cmp.{IsEquivalence}
 use Rattle.std.specs.Prelude.{◌||◌, nat_lt, nat_le}
 use Rattle.std.specs.Set.{remove_key}
@@ -29,21 +29,17 @@ module _ {K : Type 0} (eq : K → K → Bool) where
   due d trace (key ∷ keys) = soon d trace key + due d trace keys
 
 module _ {K : Type 0} {eq : K → K → Bool} (laws : IsEquivalence eq) where
-  until_next : (key x : K) (trace : List K) → eq key x ≡ false → until eq x (key ∷ trace) ≡ suc (until eq x trace)
+  pub until_next : (key x : K) (trace : List K) → eq key x ≡ false → until eq x (key ∷ trace) ≡ suc (until eq x trace)
   until_next key x trace other = ap (λ b. cond b 0 (suc (until eq x trace))) (laws.symm x key ∙ other)
 
-  until_now : (key x : K) (trace : List K) → eq key x ≡ true → until eq x (key ∷ trace) ≡ 0
+  pub until_now : (key x : K) (trace : List K) → eq key x ≡ true → until eq x (key ∷ trace) ≡ 0
   until_now key x trace same = ap (λ b. cond b 0 (suc (until eq x trace))) (laws.symm x key ∙ same)
-
-  or_false : (b d : Bool) → (b || d) ≡ false → (b ≡ false) × (d ≡ false)
-  or_false true d e = absurd cc
-  or_false false d e = (refl, e)
 
   later_next : (key x : K) (trace xs : List K) → eq key x ≡ false → is_in eq key xs ≡ false
       → Later eq (key ∷ trace) x xs → Later eq trace x xs
   later_next key x trace [] apart none l = tt
   later_next key x trace (y ∷ ys) apart none l =
-      let parts = or_false (eq key y) (is_in eq key ys) none in (
+      let parts = or_parts (eq key y) (is_in eq key ys) none in (
         omega (arith, l.0, until_next key x trace apart, until_next key y trace parts.0),
         l.1,
         later_next key x trace ys apart parts.1 l.2,
@@ -53,7 +49,7 @@ module _ {K : Type 0} {eq : K → K → Bool} (laws : IsEquivalence eq) where
       → Ordered eq trace xs
   ordered_next key trace [] none o = tt
   ordered_next key trace (x ∷ xs) none o =
-      let parts = or_false (eq key x) (is_in eq key xs) none in
+      let parts = or_parts (eq key x) (is_in eq key xs) none in
       (later_next key x trace xs parts.0 parts.1 o.0, ordered_next key trace xs parts.1 o.1)
 
   soon_next : (d : ℕ) (key x : K) (trace : List K) → eq key x ≡ false
@@ -69,10 +65,10 @@ module _ {K : Type 0} {eq : K → K → Bool} (laws : IsEquivalence eq) where
       → due eq (suc d) (key ∷ trace) xs ≡ due eq d trace xs
   due_next d key trace [] none = refl
   due_next d key trace (x ∷ xs) none =
-      let parts = or_false (eq key x) (is_in eq key xs) none in
+      let parts = or_parts (eq key x) (is_in eq key xs) none in
       omega (arith, soon_next d key x trace parts.0, due_next d key trace xs parts.1)
 
-  none_now : (key x : K) (trace xs : List K) → eq key x ≡ false → Later eq (key ∷ trace) x xs → is_in eq key xs ≡ false
+  pub none_now : (key x : K) (trace xs : List K) → eq key x ≡ false → Later eq (key ∷ trace) x xs → is_in eq key xs ≡ false
   none_now key x trace [] apart l = refl
   none_now key x trace (y ∷ ys) apart l = go (eq key y) refl (none_now key x trace ys apart l.2)
     where
@@ -80,15 +76,15 @@ module _ {K : Type 0} {eq : K → K → Bool} (laws : IsEquivalence eq) where
       go true same ih = absurd (omega (arith, l.0, until_next key x trace apart, until_now key y trace same))
       go false other ih = ih
 
-  others_differ : (key x : K) (trace xs : List K) → eq key x ≡ true → Later eq trace x xs → is_in eq key xs ≡ false
+  pub others_differ : (key x : K) (trace xs : List K) → eq key x ≡ true → Later eq trace x xs → is_in eq key xs ≡ false
   others_differ key x trace [] same l = refl
   others_differ key x trace (y ∷ ys) same l =
       rw (laws.congr key x y same ∙ l.1, others_differ key x trace ys same l.2) refl
 
-  without_absent : (key : K) (xs : List K) → is_in eq key xs ≡ false → remove_key (eq key) xs ≡ xs
+  pub without_absent : (key : K) (xs : List K) → is_in eq key xs ≡ false → remove_key (eq key) xs ≡ xs
   without_absent key [] none = refl
   without_absent key (x ∷ xs) none =
-      let parts = or_false (eq key x) (is_in eq key xs) none in
+      let parts = or_parts (eq key x) (is_in eq key xs) none in
       rw (parts.0) (ap (λ ys. x ∷ ys) (without_absent key xs parts.1))
 
   -- What is left of the keys without the key that is referenced.
@@ -147,14 +143,14 @@ module _ {K : Type 0} {eq : K → K → Bool} (laws : IsEquivalence eq) where
       → is_in eq key xs ≡ false → Later eq trace x xs → Later eq trace key xs
   later_all trace key x [] before none l = tt
   later_all trace key x (y ∷ ys) before none l =
-      let parts = or_false (eq key y) (is_in eq key ys) none in
+      let parts = or_parts (eq key y) (is_in eq key ys) none in
       (omega (arith, before, l.0), parts.0, later_all trace key x ys before parts.1 l.2)
 
   pub ordered_put : (trace : List K) (key : K) (xs : List K) → is_in eq key xs ≡ false → Ordered eq trace xs
       → Ordered eq trace (put eq trace key xs)
   ordered_put trace key [] none o = (tt, tt)
   ordered_put trace key (x ∷ xs) none o =
-      let parts = or_false (eq key x) (is_in eq key xs) none in
+      let parts = or_parts (eq key x) (is_in eq key xs) none in
       go (cases_lt (until eq x trace) (until eq key trace)) parts.0 parts.1 (ordered_put trace key xs parts.1 o.1)
     where
       go : (until eq x trace < until eq key trace) ⊎ (until eq key trace ≤ until eq x trace) → eq key x ≡ false
@@ -177,7 +173,7 @@ module _ {K : Type 0} {eq : K → K → Bool} (laws : IsEquivalence eq) where
       go true ih = refl
       go false ih = omega (arith, ih)
 
-  later_take : (n : ℕ) (trace : List K) (x : K) (xs : List K) → Later eq trace x xs → Later eq trace x (take n xs)
+  pub later_take : (n : ℕ) (trace : List K) (x : K) (xs : List K) → Later eq trace x xs → Later eq trace x (take n xs)
   later_take zero trace x xs l = tt
   later_take (suc n) trace x [] l = tt
   later_take (suc n) trace x (y ∷ ys) l = (l.0, l.1, later_take n trace x ys l.2)
@@ -191,7 +187,7 @@ module _ {K : Type 0} {eq : K → K → Bool} (laws : IsEquivalence eq) where
   absent_take zero key xs none = refl
   absent_take (suc n) key [] none = refl
   absent_take (suc n) key (x ∷ xs) none =
-      let parts = or_false (eq key x) (is_in eq key xs) none in
+      let parts = or_parts (eq key x) (is_in eq key xs) none in
       rw (parts.0) (absent_take n key xs parts.1)
 
   pub due_zero : (trace xs : List K) → due eq 0 trace xs ≡ 0

@@ -1,7 +1,9 @@
 -- What one reference changes of a curve.
 use Rattle.std.proofs.Common.{◌≡◌, ℕ, zero, suc, ◌+◌, ◌≤◌, ◌<◌, Bool, true, false, cond, List, [], ◌∷◌, length}
 use Rattle.std.proofs.Common.{take, map, ◌++◌}
-use Rattle.std.proofs.Common.{set, sum, get_or, Some, None, refl, sym, ap, ◌∙◌, arith}
+use Rattle.std.specs.Option.{option_map}
+use Rattle.std.specs.Prelude.{Option, IfSome, is_some, Vec}
+use Rattle.std.proofs.Common.{set, sum, get_or, Some, None, refl, sym, subst, ap, ◌∙◌, arith}
 use Rattle.std.specs.Prelude.{not, ◌||◌, nat_eq, nat_le, String}
 use Rattle.std.specs.Global.{Global}
 use Rattle.std.specs.Prelude.{Result, Ok, Err, OnOk, OnErr}
@@ -66,6 +68,33 @@ sum_counted xs d h =
     let small : cond {A = ℕ} (nat_le (length xs) d) 0 1 ≡ 1 = rw (lt-leb (length xs) d h) refl in
     omega (arith, ap sum left, ap sum right, all, small)
 
+pub none_kept : {Z : Type 0} (kept : Option (Vec ℕ Z)) → IfSome kept (λ v. v.items ≡ [])
+    → IfSome (option_map (λ v. v.items) kept) (λ ns. ns ≡ [])
+none_kept None none = tt
+none_kept (Some v) none = none
+
+-- the map before a reference was kept
+pub kept_still : (past : List (List ℕ)) (old new : Counted) → new ≡ record old { kept = new.kept } → IsOf past old
+    → IsOf past (record new { kept = old.kept })
+kept_still past old new rest of = subst (λ v. IsOf past (record v { kept = old.kept })) (sym rest) of
+
+module _ (before : Option (List ℕ)) (number : ℕ) (kept : Option (List ℕ)) where
+  pub kept_some : kept ≡ option_map (λ ns. ns ++ number ∷ []) before → is_some kept ≡ is_some before
+  kept_some is = ap is_some is ∙ go before
+    where
+      go : (o : Option (List ℕ)) → is_some (option_map (λ ns. ns ++ number ∷ []) o) ≡ is_some o
+      go None = refl
+      go (Some ns) = refl
+
+  pub forgotten : (new : Option (List ℕ)) → kept ≡ option_map (λ ns. ns ++ number ∷ []) before
+      → ((ns : List ℕ) (n : ℕ) → kept ≡ Some (ns ++ n ∷ []) → new ≡ Some ns) → (kept ≡ None → new ≡ None)
+      → new ≡ before
+  forgotten new is some none = go before is
+    where
+      go : (o : Option (List ℕ)) → kept ≡ option_map (λ ns. ns ++ number ∷ []) o → new ≡ o
+      go None e = none e
+      go (Some ns) e = some ns number e
+
 module _ {trace : List (List ℕ)} {v : Counted} (of : IsOf trace v) where
   pub of_names : (names : List (String Global × ℕ))
       → ((x : List ℕ) (n : ℕ) → number_in v.names x ≡ Some n → number_in names x ≡ Some n)
@@ -76,6 +105,7 @@ module _ {trace : List (List ℕ)} {v : Counted} (of : IsOf trace v) where
     order = of.order;
     hits = of.hits;
     all = of.all;
+    kept = of.kept;
   }
 
   pub of_counts : (counts : List ℕ) → ((n : ℕ) → sum (take n counts) ≡ sum (take n v.counts))
@@ -86,6 +116,7 @@ module _ {trace : List (List ℕ)} {v : Counted} (of : IsOf trace v) where
     order = of.order;
     hits = λ n. ap (λ m. misses nat_eq n [] of.numbers + m) (same n) ∙ of.hits n;
     all = of.all;
+    kept = of.kept;
   }
 
   module _ (key : List ℕ) (number : ℕ) (is : number_in v.names key ≡ Some number) where
@@ -109,13 +140,20 @@ module _ {trace : List (List ℕ)} {v : Counted} (of : IsOf trace v) where
     longer : length (trace ++ key ∷ []) ≡ length trace + 1
     longer = omega (arith, length-append trace (key ∷ []))
 
+    kept_more : (before kept : Option (List ℕ)) → kept ≡ option_map (λ ns. ns ++ number ∷ []) before
+        → IfSome before (λ ns. ns ≡ of.numbers) → IfSome kept (λ ns. ns ≡ of.numbers ++ number ∷ [])
+    kept_more None kept is e = rw is tt
+    kept_more (Some ns) kept is e = rw is (ap (λ them. them ++ number ∷ []) e)
+
     pub of_found : (d : ℕ) → position number v.recency ≡ Some d → d < length v.counts
+        → (kept : Option (List ℕ)) → kept ≡ option_map (λ ns. ns ++ number ∷ []) v.kept
         → IsOf (trace ++ key ∷ []) (record v {
           recency = number ∷ remove_key (nat_eq number) v.recency;
           counts = set v.counts d (get_or v.counts d 0 + 1);
           references = v.references + 1;
+          kept = kept;
         })
-    of_found d at_place within =
+    of_found d at_place within kept is =
         let there = position_some number d v.recency at_place in
         let inside = sym is_in_trace ∙ there.0 in
         let far : distance nat_eq number past ≡ d =
@@ -131,6 +169,7 @@ module _ {trace : List (List ℕ)} {v : Counted} (of : IsOf trace v) where
               ∙ (λ i. misses nat_eq n [] of.numbers + cond (not (inside i) || nat_le n (far i)) 1 0) in
               omega (arith, more, of.hits n, counted d n v.counts within, split (nat_le n d));
           all = omega (arith, of.all, longer);
+          kept = kept_more v.kept kept is of.kept;
         }
       where
         split : (b : Bool) → cond {A = ℕ} b 1 0 + cond {A = ℕ} b 0 1 ≡ 1
@@ -138,11 +177,13 @@ module _ {trace : List (List ℕ)} {v : Counted} (of : IsOf trace v) where
         split false = omega arith
 
     pub of_first : position number v.recency ≡ None
+        → (kept : Option (List ℕ)) → kept ≡ option_map (λ ns. ns ++ number ∷ []) v.kept
         → IsOf (trace ++ key ∷ []) (record v {
           recency = number ∷ remove_key (nat_eq number) v.recency;
           references = v.references + 1;
+          kept = kept;
         })
-    of_first at_place =
+    of_first at_place kept is =
         let outside = sym is_in_trace ∙ position_none number v.recency at_place in
         record {
           numbers = of.numbers ++ number ∷ [];
@@ -155,6 +196,7 @@ module _ {trace : List (List ℕ)} {v : Counted} (of : IsOf trace v) where
               + cond (not (outside i) || nat_le n (distance nat_eq number past)) 1 0) in
               omega (arith, more, of.hits n);
           all = omega (arith, of.all, longer);
+          kept = kept_more v.kept kept is of.kept;
         }
 
 pub on_ok : {A E P Q : Type 0} (r : Result A E) → (P → Q) → OnOk r P → OnOk r Q

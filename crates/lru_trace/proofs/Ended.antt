@@ -1,5 +1,6 @@
 -- The first line and the others together, and what is written then.
-use Rattle.std.proofs.Common.{◌≡◌, ℕ, List, [], ◌∷◌, ◌++◌, Option, Some, None, refl, sym, ap, ◌∙◌}
+use Rattle.std.proofs.Common.{◌≡◌, ℕ, List, [], ◌∷◌, ◌++◌, Bool, Option, Some, None, refl, sym, ap, ◌∙◌}
+use Rattle.std.specs.Prelude.{is_some}
 use Rattle.std.proofs.Common.{subst, arith}
 use Rattle.std.specs.Io.KnownBytes.{Consumes, Appends, Keeps}
 use Rattle.std.proofs.KnownBytes.{Consumes-trans, Appends-kept}
@@ -14,27 +15,27 @@ use Rattle.lru_trace.specs.declared.lines.Ending.{Ending}
 use Rattle.lru_trace.specs.declared.lines.Ending.TheVariants as endings
 use Rattle.lru_trace.proofs.ReadLines.{lines_of-fed, lines_of-last, ended_before}
 
-output_of : (lines : List (List ℕ)) (first : List ℕ) (others : List (List ℕ)) (named : Option (List ℕ))
+output_of : (best : Bool) (lines : List (List ℕ)) (first : List ℕ) (others : List (List ℕ)) (named : Option (List ℕ))
     → lines ≡ first ∷ others → sizes_from [] None first ≡ named
-    → output lines ≡ option_map (λ sizes. report_text (trace_of others) sizes (malformed_in others)) named
-output_of lines first others named is are =
-    ap output is ∙ ap (option_map (λ sizes. report_text (trace_of others) sizes (malformed_in others))) are
+    → output best lines ≡ option_map (λ sizes. report_text (trace_of others) best sizes (malformed_in others)) named
+output_of best lines first others named is are =
+    ap (output best) is ∙ ap (option_map (λ sizes. report_text (trace_of others) best sizes (malformed_in others))) are
 
-module _ (from mid : Option (List ℕ)) (first : List ℕ) where
+module _ (from mid : Option (List ℕ)) (best : Bool) (first : List ℕ) where
   fed_alone : TakesLine from mid endings.Feed first → lines_of (fed first) ≡ first ∷ []
   fed_alone taken = ap lines_of (sym (append-nil (fed first))) ∙ lines_of-fed first [] taken.0
 
   none_named : (input : List ℕ) → Consumes from mid input → lines_of input ≡ first ∷ [] → None ≡ sizes_from [] None first
-      → NoSizesRead from mid
+      → NoSizesRead from mid best
   none_named input reads is none = record {
     input = input;
     reads = reads;
     one = rw is (omega arith);
-    none = output_of (lines_of input) first [] None is (sym none);
+    none = output_of best (lines_of input) first [] None is (sym none);
   }
 
   pub no_sizes : (ending : Ending) → TakesLine from mid ending first → None ≡ sizes_from [] None first
-      → NoSizesRead from mid
+      → NoSizesRead from mid best
   no_sizes endings.Feed taken none = none_named (fed first) taken.1 (fed_alone taken) none
   no_sizes endings.InputEnd (taken, some) none =
       none_named first taken.1 (lines_of-last first taken.0 some) none
@@ -47,11 +48,11 @@ module _ (from mid : Option (List ℕ)) (first : List ℕ) where
 
   pub only_sizes : (ending : Ending) (sizes : List ℕ) (curve : Counted) → (ending ≡ endings.Feed → ⊥)
       → TakesLine from mid ending first → Some sizes ≡ sizes_from [] None first → IsOf [] curve
-      → TraceRead from mid sizes curve 0
-  only_sizes endings.Feed sizes curve other taken named of = absurd (other refl)
-  only_sizes endings.Nothing sizes curve other (taken, nothing) named of =
+      → is_some curve.kept ≡ best → TraceRead from mid best sizes curve 0
+  only_sizes endings.Feed sizes curve other taken named of keeps = absurd (other refl)
+  only_sizes endings.Nothing sizes curve other (taken, nothing) named of keeps =
       let e : Some sizes ≡ None = named ∙ ap (sizes_from [] None) nothing in absurd cc
-  only_sizes endings.InputEnd sizes curve other (taken, some) named of = record {
+  only_sizes endings.InputEnd sizes curve other (taken, some) named of keeps = record {
     input = first;
     first = first;
     others = [];
@@ -60,13 +61,14 @@ module _ (from mid : Option (List ℕ)) (first : List ℕ) where
     lines = lines_of-last first taken.0 some;
     named = sym named;
     curve_of = of;
+    keeps = keeps;
     count = refl;
   }
 
   pub with_keys : (to : Option (List ℕ)) (sizes : List ℕ) (curve : Counted) (malformed : ℕ)
       → TakesLine from mid endings.Feed first → Some sizes ≡ sizes_from [] None first
-      → KeysRead mid to curve malformed → TraceRead from to sizes curve malformed
-  with_keys to sizes curve malformed taken named keys = record {
+      → KeysRead mid to curve malformed → is_some curve.kept ≡ best → TraceRead from to best sizes curve malformed
+  with_keys to sizes curve malformed taken named keys keeps = record {
     input = fed first ++ keys.input;
     first = first;
     others = lines_of keys.input;
@@ -75,25 +77,28 @@ module _ (from mid : Option (List ℕ)) (first : List ℕ) where
     lines = lines_of-fed first keys.input taken.0;
     named = sym named;
     curve_of = keys.curve_of;
+    keeps = keeps;
     count = keys.others;
   }
 
-module _ {from to : Option (List ℕ)} {sizes : List ℕ} {curve : Counted} {malformed : ℕ}
-    (read : TraceRead from to sizes curve malformed) (report : List ℕ)
-    (is : (trace : List (List ℕ)) → IsOf trace curve → report ≡ report_text trace sizes malformed) where
-  pub reported : (IsWritten : List ℕ → Type 0) → IsWritten report → Reported from to IsWritten
+module _ {from to : Option (List ℕ)} {best : Bool} {sizes : List ℕ} {curve : Counted} {malformed : ℕ}
+    (read : TraceRead from to best sizes curve malformed) (report : List ℕ)
+    (is : (trace : List (List ℕ)) → IsOf trace curve
+    → report ≡ report_text trace (is_some curve.kept) sizes malformed) where
+  pub reported : (IsWritten : List ℕ → Type 0) → IsWritten report → Reported from to best IsWritten
   reported IsWritten written = record {
     input = read.input;
     text = report;
     reads = read.reads;
     at_end = read.at_end;
-    determined = output_of (lines_of read.input) read.first read.others (Some sizes) read.lines read.named
-        ∙ ap Some (ap (report_text (trace_of read.others) sizes) (sym read.count)
+    determined = output_of best (lines_of read.input) read.first read.others (Some sizes) read.lines read.named
+        ∙ ap Some (ap (report_text (trace_of read.others) best sizes) (sym read.count)
+        ∙ ap (λ b. report_text (trace_of read.others) b sizes malformed) (sym read.keeps)
         ∙ sym (is (trace_of read.others) read.curve_of));
     written = written;
   }
 
   pub all_begun : (old mid new : Option (List ℕ)) → Appends old mid report → Keeps mid new
-      → Reported from to (Begins old new)
+      → Reported from to best (Begins old new)
   all_begun old mid new written kept =
       reported (Begins old new) (report, [], sym (append-nil report), Appends-kept old mid new report written kept)

@@ -6,3 +6,4 @@ pub mod ReadLines
 pub mod Bars
 pub mod Ended
 pub mod Written
+pub mod Times

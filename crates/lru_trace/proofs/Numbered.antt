@@ -11,8 +11,10 @@ use Rattle.std.proofs.lemmas.Bool.{cases_lt, eq-eqb, eqb-true, le-leb, lt-leb}
 use Rattle.std.proofs.lemmas.List.Sums.{sum_by-cons}
 use Rattle.std.proofs.lemmas.Option.{same_Some}
 use Rattle.std.proofs.lemmas.Slice.Eq.{bytes_eq-Decides}
+use Rattle.lru_theory.specs.Best.{until}
 use Rattle.lru_theory.specs.Traces.{is_in, since, recency, distance, misses, past_after}
 use Rattle.lru_trace.specs.Counted.{AreNumbered, number_in}
+use Rattle.lru_trace.specs.Times.{next_times}
 
 not_none : {A B : Type 0} (x : A) → None ≡ Some x → B
 not_none x e = absurd cc
@@ -107,6 +109,23 @@ module _ (number : List ℕ → Option ℕ)
   length_named [] (k ∷ ns) h = absurd h
   length_named (y ∷ xs) [] h = absurd h
   length_named (y ∷ xs) (k ∷ ns) h = ap suc (length_named xs ns h.1)
+
+  until_named : (x : List ℕ) (n : ℕ) → number x ≡ Some n → (xs : List (List ℕ)) (ns : List ℕ) → Named number xs ns
+      → until bytes_eq x xs ≡ until nat_eq n ns
+  until_named x n e [] [] h = refl
+  until_named x n e [] (k ∷ ns) h = absurd h
+  until_named x n e (y ∷ xs) [] h = absurd h
+  until_named x n e (y ∷ xs) (k ∷ ns) h = rw (same_test x y n k e h.0, until_named x n e xs ns h.1) refl
+
+  pub next_times_named : (i : ℕ) (xs : List (List ℕ)) (ns : List ℕ) → Named number xs ns
+      → next_times bytes_eq i xs ≡ next_times nat_eq i ns
+  next_times_named i [] [] h = refl
+  next_times_named i [] (k ∷ ns) h = absurd h
+  next_times_named i (y ∷ xs) [] h = absurd h
+  next_times_named i (y ∷ xs) (k ∷ ns) h =
+      let wait = until_named y k h.0 xs ns h.1 in
+      let later = next_times_named (suc i) xs ns h.1 in
+      λ j. (suc i + wait j) ∷ later j
 
   pub misses_named : (n : ℕ) (past : List (List ℕ)) (ps : List ℕ) (xs : List (List ℕ)) (ns : List ℕ)
       → Named number past ps → Named number xs ns → misses bytes_eq n past xs ≡ misses nat_eq n ps ns

@@ -1,5 +1,5 @@
 -- The curve of a trace, as its references are counted.
-use Rattle.std.specs.Prelude.{◌≡◌, ℕ, ◌+◌, ◌≤◌, ◌<◌, List, [], length, map, take, sum, Option, Some, nat_eq, String}
+use Rattle.std.specs.Prelude.{◌≡◌, ℕ, ◌+◌, ◌≤◌, ◌<◌, List, [], length, map, take, sum, Option, Some, IfSome, nat_eq, String}
 use Rattle.std.specs.Global.{Global}
 use Rattle.std.specs.Map.{lookup}
 use Rattle.std.specs.Str.{bytes_eq}
@@ -15,6 +15,8 @@ pub record Counted : Type 0 where
   -- how many references had each reuse distance
   pub counts : List ℕ
   pub references : ℕ
+  -- the number of the key of each reference, if the curve keeps them
+  pub kept : Option (List ℕ)
 
 -- the number of a key
 abbrev pub number_in : List (String Global × ℕ) → List ℕ → Option ℕ
@@ -32,6 +34,7 @@ pub record IsOf (trace : List (List ℕ)) (curve : Counted) : Type 0 where
   pub order : curve.recency ≡ recency nat_eq (past_after [] numbers)
   pub hits : (n : ℕ) → misses nat_eq n [] numbers + sum (take n curve.counts) ≡ curve.references
   pub all : curve.references ≡ length trace
+  pub kept : IfSome curve.kept (λ kept. kept ≡ numbers)
 
 -- what is true of every curve
 pub record IsCounted (names : List (String Global × ℕ)) (recent : Recent) (counts : List ℕ) (first references : ℕ)

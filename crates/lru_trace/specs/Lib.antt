@@ -6,3 +6,4 @@ pub mod Lines
 pub mod Sizes
 pub mod Report
 pub mod Outcome
+pub mod Times

@@ -1,5 +1,5 @@
 -- How a trace ends: what was read and written then.
-use Rattle.std.specs.Prelude.{◌≡◌, ℕ, ◌≤◌, List, [], ◌∷◌, ◌++◌, length, Option, OnSome, Some, None, Result, Ok, Err}
+use Rattle.std.specs.Prelude.{◌≡◌, ℕ, ◌≤◌, List, [], ◌∷◌, ◌++◌, length, Bool, Option, OnSome, Some, None, is_some, Result, Ok, Err}
 use Rattle.std.specs.Io.KnownBytes.{Consumes, IsAtEnd, Appends, Keeps}
 use Rattle.lru_trace.specs.declared.outcome.TraceEnd.{TraceEnd}
 use Rattle.lru_trace.specs.declared.outcome.TraceEnd.TheVariants as ends
@@ -20,7 +20,8 @@ pub record KeysRead (from to : Option (List ℕ)) (curve : Counted) (malformed :
   pub others : malformed ≡ malformed_in (lines_of input)
 
 -- All that was left was read. The first line names the sizes, and this is the curve of the keys that the others spell.
-pub record TraceRead (from to : Option (List ℕ)) (sizes : List ℕ) (curve : Counted) (malformed : ℕ) : Type 0 where
+pub record TraceRead (from to : Option (List ℕ)) (best : Bool) (sizes : List ℕ) (curve : Counted) (malformed : ℕ)
+    : Type 0 where
   pub input : List ℕ
   pub first : List ℕ
   pub others : List (List ℕ)
@@ -29,14 +30,15 @@ pub record TraceRead (from to : Option (List ℕ)) (sizes : List ℕ) (curve : C
   pub lines : lines_of input ≡ first ∷ others
   pub named : sizes_from [] None first ≡ Some sizes
   pub curve_of : IsOf (trace_of others) curve
+  pub keeps : is_some curve.kept ≡ best
   pub count : malformed ≡ malformed_in others
 
 -- One line was read, or none, and it names no sizes.
-pub record NoSizesRead (from to : Option (List ℕ)) : Type 0 where
+pub record NoSizesRead (from to : Option (List ℕ)) (best : Bool) : Type 0 where
   pub input : List ℕ
   pub reads : Consumes from to input
   pub one : length (lines_of input) ≤ 1
-  pub none : output (lines_of input) ≡ None
+  pub none : output best (lines_of input) ≡ None
 
 -- some bytes were read
 abbrev pub SomeRead : Option (List ℕ) → Option (List ℕ) → Type 0
@@ -48,22 +50,22 @@ Begins old new text = (begun rest : List ℕ) × (text ≡ begun ++ rest) × App
 
 -- All was read, and of the text that the lines determine was written what `IsWritten` says. If a reader does not say what
 -- it has left, this says of `input` only that there is one.
-pub record Reported (from to : Option (List ℕ)) (IsWritten : List ℕ → Type 0) : Type 0 where
+pub record Reported (from to : Option (List ℕ)) (best : Bool) (IsWritten : List ℕ → Type 0) : Type 0 where
   pub input : List ℕ
   pub text : List ℕ
   pub reads : Consumes from to input
   pub at_end : OnSome from (IsAtEnd to)
-  pub determined : output (lines_of input) ≡ Some text
+  pub determined : output best (lines_of input) ≡ Some text
   pub written : IsWritten text
 
 -- what a trace read and wrote, by how it ended
-abbrev pub Ends : Option (List ℕ) → Option (List ℕ) → Option (List ℕ) → Option (List ℕ) → Result TraceEnd TraceError
-    → Type 0
-Ends from to old new (Ok ends.Done) = Reported from to (Appends old new)
-Ends from to old new (Ok ends.NoSizes) = NoSizesRead from to × Keeps old new
-Ends from to old new (Err errors.Read) = SomeRead from to × Keeps old new
-Ends from to old new (Err errors.Memory) = SomeRead from to × Keeps old new
-Ends from to old new (Err errors.Write) = Reported from to (Begins old new)
+abbrev pub Ends : Bool → Option (List ℕ) → Option (List ℕ) → Option (List ℕ) → Option (List ℕ)
+    → Result TraceEnd TraceError → Type 0
+Ends best from to old new (Ok ends.Done) = Reported from to best (Appends old new)
+Ends best from to old new (Ok ends.NoSizes) = NoSizesRead from to best × Keeps old new
+Ends best from to old new (Err errors.Read) = SomeRead from to × Keeps old new
+Ends best from to old new (Err errors.Memory) = SomeRead from to × Keeps old new
+Ends best from to old new (Err errors.Write) = Reported from to best (Begins old new)
 
 -- the exit status of each end
 abbrev pub status_of : Result TraceEnd TraceError → ℕ

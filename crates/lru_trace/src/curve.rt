@@ -1,11 +1,14 @@
 //! The misses of a trace in LRU caches of every size.
-ghost use Rattle.std.specs.Prelude.{◌≡◌, ◌+◌, ◌-◌, ◌<◌, ◌≤◌, ◌^◌, ℕ, List, [], ◌∷◌, ◌++◌, Some, IfOk, OnOk, OnErr, length};
-ghost use Rattle.std.specs.Prelude.{take, sum};
+ghost use Rattle.std.specs.Prelude.{◌≡◌, ◌+◌, ◌-◌, ◌<◌, ◌≤◌, ◌^◌, ℕ, List, [], ◌∷◌, ◌++◌, IfOk, OnOk, OnErr, length};
+ghost use Rattle.std.specs.Prelude.{take, sum, Option, Some, None, IfSome, is_some};
+ghost use Rattle.std.specs.Option.{option_map};
 ghost use Rattle.std.specs.Str.{bytes_eq};
 ghost use Rattle.lru_theory.specs.Traces.{misses};
 ghost use Rattle.lru_trace.specs.Counted.{Counted, IsOf, number_in};
 ghost use Rattle.lru_trace.specs.Report.{keys};
+ghost use Rattle.lru_trace.specs.Times.{KnowsRest};
 
+use crate::best::Best;
 use crate::distances::Distances;
 use std::alloc::{AllocError, Global};
 use std::collections::HashMap;
@@ -32,10 +35,12 @@ pub struct Curve {
     counts: Vec<u64>,
     firsts: usize,
     references: u64,
+    kept: Option<Vec<usize>>,
     alloc: Global,
 }
 
 impl Model for Curve {
+    ghost use Rattle.std.specs.Option.{option_map};
     ghost use Rattle.lru_trace.specs.Counted.{Counted, IsCounted};
 
     ghost Value = { Counted };
@@ -45,6 +50,7 @@ impl Model for Curve {
       recency = c.distances.recency;
       counts = c.counts.items;
       references = c.references;
+      kept = option_map (λ v. v.items) c.kept;
     } };
 
     ghost invariant = { λ c. IsCounted c.numbers.entries c.distances c.counts.items c.firsts c.references };
@@ -53,7 +59,37 @@ impl Model for Curve {
 impl Curve {
     /// Makes the curve of a trace without references.
     pub fn new(alloc: Global) -> Result<Self, AllocError>
-        ensures { IfOk result (IsOf []) }
+        ensures of { IfOk result (IsOf []) }
+        ensures kept { IfOk result (λ curve. curve.kept ≡ None) }
+    {
+        Curve::make(alloc, None)
+    }
+
+    /// As `new`, and the curve keeps the references, 8 bytes for each, so that `best` can count what the best possible
+    /// policies miss.
+    ///
+    /// ```
+    /// let mut curve = Curve::keeping_references(alloc)?;
+    /// for key in ["a", "b", "c", "a", "b", "c"] {
+    ///     if curve.references() < u64::MAX {
+    ///         curve.refer(key)?;
+    ///     }
+    /// }
+    /// if let Some(best) = curve.best()? {
+    ///     assert_eq!(rt; (curve.misses(2), best.min_misses(2)?, best.bypass_misses(2)?), (6, 4, 4));
+    /// }
+    /// ```
+    pub fn keeping_references(alloc: Global) -> Result<Self, AllocError>
+        ensures of { IfOk result (IsOf []) }
+        ensures kept { IfOk result (λ curve. curve.kept ≡ Some []) }
+    {
+        Curve::make(alloc, Some(Vec::new(alloc)))
+    }
+
+    fn make(alloc: Global, kept: Option<Vec<usize>>) -> Result<Self, AllocError>
+        requires { IfSome kept (λ v. v.items ≡ []) }
+        ensures of { IfOk result (IsOf []) }
+        ensures kept { IfOk result (λ curve. curve.kept ≡ option_map (λ v. v.items) kept) }
     {
         Ok(Curve {
             numbers: HashMap::new(alloc),
@@ -61,6 +97,7 @@ impl Curve {
             counts: Vec::new(alloc),
             firsts: 0,
             references: 0,
+            kept,
             alloc,
         })
     }
@@ -93,12 +130,38 @@ impl Curve {
         Ok(())
     }
 
+    // Keeps a reference, if the curve keeps them.
+    fn keep(&mut self, number: usize) -> Result<(), AllocError>
+        ensures kept { OnOk result (self.new.kept ≡ option_map (λ ns. ns ++ number ∷ []) self.old.kept) }
+        ensures rest { self.new ≡ record self.old { kept = self.new.kept } }
+        ensures err { OnErr result (self.new ≡ self.old) }
+    {
+        if let Some(kept) = &mut self.kept {
+            kept.push(number)?;
+        }
+        Ok(())
+    }
+
+    // Forgets the last reference, if the curve keeps them.
+    fn forget(&mut self)
+        ensures kept { (ns : List ℕ) (number : ℕ) → self.old.kept ≡ Some (ns ++ number ∷ []) → self.new.kept ≡ Some ns }
+        ensures none { self.old.kept ≡ None → self.new.kept ≡ None }
+        ensures rest { self.new ≡ record self.old { kept = self.new.kept } }
+    {
+        if let Some(kept) = &mut self.kept {
+            kept.pop();
+        }
+    }
+
+    // Counts a reference, which is kept already, if the curve keeps them.
     fn count(&mut self, key: &str, number: usize) -> Result<(), AllocError>
         requires fits { self.old.references < 2 ^ 64 - 1 }
         requires number { number_in self.old.names key.now ≡ Some number }
         requires spare { length self.old.recency < length self.old.counts }
-        ensures ok { OnOk result ((trace : List (List ℕ)) → IsOf trace self.old →
+        ensures ok { OnOk result ((trace : List (List ℕ)) (before : Option (List ℕ)) →
+            self.old.kept ≡ option_map (λ ns. ns ++ number ∷ []) before → IsOf trace (record self.old { kept = before }) →
             IsOf (trace ++ key.now ∷ []) self.new) }
+        ensures kept { self.new.kept ≡ self.old.kept }
         ensures err { OnErr result (self.new ≡ self.old) }
         ensures references { self.new.references ≤ self.old.references + 1 }
     {
@@ -123,10 +186,36 @@ impl Curve {
             IsOf (trace ++ key.now ∷ []) self.new) }
         ensures err { OnErr result ((trace : List (List ℕ)) → IsOf trace self.old → IsOf trace self.new) }
         ensures references { self.new.references ≤ self.old.references + 1 }
+        ensures keeps { is_some self.new.kept ≡ is_some self.old.kept }
     {
         let number = self.number_of(key)?;
         self.make_count()?;
-        self.count(key, number)
+        self.keep(number)?;
+        match self.count(key, number) {
+            Ok(()) => Ok(()),
+            Err(error) => {
+                self.forget();
+                Err(error)
+            }
+        }
+    }
+
+    /// Looks ahead in the trace, for the best possible policies. Returns nothing if the curve does not keep the
+    /// references.
+    ///
+    /// Cost: in proportion to the number of references, and 8 bytes for each.
+    ///
+    /// # Errors
+    ///
+    /// `Err`: out of memory.
+    pub fn best(&self) -> Result<Option<Best>, AllocError>
+        ensures some { IfOk result (λ best. is_some best ≡ is_some self.now.kept) }
+        ensures all { IfOk result (λ best. (trace : List (List ℕ)) → IsOf trace self.now → KnowsRest trace best) }
+    {
+        match &self.kept {
+            Some(kept) => Ok(Some(Best::new(self.alloc, kept)?)),
+            None => Ok(None),
+        }
     }
 
     /// Returns how many references there were.

@@ -4,6 +4,7 @@
 //! and writes a report.
 #![tactic(auto)]
 
+mod best;
 mod curve;
 mod distances;
 mod lines;
@@ -15,6 +16,7 @@ mod sizes;
 mod traces;
 mod tree;
 
+pub use best::Best;
 pub use curve::Curve;
 pub use distances::Distances;
 pub use lines::read_keys;

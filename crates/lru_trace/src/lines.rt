@@ -1,5 +1,5 @@
 //! The lines of a trace, each of which is a key.
-ghost use Rattle.std.specs.Prelude.{◌≡◌, ◌≢◌, ℕ, ◌+◌, ◌-◌, ◌^◌, ◌<◌, ◌≤◌, List, [], ◌∷◌, ◌++◌, true, false};
+ghost use Rattle.std.specs.Prelude.{◌≡◌, ◌≢◌, ℕ, ◌+◌, ◌-◌, ◌^◌, ◌<◌, ◌≤◌, List, [], ◌∷◌, ◌++◌, true, false, is_some};
 ghost use Rattle.std.specs.Prelude.{IfOk, OnOk, OnErr, IfErr, MatchOption};
 ghost use Rattle.lru_trace.specs.Counted.{IsOf};
 ghost use Rattle.lru_trace.specs.Lines.{is_key, fed, trace_of, EndsSo, TakesLine};
@@ -69,6 +69,7 @@ fn refer_line(curve: &mut Curve, line: &[u8]) -> Result<bool, AllocError>
     ensures ok { OnOk result ((trace : List (List ℕ)) → IsOf trace curve.old →
         IsOf (trace ++ trace_of (line.now ∷ [])) curve.new) }
     ensures references { curve.new.references ≤ curve.old.references + 1 }
+    ensures keeps { is_some curve.new.kept ≡ is_some curve.old.kept }
 {
     let Some(key) = key_of(line) else {
         return Ok(false);
@@ -93,6 +94,7 @@ pub fn read_keys<R: BufRead, P: Write>(
     ensures ok { IfOk result (λ malformed.
         KeysRead (R.remaining reader.old) (R.remaining reader.new) curve.new malformed) }
     ensures err { OnErr result (SomeRead (R.remaining reader.old) (R.remaining reader.new)) }
+    ensures keeps { is_some curve.new.kept ≡ is_some curve.old.kept }
     ensures kind { IfErr result (λ e. e ≢ TraceError.Write) }
 {
     let mut malformed = 0;

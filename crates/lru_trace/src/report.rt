@@ -1,9 +1,11 @@
 //! The report: the misses for each size that was asked, and a chart of the whole curve.
-ghost use Rattle.std.specs.Prelude.{◌≡◌, ◌≤◌, ◌+◌, ◌^◌, ◌<◌, ◌++◌, ℕ, List, OnOk, IfOk, replicate, flat_map};
+ghost use Rattle.std.specs.Prelude.{◌≡◌, ◌≤◌, ◌+◌, ◌^◌, ◌<◌, ◌++◌, ℕ, List, OnOk, IfOk, is_some, replicate, flat_map};
 ghost use Rattle.std.specs.String.{string_bytes};
 ghost use Rattle.lru_trace.specs.Counted.{IsOf};
-ghost use Rattle.lru_trace.specs.Report.{part, ratio_text, size_text, bar_text, bars_text, report_text};
+ghost use Rattle.lru_trace.specs.Times.{KnowsRest};
+ghost use Rattle.lru_trace.specs.Report.{part, ratio_text, best_text, size_text, bar_text, bars_text, report_text};
 
+use crate::best::Best;
 use crate::curve::Curve;
 use std::alloc::{AllocError, Global};
 
@@ -42,21 +44,43 @@ fn ratio(alloc: Global, n: u64) -> Result<String, AllocError>
     format!(in alloc; "{whole}.{first}{second}{third}{fourth}")
 }
 
+fn add_best(
+    alloc: Global,
+    report: &mut Vec<u8>,
+    best: &Option<Best>,
+    places: usize,
+) -> Result<(), AllocError>
+    ensures { OnOk result ((trace : List (List ℕ)) → KnowsRest trace best.now →
+        report.new.items ≡ report.old.items ++ best_text trace (is_some best.now) places) }
+{
+    let Some(best) = best else {
+        return Ok(());
+    };
+    let (min, bypass) = (best.min_misses(places)?, best.bypass_misses(places)?);
+    let text = format!(in alloc; " min {min} bypass {bypass}")?;
+    report.extend_from_slice(text.as_bytes())?;
+    Ok(())
+}
+
 fn add_size(
     alloc: Global,
     report: &mut Vec<u8>,
     curve: &Curve,
+    best: &Option<Best>,
     places: usize,
 ) -> Result<(), AllocError>
-    ensures { OnOk result ((trace : List (List ℕ)) → IsOf trace curve.now →
-        report.new.items ≡ report.old.items ++ size_text trace places) }
+    ensures { OnOk result ((trace : List (List ℕ)) → IsOf trace curve.now → KnowsRest trace best.now →
+        report.new.items ≡ report.old.items ++ size_text trace (is_some best.now) places) }
 {
     let references = curve.references();
     let misses = curve.misses(places);
     let hits = references - misses;
     let ratio = ratio(alloc, part(misses, references, 10_000))?;
-    let text = format!(in alloc; "places {places} hits {hits} misses {misses} ratio {ratio}\n")?;
-    report.extend_from_slice(text.as_bytes())
+    let text = format!(in alloc; "places {places} hits {hits} misses {misses} ratio {ratio}")?;
+    report.extend_from_slice(text.as_bytes())?;
+    add_best(alloc, report, best, places)?;
+    report.push(b'\n')?;
+    Ok(())
 }
 
 fn add_bar(
@@ -85,13 +109,14 @@ fn add_sizes(
     alloc: Global,
     report: &mut Vec<u8>,
     curve: &Curve,
+    best: &Option<Best>,
     sizes: &[usize],
 ) -> Result<(), AllocError>
-    ensures { OnOk result ((trace : List (List ℕ)) → IsOf trace curve.now →
-        report.new.items ≡ report.old.items ++ flat_map (size_text trace) sizes.now) }
+    ensures { OnOk result ((trace : List (List ℕ)) → IsOf trace curve.now → KnowsRest trace best.now →
+        report.new.items ≡ report.old.items ++ flat_map (size_text trace (is_some best.now)) sizes.now) }
 {
     for places in sizes {
-        add_size(alloc, report, curve, *places)?;
+        add_size(alloc, report, curve, best, *places)?;
     }
     Ok(())
 }
@@ -117,12 +142,13 @@ pub fn report_of(
     sizes: &[usize],
 ) -> Result<Vec<u8>, AllocError>
     ensures { IfOk result (λ report. (trace : List (List ℕ)) → IsOf trace curve.now →
-        report.items ≡ report_text trace sizes.now malformed) }
+        report.items ≡ report_text trace (is_some curve.now.kept) sizes.now malformed) }
 {
+    let best = curve.best()?;
     let (references, keys) = (curve.references(), curve.keys());
     let head = format!(in alloc; "references {references} keys {keys} malformed {malformed}\n")?;
     let mut report = Vec::from_slice(alloc, head.as_bytes())?;
-    add_sizes(alloc, &mut report, curve, sizes)?;
+    add_sizes(alloc, &mut report, curve, &best, sizes)?;
     add_chart(alloc, &mut report, curve)?;
     Ok(report)
 }

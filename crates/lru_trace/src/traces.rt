@@ -1,5 +1,6 @@
 //! A trace, from the lines of a reader to the report of a writer.
-ghost use Rattle.std.specs.Prelude.{◌≢◌, IfOk, OnErr, IfErr, MatchOption};
+ghost use Rattle.std.specs.Prelude.{◌≡◌, ◌≢◌, [], IfOk, OnErr, IfErr, MatchOption, is_some};
+ghost use Rattle.lru_trace.specs.Counted.{IsOf};
 ghost use Rattle.lru_trace.specs.Outcome.{Ends, TraceRead, NoSizesRead, SomeRead};
 
 use crate::curve::Curve;
@@ -9,7 +10,7 @@ use crate::output::write_bytes;
 use crate::progress::Progress;
 use crate::report::report_of;
 use crate::sizes::sizes_of;
-use std::alloc::Global;
+use std::alloc::{AllocError, Global};
 use std::io::{BufRead, Write};
 
 #[derive(Drop)]
@@ -19,13 +20,25 @@ struct Lines {
     malformed: u64,
 }
 
+fn empty_curve(alloc: Global, best: bool) -> Result<Curve, AllocError>
+    ensures of { IfOk result (IsOf []) }
+    ensures keeps { IfOk result (λ curve. is_some curve.kept ≡ best) }
+{
+    if best {
+        return Curve::keeping_references(alloc);
+    }
+    Curve::new(alloc)
+}
+
 fn read_trace<R: BufRead, P: Write>(
     alloc: Global,
+    best: bool,
     reader: &mut R,
     progress: &mut Progress<P>,
 ) -> Result<Option<Lines>, TraceError>
-    ensures ok { IfOk result (λ read. MatchOption read (NoSizesRead (R.remaining reader.old) (R.remaining reader.new))
-        (λ t. TraceRead (R.remaining reader.old) (R.remaining reader.new) t.sizes.items t.curve t.malformed)) }
+    ensures ok { IfOk result (λ read.
+        MatchOption read (NoSizesRead (R.remaining reader.old) (R.remaining reader.new) best)
+        (λ t. TraceRead (R.remaining reader.old) (R.remaining reader.new) best t.sizes.items t.curve t.malformed)) }
     ensures err { OnErr result (SomeRead (R.remaining reader.old) (R.remaining reader.new)) }
     ensures kind { IfErr result (λ e. e ≢ TraceError.Write) }
 {
@@ -34,7 +47,7 @@ fn read_trace<R: BufRead, P: Write>(
     let Some(sizes) = sizes_of(alloc, &line)? else {
         return Ok(None);
     };
-    let mut curve = Curve::new(alloc)?;
+    let mut curve = empty_curve(alloc, best)?;
     let Ending::Feed = ending else {
         let malformed = 0;
         return Ok(Some(Lines {
@@ -55,10 +68,11 @@ fn read_trace<R: BufRead, P: Write>(
 /// that were read: `docs/TRACE.md` shows it.
 ///
 /// The first line names sizes, and each other line is a key that is referenced: text of 1 to 64 bytes. Other lines are
-/// counted as malformed.
+/// counted as malformed. If `best` is true, the report says for each named size how often the best possible policies
+/// miss, too.
 ///
 /// Cost: `O(log n)` expected for each line and n keys. The memory is in proportion to the number of keys and the
-/// longest line.
+/// longest line. With `best` it is in proportion to the number of lines, and each size costs `O(log n)` for each line.
 ///
 /// # Errors
 ///
@@ -66,14 +80,15 @@ fn read_trace<R: BufRead, P: Write>(
 /// failed; a beginning of the report was written.
 pub fn trace<R: BufRead, W: Write, P: Write>(
     alloc: Global,
+    best: bool,
     reader: &mut R,
     writer: &mut W,
     progress: &mut Progress<P>,
 ) -> Result<TraceEnd, TraceError>
-    ensures { Ends (R.remaining reader.old) (R.remaining reader.new) (W.contents writer.old) (W.contents writer.new)
+    ensures { Ends best (R.remaining reader.old) (R.remaining reader.new) (W.contents writer.old) (W.contents writer.new)
         result }
 {
-    let Some(read) = read_trace(alloc, reader, progress)? else {
+    let Some(read) = read_trace(alloc, best, reader, progress)? else {
         return Ok(TraceEnd::NoSizes);
     };
     let report = report_of(alloc, &read.curve, read.malformed, &read.sizes)?;

@@ -27,6 +27,7 @@ fn of_a_flush_that_fails(rt: HostRuntime) {
     let mut progress = Progress::new(rt.alloc(), None::<Vec<u8>>);
     let end = trace(
         rt.alloc(),
+        false,
         &mut b"1\na\n".as_slice(),
         &mut output,
         &mut progress,
@@ -43,7 +44,13 @@ fn of_the_progress(rt: HostRuntime) -> Result<(), Fail> {
     let mut report = Vec::new(alloc);
     let mut shown = Vec::new(alloc);
     let mut progress = Progress::new(alloc, Some(&mut shown));
-    let end = trace(alloc, &mut input.as_slice(), &mut report, &mut progress);
+    let end = trace(
+        alloc,
+        false,
+        &mut input.as_slice(),
+        &mut report,
+        &mut progress,
+    );
     check!(rt; end == Ok(TraceEnd::Done));
     drop(progress);
     check!(rt; shown.as_slice() == b"1000000 lines\n2000000 lines\n".as_slice());

@@ -12,13 +12,16 @@ const NO_BUFFER: u8 = 3;
 const UNKNOWN: u8 = 4;
 
 const HELP: &str = "\
-trace < KEYS
+trace [--best] < KEYS
     Prints how often an LRU cache of each size misses the keys that were referenced.
 
 The first line has sizes with a space between each two, such as 1 10 100 1000. Each other line is a key, of 1 to 64
 bytes; an empty or longer line is only counted.
 
 The output is a line for each named size, and then a bar for each power of two: the part of the references that miss.
+
+--best adds to each line how often the best possible policies miss: min stores each key, bypass may leave a key out. It
+takes 16 bytes more for each line.
 
 Exit status: 0 after the report, 1 if the first line has no sizes, 2 if a read or a write failed, 3 without memory,
 4 after an unknown argument.
@@ -29,8 +32,12 @@ fn main(rt: HostRuntime) -> ExitCode {
         Ok(mut arguments) => arguments.nth(1),
         Err(_) => return ExitCode::from(UNKNOWN),
     };
+    let mut best = false;
     if let Some(argument) = argument {
-        return answer(&rt, argument.as_str());
+        best = argument.as_str() == "--best";
+        if !best {
+            return answer(&rt, argument.as_str());
+        }
     }
     let Ok(mut reader) = BufReader::new(rt.alloc(), rt.reader()) else {
         return ExitCode::from(NO_BUFFER);
@@ -45,7 +52,7 @@ fn main(rt: HostRuntime) -> ExitCode {
         None
     };
     let mut progress = Progress::new(rt.alloc(), waiting);
-    let end = trace(rt.alloc(), &mut reader, &mut writer, &mut progress);
+    let end = trace(rt.alloc(), best, &mut reader, &mut writer, &mut progress);
     // After a failed write the buffer still contains bytes. Its drop would write them again.
     let (_output, _unwritten) = writer.into_parts();
     ExitCode::from(status(&end))

@@ -58,6 +58,64 @@ impl core::error::Error for TraceError {}
 /// ```
 pub struct Curve(proved::Curve);
 
+/// What the best possible policies miss, which know the rest of the trace: what [`Curve::best`] returns.
+///
+/// It takes 8 bytes for each reference.
+///
+/// ```
+/// use jeerdurian::trace::Curve;
+///
+/// # fn main() -> Result<(), jeerdurian::AllocError> {
+/// let mut curve = Curve::keeping_references()?;
+/// for key in ["a", "b", "c", "a", "b", "c"] {
+///     curve.refer(key)?;
+/// }
+/// let best = curve.best()?.expect("the references are kept");
+/// assert_eq!((curve.misses(2), best.min_misses(2)?, best.bypass_misses(2)?), (6, 4, 4));
+/// # Ok(())
+/// # }
+/// ```
+pub struct Best(proved::Best);
+
+impl Best {
+    /// Returns how often MIN misses in this many places. It stores each key that is referenced, and evicts the key
+    /// whose next reference comes last.
+    ///
+    /// Proved: no policy that stores each key that is referenced misses less often.
+    ///
+    /// # Errors
+    ///
+    /// None: without memory the program aborts, as with each sorted set of Rust.
+    ///
+    /// ```
+    /// # use jeerdurian::trace::Curve;
+    /// # let best = Curve::keeping_references()?.best()?.expect("the references are kept");
+    /// assert_eq!(best.min_misses(2)?, 0);
+    /// # Ok::<(), jeerdurian::AllocError>(())
+    /// ```
+    pub fn min_misses(&self, places: usize) -> Result<usize, AllocError> {
+        self.0.min_misses(places)
+    }
+
+    /// Returns how often MIN with bypass misses in this many places: it may leave out the key that is referenced.
+    ///
+    /// Proved: no policy misses less often.
+    ///
+    /// # Errors
+    ///
+    /// As `min_misses`.
+    ///
+    /// ```
+    /// # use jeerdurian::trace::Curve;
+    /// # let best = Curve::keeping_references()?.best()?.expect("the references are kept");
+    /// assert_eq!(best.bypass_misses(2)?, 0);
+    /// # Ok::<(), jeerdurian::AllocError>(())
+    /// ```
+    pub fn bypass_misses(&self, places: usize) -> Result<usize, AllocError> {
+        self.0.bypass_misses(places)
+    }
+}
+
 impl Curve {
     /// Makes the curve of a trace without references.
     ///
@@ -72,6 +130,37 @@ impl Curve {
     /// ```
     pub fn new() -> Result<Self, AllocError> {
         Ok(Curve(proved::Curve::new(Global)?))
+    }
+
+    /// As `new`, and the curve keeps the references, 8 bytes for each, so that `best` can look ahead.
+    ///
+    /// # Errors
+    ///
+    /// Out of memory.
+    ///
+    /// ```
+    /// # use jeerdurian::trace::Curve;
+    /// assert!(Curve::keeping_references()?.best()?.is_some() && Curve::new()?.best()?.is_none());
+    /// # Ok::<(), jeerdurian::AllocError>(())
+    /// ```
+    pub fn keeping_references() -> Result<Self, AllocError> {
+        Ok(Curve(proved::Curve::keeping_references(Global)?))
+    }
+
+    /// Looks ahead in the trace, for the best possible policies. Returns nothing if the curve does not keep the
+    /// references.
+    ///
+    /// # Errors
+    ///
+    /// Out of memory.
+    ///
+    /// ```
+    /// # use jeerdurian::trace::Curve;
+    /// assert!(Curve::new()?.best()?.is_none());
+    /// # Ok::<(), jeerdurian::AllocError>(())
+    /// ```
+    pub fn best(&self) -> Result<Option<Best>, AllocError> {
+        Ok(self.0.best()?.map(Best))
     }
 
     /// Makes the curve of the keys of a reader, one in each line. Returns it with the number of lines that are no key: a
@@ -168,7 +257,25 @@ impl Curve {
 /// assert!(text.starts_with(b"references 3 keys 2 malformed 0\nplaces 2 hits 1 misses 2 ratio 0.6666\n"));
 /// ```
 pub fn report(mut reader: impl BufRead, mut writer: impl Write) -> Result<TraceEnd, TraceError> {
-    proved::trace(Global, &mut reader, &mut writer, &mut no_progress())
+    proved::trace(Global, false, &mut reader, &mut writer, &mut no_progress())
+}
+
+/// As `report`, and says for each named size how often the best possible policies miss, too. It takes 16 bytes for each
+/// reference.
+///
+/// # Errors
+///
+/// As `report`.
+///
+/// ```
+/// use jeerdurian::trace::{TraceEnd, report_with_best};
+///
+/// let mut text = Vec::new();
+/// assert_eq!(report_with_best(b"2\na\nb\nc\na\n".as_slice(), &mut text), Ok(TraceEnd::Done));
+/// assert!(text.starts_with(b"references 4 keys 3 malformed 0\nplaces 2 hits 0 misses 4 ratio 1.0000 min 3 bypass 3\n"));
+/// ```
+pub fn report_with_best(mut reader: impl BufRead, mut writer: impl Write) -> Result<TraceEnd, TraceError> {
+    proved::trace(Global, true, &mut reader, &mut writer, &mut no_progress())
 }
 
 fn no_progress() -> proved::Progress<Sink> {

@@ -69,7 +69,9 @@ fn cases_of_trace() {
             continue;
         }
         let expected = fs::read(file.with_extension("stdout")).unwrap();
-        let run = Command::new(env!("CARGO_BIN_EXE_trace")).stdin(File::open(&file).unwrap()).output().unwrap();
+        let arguments = fs::read_to_string(file.with_extension("args")).unwrap_or_default();
+        let mut run = Command::new(env!("CARGO_BIN_EXE_trace"));
+        let run = run.args(arguments.lines()).stdin(File::open(&file).unwrap()).output().unwrap();
         assert!(run.stdout == expected, "{}: {}", file.display(), String::from_utf8_lossy(&run.stdout));
         assert_eq!(run.status.code(), Some(i32::from(expected.is_empty())), "{}", file.display());
         cases += 1;

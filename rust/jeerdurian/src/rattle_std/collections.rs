@@ -1,10 +1,35 @@
-//! Hash maps whose growth may fail, over Rust's.
+//! Hash maps whose growth may fail, over Rust's, and a sorted set over Rust's, which aborts without memory.
 
 use super::alloc::{AllocError, Global};
 use core::borrow::Borrow;
 use core::hash::{BuildHasher, Hash};
 use core::marker::PhantomData;
 use std::collections::hash_map as rust;
+
+/// Rust's `BTreeSet`.
+pub struct BTreeSet<T>(std::collections::BTreeSet<T>);
+
+impl<T: Ord> BTreeSet<T> {
+    pub fn new(_: Global) -> Self {
+        BTreeSet(Default::default())
+    }
+
+    pub fn len(&self) -> usize {
+        self.0.len()
+    }
+
+    pub fn insert(&mut self, item: T) -> Result<bool, AllocError> {
+        Ok(self.0.insert(item))
+    }
+
+    pub fn remove(&mut self, item: &T) -> bool {
+        self.0.remove(item)
+    }
+
+    pub fn pop_last(&mut self) -> Option<T> {
+        self.0.pop_last()
+    }
+}
 
 /// Rust's `HashMap`. Its keys need an `==` alone.
 pub struct HashMap<K, V, S = rust::RandomState, A = Global>(rust::HashMap<Key<K>, V, S>, PhantomData<A>);

@@ -4,7 +4,7 @@ use super::alloc::{AllocError, Global};
 use core::borrow::Borrow;
 use std::collections::btree_map;
 
-pub use crate::library::collections::HashMap;
+pub use crate::library::collections::{BTreeSet, HashMap};
 
 pub mod hash_map {
     pub use crate::library::collections::hash_map::Keys;

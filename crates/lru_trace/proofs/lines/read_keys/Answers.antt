@@ -12,23 +12,23 @@ bit true = refl
 bit false = refl
 
 pub loop-lines-init : goal.loop-lines-init
-loop-lines-init g c = (omega arith, omega (arith, c.requires.all), none_read _ _ c.requires)
+loop-lines-init g c = (omega arith, omega (arith, c.requires.all), refl, none_read _ _ c.requires)
 
 pub returns-in_err-read_line-clause-err : goal.returns-in_err-read_line-clause-err
 returns-in_err-read_line-clause-err g c =
-    let so_far = c.loop-lines.invariant.2 in
+    let so_far = c.loop-lines.invariant.3 in
     let (part, reads) = c.in_err-read_line.ensures.err in
     some_part _ _ _ _ so_far.bytes part so_far.reads reads
 
 pub returns-in_err-refer_line-in-Feed-clause-err : goal.returns-in_err-refer_line-in-Feed-clause-err
 returns-in_err-refer_line-in-Feed-clause-err g c =
-    let so_far = c.loop-lines.invariant.2 in
+    let so_far = c.loop-lines.invariant.3 in
     let taken = rw c.in-Feed.is at c.in_ok-read_line.ensures.ok in
     some_part _ _ _ _ so_far.bytes (fed c.read_line.new.line.items) so_far.reads taken.1
 
 pub returns-in_err-refer_line-in-InputEnd-clause-err : goal.returns-in_err-refer_line-in-InputEnd-clause-err
 returns-in_err-refer_line-in-InputEnd-clause-err g c =
-    let so_far = c.loop-lines.invariant.2 in
+    let so_far = c.loop-lines.invariant.3 in
     let taken = rw c.in-InputEnd.is at c.in_ok-read_line.ensures.ok in
     some_part _ _ _ _ so_far.bytes c.read_line.new.line.items so_far.reads taken.0.1
 
@@ -45,7 +45,7 @@ returns-in-InputEnd-clause-ok g c =
     let count = c.from-in-InputEnd.ensures ∙ bit _ ∙ ap (λ b. cond (not b) 1 0) is.key
     ∙ ap (λ l. cond (not (is_key l)) 1 0) same in
     subst (λ n. KeysRead from to c.refer_line-in-InputEnd.new.curve (c.loop-lines.malformed + n)) (sym count)
-    (last_read c.loop-lines.invariant.2 to line c.refer_line-in-InputEnd.new.curve follows taken.0 taken.1)
+    (last_read c.loop-lines.invariant.3 to line c.refer_line-in-InputEnd.new.curve follows taken.0 taken.1)
 
 pub loop-lines-preserved : goal.loop-lines-preserved
 loop-lines-preserved g c =
@@ -63,8 +63,9 @@ loop-lines-preserved g c =
     let few = few_more (is_key line) in (
       omega (arith, inv.0, count, few),
       omega (arith, inv.1, is.references),
+      is.keeps ∙ inv.2,
       subst (λ n. ReadSoFar from to c.refer_line.new.curve (c.loop-lines.malformed + n)) (sym count)
-          (line_read inv.2 to line c.refer_line.new.curve follows taken),
+          (line_read inv.3 to line c.refer_line.new.curve follows taken),
     )
   where
     few_more : (b : Bool) → cond (not b) 1 0 ≤ 1

@@ -4,6 +4,7 @@
 #[allow(unused_imports)]
 use crate::rattle_std::prelude::*;
 
+use crate::erased::lru_trace::best::Best;
 use crate::erased::lru_trace::distances::Distances;
 use crate::rattle_std::alloc::{AllocError, Global};
 use crate::rattle_std::collections::HashMap;
@@ -29,18 +30,42 @@ pub struct Curve {
     counts: Vec<u64>,
     firsts: usize,
     references: u64,
+    kept: Option<Vec<usize>>,
     alloc: Global,
 }
 
 impl Curve {
     /// Makes the curve of a trace without references.
     pub fn new(alloc: Global) -> Result<Self, AllocError> {
+        Curve::make(alloc, None)
+    }
+
+    /// As `new`, and the curve keeps the references, 8 bytes for each, so that `best` can count what the best possible
+    /// policies miss.
+    ///
+    /// ```text
+    /// let mut curve = Curve::keeping_references(alloc)?;
+    /// for key in ["a", "b", "c", "a", "b", "c"] {
+    ///     if curve.references() < u64::MAX {
+    ///         curve.refer(key)?;
+    ///     }
+    /// }
+    /// if let Some(best) = curve.best()? {
+    ///     assert_eq!(rt; (curve.misses(2), best.min_misses(2)?, best.bypass_misses(2)?), (6, 4, 4));
+    /// }
+    /// ```
+    pub fn keeping_references(alloc: Global) -> Result<Self, AllocError> {
+        Curve::make(alloc, Some(Vec::new(alloc)))
+    }
+
+    fn make(alloc: Global, kept: Option<Vec<usize>>) -> Result<Self, AllocError> {
         Ok(Curve {
             numbers: HashMap::new(alloc),
             distances: Distances::new(alloc)?,
             counts: Vec::new(alloc),
             firsts: 0,
             references: 0,
+            kept,
             alloc,
         })
     }
@@ -64,6 +89,22 @@ impl Curve {
         Ok(())
     }
 
+    // Keeps a reference, if the curve keeps them.
+    fn keep(&mut self, number: usize) -> Result<(), AllocError> {
+        if let Some(kept) = &mut self.kept {
+            kept.push(number)?;
+        }
+        Ok(())
+    }
+
+    // Forgets the last reference, if the curve keeps them.
+    fn forget(&mut self) {
+        if let Some(kept) = &mut self.kept {
+            kept.pop();
+        }
+    }
+
+    // Counts a reference, which is kept already, if the curve keeps them.
     fn count(&mut self, key: &str, number: usize) -> Result<(), AllocError> {
         match self.distances.refer(number)? {
             Some(distance) => (*at_mut!(self.counts, distance)) += 1,
@@ -83,7 +124,29 @@ impl Curve {
     pub fn refer(&mut self, key: &str) -> Result<(), AllocError> {
         let number = self.number_of(key)?;
         self.make_count()?;
-        self.count(key, number)
+        self.keep(number)?;
+        match self.count(key, number) {
+            Ok(()) => Ok(()),
+            Err(error) => {
+                self.forget();
+                Err(error)
+            }
+        }
+    }
+
+    /// Looks ahead in the trace, for the best possible policies. Returns nothing if the curve does not keep the
+    /// references.
+    ///
+    /// Cost: in proportion to the number of references, and 8 bytes for each.
+    ///
+    /// # Errors
+    ///
+    /// `Err`: out of memory.
+    pub fn best(&self) -> Result<Option<Best>, AllocError> {
+        match &self.kept {
+            Some(kept) => Ok(Some(Best::new(self.alloc, kept)?)),
+            None => Ok(None),
+        }
     }
 
     /// Returns how many references there were.

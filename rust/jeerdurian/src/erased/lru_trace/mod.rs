@@ -7,6 +7,7 @@
 #[allow(unused_imports)]
 use crate::rattle_std::prelude::*;
 
+mod best;
 mod curve;
 mod distances;
 mod lines;
@@ -18,6 +19,7 @@ mod sizes;
 mod traces;
 mod tree;
 
+pub use best::Best;
 pub use curve::Curve;
 pub use distances::Distances;
 pub use lines::read_keys;

@@ -4,6 +4,7 @@
 #[allow(unused_imports)]
 use crate::rattle_std::prelude::*;
 
+use crate::erased::lru_trace::best::Best;
 use crate::erased::lru_trace::curve::Curve;
 use crate::rattle_std::alloc::{AllocError, Global};
 
@@ -29,13 +30,32 @@ fn ratio(alloc: Global, n: u64) -> Result<String, AllocError> {
     format!(in alloc; "{whole}.{first}{second}{third}{fourth}")
 }
 
-fn add_size(alloc: Global, report: &mut Vec<u8>, curve: &Curve, places: usize) -> Result<(), AllocError> {
+fn add_best(alloc: Global, report: &mut Vec<u8>, best: &Option<Best>, places: usize) -> Result<(), AllocError> {
+    let Some(best) = best else {
+        return Ok(());
+    };
+    let (min, bypass) = (best.min_misses(places)?, best.bypass_misses(places)?);
+    let text = format!(in alloc; " min {min} bypass {bypass}")?;
+    report.extend_from_slice(text.as_bytes())?;
+    Ok(())
+}
+
+fn add_size(
+    alloc: Global,
+    report: &mut Vec<u8>,
+    curve: &Curve,
+    best: &Option<Best>,
+    places: usize,
+) -> Result<(), AllocError> {
     let references = curve.references();
     let misses = curve.misses(places);
     let hits = references - misses;
     let ratio = ratio(alloc, part(misses, references, 10_000))?;
-    let text = format!(in alloc; "places {places} hits {hits} misses {misses} ratio {ratio}\n")?;
-    report.extend_from_slice(text.as_bytes())
+    let text = format!(in alloc; "places {places} hits {hits} misses {misses} ratio {ratio}")?;
+    report.extend_from_slice(text.as_bytes())?;
+    add_best(alloc, report, best, places)?;
+    report.push(b'\n')?;
+    Ok(())
 }
 
 fn add_bar(alloc: Global, report: &mut Vec<u8>, curve: &Curve, places: usize) -> Result<(), AllocError> {
@@ -48,9 +68,15 @@ fn add_bar(alloc: Global, report: &mut Vec<u8>, curve: &Curve, places: usize) ->
     Ok(())
 }
 
-fn add_sizes(alloc: Global, report: &mut Vec<u8>, curve: &Curve, sizes: &[usize]) -> Result<(), AllocError> {
+fn add_sizes(
+    alloc: Global,
+    report: &mut Vec<u8>,
+    curve: &Curve,
+    best: &Option<Best>,
+    sizes: &[usize],
+) -> Result<(), AllocError> {
     for places in sizes {
-        add_size(alloc, report, curve, *places)?;
+        add_size(alloc, report, curve, best, *places)?;
     }
     Ok(())
 }
@@ -67,10 +93,11 @@ fn add_chart(alloc: Global, report: &mut Vec<u8>, curve: &Curve) -> Result<(), A
 }
 
 pub fn report_of(alloc: Global, curve: &Curve, malformed: u64, sizes: &[usize]) -> Result<Vec<u8>, AllocError> {
+    let best = curve.best()?;
     let (references, keys) = (curve.references(), curve.keys());
     let head = format!(in alloc; "references {references} keys {keys} malformed {malformed}\n")?;
     let mut report = Vec::from_slice(alloc, head.as_bytes())?;
-    add_sizes(alloc, &mut report, curve, sizes)?;
+    add_sizes(alloc, &mut report, curve, &best, sizes)?;
     add_chart(alloc, &mut report, curve)?;
     Ok(report)
 }

@@ -11,7 +11,7 @@ use crate::erased::lru_trace::output::write_bytes;
 use crate::erased::lru_trace::progress::Progress;
 use crate::erased::lru_trace::report::report_of;
 use crate::erased::lru_trace::sizes::sizes_of;
-use crate::rattle_std::alloc::Global;
+use crate::rattle_std::alloc::{AllocError, Global};
 use crate::rattle_std::io::{BufRead, Write};
 
 struct Lines {
@@ -20,8 +20,16 @@ struct Lines {
     malformed: u64,
 }
 
+fn empty_curve(alloc: Global, best: bool) -> Result<Curve, AllocError> {
+    if best {
+        return Curve::keeping_references(alloc);
+    }
+    Curve::new(alloc)
+}
+
 fn read_trace<R: BufRead, P: Write>(
     alloc: Global,
+    best: bool,
     reader: &mut R,
     progress: &mut Progress<P>,
 ) -> Result<Option<Lines>, TraceError> {
@@ -30,7 +38,7 @@ fn read_trace<R: BufRead, P: Write>(
     let Some(sizes) = sizes_of(alloc, &line)? else {
         return Ok(None);
     };
-    let mut curve = Curve::new(alloc)?;
+    let mut curve = empty_curve(alloc, best)?;
     let Ending::Feed = ending else {
         let malformed = 0;
         return Ok(Some(Lines { sizes, curve, malformed }));
@@ -43,10 +51,11 @@ fn read_trace<R: BufRead, P: Write>(
 /// that were read: `docs/TRACE.md` shows it.
 ///
 /// The first line names sizes, and each other line is a key that is referenced: text of 1 to 64 bytes. Other lines are
-/// counted as malformed.
+/// counted as malformed. If `best` is true, the report says for each named size how often the best possible policies
+/// miss, too.
 ///
 /// Cost: `O(log n)` expected for each line and n keys. The memory is in proportion to the number of keys and the
-/// longest line.
+/// longest line. With `best` it is in proportion to the number of lines, and each size costs `O(log n)` for each line.
 ///
 /// # Errors
 ///
@@ -54,11 +63,12 @@ fn read_trace<R: BufRead, P: Write>(
 /// failed; a beginning of the report was written.
 pub fn trace<R: BufRead, W: Write, P: Write>(
     alloc: Global,
+    best: bool,
     reader: &mut R,
     writer: &mut W,
     progress: &mut Progress<P>,
 ) -> Result<TraceEnd, TraceError> {
-    let Some(read) = read_trace(alloc, reader, progress)? else {
+    let Some(read) = read_trace(alloc, best, reader, progress)? else {
         return Ok(TraceEnd::NoSizes);
     };
     let report = report_of(alloc, &read.curve, read.malformed, &read.sizes)?;

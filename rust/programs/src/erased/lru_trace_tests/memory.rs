@@ -51,17 +51,25 @@ fn references_give_their_memory_back() {
     run(HostRuntime).passes();
 }
 
-/// Without memory a trace writes nothing, and ends with the status 3.
+/// With too little memory a trace writes nothing, and ends with the status 3.
 #[test]
 fn a_trace_without_memory() {
     let run = |rt: HostRuntime| -> Result<(), Fail> {
-        let mut report = Vec::new(rt.alloc());
+        let mut report = Vec::with_capacity(rt.alloc(), 999)?;
         let mut progress = Progress::new(rt.alloc(), None::<Vec<u8>>);
-        let mut lines = b"1\na\n".as_slice();
-        let hog = Hog::but(rt.alloc(), 0)?;
-        let end = trace(rt.alloc(), &mut lines, &mut report, &mut progress);
-        drop(hog);
-        check!(rt; (status(&end), report.len()) == (3, 0));
+        let mut failed = true;
+        for blocks in 0..99 {
+            let mut lines = b"1\na\nb\na\n".as_slice();
+            let hog = Hog::but(rt.alloc(), blocks)?;
+            let end = trace(rt.alloc(), true, &mut lines, &mut report, &mut progress);
+            drop(hog);
+            if end.is_ok() {
+                check!(rt; blocks > 0 && failed && !report.is_empty());
+                return Ok(());
+            }
+            failed = failed && status(&end) == 3 && report.is_empty();
+        }
+        check!(rt; false);
         Ok(())
     };
     run(HostRuntime).passes();

@@ -1,5 +1,6 @@
 use Rattle.std.proofs.Common.{◌+◌, ◌<◌, set, sum, length, sym, ap, ◌∙◌, subst, arith}
 use Rattle.std.proofs.lemmas.List.{get_or_read, length-set}
+use Rattle.std.specs.Option.{option_map}
 use Rattle.lru_trace.specs.Counted.{IsOf, number_in, AreNumbered}
 use Rattle.lru_trace.proofs.CurveSteps.{of_found, of_first, found_length, first_length, entry_few, sum_counted}
 use Rattle.lru_trace.proofs.curve.Curve.count.Goals.{in-Some, in-None}
@@ -74,8 +75,10 @@ invariant_of-self-2 c =
     ]
 
 pub returns-clause-ok : goal.returns-clause-ok
-returns-clause-ok c = λ past of.
-    let now : IsOf past _ = subst (IsOf past) (sym c.self.view_is) of in
+returns-clause-ok c = λ past before was of.
+    let now : IsOf past _ = subst (λ v. IsOf past (record v { kept = before })) (sym c.self.view_is) of in
+    let kept = option_map (λ v. v.items) c.self.inside.kept in
+    let is = ap (λ v. v.kept) c.self.view_is ∙ was in
     let recency = c.self.inside.distances.recency in
     let counts = c.self.inside.counts.items in
     let named = ap (λ v. number_in v.names c.args.key.now) c.self.view_is ∙ c.requires.number in
@@ -94,10 +97,10 @@ returns-clause-ok c = λ past of.
           let read = get_or_read counts w.in-Some.distance w.index_mut.result.now (omega (arith, long.1, spare))
           w.index_mut.ensures.value 0 in
           let one = of_found now c.args.key.now c.args.number named w.in-Some.distance at_place
-          (omega (arith, long.1, spare)) in
+          (omega (arith, long.1, spare)) kept is in
           rw (w.self-inside-is, c.in_ok-distance.ensures.recency, read) one
       | in-None w ↦
           let at_place = sym c.in_ok-distance.ensures.distance ∙ w.in-None.is in
-          let one = of_first now c.args.key.now c.args.number named at_place in
+          let one = of_first now c.args.key.now c.args.number named at_place kept is in
           rw (w.self-inside-is, c.in_ok-distance.ensures.recency) one
     ]

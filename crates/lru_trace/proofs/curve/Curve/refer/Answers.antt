@@ -1,6 +1,7 @@
-use Rattle.std.proofs.Common.{◌≡◌, ℕ, List, Some, sum, take, sym, subst}
+use Rattle.std.proofs.Common.{◌≡◌, ℕ, List, Some, sum, take, sym, subst, ap, ◌∙◌}
 use Rattle.lru_trace.specs.Counted.{Counted, IsOf, number_in}
-use Rattle.lru_trace.proofs.CurveSteps.{of_names, of_counts, on_ok, on_err, always_err}
+use Rattle.lru_trace.proofs.CurveSteps.{of_names, of_counts, always_err, kept_still, forgotten, kept_some}
+use Rattle.std.specs.Prelude.{is_some}
 use Rattle.lru_trace.proofs.curve.Curve.refer.Goals as goal
 
 renamed : (past : List (List ℕ)) (old new : Counted) → new ≡ record old { names = new.names }
@@ -21,14 +22,32 @@ returns-in_err-make_count-clause-err c = always_err c.from_residual-in_err-make_
     recounted past c.number_of.new.self c.make_count.new.self c.make_count.ensures.rest c.make_count.ensures.hits
     (renamed past c.args.self.now c.number_of.new.self c.number_of.ensures.rest c.number_of.ensures.others of))
 
-pub returns-clause-ok : goal.returns-clause-ok
-returns-clause-ok c = on_ok c.count.result (λ counts past of. counts past
+pub returns-in_err-keep-clause-err : goal.returns-in_err-keep-clause-err
+returns-in_err-keep-clause-err c = always_err c.from_residual-in_err-keep.result (λ past of.
+    subst (IsOf past) (sym c.in_err-keep.ensures.err)
     (recounted past c.number_of.new.self c.make_count.new.self c.make_count.ensures.rest c.make_count.ensures.hits
     (renamed past c.args.self.now c.number_of.new.self c.number_of.ensures.rest c.number_of.ensures.others of)))
-    c.count.ensures.ok
 
-pub returns-clause-err : goal.returns-clause-err
-returns-clause-err c = on_err c.count.result (λ same past of. subst (IsOf past) (sym same)
+pub returns-in-Ok-clause-ok : goal.returns-in-Ok-clause-ok
+returns-in-Ok-clause-ok c = λ past of.
+    c.in-Ok.ensures.ok past c.make_count.new.self.kept c.in_ok-keep.ensures.kept
+    (kept_still past c.make_count.new.self c.keep.new.self c.keep.ensures.rest
     (recounted past c.number_of.new.self c.make_count.new.self c.make_count.ensures.rest c.make_count.ensures.hits
     (renamed past c.args.self.now c.number_of.new.self c.number_of.ensures.rest c.number_of.ensures.others of)))
-    c.count.ensures.err
+
+pub returns-in-Ok-clause-keeps : goal.returns-in-Ok-clause-keeps
+returns-in-Ok-clause-keeps c =
+    ap is_some c.count.ensures.kept ∙ kept_some c.make_count.new.self.kept c.in_ok-number.number c.keep.new.self.kept
+    c.in_ok-keep.ensures.kept ∙ ap (λ v. is_some v.kept) c.make_count.ensures.rest
+    ∙ ap (λ v. is_some v.kept) c.number_of.ensures.rest
+
+pub returns-in-Err-clause-err : goal.returns-in-Err-clause-err
+returns-in-Err-clause-err c = λ past of.
+    let same = c.in-Err.ensures.err in
+    let kept = forgotten c.make_count.new.self.kept c.in_ok-number.number c.count.new.self.kept c.forget.new.self.kept
+    (ap (λ v. v.kept) same ∙ c.in_ok-keep.ensures.kept) c.forget.ensures.kept c.forget.ensures.none in
+    let back : c.forget.new.self ≡ record c.keep.new.self { kept = c.make_count.new.self.kept } =
+    c.forget.ensures.rest ∙ (λ j. record (same j) { kept = kept j }) in
+    subst (IsOf past) (sym back) (kept_still past c.make_count.new.self c.keep.new.self c.keep.ensures.rest
+    (recounted past c.number_of.new.self c.make_count.new.self c.make_count.ensures.rest c.make_count.ensures.hits
+    (renamed past c.args.self.now c.number_of.new.self c.number_of.ensures.rest c.number_of.ensures.others of)))

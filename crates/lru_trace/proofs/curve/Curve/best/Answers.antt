@@ -1,0 +1,16 @@
+use Rattle.std.proofs.Common.{◌≡◌, subst, sym, ap, ◌∙◌}
+use Rattle.std.specs.Option.{option_map}
+use Rattle.std.specs.Prelude.{nat_eq}
+use Rattle.lru_trace.specs.Counted.{IsOf, number_in}
+use Rattle.lru_trace.specs.Times.{next_times}
+use Rattle.lru_trace.proofs.Numbered.{next_times_named, named_from}
+use Rattle.lru_trace.proofs.curve.Curve.best.Goals as goal
+
+pub returns-in_ok-new-in-Some-clause-all : goal.returns-in_ok-new-in-Some-clause-all
+returns-in_ok-new-in-Some-clause-all c = λ trace of.
+    let now : IsOf trace _ = subst (IsOf trace) (sym c.self.view_is) of in
+    let numbers : c.in-Some.kept.items ≡ now.numbers = rw c.in-Some.is at now.kept in
+    let number = number_in c.self.inside.numbers.entries in
+    c.in_ok-new-in-Some.ensures ∙ ap (next_times nat_eq 0) (c.deref.ensures.value ∙ numbers)
+    ∙ sym (next_times_named number c.self.invariant.numbered.apart 0 trace now.numbers
+    (named_from number trace now.numbers now.named))

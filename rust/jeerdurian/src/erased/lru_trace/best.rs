@@ -1,0 +1,121 @@
+// Erased from crates/lru_trace/src/best.rt: do not edit.
+//! The misses of the best possible policies, which know the rest of the trace.
+
+#[allow(unused_imports)]
+use crate::rattle_std::prelude::*;
+
+use crate::rattle_std::alloc::{AllocError, Global};
+use crate::rattle_std::collections::BTreeSet;
+
+/// What a policy knows that knows the whole trace: the time of each next reference. So it counts how often the best
+/// possible policies miss. `docs/THEORY.md` says what they are.
+///
+/// It takes 8 bytes for each reference.
+
+pub struct Best {
+    nexts: Vec<usize>,
+    alloc: Global,
+}
+
+impl Best {
+    /// Looks ahead in a trace, whose keys have these numbers.
+    pub(crate) fn new(alloc: Global, numbers: &[usize]) -> Result<Self, AllocError> {
+        let nexts = next_times(alloc, numbers)?;
+        Ok(Best { nexts, alloc })
+    }
+
+    fn end(&self) -> usize {
+        self.nexts.len()
+    }
+
+    fn next(&self, now: usize) -> usize {
+        (*at!(self.nexts, now))
+    }
+
+    /// Returns how often MIN misses in this many places, from no keys. It stores each key that is referenced, and evicts
+    /// the key whose next reference comes last: no policy that stores each key misses less often.
+    ///
+    /// Cost: `O(log places)` for each reference; the memory is in proportion to the number of places, and to the number
+    /// of keys at most.
+    ///
+    /// # Errors
+    ///
+    /// `Err`: out of memory.
+    pub fn min_misses(&self, places: usize) -> Result<usize, AllocError> {
+        let end = self.end();
+        if places == 0 {
+            return Ok(end);
+        }
+        let mut times = BTreeSet::new(self.alloc);
+        let mut misses = 0;
+        for now in 0..end {
+            misses += usize::from(!times.remove(&now));
+            keep(&mut times, places - 1);
+            add(&mut times, self.next(now), end)?;
+        }
+        Ok(misses)
+    }
+
+    /// Returns how often MIN with bypass misses in this many places, from no keys. It may leave out the key that is
+    /// referenced: no policy at all misses less often.
+    ///
+    /// Cost: as `min_misses`.
+    ///
+    /// # Errors
+    ///
+    /// `Err`: out of memory.
+    pub fn bypass_misses(&self, places: usize) -> Result<usize, AllocError> {
+        let end = self.end();
+        let mut times = BTreeSet::new(self.alloc);
+        let mut misses = 0;
+        for now in 0..end {
+            misses += usize::from(!times.remove(&now));
+            add(&mut times, self.next(now), end)?;
+            keep(&mut times, places);
+        }
+        Ok(misses)
+    }
+}
+
+/// Keeps the first n times, of one more at most.
+fn keep(times: &mut BTreeSet<usize>, n: usize) {
+    if times.len() > n {
+        times.pop_last();
+    }
+}
+
+/// Adds a time, if it comes before the end.
+fn add(times: &mut BTreeSet<usize>, time: usize, end: usize) -> Result<(), AllocError> {
+    if time >= end {
+        return Ok(());
+    }
+    match times.insert(time) {
+        Ok(_) => Ok(()),
+        Err(_) => Err(AllocError),
+    }
+}
+
+/// Returns a number above all of these. No memory holds a number for each below `usize::MAX`.
+fn bound_of(numbers: &[usize]) -> Result<usize, AllocError> {
+    let mut bound = 0;
+    for number in numbers {
+        if *number == usize::MAX {
+            return Err(AllocError);
+        }
+        bound = bound.max(*number + 1);
+    }
+    Ok(bound)
+}
+
+/// Returns the times of next references, from the last one back.
+fn next_times(alloc: Global, numbers: &[usize]) -> Result<Vec<usize>, AllocError> {
+    let end = numbers.len();
+    let mut nexts = vec![in alloc; end; end]?;
+    let mut seen = vec![in alloc; end; bound_of(numbers)?]?;
+    for done in 0..end {
+        let now = end - 1 - done;
+        (*at_mut!(nexts, now)) = (*at!(seen, (*at!(numbers, now))));
+        (*at_mut!(seen, (*at!(numbers, now)))) = now;
+    }
+    Ok(nexts)
+}
