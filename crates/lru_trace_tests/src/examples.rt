@@ -15,3 +15,19 @@ fn of_curve(rt: HostRuntime) -> Result<(), Fail> {
     check!(rt; (curve.misses(0), curve.misses(1), curve.misses(2)) == (5, 5, 3));
     Ok(())
 }
+
+#[test]
+fn of_curve_2(rt: HostRuntime) -> Result<(), Fail> {
+    let alloc = rt.alloc();
+    let mut curve = Curve::keeping_references(alloc)?;
+    for key in ["a", "b", "c", "a", "b", "c"] {
+        if curve.references() < u64::MAX {
+            curve.refer(key)?;
+        }
+    }
+    if let Some(best) = curve.best()? {
+        let misses = (best.min_misses(2)?, best.bypass_misses(2)?);
+        assert!(rt; misses == (4, 4) && curve.misses(2) == 6);
+    }
+    Ok(())
+}
