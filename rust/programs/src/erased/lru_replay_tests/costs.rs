@@ -4,7 +4,7 @@
 #[allow(unused_imports)]
 use crate::rattle_std::prelude::*;
 
-use crate::erased::schnellru::{ByCost, LruMap, RandomState};
+use crate::erased::schnellru::{ByCost, ByWeight, LruMap, RandomState};
 use crate::programs::lru_replay::costs::{calls_make_references, maps_keep_to_their_cost, references_keep_the_newest};
 use crate::programs::test_helpers::check;
 use crate::rattle_std::alloc::{AllocError, Global};
@@ -64,15 +64,20 @@ fn compare<L: Source>(
     Ok((read_through(&mut small, texts, source)?, read_through(&mut large, texts, source)?))
 }
 
+/// Inserts a text under a number, with a limit of weight. If an entry costs what its key costs, this is a reference.
+fn insert_weighed(map: &mut LruMap<u64, String, ByWeight<16>>, key: u64, text: String) -> Result<bool, AllocError> {
+    calls_make_references::<u64, String, RandomState>();
+    let kept = map.insert(key, text)?;
+    Ok(kept)
+}
+
 /// A source of the bytes of a text, and one byte more.
+
 struct Bytes(Global);
 
 impl Source for Bytes {
     fn load(&self, text: &String) -> Result<Vec<u8>, AllocError> {
-        let mut bytes = Vec::new(self.0);
-        for byte in text.as_bytes() {
-            bytes.push(*byte)?;
-        }
+        let mut bytes = text.as_bytes().to_vec(self.0)?;
         bytes.push(0)?;
         Ok(bytes)
     }
@@ -81,7 +86,7 @@ impl Source for Bytes {
 /// Whether a value of each text is within the limit.
 fn are_short(texts: &[String], limit: u64) -> bool {
     for text in texts {
-        if text.len() as u64 >= limit {
+        if text.as_bytes().len() as u64 >= limit {
             return false;
         }
     }
