@@ -126,7 +126,7 @@ fn insert_weighed(
 
 /// A source of the bytes of a text, and one byte more.
 #[derive(Drop)]
-struct Bytes(Global);
+struct Bytes;
 
 impl Source for Bytes {
     ghost size = { λ text. length (string_bytes text) + 1 };
@@ -135,7 +135,7 @@ impl Source for Bytes {
         ap (λ n. n + 1) (equal_long nat_eq (string_bytes text) (string_bytes other) same) };
 
     fn load(&self, text: &String) -> Result<Vec<u8>, AllocError> {
-        let mut bytes = text.as_bytes().to_vec(self.0)?;
+        let mut bytes = text.clone()?.into_bytes();
         bytes.push(0)?;
         Ok(bytes)
     }
@@ -157,7 +157,7 @@ fn loads(alloc: Global, texts: &[String], limits: (u64, u64)) -> Option<(u64, u6
     if limits.0 > limits.1 || limits.1 > 1000 || !are_short(texts, limits.0) {
         return None;
     }
-    compare(alloc, texts, limits, &Bytes(alloc)).ok()
+    compare(alloc, texts, limits, &Bytes).ok()
 }
 
 #[test]
