@@ -5,7 +5,7 @@ use Rattle.std.proofs.lemmas.Bool.{le-leb}
 use Rattle.std.proofs.Math.Nat.{suc-mul, mul-le-mul_right}
 use Rattle.group_table.specs.Sizes.{full_capacity}
 use Rattle.lru_model.proofs.CallerLemmas.{empty_is_sound}
-use Rattle.lru_model.specs.Sizes.{usage, bytes_of, max_of_32_bits}
+use Rattle.lru_model.specs.Sizes.{usage, bytes_of}
 use Rattle.lru_model.specs.State.{empty_map}
 use Rattle.lru_theory.proofs.Affordable.{spent}
 use Rattle.lru_replay.specs.References.{KeepsToCost}
@@ -24,11 +24,11 @@ module _ {K : Type 0} (cost : K → ℕ) (limit : ℕ) (dear : (key : K) → lim
         absurd (omega (arith, many, costs_more keys, spent_is cost keys, within))
   ]
 
-  pub new_keeps : {V H : Type 0} (weight : K → V → ℕ) (entry_bytes : ℕ) (hasher : H) → limit < 2 ^ 63
-      → entry_bytes < 2 ^ 32 - 1
-      → KeepsToCost weight cost (empty_map (record { limit = limit; cost = 0 }) hasher entry_bytes max_of_32_bits)
+  pub new_keeps : {V H : Type 0} (weight : K → V → ℕ) (entry_bytes max : ℕ) (hasher : H) → limit < 2 ^ 63
+      → entry_bytes < 2 ^ 32 - 1 → 2 ^ 31 < max
+      → KeepsToCost weight cost (empty_map (record { limit = limit; cost = 0 }) hasher entry_bytes max)
   unfolding full_capacity usage
-  new_keeps weight entry_bytes hasher fits small = record {
+  new_keeps weight entry_bytes max hasher fits small above = record {
     each = tt;
     summed = refl;
     within = omega arith;
@@ -39,9 +39,9 @@ module _ {K : Type 0} (cost : K → ℕ) (limit : ℕ) (dear : (key : K) → lim
       count = 2 ^ 31;
       bytes = bytes_of entry_bytes (2 ^ 31);
       power = (29, refl);
-      reached = omega arith;
+      reached = above;
       usable = rw (le-leb (bytes_of entry_bytes (2 ^ 31)) (2 ^ 63 - 16) (omega (arith, small))) refl;
       takes = omega arith;
     };
-    sized = empty_is_sound entry_bytes max_of_32_bits;
+    sized = empty_is_sound entry_bytes max;
   }

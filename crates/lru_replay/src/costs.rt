@@ -10,7 +10,6 @@ ghost use Rattle.lru_model.specs.GetOrInserts.{MakesNewest};
 ghost use Rattle.lru_model.specs.IfMade.{MakesNewestIfMade};
 ghost use Rattle.lru_model.specs.Inserts.{Insert};
 ghost use Rattle.lru_model.specs.Lists.{keys_of, lookup};
-ghost use Rattle.lru_model.specs.Sizes.{max_of_32_bits};
 ghost use Rattle.lru_model.specs.State.{State, IsSized, empty_map};
 ghost use Rattle.lru_model.specs.TryInserts.{TryInsert};
 ghost use Rattle.lru_theory.specs.Budgets.{cached_within, faults_within};
@@ -20,12 +19,14 @@ ghost use Rattle.lru_replay.specs.References.{KeepsToCost, CostsAlike, Reference
 use lru_limits::KeyHasher;
 use std::hash::Hash;
 
-/// A new map keeps to its cost, if its limit is below 2 ^ 63, and 234,881,023 entries of no key are within it.
+/// A new map keeps to its cost, if its limit is below 2 ^ 63 and below the cost of 234,881,023 entries of any key, and
+/// links can number 2 ^ 31 buckets.
 pub fn maps_keep_to_their_cost<K: Eq + Hash + Drop, V: Drop, S: KeyHasher<K>>()
-    ensures { (weight : K → V → ℕ) (cost : K → ℕ) (limit entry_bytes : ℕ) (hasher : S) →
+    ensures { (weight : K → V → ℕ) (cost : K → ℕ) (limit entry_bytes max : ℕ) (hasher : S) →
         limit < 2 ^ 63 → ((key : K) → limit < 234881023 * cost key) → entry_bytes < 2 ^ 32 - 1 →
+        2 ^ 31 < max →
         KeepsToCost weight cost (empty_map {K = K} {V = V} (record { limit = limit; cost = 0 }) hasher entry_bytes
-        max_of_32_bits) }
+        max) }
 {}
 
 /// Each of these calls makes a reference if it returns `Ok`. The pair that it inserts costs what its key costs, which is

@@ -1,7 +1,9 @@
 //! Programs with `String` keys under a limit of cost, that prove how often they load a value.
-ghost use Rattle.std.specs.Prelude.{◌≡◌, ◌≤◌, ◌<◌, ◌+◌, ◌*◌, ◌^◌, ℕ, [], true, IfOk, OnOk, string_len, vec_len};
+ghost use Rattle.std.specs.Prelude.{◌≡◌, ◌≤◌, ◌<◌, ◌+◌, ◌*◌, ◌^◌, ℕ, [], true, length, IfOk, OnOk, string_len, vec_len};
 ghost use Rattle.std.specs.List.{All};
 ghost use Rattle.std.specs.String.{string_eq};
+ghost use Rattle.std.specs.declared.alloc.Global.{Global};
+ghost use Rattle.std.specs.declared.string.String.{String};
 ghost use Rattle.lru_limits.specs.Budget.{pair_cost};
 ghost use Rattle.lru_model.specs.Lists.{keys_of};
 ghost use Rattle.lru_replay.specs.References.{KeepsToCost, Reference, Referenced, of_cost};
@@ -21,13 +23,13 @@ use test_helpers::check;
 
 /// Where values come from. The text determines of how many bytes its value is.
 trait Source {
-    ghost size: { String → ℕ };
+    ghost size: { String Global → ℕ };
 
     /// Loads the value of a text.
     fn load(&self, text: &String) -> Result<Vec<u8>, AllocError>
         ensures { IfOk result (λ bytes. vec_len bytes ≡ size text.now) };
 
-    ghost alike: { (text other : String) → string_eq text other ≡ true → size text ≡ size other };
+    ghost alike: { (text other : String Global) → string_eq text other ≡ true → size text ≡ size other };
 }
 
 /// Looks up a text, and loads and inserts its value if it is not there. Returns how many values it loaded.
@@ -75,7 +77,7 @@ fn read_through<L: Source>(
 /// Makes an empty map for such values.
 fn map_within<L: Source>(alloc: Global, limit: u64) -> LruMap<String, Vec<u8>, ByCost>
     requires small { limit < 2 ^ 63 }
-    requires dear { (text : String) → limit < 234881023 * L.size text }
+    requires dear { (text : String Global) → limit < 234881023 * L.size text }
     ensures keeps { KeepsToCost (λ key bytes. vec_len bytes) L.size result }
     ensures empty { result.pairs ≡ [] }
     ensures limit { result.limiter.limit ≡ limit }
@@ -93,7 +95,7 @@ fn compare<L: Source>(
 ) -> Result<(u64, u64), AllocError>
     requires ordered { limits.0 ≤ limits.1 }
     requires small { limits.1 < 2 ^ 63 }
-    requires dear { (text : String) → limits.1 < 234881023 * L.size text }
+    requires dear { (text : String Global) → limits.1 < 234881023 * L.size text }
     requires cheap { All (λ text. L.size text ≤ limits.0) texts.now }
     ensures fewer { IfOk result (λ counts. counts.1 ≤ counts.0) }
 {
@@ -123,19 +125,17 @@ fn insert_weighed(
 }
 
 /// A source of the bytes of a text, and one byte more.
-struct Bytes(Global);
+#[derive(Drop)]
+struct Bytes;
 
 impl Source for Bytes {
-    ghost size = { λ text. string_len text + 1 };
+    ghost size = { λ text. length (string_bytes text) + 1 };
 
     ghost alike = { λ text other same.
         ap (λ n. n + 1) (equal_long nat_eq (string_bytes text) (string_bytes other) same) };
 
     fn load(&self, text: &String) -> Result<Vec<u8>, AllocError> {
-        let mut bytes = Vec::new(self.0);
-        for byte in text.as_bytes() {
-            bytes.push(*byte)?;
-        }
+        let mut bytes = text.clone()?.into_bytes();
         bytes.push(0)?;
         Ok(bytes)
     }
@@ -143,10 +143,10 @@ impl Source for Bytes {
 
 /// Whether a value of each text is within the limit.
 fn are_short(texts: &[String], limit: u64) -> bool
-    ensures { result ≡ true → All (λ text. string_len text + 1 ≤ limit) texts.now }
+    ensures { result ≡ true → All (λ text. length (string_bytes text) + 1 ≤ limit) texts.now }
 {
     for text in texts {
-        if text.len() as u64 >= limit {
+        if text.as_bytes().len() as u64 >= limit {
             return false;
         }
     }
@@ -157,7 +157,7 @@ fn loads(alloc: Global, texts: &[String], limits: (u64, u64)) -> Option<(u64, u6
     if limits.0 > limits.1 || limits.1 > 1000 || !are_short(texts, limits.0) {
         return None;
     }
-    compare(alloc, texts, limits, &Bytes(alloc)).ok()
+    compare(alloc, texts, limits, &Bytes).ok()
 }
 
 #[test]

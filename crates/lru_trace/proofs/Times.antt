@@ -21,7 +21,7 @@ use Rattle.std.specs.declared.cmp.Ordering.TheVariants.{Less, Equal, Greater}
 use Rattle.std.specs.Prelude.{◌||◌, not, ◌==◌, nat_lt, nat_le, nat_eq}
 use Rattle.std.specs.Set.{remove_key}
 use Rattle.std.specs.Str.{bytes_eq}
-use Rattle.lru_theory.specs.Best.{until, put, min_refer, bypass_refer, faults_by, min_misses}
+use Rattle.lru_theory.specs.Best.{until, put, min_refer, bypass_refer, faults_ahead, min_misses}
 use Rattle.lru_theory.specs.Traces.{is_in, fault}
 use Rattle.lru_theory.proofs.Nexts.{Later, Ordered, left, until_next, until_now, none_now, others_differ}
 use Rattle.lru_theory.proofs.Nexts.{without_absent, later_take, ordered_take, ordered_put, absent_take}
@@ -287,15 +287,15 @@ module _ {K : Type 0} (eq : K → K → Bool) (refer : K → List K → List K �
     pub keys : List K
     pub ordered : Ordered eq (drop now trace) keys
     pub times_are : ts ≡ times eq now (drop now trace) keys
-    pub count : missed + faults_by eq refer keys (drop now trace) ≡ faults_by eq refer [] trace
+    pub count : missed + faults_ahead eq refer keys (drop now trace) ≡ faults_ahead eq refer [] trace
 
   pub nothing_missed : Missed 0 0 []
   nothing_missed = record { keys = []; ordered = tt; times_are = refl; count = omega arith }
 
   pub all_missed : (now missed : ℕ) (ts : List ℕ) → length trace ≤ now → Missed now missed ts
-      → missed ≡ faults_by eq refer [] trace
+      → missed ≡ faults_ahead eq refer [] trace
   all_missed now missed ts h so_far =
-      let none = ap (faults_by eq refer so_far.keys) (drop_of_length-le trace {i = now} h) in
+      let none = ap (faults_ahead eq refer so_far.keys) (drop_of_length-le trace {i = now} h) in
       omega (arith, so_far.count, none)
 
 pub at_most_one : (b : Bool) → from_bool b ≤ 1
@@ -329,7 +329,7 @@ module _ {K : Type 0} {eq : K → K → Bool} (laws : IsEquivalence eq) (refer :
         keys = refer at.key rest keys;
         ordered = after_it.0;
         times_are = (λ j. after (at.end j) (next j) (remove_key (is_at (nat_cmp now)) (are j))) ∙ after_it.1;
-        count = omega (arith, so_far.count, ap (faults_by eq refer keys) at.is, now_missed);
+        count = omega (arith, so_far.count, ap (faults_ahead eq refer keys) at.is, now_missed);
       }
 
 -- What is known of the references from time `now` on: the time of the next one to each, and the first one to each key.
@@ -494,7 +494,7 @@ module _ (trace : List (List ℕ)) {nexts : List ℕ} (are : nexts ≡ next_time
 
 module _ (trace : List (List ℕ)) {nexts : List ℕ} (are : nexts ≡ next_times bytes_eq 0 trace) where
   pub turns_end : (refer : List ℕ → List (List ℕ) → List (List ℕ) → List (List ℕ)) (now missed : ℕ) (ts : List ℕ)
-      → length nexts ≤ now → Missed bytes_eq refer trace now missed ts → missed ≡ faults_by bytes_eq refer [] trace
+      → length nexts ≤ now → Missed bytes_eq refer trace now missed ts → missed ≡ faults_ahead bytes_eq refer [] trace
   turns_end refer now missed ts h = all_missed bytes_eq refer trace now missed ts
       (omega (arith, h, ap length are, length-next_times bytes_eq 0 trace))
 

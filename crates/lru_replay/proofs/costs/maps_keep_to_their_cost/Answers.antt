@@ -2,5 +2,5 @@ use Rattle.lru_replay.proofs.CostMaps.{new_keeps}
 use Rattle.lru_replay.proofs.costs.maps_keep_to_their_cost.Goals as goal
 
 pub returns : goal.returns
-returns g c = λ weight cost limit entry_bytes hasher fits dear small.
-    new_keeps cost limit dear weight entry_bytes hasher fits small
+returns g c = λ weight cost limit entry_bytes max hasher fits dear small above.
+    new_keeps cost limit dear weight entry_bytes max hasher fits small above

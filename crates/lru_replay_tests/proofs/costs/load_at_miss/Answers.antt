@@ -1,4 +1,4 @@
-use Rattle.std.proofs.Common.{◌∙◌, ℕ, refl, sym}
+use Rattle.std.proofs.Common.{◌∙◌, ℕ, Vec, refl, sym}
 use Rattle.std.specs.Prelude.{vec_len}
 use Rattle.std.specs.String.{string_eq}
 use Rattle.std.specs.declared.alloc.Global.{Global}
@@ -27,7 +27,7 @@ returns g c =
     let equal = copy_equal copy text c.in_ok-clone.ensures.cases in
     let size = alike.keys copy text equal in record {
       reference = law.equal weight g.L.Source.size text copy old new alike equal
-          (law.inserts weight g.L.Source.size copy c.in_ok-bytes.field-0 c.in_ok-insert.field-0 old new alike c.requires.keeps
+          (law.inserts weight g.L.Source.size copy c.in_ok-bytes.bytes c.in_ok-insert.field-0 old new alike c.requires.keeps
           c.insert.ensures.map.sized (c.in_ok-bytes.ensures ∙ sym size) (rw size c.requires.cheap)
           c.in_ok-insert.ensures.step);
       loaded = fault_absent string_eq text old.pairs (sym c.in_default.ensures.value);

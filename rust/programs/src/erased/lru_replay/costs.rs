@@ -8,7 +8,8 @@ use crate::rattle_std::prelude::*;
 use crate::erased::lru_limits::KeyHasher;
 use crate::rattle_std::hash::Hash;
 
-/// A new map keeps to its cost, if its limit is below 2 ^ 63, and 234,881,023 entries of no key are within it.
+/// A new map keeps to its cost, if its limit is below 2 ^ 63 and below the cost of 234,881,023 entries of any key, and
+/// links can number 2 ^ 31 buckets.
 pub fn maps_keep_to_their_cost<K: Eq + Hash, V, S: KeyHasher<K>>() {}
 
 /// Each of these calls makes a reference if it returns `Ok`. The pair that it inserts costs what its key costs, which is
