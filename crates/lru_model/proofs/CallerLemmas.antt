@@ -6,7 +6,7 @@
 --     written-found        after a value was written through a get, a look-up finds it
 --     read-all             what holds of each pair holds of each after a get through which nothing is written
 --     offers_of-keeps      a limiter that stores pairs as they come keeps their values,
---     offers_of-determined, offers_of-finds      leaves nothing open, and never runs out of memory
+--     offers_of-determined leaves nothing open
 --     offers_of-accepts    when it accepts a pair of a new key
 --     plain-grants, by_weight-grants, by_cost-grants                    if a limiter permits every growth
 --     plain-changes_none, by_weight-changes_none, by_cost-changes_none  limiters that change no removed pair
@@ -19,27 +19,21 @@
 --     given-tag            and only one whose hash has the tag of the hash
 --     given-promoted       one through which nothing is written brings that pair to the front, and no more
 --     none-found           if it returns none, no pair of that key has the hash
---     sum-set              a write that keeps the cost of its pair keeps the sum of the costs
---     empty_is_sound       a map without pairs and buckets has a sound table
+--     empty_is_map         a map without pairs and buckets is a map, with a sound table
 --     has_tables           there are tables for the pairs of a map, if links and bytes reach one for many more
 --     tables_of_next       or if there is one for one pair more, and an entry takes a byte or more
---     Shape, shape         a map, except which of its buckets are full; `same_shape` and `look_alike` say so
---     left_shape, cleared_shape, reserve_is      what calls make of it in tables of up to 16 buckets
---     shrinks_look_alike   two shrinks of maps of one shape return the same, and leave such maps
 --     shrink_contents      a shrink leaves the pairs and the limiter
 --     usage_bytes          the bytes of a table that has a usage
 --     value_removed        of an entry that is removed, the value may be returned alone
---     nothing_written      a run of calls is one of calls and writes
---     no_cost_written      and one of calls and writes that keep the cost
---     kept_written         a run of calls and writes that keep the cost is one of calls and writes
 --     step_keeps_number    no call changes a number that no callback of the limiter changes
 --     step_stays_short     a call leaves at most as many pairs as a limit by length, if there were no more before
+--     any_is_map           each call leaves a map, if the table is sound
 --     any_step_same        no call changes what builds the hashers, how far links reach, and what a bucket takes
 --     lookup-entry, no_pair      a look-up returns the value of the pair that is found, and none if no pair is
 --     without_none         if no pair is named, the others are all
 --     length-front_pairs   a pair that is brought to the front leaves the number of pairs
 pub use Rattle.lru_model.proofs.Theorems.KeySearches.{given-found, given-tag, none-found}
-pub use Rattle.lru_model.proofs.States.EmptyMaps.{empty_is_sound}
+pub use Rattle.lru_model.proofs.States.EmptyMaps.{empty_is_map}
 pub use Rattle.lru_model.proofs.States.LeavingPairs.{leaves_trans, length-without_first, length-without_last}
 pub use Rattle.lru_model.proofs.States.Promotions.{promoted_sized, demoted_sized, promoted_is_map, length-front_pairs}
 pub use Rattle.lru_model.proofs.States.SomeInsert.{some_insert}
@@ -54,18 +48,12 @@ pub use Rattle.lru_model.proofs.States.RemovedPairs.{value_removed}
 pub use Rattle.lru_model.proofs.TableSizes.ReachedTables.{has_tables}
 pub use Rattle.lru_model.proofs.Theorems.NextTables.{tables_of_next}
 pub use Rattle.lru_model.proofs.TableSizes.Growth.{usage_bytes}
-pub use Rattle.lru_model.proofs.Theorems.RunLimits.{nothing_written, no_cost_written, kept_written, step_keeps_number}
-pub use Rattle.lru_model.proofs.Theorems.RunLimits.{step_stays_short}
-pub use Rattle.lru_model.proofs.Theorems.Runs.{any_step_same}
+pub use Rattle.lru_model.proofs.Theorems.RunLimits.{step_keeps_number, step_stays_short}
+pub use Rattle.lru_model.proofs.Theorems.Runs.{any_is_map, any_step_same}
 pub use Rattle.lru_model.proofs.Theorems.StoringLimiters.{plain-changes_none, by_weight-changes_none}
 pub use Rattle.lru_model.proofs.Theorems.StoringLimiters.{by_cost-changes_none, offers_of-keeps, offers_of-determined}
-pub use Rattle.lru_model.proofs.Theorems.StoringLimiters.{offers_of-finds, offers_of-accepts, stored_key-same}
-pub use Rattle.lru_model.proofs.Theorems.StoringLimiters.{stored-came}
-pub use Rattle.lru_model.proofs.Theorems.Sums.{sum-set}
-pub use Rattle.lru_model.proofs.Theorems.SmallTables.{Shape, shape, same_shape, look_alike, with_left, left_shape}
+pub use Rattle.lru_model.proofs.Theorems.StoringLimiters.{offers_of-accepts, stored_key-same, stored-came}
 pub use Rattle.lru_model.proofs.Theorems.Shrinks.{shrink_contents}
-pub use Rattle.lru_model.proofs.Theorems.SmallCalls.{clears, cleared_shape, is_memory, reserve_in, reserve_is}
-pub use Rattle.lru_model.proofs.Theorems.SmallCalls.{shrinks_look_alike}
 use Rattle.std.proofs.Common.{◌≡◌, ℕ, Bool, true, false, cond, List, [], ◌∷◌, ◌++◌, refl, sym, ap, ◌∙◌, subst}
 use Rattle.std.proofs.Common.{Option, Some, None, Result, Ok, Err}
 use Rattle.std.proofs.lemmas.List.{append-nil}
@@ -84,7 +72,7 @@ use Rattle.lru_model.specs.Lists.{first, without_first, lookup, lookup_entry, wi
 use Rattle.lru_model.specs.Lists.{place_of, other_places, front_places, back_places}
 use Rattle.lru_model.specs.State.{State}
 use Rattle.lru_model.specs.Calls.{promoted, demoted, written}
-use Rattle.lru_model.specs.Exact.{IsDetermined, NeverRunsOut, AlwaysGrants}
+use Rattle.lru_model.specs.Exact.{AlwaysGrants}
 use Rattle.lru_model.specs.Theorems.{SaysWhether, Stores, KeepsValues, IsSummed, EvictsOldest, behind, with_none}
 use Rattle.lru_model.specs.Theorems.{without_one}
 use Rattle.lru_model.proofs.Theorems.InsertAnswers.{insert_found}

@@ -29,8 +29,6 @@ pub mod OtherPairs
 pub mod RunEvictions
 pub mod StepTotals
 pub mod RunLimits
-pub mod SmallTables
-pub mod SmallCalls
 pub mod Reservations
 pub mod NextTables
 pub mod GetOrInserts

@@ -141,16 +141,6 @@ abbrev pub IsDetermined : {K V S I : Type 0} → Offers K V S I → Type 0
 IsDetermined {K} {V} {S} {I} offers = (s : S) (n : ℕ) (i : I) (v : V) (t u : S) (given other : Option (K × V)) →
     offers.on_insert s n i v t given → offers.on_insert s n i v u other → (t ≡ u) × (given ≡ other)
 
--- `on_insert` never runs out of memory
-abbrev pub NeverRunsOut : {K V S I : Type 0} → Offers K V S I → Type 0
-NeverRunsOut {V = V} {S = S} {I = I} offers = (s : S) (n : ℕ) (i : I) (v : V) → offers.may_run_out s n i v → ⊥
-
--- two maps differ at most in which of their buckets are full or deleted: their growth left is the same
-pub record LookAlike {K V S H : Type 0} (st other : State K V S H) : Type 0 where
-  pub table : buckets other ≡ buckets st
-  pub growth_left : growth_left other ≡ growth_left st
-  pub state : other ≡ record st { table = other.table }
-
 -- the limiter permits every growth, and stays as it is
 abbrev pub AlwaysGrants : {K V S : Type 0} → Rules K V S → Type 0
 AlwaysGrants {K} {V} {S} rules = (s : S) (bytes : ℕ) →

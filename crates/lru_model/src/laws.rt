@@ -3,7 +3,7 @@
 //! nothing.
 
 ghost use Rattle.std.specs.Prelude.{◌≡◌, ◌≢◌, ℕ, ◌≤◌, ◌<◌, ◌+◌, ◌*◌, ◌/◌, ◌⊎◌, ◌∷◌, Bool, false, Option, Some, None};
-ghost use Rattle.std.specs.Prelude.{IfSome, Result, Ok, true, IsOk, IsErr, is_err, length, List};
+ghost use Rattle.std.specs.Prelude.{IfSome, Result, Ok, true, IsOk, IsErr, length, List};
 ghost use Rattle.std.specs.List.{IsDistinct};
 ghost use Rattle.std.specs.declared.alloc.AllocError.{AllocError};
 ghost use Rattle.group_table.specs.Bucket.{deleted};
@@ -19,7 +19,7 @@ ghost use Rattle.lru_model.specs.declared.results.ReserveError.{ReserveError};
 ghost use Rattle.lru_model.specs.Callbacks.{InsertPasses};
 ghost use Rattle.lru_model.specs.Inserts.{Insert, replacement, IsOutOfMemory};
 ghost use Rattle.lru_model.specs.Exact.{Report, InsertsAsReported, InsertsGiven, InsertsInSmallTable, InsertsInList};
-ghost use Rattle.lru_model.specs.Exact.{IsDetermined, NeverRunsOut, LookAlike, AlwaysGrants, HasTables};
+ghost use Rattle.lru_model.specs.Exact.{IsDetermined, AlwaysGrants, HasTables};
 ghost use Rattle.lru_model.specs.Theorems.{PaysByStoring, CountsPlacings, Stores, KeepsValues, IsRefusedGrowth};
 ghost use Rattle.lru_model.specs.Theorems.{EvictsOldest};
 ghost use Rattle.lru_model.specs.Kept.{AcceptsNew, IsAdded};
@@ -37,7 +37,7 @@ mod shrinks;
 pub use bytes::{calls_keep_the_bytes, runs_keep_the_bytes};
 pub use calls::{
     calls_add_one_pair, calls_evict_the_oldest, calls_keep_maps, calls_keep_sums,
-    calls_keep_the_budget, calls_keep_the_length, calls_keep_the_memory_usage, calls_pay_for_moves,
+    calls_keep_the_budget, calls_keep_the_length, calls_keep_the_memory_usage,
 };
 pub use kept::{
     inserts_leave_the_newest, inserts_with_room_are_exact, maps_keep_to_their_length,
@@ -93,26 +93,6 @@ pub fn small_inserts_are_exact<
         buckets old ≤ 16 →
         Insert L.rules L.offers I.names S.hash_of key value old result new →
         InsertsInSmallTable L.rules L.offers I.names old key value result (contents new) }
-{}
-
-/// If two maps differ at most in which buckets are full, so do they after equal inserts, and both inserts return the
-/// same. The premises: no table has more than 16 buckets, before and after; offers are determined and find their
-/// memory; and both inserts find memory or neither does.
-pub fn small_inserts_look_alike<
-    K: Eq + Hash,
-    V,
-    I: LookupKey<K>,
-    L: Insertion<K, V, I>,
-    S: KeyHasher<K>,
->()
-    ensures { (key : I) (value : V) (old : State K V L S) (result : Result Bool AllocError) (new other : State K V L S)
-        (answer : Result Bool AllocError) (last : State K V L S) →
-        IsDetermined L.offers → NeverRunsOut L.offers →
-        buckets old ≤ 16 → buckets new ≤ 16 → buckets last ≤ 16 →
-        LookAlike old other → is_err result ≡ is_err answer →
-        Insert L.rules L.offers I.names S.hash_of key value old result new →
-        Insert L.rules L.offers I.names S.hash_of key value other answer last →
-        (result ≡ answer) × LookAlike new last }
 {}
 
 /// An insert is one into a list, as the table reports (`exact`). Unless growth is refused, its entry is stored with all

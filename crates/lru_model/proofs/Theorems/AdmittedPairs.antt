@@ -2,7 +2,7 @@
 --     accepts_new      an insert of the pair finds the limiter ready
 --     adds             with growth left, an insert adds it to all the others
 --     says             what a caller learns of `try_insert`
-use Rattle.std.proofs.Common.{◌≡◌, ℕ, ◌+◌, ◌<◌, Bool, true, false, ◌∷◌, length, Some, None, Result, Ok, Err, refl}
+use Rattle.std.proofs.Common.{◌≡◌, ℕ, ◌+◌, ◌<◌, Bool, true, false, ◌∷◌, length, None, Result, Ok, Err, refl}
 use Rattle.std.proofs.Common.{ap, ◌∙◌, subst, arith}
 use Rattle.std.specs.Prelude.{not, if◌then◌else◌, OnOk, OnErr, IfErr}
 use Rattle.std.proofs.lemmas.Bool.{false≢true}

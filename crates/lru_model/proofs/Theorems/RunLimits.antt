@@ -5,40 +5,19 @@ use Rattle.lru_limits.specs.Rules.{Rules, Offers}
 use Rattle.lru_limits.specs.Limits.{IsFixed, LimitsLength, LimitsMemory}
 use Rattle.lru_model.specs.State.{State}
 use Rattle.lru_model.specs.Runs.{Step}
-use Rattle.lru_model.specs.Runs.{StepOrWrite, StepOrKeptWrite, Run, ends, goes_on}
+use Rattle.lru_model.specs.Runs.{StepOrWrite, Run, ends, goes_on}
 use Rattle.lru_model.specs.Theorems.{UsesAtMost}
 use Rattle.lru_model.specs.Calls.{written}
 use Rattle.lru_model.proofs.Theorems.Limits.{keeps_number, length_at_most, uses_at_most}
 use Rattle.lru_model.proofs.Theorems.StepTotals.{step_total}
 use Rattle.lru_model.proofs.Theorems.Runs.{step_changes}
 
-module _ {K V S H : Type 0} (rules : Rules K V S) (offers : Offers K V S K) (names : K → K → Bool)
-    (hash_of : H → K → ℕ) where
-  pub nothing_written : {new : State K V S H} (old : State K V S H) → Run (Step rules offers names hash_of) new old
-      → Run (StepOrWrite rules offers names hash_of) new old
-  nothing_written old ends = ends
-  nothing_written old (goes_on mid step sized run) = goes_on mid (inl step) sized (nothing_written mid run)
-
-module _ {K V S H I : Type 0} (rules : Rules K V S) (offers : Offers K V S I) (names : I → K → Bool)
-    (hash_of : H → K → ℕ) (cost : K → V → ℕ) where
-  pub no_cost_written : {new : State K V S H} (old : State K V S H) → Run (Step rules offers names hash_of) new old
-      → Run (StepOrKeptWrite rules offers names hash_of cost) new old
-  no_cost_written old ends = ends
-  no_cost_written old (goes_on mid step sized run) = goes_on mid (inl step) sized (no_cost_written mid run)
-
-  pub kept_written : {new : State K V S H} (old : State K V S H)
-      → Run (StepOrKeptWrite rules offers names hash_of cost) new old → Run (StepOrWrite rules offers names hash_of) new old
-  kept_written old ends = ends
-  kept_written old (goes_on mid (inl step) sized run) = goes_on mid (inl step) sized (kept_written mid run)
-  kept_written old (goes_on mid (inr (test, value, same, e)) sized run) =
-      goes_on mid (inr (test, value, e)) sized (kept_written mid run)
-
 module _ {K V S H : Type 0} {rules : Rules K V S} {offers : Offers K V S K} {most : S → ℕ} (names : K → K → Bool)
     (hash_of : H → K → ℕ) where
   module _ (fixed : IsFixed rules offers most) where
     pub step_keeps_number : (old new : State K V S H) → Step rules offers names hash_of old new
         → most new.limiter ≡ most old.limiter
-    step_keeps_number old new step = (step_changes (keeps_number fixed) old new step).3.moves
+    step_keeps_number old new step = (step_changes (keeps_number fixed) old new step).2.moves
 
     pub run_keeps_number : (new old : State K V S H) → Run (StepOrWrite rules offers names hash_of) new old
         → most new.limiter ≡ most old.limiter
@@ -79,7 +58,7 @@ module _ {K V S H : Type 0} {rules : Rules K V S} {offers : Offers K V S K} {mos
     pub step_uses_at_most : (old new : State K V S H) → Step rules offers names hash_of old new
         → UsesAtMost (most old.limiter) old → UsesAtMost (most old.limiter) new
     step_uses_at_most old new step = uses_at_most rules most _ _ _ old new limits.within (λ s p. p.1)
-        (step_changes (keeps_number limits.fixed) old new step).3.tables
+        (step_changes (keeps_number limits.fixed) old new step).2.tables
 
     pub run_uses_at_most : (new old : State K V S H) → Run (StepOrWrite rules offers names hash_of) new old
         → UsesAtMost (most old.limiter) old → UsesAtMost (most old.limiter) new

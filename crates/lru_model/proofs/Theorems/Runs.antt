@@ -1,5 +1,5 @@
 -- What each move keeps, every step keeps, and so does every run.
-use Rattle.std.proofs.Common.{◌≡◌, ℕ, Bool, true, List, Ok, ◌⊎◌, inl, inr, refl, subst, ◌∙◌}
+use Rattle.std.proofs.Common.{◌≡◌, ℕ, Bool, List, inl, inr, subst, ◌∙◌}
 use Rattle.std.specs.Cmp.{IsEquivalence}
 use Rattle.std.specs.List.{IsDistinct}
 use Rattle.std.specs.Map.{set_value}
@@ -13,12 +13,11 @@ use Rattle.lru_model.specs.Runs.{Step, inserts, makes_newest, updates, gets, dem
 use Rattle.lru_model.specs.Runs.{pops_newest, drains, clears}
 use Rattle.lru_model.specs.Runs.{reserves, shrinks, trims, retains}
 use Rattle.lru_model.specs.Runs.{AnyStep, calls, writes, sets_limiter, StepOrKeptWrite, Run, ends, goes_on}
-use Rattle.lru_model.specs.Shrinks.{Shrink}
-use Rattle.lru_model.specs.Theorems.{PaysByStoring, PaysForMoves, IsSummed}
+use Rattle.lru_model.specs.Theorems.{PaysForMoves, IsSummed}
 use Rattle.lru_model.proofs.PairLists.DistinctKeys.{offers_distinct}
 use Rattle.lru_model.proofs.Theorems.Moves.{KeepsOffers, keeps_nothing}
 use Rattle.lru_model.proofs.Theorems.TableGrowth.{Changes}
-use Rattle.lru_model.proofs.Theorems.Potential.{Pays, pays_for_moves, pays_by_storing}
+use Rattle.lru_model.proofs.Theorems.Potential.{pays_for_moves}
 use Rattle.lru_model.proofs.Theorems.Potential.{moves_paid_self, moves_paid_trans, bounded_of}
 use Rattle.lru_model.proofs.Theorems.Ways.{insert_changes, update_changes}
 use Rattle.lru_model.proofs.Theorems.PaidMoves.{stays_map}
@@ -33,55 +32,45 @@ module _ {K V S H I : Type 0} {rules : Rules K V S} {offers : Offers K V S I} {n
     {hash_of : H → K → ℕ} where
   module _ {R : Contents K V S → Contents K V S → Type 0} (k : KeepsOffers rules offers names R) where
     pub step_changes : (old new : State K V S H) → Step rules offers names hash_of old new → (more : ℕ)
-        × (anew : ℕ) × ((anew ≡ 0) ⊎ Shrink old (Ok true) new) × Changes rules R more anew old new
-    step_changes old new (inserts key value result h) = (_, _, inl refl, insert_changes k key value old result new h)
-    step_changes old new (makes_newest value key result h) = (_, _, inl refl, makes_newest_changes k h)
-    step_changes old new (updates key value result h) = (_, _, inl refl, update_changes k key value old result new h)
-    step_changes old new (gets test e) = rw e (_, _, inl refl, promoted_changes k.keeps old test)
-    step_changes old new (demotes test e) = rw e (_, _, inl refl, demoted_changes k.keeps old test)
-    step_changes old new (removes test result h) = (_, _, inl refl, remove_changes k.keeps old test result new h)
-    step_changes old new (pops_oldest result h) = (_, _, inl refl, pop_oldest_changes k.keeps old result new h)
-    step_changes old new (pops_newest result h) = (_, _, inl refl, pop_newest_changes k.keeps old result new h)
+        × (anew : ℕ) × Changes rules R more anew old new
+    step_changes old new (inserts key value result h) = (_, _, insert_changes k key value old result new h)
+    step_changes old new (makes_newest value key result h) = (_, _, makes_newest_changes k h)
+    step_changes old new (updates key value result h) = (_, _, update_changes k key value old result new h)
+    step_changes old new (gets test e) = rw e (_, _, promoted_changes k.keeps old test)
+    step_changes old new (demotes test e) = rw e (_, _, demoted_changes k.keeps old test)
+    step_changes old new (removes test result h) = (_, _, remove_changes k.keeps old test result new h)
+    step_changes old new (pops_oldest result h) = (_, _, pop_oldest_changes k.keeps old result new h)
+    step_changes old new (pops_newest result h) = (_, _, pop_newest_changes k.keeps old result new h)
     step_changes old new (drains newest oldest result h) =
-        (_, _, inl refl, drain_changes k.keeps old newest oldest result new h)
-    step_changes old new (clears e) = rw e (_, _, inl refl, cleared_changes k.keeps old)
-    step_changes old new (reserves n result h) = (_, _, inl refl, reserve_changes k.keeps.way n old result new h)
+        (_, _, drain_changes k.keeps old newest oldest result new h)
+    step_changes old new (clears e) = rw e (_, _, cleared_changes k.keeps old)
+    step_changes old new (reserves n result h) = (_, _, reserve_changes k.keeps.way n old result new h)
     step_changes old new (shrinks result h) =
-        let c = shrink_changes rules R k.keeps.way old result new h in (0, c.0, c.1, c.2)
-    step_changes old new (trims h) = (_, _, inl refl, trim_changes k.keeps old new h)
-    step_changes old new (retains asked each h) = (_, _, inl refl, retain_changes k.keeps old asked new each h)
+        let c = shrink_changes rules R k.keeps.way old result new h in (0, c.0, c.1)
+    step_changes old new (trims h) = (_, _, trim_changes k.keeps old new h)
+    step_changes old new (retains asked each h) = (_, _, retain_changes k.keeps old asked new each h)
 
     pub any_changes : ((c : Contents K V S) (test : K → Bool) (value : V)
         → R c (record { pairs = set_value test c.pairs value; limiter = c.limiter }))
         → ((c : Contents K V S) (s : S) → R c (record { pairs = c.pairs; limiter = s }))
         → (old new : State K V S H) → AnyStep rules offers names hash_of old new → (more : ℕ)
-        × (anew : ℕ) × ((anew ≡ 0) ⊎ Shrink old (Ok true) new) × Changes rules R more anew old new
+        × (anew : ℕ) × Changes rules R more anew old new
     any_changes write set old new (calls h) = step_changes old new h
     any_changes write set old new (writes test value e) = rw e
-        (_, _, inl refl, written_changes rules R old test value (write (contents old) test value))
+        (_, _, written_changes rules R old test value (write (contents old) test value))
     any_changes write set old new (sets_limiter s e) = rw e
-        (_, _, inl refl, set_changes rules R old s (set (contents old) s))
+        (_, _, set_changes rules R old s (set (contents old) s))
 
   pub any_step_same : (old new : State K V S H) → AnyStep rules offers names hash_of old new
       → (new.hasher ≡ old.hasher) × (new.max ≡ old.max) × (new.entry_bytes ≡ old.entry_bytes)
   any_step_same old new s =
-      let tables = (any_changes keeps_nothing (λ c test value. tt) (λ c s. tt) old new s).3.tables in
+      let tables = (any_changes keeps_nothing (λ c test value. tt) (λ c s. tt) old new s).2.tables in
       (tables.hasher, tables.max, tables.entry_bytes)
 
   pub any_pays : (old new : State K V S H) → AnyStep rules offers names hash_of old new → IsSized old
       → PaysForMoves old new
   any_pays old new s ok = pays_for_moves ok.shrunk
-      ((any_changes keeps_nothing (λ c test value. tt) (λ c s. tt) old new s).3.tables.pays (bounded_of old ok))
-
-  pub any_stores : (old new : State K V S H) → AnyStep rules offers names hash_of old new → IsSized old
-      → PaysByStoring old new ⊎ Shrink old (Ok true) new
-  any_stores old new s ok =
-      let (more, anew, from, changes) = any_changes keeps_nothing (λ c test value. tt) (λ c s. tt) old new s in
-      elim from [
-        | inl none ↦ inl (pays_by_storing ok.shrunk
-            (subst (λ n. Pays n old new) none (changes.tables.pays (bounded_of old ok))))
-        | inr shrink ↦ inr shrink
-      ]
+      ((any_changes keeps_nothing (λ c test value. tt) (λ c s. tt) old new s).2.tables.pays (bounded_of old ok))
 
   pub run_pays : (new old : State K V S H) → IsSized old → Run (AnyStep rules offers names hash_of) new old
       → PaysForMoves old new
@@ -91,7 +80,7 @@ module _ {K V S H I : Type 0} {rules : Rules K V S} {offers : Offers K V S I} {n
   pub step_summed : {cost : K → V → ℕ} {account : S → ℕ} → IsAccount rules offers cost account
       → (old new : State K V S H) → Step rules offers names hash_of old new
       → IsSummed cost account old → IsSummed cost account new
-  step_summed laws old new s = stays_summed laws old new (step_changes (keeps_sums laws names) old new s).3.moves
+  step_summed laws old new s = stays_summed laws old new (step_changes (keeps_sums laws names) old new s).2.moves
 
   pub kept_summed : {cost : K → V → ℕ} {account : S → ℕ} → IsAccount rules offers cost account
       → (old new : State K V S H) → StepOrKeptWrite rules offers names hash_of cost old new
@@ -114,7 +103,7 @@ module _ {K V S H I : Type 0} {rules : Rules K V S} {offers : Offers K V S I} {n
         → IsDistinct eq (keys_of old.pairs) → IsDistinct eq (keys_of new.pairs)
     any_distinct old new s = (any_changes (offers_distinct equivalence looks_up laws)
         (λ c test value d. subst (IsDistinct eq) (sym (keys-set_value test c.pairs value)) d)
-        (λ c s d. d) old new s).3.moves
+        (λ c s d. d) old new s).2.moves
 
     pub any_is_map : (old new : State K V S H) → AnyStep rules offers names hash_of old new → IsMap eq old → IsSized new
         → IsMap eq new
@@ -122,7 +111,7 @@ module _ {K V S H I : Type 0} {rules : Rules K V S} {offers : Offers K V S I} {n
         let changed = any_changes (offers_distinct equivalence looks_up laws)
         (λ c test value d. subst (IsDistinct eq) (sym (keys-set_value test c.pairs value)) d)
         (λ c s d. d) old new s in
-        stays_map rules changed.0 changed.1 old new changed.3
+        stays_map rules changed.0 changed.1 old new changed.2
 
     pub run_is_map : (new old : State K V S H) → Run (AnyStep rules offers names hash_of) new old → IsMap eq old
         → IsMap eq new

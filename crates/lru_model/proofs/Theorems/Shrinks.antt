@@ -1,5 +1,5 @@
 -- What a shrink makes of a map.
-use Rattle.std.proofs.Common.{◌≡◌, ℕ, ◌≤◌, ◌⊎◌, inl, inr, Bool, true, false, length, Result, Ok, refl, sym, ap, ◌∙◌}
+use Rattle.std.proofs.Common.{◌≡◌, ℕ, ◌≤◌, inl, Bool, true, false, length, Result, Ok, refl, sym, ap, ◌∙◌}
 use Rattle.std.proofs.Common.{subst, arith}
 use Rattle.std.proofs.lemmas.Bool.{false≢true}
 use Rattle.std.proofs.lemmas.Option.{same_Some}
@@ -107,16 +107,14 @@ module _ {K V S H : Type 0} (old : State K V S H) where
 
 module _ {K V S H : Type 0} (rules : Rules K V S) (R : Contents K V S → Contents K V S → Type 0) (k : KeepsWay rules R)
     (old : State K V S H) where
-  remains : (new : State K V S H) → new ≡ old → (anew : ℕ) × ((anew ≡ 0) ⊎ Shrink old (Ok true) new)
-      × Changes rules R 0 anew old new
-  remains new e = rw e (0, inl refl, calm_changes rules R 0 old old (self_calm old) (k.self (contents old)))
+  remains : (new : State K V S H) → new ≡ old → (anew : ℕ) × Changes rules R 0 anew old new
+  remains new e = rw e (0, calm_changes rules R 0 old old (self_calm old) (k.self (contents old)))
 
   pub shrink_changes : (result : Result Bool AllocError) (new : State K V S H) → Shrink old result new
-      → (anew : ℕ) × ((anew ≡ 0) ⊎ Shrink old (Ok true) new) × Changes rules R 0 anew old new
+      → (anew : ℕ) × Changes rules R 0 anew old new
   shrink_changes result new (kept t r e) = remains new e
   shrink_changes result new (shrunk count l r m) = (
     length old.pairs,
-    inr (shrunk count l refl m),
     record {
       moves = subst (R (contents old)) (sym (ap contents m.state)) (k.self (contents old));
       tables = record {

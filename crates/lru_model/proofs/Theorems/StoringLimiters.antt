@@ -10,7 +10,7 @@ use Rattle.lru_limits.specs.Admissions.{Terms, offers_of}
 use Rattle.lru_limits.specs.Stores.{plain, given-is}
 use Rattle.lru_model.specs.Lists.{lookup_entry}
 use Rattle.lru_model.specs.State.{State, Contents}
-use Rattle.lru_model.specs.Exact.{IsDetermined, NeverRunsOut}
+use Rattle.lru_model.specs.Exact.{IsDetermined}
 use Rattle.lru_model.specs.Theorems.{Stores, left, given, KeepsValues}
 use Rattle.lru_model.specs.Kept.{ChangesNoPair, AcceptsNew, stored_key}
 use Rattle.lru_model.proofs.Theorems.Fronts.{found_named}
@@ -36,9 +36,6 @@ module _ {K V S : Type 0} (terms : Terms K V S) where
 
   pub offers_of-determined : IsDetermined (offers_of terms)
   offers_of-determined = λ s n i v t u given other h k. (h.limiter ∙ sym k.limiter, h.pair ∙ sym k.pair)
-
-  pub offers_of-finds : NeverRunsOut (offers_of terms)
-  offers_of-finds = λ s n i v out_of_memory. out_of_memory
 
   -- it accepts a pair, if the terms do, and it is not over with one more then
   pub offers_of-accepts : (rules : Rules K V S) (eq : K → K → Bool) (key : K) (value : V) (c : Contents K V S)

@@ -1,7 +1,7 @@
 //! What is proved of each call, whichever it is. A step is what one call makes of a map (`specs/Runs`): `Step` for the
 //! calls that write nothing through a reference, and `AnyStep` also for writes to a value or to the limiter.
 
-ghost use Rattle.std.specs.Prelude.{◌≡◌, ℕ, ◌+◌, ◌≤◌, ◌⊎◌, Bool, true, length, Ok};
+ghost use Rattle.std.specs.Prelude.{◌≡◌, ℕ, ◌+◌, ◌≤◌, Bool, length};
 ghost use Rattle.std.specs.List.{IsDistinct};
 ghost use Rattle.lru_limits.specs.Admissions.{offers_of};
 ghost use Rattle.lru_limits.specs.Laws.{IsAccount};
@@ -9,8 +9,7 @@ ghost use Rattle.lru_limits.specs.Limits.{LimitsLength, LimitsMemory};
 ghost use Rattle.lru_model.specs.Lists.{keys_of, IsFront};
 ghost use Rattle.lru_model.specs.State.{State, IsSized, IsMap};
 ghost use Rattle.lru_model.specs.Runs.{Step, AnyStep, StepAmong};
-ghost use Rattle.lru_model.specs.Shrinks.{Shrink};
-ghost use Rattle.lru_model.specs.Theorems.{PaysByStoring, PaysForMoves, UsesAtMost, IsSummed, others};
+ghost use Rattle.lru_model.specs.Theorems.{UsesAtMost, IsSummed, others};
 
 use lru_limits::{Budgeted, Insertion, KeyHasher, LookupKey};
 use std::hash::Hash;
@@ -33,25 +32,6 @@ pub fn calls_keep_sums<K: Eq + Hash, V, I: LookupKey<K>, L: Insertion<K, V, I>, 
         (old new : State K V L S) →
         Step L.rules L.offers I.names S.hash_of old new →
         IsSummed cost account old → IsSummed cost account new }
-{}
-
-/// Each call pays for what it moves: the count of moved entries and the potential together rise by at most two for each
-/// entry that it stores, and by one for each entry that a shrink rehashes, while neither the count of stored entries
-/// nor the count of rehashed entries has reached `u64::MAX` (`rise`). A call that does not shrink the table counts no
-/// entry as rehashed, and the entries that it stores pay for all, even if that count has reached `u64::MAX` (`stored`).
-pub fn calls_pay_for_moves<
-    K: Eq + Hash,
-    V,
-    I: LookupKey<K>,
-    L: Insertion<K, V, I>,
-    S: KeyHasher<K>,
->()
-    ensures rise { (old new : State K V L S) →
-        AnyStep L.rules L.offers I.names S.hash_of old new →
-        IsSized old → PaysForMoves old new }
-    ensures stored { (old new : State K V L S) →
-        AnyStep L.rules L.offers I.names S.hash_of old new →
-        IsSized old → PaysByStoring old new ⊎ Shrink old (Ok true) new }
 {}
 
 /// With a limiter that limits the length to `most` entries (`LimitsLength`), as `ByLength` does, each call leaves that

@@ -19,7 +19,7 @@ mod shrinks;
 pub use bytes::{calls_keep_the_bytes, runs_keep_the_bytes};
 pub use calls::{
     calls_add_one_pair, calls_evict_the_oldest, calls_keep_maps, calls_keep_sums, calls_keep_the_budget,
-    calls_keep_the_length, calls_keep_the_memory_usage, calls_pay_for_moves,
+    calls_keep_the_length, calls_keep_the_memory_usage,
 };
 pub use kept::{inserts_leave_the_newest, inserts_with_room_are_exact, maps_keep_to_their_length, nothing_is_lost};
 pub use placings::try_inserts_pay_for_moves;
@@ -40,11 +40,6 @@ pub fn inserts_pass_few<K: Eq + Hash, V, I: LookupKey<K>, L: Insertion<K, V, I>,
 /// In a table of up to 16 buckets the entries, the limiter, the number of buckets and the growth left determine what the
 /// table reports of an insert (`small_report`), and so how the insert ends, unless memory runs out.
 pub fn small_inserts_are_exact<K: Eq + Hash, V, I: LookupKey<K>, L: Insertion<K, V, I>, S: KeyHasher<K>>() {}
-
-/// If two maps differ at most in which buckets are full, so do they after equal inserts, and both inserts return the
-/// same. The premises: no table has more than 16 buckets, before and after; offers are determined and find their
-/// memory; and both inserts find memory or neither does.
-pub fn small_inserts_look_alike<K: Eq + Hash, V, I: LookupKey<K>, L: Insertion<K, V, I>, S: KeyHasher<K>>() {}
 
 /// An insert is one into a list, as the table reports (`exact`). Unless growth is refused, its entry is stored with all
 /// the others, after the limiter was queried for a table of some bytes, or not at all. If growth is refused, the report

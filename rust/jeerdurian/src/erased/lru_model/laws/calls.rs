@@ -16,12 +16,6 @@ pub fn calls_keep_maps<K: Eq + Hash, V, I: LookupKey<K>, L: Insertion<K, V, I>, 
 /// each call that writes nothing through a reference.
 pub fn calls_keep_sums<K: Eq + Hash, V, I: LookupKey<K>, L: Insertion<K, V, I>, S: KeyHasher<K>>() {}
 
-/// Each call pays for what it moves: the count of moved entries and the potential together rise by at most two for each
-/// entry that it stores, and by one for each entry that a shrink rehashes, while neither the count of stored entries
-/// nor the count of rehashed entries has reached `u64::MAX` (`rise`). A call that does not shrink the table counts no
-/// entry as rehashed, and the entries that it stores pay for all, even if that count has reached `u64::MAX` (`stored`).
-pub fn calls_pay_for_moves<K: Eq + Hash, V, I: LookupKey<K>, L: Insertion<K, V, I>, S: KeyHasher<K>>() {}
-
 /// With a limiter that limits the length to `most` entries (`LimitsLength`), as `ByLength` does, each call leaves that
 /// limit as it is, and at most `most` entries, if there were no more before.
 pub fn calls_keep_the_length<K: Eq + Hash, V, L: Insertion<K, V, K>, S: KeyHasher<K>>() {}
