@@ -13,6 +13,8 @@ mod examples;
 #[cfg(test)]
 mod misses;
 #[cfg(test)]
+mod programs;
+#[cfg(test)]
 mod references;
 #[cfg(test)]
 mod refused;

@@ -16,6 +16,8 @@ mod examples;
 #[cfg(test)]
 mod misses;
 #[cfg(test)]
+mod programs;
+#[cfg(test)]
 mod references;
 #[cfg(test)]
 mod refused;
