@@ -1,12 +1,12 @@
 -- One line more of a run, from a reader to a writer, and how the answers end.
 use Rattle.std.proofs.Common.{◌≡◌, ℕ, ◌<◌, List, [], ◌∷◌, ◌++◌, length, sym, ap, ◌∙◌, subst, inl, inr, Option, Result}
-use Rattle.std.proofs.Common.{Ok, Err, IfSome, OnSome}
+use Rattle.std.proofs.Common.{Ok, Err, IfSome, OnSome, nat_eq}
 use Rattle.std.proofs.lemmas.List.{append-nil}
 use Rattle.std.specs.Io.KnownBytes.{Appends, IsAtEnd}
 use Rattle.std.proofs.KnownBytes.{Appends-trans}
 use Rattle.std.proofs.lemmas.Option.{IfSome_then}
 use Rattle.lru_limits.specs.Rules.{Rules, Offers}
-use Rattle.lru_model.specs.State.{IsSized}
+use Rattle.lru_model.specs.State.{IsMap}
 use Rattle.lru_replay.specs.declared.lines.outcome.ReplayError.{ReplayError}
 use Rattle.lru_replay.specs.declared.lines.outcome.ReplayError.TheVariants as errors
 use Rattle.lru_replay.specs.Lines.{lines_of, fed, TakesPart, TakesFed, TakesRest, TakesLines}
@@ -57,11 +57,11 @@ module _ {S : Type 0} {rules : Rules ℕ ℕ S} {offers : Offers ℕ ℕ S ℕ} 
     Consumes_end r₀ r₁ r₂ _ so_far.reads.2 taken.2,
   )
 
-  module _ (new : Map S) (w₂ : Option (List ℕ)) (sized : IsSized new) where
+  module _ (new : Map S) (w₂ : Option (List ℕ)) (map : IsMap nat_eq new) where
     run_on : (next : List ℕ) → LineStep rules offers reported now line next new
         → IsLineRun rules offers reported old (so_far.lines ++ line ∷ []) (so_far.text ++ fed next) new
     run_on next step = line_run-append rules offers reported old so_far.lines so_far.text now (line ∷ []) (fed next) new
-        so_far.run (line_run-one rules offers reported now line next new step sized)
+        so_far.run (line_run-one rules offers reported now line next new step map)
 
     pub line_answered : TakesFed r₁ r₂ line → AnswersLine rules offers reported now line new w₁ w₂ (Ok tt)
         → RunsSoFar rules offers reported old r₀ r₂ w₀ w₂ new

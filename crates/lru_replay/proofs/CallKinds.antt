@@ -6,9 +6,10 @@ use Rattle.lru_model.proofs.PassingLemmas.{plain_insert}
 use Rattle.lru_model.specs.Calls.{written}
 use Rattle.lru_model.specs.Runs.{Step, inserts, makes_newest, updates, gets, demotes, removes, pops_oldest}
 use Rattle.lru_model.specs.Runs.{pops_newest, drains, clears, reserves, shrinks, trims, NamesOnly, AnyStep}
-use Rattle.lru_model.specs.Runs.{calls as any_call, writes, sets_limiter as sets}
-use Rattle.lru_model.specs.State.{State}
-use Rattle.lru_replay.specs.CallRuns.{CallStep, NamesAmong}
+use Rattle.lru_model.specs.Runs.{calls as any_call, writes, sets_limiter as sets, StepAmong, StepOrWrite}
+use Rattle.lru_model.specs.Runs.{StepOrKeptWrite}
+use Rattle.lru_model.specs.State.{State, contents}
+use Rattle.lru_replay.specs.CallRuns.{CallStep, NamesAmong, SetsNoLimiter, KeepsCost}
 use Rattle.lru_replay.specs.Replies.{Reply}
 use Rattle.lru_replay.specs.Steps.{ReplyStep}
 use Rattle.lru_replay.specs.declared.calls.Call.{Call}
@@ -28,7 +29,7 @@ module _ {K V S H : Type 0} (rules : Rules K V S) (offers : Offers K V S K) (eq 
 
 module _ {K V S H : Type 0} {rules : Rules K V S} {offers : Offers K V S K} {eq : K → K → Bool}
     {hash_of : H → K → ℕ} {old new : State K V S H} where
-  step_kind : (call : Call K V S) (reply : Reply K V) → ReplyStep rules offers eq hash_of old call reply new
+  pub step_kind : (call : Call K V S) (reply : Reply K V) → ReplyStep rules offers eq hash_of old call reply new
       → Kind rules offers eq hash_of old new call
   step_kind (calls.Insert k v) reply (result, h, is) = calls_map (inserts k v result h) (λ test among. among)
   step_kind (calls.InsertWith k v) reply (result, out, h, is) =
@@ -62,15 +63,33 @@ module _ {K V S H : Type 0} {rules : Rules K V S} {offers : Offers K V S K} {eq 
   kind_of call reply (inl step) = step_kind call reply step
   kind_of call reply (inr (stores, is, e)) = stays e
 
-  pub named_step : (call : Call K V S) → Kind rules offers eq hash_of old new call
-      → ((step : AnyStep rules offers eq hash_of old new) × Names rules offers eq hash_of old new call step)
-      ⊎ (new ≡ old)
-  named_step call (calls_map step names) = inl (any_call step, names)
-  named_step call (stays e) = inr e
-  named_step call (writes_value key v is e) =
-      inl (writes (eq key) v e, λ test among. subst (NamesAmong eq test) is among)
-  named_step call (sets_limiter s is e) = inl (sets s e, λ test among. tt)
-
   pub any_step : (call : Call K V S) → Kind rules offers eq hash_of old new call
       → AnyStep rules offers eq hash_of old new ⊎ (new ≡ old)
-  any_step call kind = elim (named_step call kind) [ inl named ↦ inl named.0 | inr same ↦ inr same ]
+  any_step call (calls_map step names) = inl (any_call step)
+  any_step call (stays e) = inr e
+  any_step call (writes_value key v is e) = inl (writes (eq key) v e)
+  any_step call (sets_limiter s is e) = inl (sets s e)
+
+  pub step_among : (test : K → Bool) (call : Call K V S) → Kind rules offers eq hash_of old new call
+      → NamesAmong eq test call → StepAmong rules offers eq hash_of test old new ⊎ (new ≡ old)
+  step_among test call (calls_map step names) among = inl (any_call step, names test among)
+  step_among test call (stays e) among = inr e
+  step_among test call (writes_value key v is e) among =
+      inl (writes (eq key) v e, subst (NamesAmong eq test) is among)
+  step_among test call (sets_limiter s is e) among = inl (sets s e, tt)
+
+  pub step_or_write : (call : Call K V S) → Kind rules offers eq hash_of old new call → SetsNoLimiter call
+      → StepOrWrite rules offers eq hash_of old new ⊎ (new ≡ old)
+  step_or_write call (calls_map step names) none = inl (inl step)
+  step_or_write call (stays e) none = inr e
+  step_or_write call (writes_value key v is e) none = inl (inr (eq key, v, e))
+  step_or_write call (sets_limiter s is e) none = absurd (subst SetsNoLimiter is none)
+
+  pub step_or_kept : (cost : K → V → ℕ) (account : S → ℕ) (call : Call K V S) → SetsNoLimiter call
+      → KeepsCost eq cost account (contents old) call → Kind rules offers eq hash_of old new call
+      → StepOrKeptWrite rules offers eq hash_of cost old new ⊎ (new ≡ old)
+  step_or_kept cost account call none keeps (calls_map step names) = inl (inl step)
+  step_or_kept cost account call none keeps (stays e) = inr e
+  step_or_kept cost account call none keeps (writes_value key v is e) =
+      inl (inr (eq key, v, subst (KeepsCost eq cost account (contents old)) is keeps, e))
+  step_or_kept cost account call none keeps (sets_limiter s is e) = absurd (subst SetsNoLimiter is none)

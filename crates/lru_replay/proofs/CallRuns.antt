@@ -38,27 +38,9 @@ module _ {S C R : Type 0} (IsStep : S → C → R → S → Type 0) (Holds : S �
       let (replies, b, run) = some_run step mid after calls in
       (reply ∷ replies, b, (mid, is, after, run))
 
-pub run_keeps : {S C R : Type 0} (IsStep : S → C → R → S → Type 0) {Holds Keeps : S → Type 0} {IsCall : C → Type 0}
-    → ((old new : S) (call : C) (reply : R) → IsStep old call reply new → Holds new → IsCall call → Keeps old
-    → Keeps new) → (old : S) (calls : List C) (replies : List R) (new : S) → IsRun IsStep Holds old calls replies new
-    → AllByRecursion IsCall calls → Keeps old → IsRun IsStep (λ st. Holds st × Keeps st) old calls replies new
-run_keeps IsStep keeps old [] [] new same all kept = same
-run_keeps IsStep keeps old (call ∷ calls) (reply ∷ replies) new (mid, step, holds, run) (is, all) kept =
-    let next = keeps old mid call reply step holds is kept in
-    (mid, step, (holds, next), run_keeps IsStep keeps mid calls replies new run all next)
-run_keeps IsStep keeps old calls replies new none all kept = absurd none
-
 pub any_call : {C : Type 0} (calls : List C) → AllByRecursion (λ call. Unit {0}) calls
 any_call [] = tt
 any_call (call ∷ calls) = (tt, any_call calls)
-
-pub run-follows : {S C R : Type 0} (IsStep : S → C → R → S → Type 0) {Holds Follows : S → Type 0}
-    → ((s : S) → Holds s → Follows s) → (old : S) (calls : List C) (replies : List R) (new : S)
-    → IsRun IsStep Holds old calls replies new → IsRun IsStep Follows old calls replies new
-run-follows IsStep f old [] [] new same = same
-run-follows IsStep f old (call ∷ calls) (reply ∷ replies) new (mid, step, holds, run) =
-    (mid, step, f mid holds, run-follows IsStep f mid calls replies new run)
-run-follows IsStep f old calls replies new none = absurd none
 
 pub all_said-push : {K V : Type 0} (answers : List (Answer K V)) (answer : Answer K V)
     → all_said (answers ++ answer ∷ []) ≡ all_said answers ++ said answer ∷ []

@@ -4,9 +4,10 @@ use Rattle.std.proofs.Common.{inr, ◌⊎◌, Option, Some, None, Result, Ok, Er
 use Rattle.std.proofs.lemmas.List.{append-nil}
 use Rattle.std.specs.Io.KnownBytes.{Appends, Keeps, IsAtEnd}
 use Rattle.std.proofs.KnownBytes.{Appends-nil, Appends-kept, Consumes-nil}
-use Rattle.lru_limits.specs.Budget.{Budget}
-use Rattle.lru_limits.specs.Rules.{Rules, Offers}
-use Rattle.lru_model.specs.State.{IsSized}
+use Rattle.std.specs.Prelude.{nat_eq}
+use Rattle.lru_limits.specs.Admissions.{Terms, offers_of}
+use Rattle.lru_limits.specs.Budget.{budget_terms}
+use Rattle.lru_limits.specs.Rules.{Rules}
 use Rattle.std.proofs.lemmas.Option.{IfSome_then}
 use Rattle.lru_replay.specs.declared.lines.words.Limit.{Limit}
 use Rattle.lru_replay.specs.declared.lines.words.Limit.TheVariants as limits
@@ -21,16 +22,15 @@ use Rattle.lru_replay.specs.Lines.{lines_of, TakesFed, TakesRest, TakesLine, Tak
 use Rattle.lru_replay.specs.Output.{Begins, Fails, no_limiter_text}
 use Rattle.lru_replay.specs.Replay.{IsTextUnder, IsReplay, NamesNoLimit, IsOutput, SoFar, plain_entry_bytes}
 use Rattle.lru_replay.specs.Replay.{Replays, Finished, WriteFailed}
-use Rattle.lru_limits.specs.Limiters.{length_rules, length_offers, memory_rules, no_rules, all_offers}
-use Rattle.lru_replay.specs.Limits.{cost_rules, cost_offers, no_cost, cost_reported}
+use Rattle.lru_limits.specs.Limiters.{length_rules, length_terms, memory_rules, no_rules, all_terms}
+use Rattle.lru_replay.specs.Limits.{cost_rules, no_cost, cost_reported}
 use Rattle.lru_replay.specs.Maps.{Map, empty}
 use Rattle.lru_model.specs.Sizes.{max_of_32_bits, max_of_64_bits}
 use Rattle.lru_replay.specs.LineRuns.{IsTextOf, Answers, OfAll, BeginsText}
 use Rattle.lru_replay.proofs.LineLists.{lines_of-fed, lines_of-last, lines_at_end, lines_left, takes_line_before}
-use Rattle.lru_replay.proofs.LineRuns.{some_line_run, line_run_sized, line_run-append}
+use Rattle.lru_replay.proofs.LineRuns.{some_line_run, line_run_map, line_run-append}
 use Rattle.lru_replay.proofs.ByteLists.{Consumes_end}
-use Rattle.lru_model.proofs.CallerLemmas.{empty_is_sound}
-use Rattle.lru_replay.proofs.AlwaysOffers.{AlwaysOffers, length_always, cost_always, all_always}
+use Rattle.lru_model.proofs.CallerLemmas.{empty_is_map}
 use Rattle.lru_replay.proofs.SpelledLines.{limit_or}
 use Rattle.lru_replay.proofs.SpelledWords.{short_limit}
 
@@ -67,28 +67,30 @@ no_limit (Some x) b endings.Nothing first (taken, nothing) none = only_first (So
     (λ input. NamesNoLimit (lines_of input)) taken
     (λ input same. none_first (lines_of input) (same ∙ ap lines_of nothing))
 
-module _ {S : Type 0} (rules : Rules ℕ ℕ S) (offers : Offers ℕ ℕ S ℕ) (reported : S → Option ℕ)
-    (offered : AlwaysOffers offers) (old : Map S) (sized : IsSized old) where
-  text_goes_on : (lines more : List (List ℕ)) (text : List ℕ) → IsTextOf rules offers reported old lines text
-      → (u : List ℕ) × IsTextOf rules offers reported old (lines ++ more) (text ++ u)
+module _ {S : Type 0} (rules : Rules ℕ ℕ S) (terms : Terms ℕ ℕ S) (reported : S → Option ℕ) (limiter : S)
+    (entry_bytes max : ℕ) where
+  abbrev start : Map S
+  start = empty limiter entry_bytes max
+
+  text_goes_on : (lines more : List (List ℕ)) (text : List ℕ)
+      → IsTextOf rules (offers_of terms) reported start lines text
+      → (u : List ℕ) × IsTextOf rules (offers_of terms) reported start (lines ++ more) (text ++ u)
   text_goes_on lines more text (now, run) =
-      let (u, new, others) = some_line_run rules offers reported offered now
-      (line_run_sized rules offers reported old lines text now sized run) more in
-      (u, (new, line_run-append rules offers reported old lines text now more u new run others))
+      let map = line_run_map rules (offers_of terms) reported start lines text now
+      (empty_is_map limiter _ entry_bytes max nat_eq) run in
+      let (u, new, others) = some_line_run rules terms reported now map more in
+      (u, (new, line_run-append rules (offers_of terms) reported start lines text now more u new run others))
 
 under_goes_on : (limit : Limit) (lines more : List (List ℕ)) (text : List ℕ) → IsTextUnder limit lines text
     → (u : List ℕ) × IsTextUnder limit (lines ++ more) (text ++ u)
-under_goes_on (limits.Length most) = text_goes_on length_rules length_offers no_cost length_always
-    (empty most plain_entry_bytes max_of_32_bits) (empty_is_sound plain_entry_bytes max_of_32_bits)
-under_goes_on (limits.Memory budget entry_bytes) = text_goes_on memory_rules all_offers no_cost all_always
-    (empty budget entry_bytes max_of_32_bits) (empty_is_sound entry_bytes max_of_32_bits)
-under_goes_on (limits.Cost most) =
-    let budget : Budget = record { limit = most; cost = 0 } in
-    text_goes_on cost_rules cost_offers cost_reported cost_always (empty budget plain_entry_bytes max_of_64_bits)
-    (empty_is_sound plain_entry_bytes max_of_64_bits)
-under_goes_on limits.Compact = text_goes_on no_rules all_offers no_cost all_always
-    (empty (record {}) plain_entry_bytes max_of_32_bits)
-    (empty_is_sound plain_entry_bytes max_of_32_bits)
+under_goes_on (limits.Length most) =
+    text_goes_on length_rules length_terms no_cost most plain_entry_bytes max_of_32_bits
+under_goes_on (limits.Memory budget entry_bytes) =
+    text_goes_on memory_rules all_terms no_cost budget entry_bytes max_of_32_bits
+under_goes_on (limits.Cost most) = text_goes_on cost_rules (budget_terms (λ k v. v)) cost_reported
+    (record { limit = most; cost = 0 }) plain_entry_bytes max_of_64_bits
+under_goes_on limits.Compact =
+    text_goes_on no_rules all_terms no_cost (record {}) plain_entry_bytes max_of_32_bits
 
 no_lines_under : (limit : Limit) → IsTextUnder limit [] []
 no_lines_under (limits.Length most) = (empty most plain_entry_bytes max_of_32_bits, ([], refl, refl))

@@ -6,7 +6,6 @@ pub mod LineLists
 pub mod SpelledLines
 pub mod SpelledWords
 pub mod HeldBytes
-pub mod AlwaysOffers
 pub mod Pops
 pub mod DrainedPairs
 pub mod SomeSteps
@@ -18,15 +17,7 @@ pub mod MadeValues
 pub mod CallKinds
 pub mod SummedCalls
 pub mod CallLaws
-pub mod LineLaws
-pub mod OldestGone
 pub mod ListRuns
-pub mod AlikeRuns
-pub mod Wants
-pub mod SmallBudgets
-pub mod SmallGrowth
-pub mod SmallLengths
-pub mod SmallTotals
 pub mod ReferenceLoops
 pub mod ReferencePairs
 pub mod ReferenceRuns

@@ -19,8 +19,8 @@ use Rattle.lru_model.specs.State.{State, Contents, contents, IsMap}
 use Rattle.lru_model.specs.Updates.{Update, updated, rejected, not_there}
 use Rattle.lru_model.specs.declared.results.Updated.{Updated}
 use Rattle.lru_model.specs.declared.results.ReserveError.{ReserveError}
-use Rattle.lru_replay.specs.CallRuns.{IsRun, CallStep, SummingStep}
-use Rattle.lru_replay.specs.ListRuns.{ListStep, ListCallStep, ListSummingStep, beside, emptied, updated_in_list}
+use Rattle.lru_replay.specs.CallRuns.{IsRun, CallStep}
+use Rattle.lru_replay.specs.ListRuns.{ListStep, ListCallStep, beside, emptied, updated_in_list}
 use Rattle.lru_replay.specs.Replies.{Reply, updated as says_updated, value, pair, listed, made_reply}
 use Rattle.lru_replay.specs.Steps.{ReplyStep}
 use Rattle.lru_replay.specs.declared.calls.Call.{Call}
@@ -121,12 +121,6 @@ module _ {K V S H : Type 0} (rules : Rules K V S) (offers : Offers K V S K) (eq 
           → ListCallStep rules offers eq (hash_of old.hasher) (contents old) call reply (contents new)
       call_in_list call reply (inl step) = inl (in_list call reply step)
       call_in_list call reply (inr (stores, is, e)) = inr (stores, is, ap contents e)
-
-      pub summing_in_list : (cost : K → V → ℕ) (account : S → ℕ) (call : Call K V S) (reply : Reply K V)
-          → SummingStep rules offers eq hash_of cost account old call reply new
-          → ListSummingStep rules offers eq (hash_of old.hasher) cost account (contents old) call reply (contents new)
-      summing_in_list cost account call reply (inl (keeps, step)) = inl (keeps, call_in_list call reply step)
-      summing_in_list cost account call reply (inr (differs, is, e)) = inr (differs, is, ap contents e)
 
 module _ {K V S H : Type 0} {rules : Rules K V S} {offers : Offers K V S K} {eq : K → K → Bool} {hash_of : H → K → ℕ}
     {IsStep : State K V S H → Call K V S → Reply K V → State K V S H → Type 0}

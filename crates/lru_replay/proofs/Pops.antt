@@ -1,13 +1,13 @@
 -- Pops at one end of a map, one after another: with n pairs, n pops do what more pops do.
-use Rattle.std.proofs.Common.{◌≡◌, ℕ, zero, suc, ◌-◌, ◌<◌, ◌≤◌, List, [], ◌∷◌, ◌++◌, length, option_to_list}
-use Rattle.std.proofs.Common.{refl, sym, ap, ◌∙◌, arith, append_assoc}
+use Rattle.std.proofs.Common.{◌≡◌, ℕ, zero, suc, ◌+◌, ◌-◌, ◌<◌, ◌≤◌, List, [], ◌∷◌, ◌++◌, length, option_to_list}
+use Rattle.std.proofs.Common.{refl, sym, ap, ◌∙◌, subst, arith, add-one, append_assoc}
 use Rattle.std.proofs.lemmas.List.{append-nil}
 use Rattle.lru_limits.specs.Rules.{Rules}
 use Rattle.lru_model.specs.Lists.{first, last}
-use Rattle.lru_model.specs.State.{Contents, pop, pops}
+use Rattle.lru_model.specs.State.{State, Contents, contents, Leaves, pop, pops}
 use Rattle.lru_model.specs.Calls.{left_of, pop_first}
 use Rattle.lru_model.specs.Drains.{pops_first, newest_given, oldest_given}
-use Rattle.lru_model.proofs.CallerLemmas.{length-without_last}
+use Rattle.lru_model.proofs.CallerLemmas.{leaves_trans, length-without_last}
 
 module _ {K V S : Type 0} where
   -- one takes a pair out and returns it; many does so n times, and all is what they return
@@ -66,6 +66,22 @@ module _ {K V S : Type 0} {one : Contents K V S → Contents K V S} {gives : Con
   all_enough (suc n) (suc k) c most enough =
       p.given k c ∙ ap (λ l. gives c ++ l) (all_enough n k (one c) (omega arith)
       (λ less. let few = enough (omega arith) in omega (arith, p.shorter c, few))) ∙ sym (p.given n c)
+
+module _ {K V S H : Type 0} {one : Contents K V S → Contents K V S} {gives : Contents K V S → List (K × V)}
+    {many : ℕ → Contents K V S → Contents K V S} {all : ℕ → Contents K V S → List (K × V)}
+    (p : ArePops one gives many all) (start : List (K × V)) (old mid new : State K V S H) (k : ℕ) where
+  -- of a map, one pop more after k of them
+  pub one_popped : (done taken : List (K × V)) → done ≡ start ++ all k (contents old) → taken ≡ gives (contents mid)
+      → Leaves old (many k (contents old)) mid → Leaves mid (one (contents mid)) new
+      → (done ++ taken ≡ start ++ all (k + 1) (contents old)) × Leaves old (many (k + 1) (contents old)) new
+  one_popped done taken given gave left more =
+      let begun = contents old in let same : contents mid ≡ many k begun = ap contents left.is in (
+        (λ i. given i ++ (gave ∙ ap gives same) i) ∙ append_assoc start (all k begun) (gives (many k begun))
+            ∙ ap (λ l. start ++ l) (sym (all-more p k begun)) ∙ ap (λ n. start ++ all n begun) (sym (add-one k)),
+        subst (λ c. Leaves old c new)
+            (ap one same ∙ sym (many-more p k begun) ∙ ap (λ n. many n begun) (sym (add-one k)))
+            (leaves_trans old mid new (many k begun) (one (contents mid)) left more),
+      )
 
 module _ {K V S : Type 0} (rules : Rules K V S) where
   -- what a pop of the newest pair gives, and one of the oldest

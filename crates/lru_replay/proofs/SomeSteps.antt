@@ -3,7 +3,8 @@
 use Rattle.std.proofs.Common.{ℕ, zero, suc, ◌+◌, ◌≤◌}
 use Rattle.std.proofs.Common.{[], ◌++◌, length, option_map, inl, inr, refl, sym, subst, arith}
 use Rattle.std.specs.Prelude.{nat_eq, is_some}
-use Rattle.lru_limits.specs.Rules.{Rules, Offers}
+use Rattle.lru_limits.specs.Admissions.{Terms, offers_of}
+use Rattle.lru_limits.specs.Rules.{Rules}
 use Rattle.lru_model.specs.Lists.{lookup, lookup_entry, first, last}
 use Rattle.lru_model.specs.Calls.{promoted, demoted, removal, pop_first, cleared, left_of}
 use Rattle.lru_model.specs.State.{Contents, growth_left, contents, Leaves, IsSized, pop}
@@ -14,7 +15,6 @@ use Rattle.lru_model.proofs.CallerLemmas.{length-without_first, length-without_l
 use Rattle.lru_replay.specs.declared.calls.Call.{Call}
 use Rattle.lru_replay.specs.declared.calls.Call.TheVariants as calls
 use Rattle.lru_replay.specs.declared.lines.figures.Figures.{Figures}
-use Rattle.lru_replay.proofs.AlwaysOffers.{AlwaysOffers}
 use Rattle.lru_replay.specs.LineRuns.{AnswersCall}
 use Rattle.lru_replay.specs.Maps.{Map, hash_of}
 use Rattle.lru_replay.specs.Replies.{Reply, flag, updated, value, pair, listed, reserved, shrunk, stats, done}
@@ -22,15 +22,14 @@ use Rattle.lru_replay.specs.Replies.{no_memory, insert_reply}
 use Rattle.lru_replay.specs.Steps.{ReplyStep}
 use Rattle.lru_replay.proofs.SpelledWords.{HasLine}
 
-module _ {S : Type 0} (rules : Rules ℕ ℕ S) (offers : Offers ℕ ℕ S ℕ) (offered : AlwaysOffers offers) (old : Map S)
-    (ok : IsSized old) where
+module _ {S : Type 0} (rules : Rules ℕ ℕ S) (terms : Terms ℕ ℕ S) (old : Map S) (ok : IsSized old) where
   abbrev pub CanEnd : Call ℕ ℕ S → Type 0
   CanEnd call = (reply : Reply ℕ ℕ) × (new : Map S)
-      × AnswersCall rules offers old call reply new × IsSized new
+      × AnswersCall rules (offers_of terms) old call reply new × IsSized new
 
   leaving : (call : Call ℕ ℕ S) (reply : Reply ℕ ℕ) (left : Contents ℕ ℕ S) → length left.pairs ≤ length old.pairs
       → ((new : Map S) → Leaves old left new
-      → ReplyStep rules offers nat_eq hash_of old call reply new) → CanEnd call
+      → ReplyStep rules (offers_of terms) nat_eq hash_of old call reply new) → CanEnd call
   leaving call reply left fewer step =
       let (new, leaves, sized, freed) = some_leave old left ok fewer in (reply, new, inl (step new leaves), sized)
 
@@ -51,10 +50,11 @@ module _ {S : Type 0} (rules : Rules ℕ ℕ S) (offers : Offers ℕ ℕ S ℕ) 
 
   pub some_step : (call : Call ℕ ℕ S) → HasLine call → CanEnd call
   some_step (calls.Insert k v) has =
-      let (result, new, is, after) = some_insert rules offers nat_eq hash_of k v old ok offered in
+      let (result, new, is, after) = some_insert rules (offers_of terms) nat_eq hash_of k v old ok
+      (λ s count key value. (_, _, record { limiter = refl; pair = refl })) in
       (insert_reply result, new, inl (result, is, refl), after)
   some_step (calls.InsertWith k v) has = (no_memory, old, inr (tt, refl, refl), ok)
-  some_step (calls.Update k v) has = let (result, new, is, after) = some_update rules offers nat_eq k v old ok in
+  some_step (calls.Update k v) has = let (result, new, is, after) = some_update rules (offers_of terms) nat_eq k v old ok in
       (updated result, new, inl (result, is, refl), after)
   some_step (calls.Get k) has = let new = promoted (nat_eq k) old in
       (value (lookup (nat_eq k) old.pairs), new, inl (refl, refl), promoted_sized old (nat_eq k) ok)

@@ -1,10 +1,9 @@
 -- Runs of calls: a step for each call, each from the state that the one before left.
-use Rattle.std.specs.Prelude.{◌≡◌, ◌≤◌, ℕ, Bool, List, [], ◌∷◌, ◌⊎◌, MatchOption, Some}
-use Rattle.group_table.specs.Probe.{hash_tag}
+use Rattle.std.specs.Prelude.{◌≡◌, ℕ, Bool, List, [], ◌∷◌, ◌⊎◌, MatchOption}
+use Rattle.std.specs.List.{AllByRecursion}
 use Rattle.lru_limits.specs.Rules.{Rules, Offers}
 use Rattle.lru_model.specs.Lists.{lookup_entry}
-use Rattle.lru_model.specs.Runs.{AreAmong}
-use Rattle.lru_model.specs.Sizes.{usage}
+use Rattle.lru_model.specs.Runs.{AreAmong, AnyStep, StepAmong, StepOrWrite, Run}
 use Rattle.lru_model.specs.State.{State, Contents, contents}
 use Rattle.lru_replay.specs.declared.calls.Call.{Call}
 use Rattle.lru_replay.specs.declared.calls.Call.TheVariants as calls
@@ -34,12 +33,6 @@ module _ {K V S : Type 0} where
   StepIfMemory IsStep old call reply new = IsStep old call reply new
       ⊎ (StoresPairs call × (reply ≡ no_memory) × (new ≡ old))
 
-  -- a search by a hash is by the hash of its key, or by a hash of another tag
-  abbrev pub HasPlainSearch : (K → ℕ) → Call K V S → Type 0
-  HasPlainSearch hash_of (calls.GetByHash hash key) = hash_tag (hash_of key) ≡ hash_tag hash → hash_of key ≡ hash
-  HasPlainSearch hash_of (calls.PeekByHash hash key) = hash_tag (hash_of key) ≡ hash_tag hash → hash_of key ≡ hash
-  HasPlainSearch hash_of call = Unit {0}
-
   -- the call names only keys that pass the test, and does not pop the newest pair
   abbrev pub NamesAmong : (K → K → Bool) → (K → Bool) → Call K V S → Type 0
   NamesAmong eq test (calls.Insert key v) = AreAmong (eq key) test
@@ -61,11 +54,6 @@ module _ {K V S : Type 0} where
   SetsNoLimiter (calls.SetLimiter s) = ⊥
   SetsNoLimiter call = Unit {0}
 
-  -- the call reserves no growth
-  abbrev pub ReservesNothing : Call K V S → Type 0
-  ReservesNothing (calls.Reserve n) = ⊥
-  ReservesNothing call = Unit {0}
-
 module _ {K V S : Type 0} (eq : K → K → Bool) (cost : K → V → ℕ) (account : S → ℕ) where
   -- a write keeps the cost of its pair, and another limiter has the same running total
   abbrev pub KeepsCost : Contents K V S → Call K V S → Type 0
@@ -74,12 +62,6 @@ module _ {K V S : Type 0} (eq : K → K → Bool) (cost : K → V → ℕ) (acco
   KeepsCost old (calls.SetLimiter s) = account s ≡ account old.limiter
   KeepsCost old call = Unit {0}
 
-  -- a step that keeps the cost, or the reply that the cost differs, and nothing changes
-  abbrev pub StepIfKept : {A : Type 0} → (A → Contents K V S) → (A → Call K V S → Reply K V → A → Type 0) → A
-      → Call K V S → Reply K V → A → Type 0
-  StepIfKept of IsStep old call reply new = (KeepsCost (of old) call × IsStep old call reply new)
-      ⊎ ((KeepsCost (of old) call → ⊥) × (reply ≡ cost_differs) × (new ≡ old))
-
 module _ {K V S H : Type 0} (rules : Rules K V S) (offers : Offers K V S K) (eq : K → K → Bool)
     (hash_of : H → K → ℕ) where
   -- a step of a map, or no memory is found to store pairs
@@ -87,10 +69,16 @@ module _ {K V S H : Type 0} (rules : Rules K V S) (offers : Offers K V S K) (eq 
   CallStep = StepIfMemory (ReplyStep rules offers eq hash_of)
 
   module _ (cost : K → V → ℕ) (account : S → ℕ) where
-    -- a step of a map that keeps the cost, or the reply that the cost differs
+    -- such a step that keeps the cost, or the reply that the cost differs, and nothing changes
     abbrev pub SummingStep : State K V S H → Call K V S → Reply K V → State K V S H → Type 0
-    SummingStep = StepIfKept eq cost account contents CallStep
+    SummingStep old call reply new = (KeepsCost eq cost account (contents old) call × CallStep old call reply new)
+        ⊎ ((KeepsCost eq cost account (contents old) call → ⊥) × (reply ≡ cost_differs) × (new ≡ old))
 
--- the limit by memory usage is at most the bytes of a table of 16 buckets
-abbrev pub HasSmallBudget : {K V H : Type 0} → State K V ℕ H → Type 0
-HasSmallBudget st = (bytes : ℕ) × (usage st.entry_bytes 16 ≡ Some bytes) × (st.limiter ≤ bytes)
+  -- What a list of these calls is to the map: a run of steps. Calls that change nothing are left out.
+  pub record AreSteps (calls : List (Call K V S)) (old new : State K V S H) : Type 0 where
+    pub any : Run (AnyStep rules offers eq hash_of) new old
+    -- no step names another key, if no call does
+    pub among : (test : K → Bool) → AllByRecursion (NamesAmong eq test) calls
+        → Run (StepAmong rules offers eq hash_of test) new old
+    -- no step sets a limiter, if no call does
+    pub limited : AllByRecursion SetsNoLimiter calls → Run (StepOrWrite rules offers eq hash_of) new old

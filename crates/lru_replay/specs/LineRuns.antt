@@ -2,7 +2,7 @@
 use Rattle.std.specs.Prelude.{◌≡◌, ℕ, nat_eq, List, ◌⊎◌, flat_map, Option, OnSome, IfSome, Result, Ok, Err}
 use Rattle.std.specs.Io.KnownBytes.{Appends, IsAtEnd}
 use Rattle.lru_limits.specs.Rules.{Rules, Offers}
-use Rattle.lru_model.specs.State.{IsSized}
+use Rattle.lru_model.specs.State.{IsMap}
 use Rattle.lru_replay.specs.declared.calls.Call.{Call}
 use Rattle.lru_replay.specs.declared.calls.Call.TheVariants as calls
 use Rattle.lru_replay.specs.declared.lines.outcome.ReplayError.{ReplayError}
@@ -43,11 +43,11 @@ module _ {S : Type 0} (rules : Rules ℕ ℕ S) (offers : Offers ℕ ℕ S ℕ) 
   AnswersLine before line after old new result =
       (text : List ℕ) × LineStep before line text after × Writes old new result (fed text)
 
-  -- A run over the lines, in which each line leaves a map whose table is sound. The text contains what each line
-  -- writes, with a line feed, one after another.
+  -- A run over the lines, in which each line leaves a map. The text contains what each line writes, with a line feed, one
+  -- after another.
   abbrev pub IsLineRun : Map S → List (List ℕ) → List ℕ → Map S → Type 0
   IsLineRun old lines text new =
-      (texts : List (List ℕ)) × IsRun LineStep IsSized old lines texts new × (text ≡ flat_map fed texts)
+      (texts : List (List ℕ)) × IsRun LineStep (IsMap nat_eq) old lines texts new × (text ≡ flat_map fed texts)
 
   -- some run over the lines, from this map, has the text
   abbrev pub IsTextOf : Map S → List (List ℕ) → List ℕ → Type 0

@@ -20,7 +20,7 @@ use Rattle.lru_model.specs.declared.results.Updated.TheVariants.{Replaced, Rejec
 use Rattle.lru_replay.specs.declared.calls.Call.{Call}
 use Rattle.lru_replay.specs.declared.calls.Call.TheVariants as calls
 use Rattle.lru_replay.specs.declared.lines.figures.Figures.{Figures}
-use Rattle.lru_replay.specs.CallRuns.{StepIfMemory, StepIfKept}
+use Rattle.lru_replay.specs.CallRuns.{StepIfMemory}
 use Rattle.lru_replay.specs.Replies.{Reply, flag, given, updated, value, pair, listed, reserved, shrunk, stats, done}
 use Rattle.lru_replay.specs.Replies.{insert_reply, made_reply}
 use Rattle.lru_replay.specs.Steps.{FindsByHash}
@@ -107,8 +107,3 @@ module _ {K V S : Type 0} (rules : Rules K V S) (offers : Offers K V S K) (eq : 
     -- so it does, or no memory is found to store pairs, and nothing changes
     abbrev pub ListCallStep : Contents K V S → Call K V S → Reply K V → Contents K V S → Type 0
     ListCallStep = StepIfMemory ListStep
-
-    module _ (cost : K → V → ℕ) (account : S → ℕ) where
-      -- and so it does under a summing limiter, if the cost is kept
-      abbrev pub ListSummingStep : Contents K V S → Call K V S → Reply K V → Contents K V S → Type 0
-      ListSummingStep = StepIfKept eq cost account (λ c. c) ListCallStep

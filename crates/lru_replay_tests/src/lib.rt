@@ -13,6 +13,10 @@ mod costs;
 #[cfg(test)]
 mod examples;
 #[cfg(test)]
+mod misses;
+#[cfg(test)]
+mod programs;
+#[cfg(test)]
 mod references;
 #[cfg(test)]
 mod refused;

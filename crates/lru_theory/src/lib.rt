@@ -10,15 +10,12 @@ ghost use Rattle.lru_theory.specs.Policies.{Loads, Demands, Bypasses, Served};
 ghost use Rattle.lru_theory.specs.Best.{min_misses, bypass_misses};
 ghost use Rattle.lru_theory.specs.Inclusion.{KeyCall, after_calls, IsIncluded, IsSubsequence};
 
-/// An LRU cache of n places that contains the n keys that were referenced last contains them after any trace.
+/// An LRU cache of n places that contains the n keys that were referenced last contains them after any trace (`keys`). It
+/// misses exactly at the references whose reuse distance is at least n, and at the first to each key (`misses`).
 pub fn a_cache_is_the_newest<K: Eq>()
-    ensures { (n : ℕ) (past trace : List K) →
+    ensures keys { (n : ℕ) (past trace : List K) →
         cached K.eq n (take n (recency K.eq past)) trace ≡ take n (recency K.eq (past_after past trace)) }
-{}
-
-/// Such a cache misses exactly at the references whose reuse distance is at least n, and at the first to each key.
-pub fn faults_are_misses<K: Eq>()
-    ensures { (n : ℕ) (past trace : List K) →
+    ensures misses { (n : ℕ) (past trace : List K) →
         faults K.eq n (take n (recency K.eq past)) trace ≡ misses K.eq n past trace }
 {}
 

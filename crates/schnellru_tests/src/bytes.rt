@@ -36,6 +36,7 @@ fn change(
         (λ v. block_bytes (string_capacity v))) map.old.limiter.limit map.new }
 {
     laws::calls_keep_the_bytes::<String, String, RandomState>();
+    laws::runs_keep_the_bytes::<String, String, RandomState>();
     let _len = map.len();
     let kept = map.insert(key, text);
     map.update(other, new);

@@ -1,7 +1,7 @@
 //! Callers of the laws on exact inserts.
-ghost use Rattle.std.specs.Prelude.{◌≡◌, ◌≤◌, ◌<◌, OnOk};
-ghost use Rattle.lru_model.specs.Exact.{InsertsAsReported, InsertsGiven, InsertsInSmallTable, Report};
-ghost use Rattle.lru_model.specs.State.{buckets, contents, growth_left};
+ghost use Rattle.std.specs.Prelude.{◌≡◌, ◌≤◌, OnOk};
+ghost use Rattle.lru_model.specs.Exact.{HasTables, InsertsAsReported, InsertsGiven, InsertsInSmallTable, Report};
+ghost use Rattle.lru_model.specs.State.{buckets, contents};
 
 use schnellru::{ByLength, Insertion, KeyHasher, LruMap, RandomState, laws};
 use std::alloc::AllocError;
@@ -25,8 +25,8 @@ fn put_exactly<K: Eq + Hash + Drop, V: Drop, L: Insertion<K, V, K>, S: KeyHasher
     map.insert(key, value)
 }
 
-/// Puts a pair into two maps with the same entries and growth left. Both inserts return the same, and leave the same
-/// entries, wherever each table has them.
+/// Puts a pair into two maps with the same entries. Both inserts return the same, and leave the same entries, wherever
+/// each table has them, if there are tables for one entry more.
 fn put_into_both(
     one: &mut LruMap<u64, u64>,
     other: &mut LruMap<u64, u64>,
@@ -34,10 +34,10 @@ fn put_into_both(
     value: u64,
 ) -> Result<(bool, bool), AllocError>
     requires same { contents one.old ≡ contents other.old }
-    requires growth_left { (0 < growth_left one.old) × (0 < growth_left other.old) }
+    requires tables { HasTables one.old × HasTables other.old }
     ensures { OnOk result (contents one.new ≡ contents other.new) }
 {
-    laws::inserts_with_room_are_exact::<u64, u64, u64, ByLength, RandomState>();
+    laws::granted_inserts_are_exact::<u64, u64, u64, ByLength, RandomState>();
     laws::inserts_are_exact_unless_refused::<u64, u64, u64, ByLength, RandomState>();
     Ok((one.insert(key, value)?, other.insert(key, value)?))
 }

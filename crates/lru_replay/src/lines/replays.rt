@@ -1,6 +1,6 @@
 //! A replay, from the lines of a reader to the answer lines of a writer.
-ghost use Rattle.std.specs.Prelude.{ℕ, List};
-ghost use Rattle.lru_model.specs.State.{IsSized};
+ghost use Rattle.std.specs.Prelude.{ℕ, List, nat_eq};
+ghost use Rattle.lru_model.specs.State.{IsMap};
 ghost use Rattle.lru_replay.specs.Maps.{empty};
 ghost use Rattle.lru_replay.specs.Output.{Writes};
 ghost use Rattle.lru_replay.specs.Replay.{IsTextUnder, Replays};
@@ -53,7 +53,7 @@ fn answer_line<L: Insertion<u64, u64, u64> + ReportsCost + Drop, W: Write>(
 ) -> Result<(), ReplayError>
     ensures step { AnswersLine L.rules L.offers L.reported map.old line.now map.new
         (W.contents writer.old) (W.contents writer.new) result }
-    ensures sized { IsSized map.new }
+    ensures map { IsMap nat_eq map.new }
 {
     let carried_out = answer_call(alloc, map, line, writer);
     learn(map);
@@ -62,7 +62,7 @@ fn answer_line<L: Insertion<u64, u64, u64> + ReportsCost + Drop, W: Write>(
 }
 
 fn learn<L: Insertion<u64, u64, u64>>(map: &LruMap<u64, u64, L>)
-    ensures { IsSized map.now }
+    ensures { IsMap nat_eq map.now }
 {
     let _len = map.len();
 }

@@ -1,7 +1,5 @@
-use Rattle.std.proofs.Common.{◌≤◌}
 use Rattle.std.specs.List.{AllByRecursion}
 use Rattle.lru_replay.specs.CallRuns.{SetsNoLimiter}
-use Rattle.lru_replay.proofs.CallRuns.{run_holds}
 use Rattle.lru_replay_tests.proofs.Results.{follows}
 use Rattle.lru_replay_tests.proofs.callers.charge_both.Goals as goal
 
@@ -9,8 +7,6 @@ pub returns : goal.returns
 returns c =
     let old = c.args.map.now in let new = c.run_summing.new.map in let calls = c.in_ok-calls.calls.items in
     let none : AllByRecursion SetsNoLimiter calls = rw c.in_ok-calls.ensures.items (tt, (tt, tt)) in
-    let law = c.lists_keep_the_budget.ensures.total in
-    follows c.run_summing.result (λ answers run.
-    run_holds _ (λ st. st.limiter.cost ≤ old.limiter.limit) old calls _ new c.requires.within
-    (law old new calls _ run none c.requires.summed c.requires.within))
+    follows c.run_summing.result (λ answers run. c.runs_keep_the_budget.ensures.total old new
+    ((c.lists_are_runs.ensures.summing _ _ old new calls _ run).1 none) c.requires.summed c.requires.within)
     c.run_summing.ensures.run

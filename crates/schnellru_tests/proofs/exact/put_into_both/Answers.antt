@@ -10,9 +10,9 @@ returns c =
     let key = c.args.key in let value = c.args.value in let one = c.args.one.now in let other = c.args.other.now in
     let kept = c.in_ok-insert.field-0 in let left = contents c.insert.new.self in
     let kept_too = c.in_ok-insert-2.field-0 in let left_too = contents c.insert-2.new.self in
-    let listed = c.inserts_with_room_are_exact.ensures.list key value in
+    let listed = c.granted_inserts_are_exact.ensures key value in
     (c.inserts_are_exact_unless_refused.ensures.alike (λ s pair. at_once) key value (contents one) (Ok kept)
     (Ok kept_too) left left_too (offers_of-determined length_terms) refl refl
-    (listed one (Ok kept) c.insert.new.self c.requires.growth_left.0 c.in_ok-insert.ensures.step)
+    (listed one (Ok kept) c.insert.new.self (λ s bytes. (refl, refl)) c.requires.tables.0 c.in_ok-insert.ensures.step)
     (subst (λ d. InsertsInList length_rules length_offers nat_eq key value d (Ok kept_too) left_too) (sym c.requires.same)
-    (listed other (Ok kept_too) c.insert-2.new.self c.requires.growth_left.1 c.in_ok-insert-2.ensures.step))).1
+    (listed other (Ok kept_too) c.insert-2.new.self (λ s bytes. (refl, refl)) c.requires.tables.1 c.in_ok-insert-2.ensures.step))).1

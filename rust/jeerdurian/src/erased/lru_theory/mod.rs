@@ -6,11 +6,9 @@
 #[allow(unused_imports)]
 use crate::rattle_std::prelude::*;
 
-/// An LRU cache of n places that contains the n keys that were referenced last contains them after any trace.
+/// An LRU cache of n places that contains the n keys that were referenced last contains them after any trace (`keys`). It
+/// misses exactly at the references whose reuse distance is at least n, and at the first to each key (`misses`).
 pub fn a_cache_is_the_newest<K: Eq>() {}
-
-/// Such a cache misses exactly at the references whose reuse distance is at least n, and at the first to each key.
-pub fn faults_are_misses<K: Eq>() {}
 
 /// More places never mean more misses.
 pub fn more_places_never_miss_more<K: Eq>() {}

@@ -4,21 +4,24 @@
 #[allow(unused_imports)]
 use crate::rattle_std::prelude::*;
 
-use crate::erased::schnellru::{ByCost, ByLength, LruMap, RandomState};
-use crate::programs::lru_replay::{Answer, Call, laws, run_calls, run_summing};
+use crate::erased::schnellru::{Both, ByCost, ByLength, ByMemoryUsage, LruMap, RandomState, laws};
+use crate::programs::lru_replay::laws::lists_are_runs;
+use crate::programs::lru_replay::{Answer, Call, run_calls, run_summing};
 use crate::rattle_std::alloc::{AllocError, Global};
 
-/// Inserts two pairs by a list of calls, into a map that is within its length, and leaves it so. Of the pairs of other
+/// Inserts two pairs by a list of calls, into a map that is within its limits, and leaves it so. Of the pairs of other
 /// keys the newest are left, in their order, and the inserts pay for the entries that they move.
 fn put_both(
     alloc: Global,
-    map: &mut LruMap<u64, u64>,
+    map: &mut LruMap<u64, u64, Both<ByLength, ByMemoryUsage>>,
     first: (u64, u64),
     second: (u64, u64),
 ) -> Result<Vec<Answer<u64, u64>>, AllocError> {
-    laws::lists_keep_the_length::<u64, u64, RandomState>();
-    laws::lists_evict_the_oldest::<u64, u64, ByLength, RandomState>();
-    laws::lists_pay_for_moves::<u64, u64, ByLength, RandomState>();
+    lists_are_runs::<u64, u64, Both<ByLength, ByMemoryUsage>, RandomState>();
+    laws::runs_keep_the_length::<u64, u64, Both<ByLength, ByMemoryUsage>, RandomState>();
+    laws::runs_keep_the_memory_usage::<u64, u64, Both<ByLength, ByMemoryUsage>, RandomState>();
+    laws::runs_evict_the_oldest::<u64, u64, u64, Both<ByLength, ByMemoryUsage>, RandomState>();
+    laws::runs_pay_for_moves::<u64, u64, u64, Both<ByLength, ByMemoryUsage>, RandomState>();
     let _len = map.len();
     let calls = vec![in alloc;
         Call::Insert(first.0, first.1),
@@ -34,7 +37,8 @@ fn charge_both(
     first: (u64, u64),
     second: (u64, u64),
 ) -> Result<Vec<Answer<u64, u64>>, AllocError> {
-    laws::lists_keep_the_budget::<u64, u64, ByCost, RandomState>();
+    lists_are_runs::<u64, u64, ByCost, RandomState>();
+    laws::runs_keep_the_budget::<u64, u64, ByCost, RandomState>();
     let calls = vec![in alloc;
         Call::Insert(first.0, first.1),
         Call::Insert(second.0, second.1),

@@ -25,6 +25,7 @@ fn change(
     old: &str,
 ) -> Result<bool, AllocError> {
     laws::calls_keep_the_bytes::<String, String, RandomState>();
+    laws::runs_keep_the_bytes::<String, String, RandomState>();
     let _len = map.len();
     let kept = map.insert(key, text);
     map.update(other, new);

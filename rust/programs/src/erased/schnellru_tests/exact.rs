@@ -20,15 +20,15 @@ fn put_exactly<K: Eq + Hash, V, L: Insertion<K, V, K>, S: KeyHasher<K>>(
     map.insert(key, value)
 }
 
-/// Puts a pair into two maps with the same entries and growth left. Both inserts return the same, and leave the same
-/// entries, wherever each table has them.
+/// Puts a pair into two maps with the same entries. Both inserts return the same, and leave the same entries, wherever
+/// each table has them, if there are tables for one entry more.
 fn put_into_both(
     one: &mut LruMap<u64, u64>,
     other: &mut LruMap<u64, u64>,
     key: u64,
     value: u64,
 ) -> Result<(bool, bool), AllocError> {
-    laws::inserts_with_room_are_exact::<u64, u64, u64, ByLength, RandomState>();
+    laws::granted_inserts_are_exact::<u64, u64, u64, ByLength, RandomState>();
     laws::inserts_are_exact_unless_refused::<u64, u64, u64, ByLength, RandomState>();
     Ok((one.insert(key, value)?, other.insert(key, value)?))
 }

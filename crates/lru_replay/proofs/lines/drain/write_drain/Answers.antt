@@ -1,34 +1,21 @@
-use Rattle.std.proofs.Common.{◌≡◌, ◌<◌, ◌≤◌, ◌++◌, length, option_to_list, sym, ap, ◌∙◌, subst, arith, add-one}
+use Rattle.std.proofs.Common.{◌<◌, ◌≤◌, [], ◌++◌, length, option_to_list, sym, ap, ◌∙◌, subst, arith}
 use Rattle.std.proofs.lemmas.List.{append-nil}
-use Rattle.lru_model.specs.Lists.{first}
 use Rattle.lru_model.specs.State.{contents, Leaves}
-use Rattle.lru_model.specs.Calls.{left_of, pop_first}
-use Rattle.lru_model.specs.Drains.{pops_first, newest_given}
-use Rattle.lru_model.proofs.CallerLemmas.{leaves_trans}
+use Rattle.lru_model.specs.Drains.{newest_given}
 use Rattle.lru_replay.specs.Output.{Writes, taken_text}
 use Rattle.lru_replay.proofs.DrainedPairs.{spaced, spaced-more, spaced-end, some-more}
-use Rattle.lru_replay.proofs.Pops.{from_newest, many-more, all-more, many_enough, all_enough}
+use Rattle.lru_replay.proofs.Pops.{from_newest, one_popped, many_enough, all_enough}
 use Rattle.lru_replay.proofs.lines.drain.write_drain.Goals as goal
 
 pub loop-preserved : goal.loop-preserved
 loop-preserved g c =
     let (pairs, given, leaves, any, wrote) = c.loop.invariant in
-    let rules = g.L.Limiter.rules in
-    let taken = c.pop_newest-taken in
-    let begun = contents c.args.map.now in
-    let k = c.loop.counter in
-    let same : contents c.loop.map ≡ pops_first rules k begun = ap contents leaves.is in
-    let is_taken : taken.result ≡ left_of rules (pops_first rules k begun).limiter
-    (first (pops_first rules k begun).pairs) =
-    taken.ensures.step.pair ∙ ap (λ d. left_of rules d.limiter (first d.pairs)) same in
-    let all = leaves_trans c.args.map.now c.loop.map taken.new.self (pops_first rules k begun)
-    (pop_first rules (contents c.loop.map)) leaves taken.ensures.step.state in (
+    let taken = c.pop_newest-taken in let popped = taken.ensures.step in
+    let next = one_popped (from_newest g.L.Limiter.rules) [] c.args.map.now c.loop.map taken.new.self c.loop.counter pairs
+    (option_to_list taken.result) given (ap option_to_list popped.pair) leaves popped.state in (
       pairs ++ option_to_list taken.result,
-      ap (λ l. l ++ option_to_list taken.result) given
-          ∙ ap (λ o. newest_given rules k begun ++ option_to_list o) is_taken
-          ∙ sym (all-more (from_newest rules) k begun) ∙ ap (λ n. newest_given rules n begun) (sym (add-one k)),
-      subst (λ d. Leaves c.args.map.now d taken.new.self) (ap (pop_first rules) same
-          ∙ sym (many-more (from_newest rules) k begun) ∙ ap (λ n. pops_first rules n begun) (sym (add-one k))) all,
+      next.0,
+      next.1,
       some-more c.loop.any c.is_some-any.result pairs taken.result any c.is_some-any.ensures,
       subst (Writes (g.W.Write.contents c.args.writer.now)
           (g.W.Write.contents c.write_taken-written.new.writer) c.write_taken-written.result)

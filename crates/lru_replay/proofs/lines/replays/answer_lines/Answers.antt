@@ -30,7 +30,7 @@ returns-in_err-answer_line-in-Feed g c =
     failed.ensures.step in
     let p = err_from_is_err_and c.from_residual-in_err-answer_line-in-Feed.result
     c.from_residual-in_err-answer_line-in-Feed.ensures.1 in
-    rw (p.1, p.2) (line_cut c.loop.invariant _ bytes _ _ failed.ensures.sized _ read answered)
+    rw (p.1, p.2) (line_cut c.loop.invariant _ bytes _ _ failed.ensures.map _ read answered)
 
 pub returns-in-InputEnd : goal.returns-in-InputEnd
 returns-in-InputEnd g c =
@@ -39,7 +39,7 @@ returns-in-InputEnd g c =
     let read = rw c.in-InputEnd.is at taken in
     let answered = whole_answer _ _ g.L.ReportsCost.reported _ _ _ _ _ _ _ (c.as_slice-in-InputEnd.ensures ∙ held)
     call.ensures.step in
-    last_answered c.loop.invariant _ bytes _ _ call.ensures.sized read.0 read.1 _ answered
+    last_answered c.loop.invariant _ bytes _ _ call.ensures.map read.0 read.1 _ answered
 
 pub returns-in-Nothing : goal.returns-in-Nothing
 returns-in-Nothing g c =
@@ -54,7 +54,7 @@ loop-preserved g c =
     let next = c.in_ok-answer_line-in-Feed.ensures in
     let answered = whole_answer _ _ g.L.ReportsCost.reported (Ok tt) _ _ _ _ (g.W.Write.contents c.loop.writer)
     (g.W.Write.contents c.answer_line.new.writer) (c.as_slice.ensures ∙ held) next.step in
-    line_answered c.loop.invariant _ bytes _ _ next.sized read answered
+    line_answered c.loop.invariant _ bytes _ _ next.map read answered
 
 pub returns : goal.returns
 returns g c = let so_far = c.loop.invariant in

@@ -1,0 +1,88 @@
+//! Programs with `String` keys that call a map in other ways, and two maps that get the same calls.
+ghost use Rattle.std.specs.Prelude.{◌≤◌, OnOk, IfOk};
+ghost use Rattle.std.specs.String.{string_eq};
+ghost use Rattle.lru_model.specs.Kept.{KeepsToLength};
+ghost use Rattle.lru_model.specs.Lists.{keys_of};
+ghost use Rattle.lru_replay.specs.References.{Reference, of_length};
+ghost use Rattle.lru_theory.specs.Inclusion.{IsIncluded};
+
+use crate::references::read_through;
+use lru_replay::references::{
+    a_smaller_map_is_included, calls_change_the_keys, gets_that_insert_if_made_make_references,
+    gets_that_insert_make_references, more_capacity_never_misses_more,
+};
+use schnellru::{ByLength, GetOrInsertError, LruMap, RandomState};
+use std::alloc::AllocError;
+
+/// Makes a text the newest, with a value that is computed if it is not there. That is a reference.
+fn remember<F: FnOnce() -> u64>(
+    map: &mut LruMap<String, u64>,
+    text: String,
+    make: F,
+) -> Result<bool, AllocError>
+    requires callable { F.pre make }
+    requires keeps { KeepsToLength map.old }
+    ensures { OnOk result (Reference (of_length string_eq) text map.old map.new) }
+{
+    gets_that_insert_make_references::<String, u64, F, RandomState>();
+    let kept = map.ensure_newest(text, make)?;
+    Ok(kept)
+}
+
+/// The same with a computation that may fail.
+fn try_to_remember<F: FnOnce() -> Result<u64, u64>>(
+    map: &mut LruMap<String, u64>,
+    text: String,
+    make: F,
+) -> Result<bool, GetOrInsertError<u64>>
+    requires callable { F.pre make }
+    requires keeps { KeepsToLength map.old }
+    ensures { OnOk result (Reference (of_length string_eq) text map.old map.new) }
+{
+    gets_that_insert_if_made_make_references::<String, u64, u64, F, RandomState>();
+    let kept = map.ensure_newest_fallible(text, make)?;
+    Ok(kept)
+}
+
+/// Looks up the texts in two maps, and computes what is not there. The smaller map is included in the larger one before,
+/// and so it computes at least as often.
+fn read_both<F: Fn(&String) -> u64>(
+    small: &mut LruMap<String, u64>,
+    large: &mut LruMap<String, u64>,
+    texts: &[String],
+    compute: &F,
+) -> Result<(u64, u64), AllocError>
+    requires callable { F.IsAlwaysCallable compute.now }
+    requires keeps { KeepsToLength small.old × KeepsToLength large.old }
+    requires ordered { small.old.limiter ≤ large.old.limiter }
+    requires included { IsIncluded string_eq small.old.limiter large.old.limiter (keys_of small.old.pairs)
+        (keys_of large.old.pairs) }
+    ensures { IfOk result (λ counts. counts.1 ≤ counts.0) }
+{
+    more_capacity_never_misses_more::<String, u64, RandomState>();
+    Ok((
+        read_through(small, texts, compute)?,
+        read_through(large, texts, compute)?,
+    ))
+}
+
+/// Makes one text the newest and removes another, in two maps. The smaller map stays included in the larger one.
+fn keep_and_forget(
+    small: &mut LruMap<String, u64>,
+    large: &mut LruMap<String, u64>,
+    kept: &String,
+    gone: &String,
+)
+    requires ordered { small.old.limiter ≤ large.old.limiter }
+    requires included { IsIncluded string_eq small.old.limiter large.old.limiter (keys_of small.old.pairs)
+        (keys_of large.old.pairs) }
+    ensures { IsIncluded string_eq small.old.limiter large.old.limiter (keys_of small.new.pairs)
+        (keys_of large.new.pairs) }
+{
+    calls_change_the_keys::<String, u64, RandomState>();
+    a_smaller_map_is_included::<String, u64, RandomState>();
+    small.promote(kept);
+    small.remove(gone);
+    large.promote(kept);
+    large.remove(gone);
+}
