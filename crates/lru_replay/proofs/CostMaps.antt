@@ -4,7 +4,7 @@ use native.Mathlib.Decide.{dec_lt}
 use Rattle.std.proofs.lemmas.Bool.{le-leb}
 use Rattle.std.proofs.Math.Nat.{suc-mul, mul-le-mul_right}
 use Rattle.group_table.specs.Sizes.{full_capacity}
-use Rattle.lru_model.proofs.CallerLemmas.{empty_is_sound}
+use Rattle.lru_model.proofs.States.EmptyMaps.{empty_is_sound}
 use Rattle.lru_model.specs.Sizes.{usage, bytes_of}
 use Rattle.lru_model.specs.State.{empty_map}
 use Rattle.lru_theory.proofs.Affordable.{spent}

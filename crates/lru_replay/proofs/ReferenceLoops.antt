@@ -11,7 +11,7 @@ use Rattle.lru_model.proofs.CallerLemmas.{no_pair}
 use Rattle.lru_model.specs.Lists.{keys_of, lookup, without}
 use Rattle.lru_model.specs.State.{State}
 use Rattle.lru_theory.specs.Traces.{is_in, fault, refer}
-use Rattle.lru_replay.specs.References.{Cache, Reference, Referenced, begins, refers, Loops}
+use Rattle.lru_replay.specs.References.{Cache, Reference, Referenced, begins, refers, reads, Loops}
 use Rattle.lru_replay.proofs.StoredCounts.{there, absent, value_there, keys_taken, keys_without}
 
 module _ {K V : Type 0} (eq : K → K → Bool) (key : K) where
@@ -56,6 +56,25 @@ module _ {K V S H : Type 0} {cache : Cache K V S H} {old : State K V S H} {trace
       → Referenced cache old trace missed new
   loop_ends {i} {missed} {new} loop all =
       subst (λ t. Referenced cache old t missed new) (take_all i trace all) loop.run
+
+module _ {K V S H : Type 0} {cache : Cache K V S H} {old : State K V S H} where
+  pub keeps_after : (trace : List K) (missed : ℕ) (new : State K V S H) → Referenced cache old trace missed new
+      → cache.Keeps old → cache.Keeps new
+  keeps_after _ _ _ begins keeps = keeps
+  keeps_after _ _ _ (refers key trace missed mid new run h) keeps = h.does.keeps (keeps_after trace missed mid run keeps)
+  keeps_after _ _ _ (reads trace missed mid new run h) keeps = h.does.keeps (keeps_after trace missed mid run keeps)
+
+  pub hit : (trace : List K) (missed : ℕ) (key : K) (w : V) (mid new : State K V S H)
+      → Referenced cache old trace missed mid → lookup (cache.eq key) mid.pairs ≡ Some w → Reference cache key mid new
+      → Referenced cache old (trace ++ key ∷ []) missed new
+  hit trace missed key w mid new run found h = subst (λ n. Referenced cache old (trace ++ key ∷ []) n new)
+      (omega (arith, fault_found cache.eq key mid.pairs w found)) (refers key trace missed mid new run h)
+
+  pub miss : (trace : List K) (missed : ℕ) (key : K) (mid new : State K V S H)
+      → Referenced cache old trace missed mid → lookup (cache.eq key) mid.pairs ≡ None → Reference cache key mid new
+      → Referenced cache old (trace ++ key ∷ []) (missed + 1) new
+  miss trace missed key mid new run none h = subst (λ n. Referenced cache old (trace ++ key ∷ []) n new)
+      (omega (arith, fault_absent cache.eq key mid.pairs none)) (refers key trace missed mid new run h)
 
 -- a copy of a text equals it
 pub copy_equal : (copy text : String Global) → string_bytes copy ≡ string_bytes text → string_eq copy text ≡ true

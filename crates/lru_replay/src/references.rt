@@ -1,6 +1,6 @@
 //! Programs that make references: what they leave of a map with `ByLength`, and how often they miss. The functions do
 //! nothing: their contracts are the theorems. `docs/THEORY.md` says each in words.
-ghost use Rattle.std.specs.Prelude.{◌≡◌, ℕ, ◌+◌, ◌-◌, ◌*◌, ◌≤◌, ◌<◌, Bool, List, length, take, true};
+ghost use Rattle.std.specs.Prelude.{◌≡◌, ℕ, ◌+◌, ◌-◌, ◌*◌, ◌≤◌, ◌<◌, Bool, [], ◌∷◌, ◌++◌, List, length, take, true};
 ghost use Rattle.std.specs.Prelude.{Some, None, Ok, Option, Result, IsOk};
 ghost use Rattle.std.specs.declared.alloc.AllocError.{AllocError};
 ghost use Rattle.std.specs.List.{IsDistinct};
@@ -117,6 +117,21 @@ pub fn calls_change_the_keys<K: Eq + Hash + Drop, V: Drop, S: KeyHasher<K>>()
     laws::maps_keep_to_their_length::<K, V, S>();
     laws::calls_keep_the_length::<K, V, ByLength, S>();
 }
+
+/// A reference more in a program that made those of a trace: one that found its key (`hits`), and one that did not
+/// (`misses`). The map still keeps to its length (`keeps`).
+pub fn programs_make_references<K: Eq + Hash + Drop, V: Drop, S: KeyHasher<K>>()
+    ensures hits { (trace : List K) (missed : ℕ) (key : K) (value : V) (old mid new : State K V ByLength S) →
+        Referenced (of_length K.eq) old trace missed mid → lookup (K.eq key) mid.pairs ≡ Some value →
+        Reference (of_length K.eq) key mid new →
+        Referenced (of_length K.eq) old (trace ++ key ∷ []) missed new }
+    ensures misses { (trace : List K) (missed : ℕ) (key : K) (old mid new : State K V ByLength S) →
+        Referenced (of_length K.eq) old trace missed mid → lookup (K.eq key) mid.pairs ≡ None →
+        Reference (of_length K.eq) key mid new →
+        Referenced (of_length K.eq) old (trace ++ key ∷ []) (missed + 1) new }
+    ensures keeps { (trace : List K) (missed : ℕ) (old new : State K V ByLength S) →
+        Referenced (of_length K.eq) old trace missed new → KeepsToLength old → KeepsToLength new }
+{}
 
 /// A program that makes the references of a trace leaves the keys that were referenced last, `max_length` of them
 /// (`keys`). It misses exactly at the references whose reuse distance is at least `max_length`, and at the first to each

@@ -1,15 +1,16 @@
 //! Programs with `String` keys that call a map in other ways, and two maps that get the same calls.
-ghost use Rattle.std.specs.Prelude.{◌≤◌, OnOk, IfOk};
+ghost use Rattle.std.specs.Prelude.{◌≡◌, ◌≤◌, ◌∷◌, [], None, OnOk, IfOk};
 ghost use Rattle.std.specs.String.{string_eq};
 ghost use Rattle.lru_model.specs.Kept.{KeepsToLength};
-ghost use Rattle.lru_model.specs.Lists.{keys_of};
-ghost use Rattle.lru_replay.specs.References.{Reference, of_length};
+ghost use Rattle.lru_model.specs.Lists.{keys_of, lookup};
+ghost use Rattle.lru_replay.specs.References.{Reference, Referenced, of_length};
 ghost use Rattle.lru_theory.specs.Inclusion.{IsIncluded};
 
 use crate::references::read_through;
 use lru_replay::references::{
-    a_smaller_map_is_included, calls_change_the_keys, gets_that_insert_if_made_make_references,
-    gets_that_insert_make_references, more_capacity_never_misses_more,
+    a_smaller_map_is_included, calls_change_the_keys, calls_make_references,
+    gets_that_insert_if_made_make_references, gets_that_insert_make_references,
+    more_capacity_never_misses_more, programs_make_references,
 };
 use schnellru::{ByLength, GetOrInsertError, LruMap, RandomState};
 use std::alloc::AllocError;
@@ -41,6 +42,18 @@ fn try_to_remember<F: FnOnce() -> Result<u64, u64>>(
 {
     gets_that_insert_if_made_make_references::<String, u64, u64, F, RandomState>();
     let kept = map.ensure_newest_fallible(text, make)?;
+    Ok(kept)
+}
+
+/// Inserts a text that is not there. That is a program of one reference, which misses.
+fn insert_new(map: &mut LruMap<String, u64>, text: String, value: u64) -> Result<bool, AllocError>
+    requires absent { lookup (string_eq text) map.old.pairs ≡ None }
+    requires keeps { KeepsToLength map.old }
+    ensures { OnOk result (Referenced (of_length string_eq) map.old (text ∷ []) 1 map.new) }
+{
+    calls_make_references::<String, u64, RandomState>();
+    programs_make_references::<String, u64, RandomState>();
+    let kept = map.insert(text, value)?;
     Ok(kept)
 }
 

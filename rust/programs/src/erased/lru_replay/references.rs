@@ -42,6 +42,10 @@ pub fn calls_change_the_keys<K: Eq + Hash, V, S: KeyHasher<K>>() {
     laws::calls_keep_the_length::<K, V, ByLength, S>();
 }
 
+/// A reference more in a program that made those of a trace: one that found its key (`hits`), and one that did not
+/// (`misses`). The map still keeps to its length (`keeps`).
+pub fn programs_make_references<K: Eq + Hash, V, S: KeyHasher<K>>() {}
+
 /// A program that makes the references of a trace leaves the keys that were referenced last, `max_length` of them
 /// (`keys`). It misses exactly at the references whose reuse distance is at least `max_length`, and at the first to each
 /// key (`misses`); the keys before count as referenced, the oldest first. The map counts the misses (`stored`): `placed`,

@@ -6,8 +6,8 @@ use crate::rattle_std::prelude::*;
 
 use crate::erased::schnellru::{ByLength, GetOrInsertError, LruMap, RandomState};
 use crate::programs::lru_replay::references::{
-    a_smaller_map_is_included, calls_change_the_keys, gets_that_insert_if_made_make_references,
-    gets_that_insert_make_references, more_capacity_never_misses_more,
+    a_smaller_map_is_included, calls_change_the_keys, calls_make_references, gets_that_insert_if_made_make_references,
+    gets_that_insert_make_references, more_capacity_never_misses_more, programs_make_references,
 };
 use crate::programs::lru_replay_tests::references::read_through;
 use crate::rattle_std::alloc::AllocError;
@@ -27,6 +27,14 @@ fn try_to_remember<F: FnOnce() -> Result<u64, u64>>(
 ) -> Result<bool, GetOrInsertError<u64>> {
     gets_that_insert_if_made_make_references::<String, u64, u64, F, RandomState>();
     let kept = map.ensure_newest_fallible(text, make)?;
+    Ok(kept)
+}
+
+/// Inserts a text that is not there. That is a program of one reference, which misses.
+fn insert_new(map: &mut LruMap<String, u64>, text: String, value: u64) -> Result<bool, AllocError> {
+    calls_make_references::<String, u64, RandomState>();
+    programs_make_references::<String, u64, RandomState>();
+    let kept = map.insert(text, value)?;
     Ok(kept)
 }
 
