@@ -52,8 +52,8 @@ impl Best {
     /// Returns how often MIN misses in this many places, from no keys. It stores each key that is referenced, and evicts
     /// the key whose next reference comes last: no policy that stores each key misses less often.
     ///
-    /// Cost: `O(log places)` for each reference; the memory is in proportion to the number of places, and to the number
-    /// of keys at most.
+    /// Cost: `O(log n)` for each reference and n places; the memory is in proportion to n, and to the number of keys at
+    /// most.
     ///
     /// # Errors
     ///
@@ -124,7 +124,7 @@ fn add(times: &mut BTreeSet<usize>, time: usize, end: usize) -> Result<(), Alloc
     }
 }
 
-/// Returns a number above all of these. No memory holds a number for each below `usize::MAX`.
+/// Returns a number above all of these. `Err` also if one is `usize::MAX`, which no vector is long enough for.
 fn bound_of(numbers: &[usize]) -> Result<usize, AllocError>
     ensures { IfOk result (λ bound. All (λ n. n < bound) numbers.now) }
 {

@@ -17,7 +17,8 @@ use std::marker::Model;
 /// The misses of a trace in LRU caches of every size, counted in one pass.
 ///
 /// A reference misses in a cache of n places if its reuse distance is at least n, or if it is the first to its key. So
-/// the curve counts how many references had each reuse distance. Its memory is in proportion to the number of keys.
+/// the curve counts how many references had each reuse distance. Its memory is in proportion to the number of keys, unless it
+/// keeps the references.
 ///
 /// ```
 /// let mut curve = Curve::new(alloc)?;

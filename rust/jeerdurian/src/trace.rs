@@ -40,7 +40,7 @@ impl core::error::Error for TraceError {}
 
 /// The misses of a trace in LRU caches of every size, counted in one pass.
 ///
-/// Its memory is in proportion to the number of keys, however long the trace is.
+/// Its memory is in proportion to the number of keys, however long the trace is, unless it keeps the references.
 ///
 /// Proved: `misses` returns how often a cache of that many places misses, for traces of at most 2^64 - 1 references.
 ///
@@ -260,8 +260,8 @@ pub fn report(mut reader: impl BufRead, mut writer: impl Write) -> Result<TraceE
     proved::trace(Global, false, &mut reader, &mut writer, &mut no_progress())
 }
 
-/// As `report`, and says for each named size how often the best possible policies miss, too. It takes 16 bytes for each
-/// reference.
+/// As `report`, and says for each named size how often the best possible policies miss, too. It takes 16 to 32 bytes for
+/// each reference.
 ///
 /// # Errors
 ///

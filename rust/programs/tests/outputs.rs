@@ -57,6 +57,55 @@ fn arguments() {
         assert_eq!((unknown.status.code(), unknown.stdout.as_slice()), (Some(4), &b""[..]));
         assert!(String::from_utf8_lossy(&unknown.stderr).contains("unknown argument -x"));
     }
+    let second = Command::new(env!("CARGO_BIN_EXE_trace")).args(["--best", "-x"]).output().unwrap();
+    assert_eq!((second.status.code(), second.stdout.as_slice()), (Some(4), &b""[..]));
+}
+
+/// How often MIN and MIN with bypass miss, by the definition: the key that comes last again is evicted.
+fn best_misses(keys: &[usize], places: usize, bypass: bool) -> usize {
+    let mut nexts = vec![keys.len(); keys.len()];
+    let mut seen = std::collections::HashMap::new();
+    for now in (0..keys.len()).rev() {
+        nexts[now] = seen.insert(keys[now], now).unwrap_or(keys.len());
+    }
+    let (mut cache, mut misses) = (std::collections::HashMap::new(), 0);
+    for (now, key) in keys.iter().enumerate() {
+        if cache.remove(key).is_none() {
+            misses += 1;
+            if cache.len() == places {
+                let last = *cache.iter().max_by_key(|it| *it.1).unwrap().0;
+                if bypass && nexts[now] >= cache[&last] {
+                    continue;
+                }
+                cache.remove(&last);
+            }
+        }
+        cache.insert(*key, nexts[now]);
+    }
+    misses
+}
+
+/// A trace of 20,000 references with twenty sizes.
+#[test]
+fn best_of_a_long_trace() {
+    let mut random = 1u64;
+    let mut number = |below: u64| {
+        random = random.wrapping_mul(6_364_136_223_846_793_005).wrapping_add(1);
+        (random >> 33) % below
+    };
+    let keys: Vec<usize> = (0..20_000).map(|_| (number(50) * number(40)) as usize).collect();
+    let sizes: Vec<usize> = (1..=20).map(|n| n * n).collect();
+    let mut input = sizes.iter().map(usize::to_string).collect::<Vec<_>>().join(" ") + "\n";
+    keys.iter().for_each(|key| input += &format!("{key}\n"));
+    let path = Path::new(env!("CARGO_TARGET_TMPDIR")).join("long_trace");
+    fs::write(&path, input).unwrap();
+    let mut run = Command::new(env!("CARGO_BIN_EXE_trace"));
+    let output = run.arg("--best").stdin(File::open(path).unwrap()).output().unwrap().stdout;
+    let text = String::from_utf8(output).unwrap();
+    for (places, line) in sizes.iter().zip(text.lines().skip(1)) {
+        let (min, bypass) = (best_misses(&keys, *places, false), best_misses(&keys, *places, true));
+        assert!(line.ends_with(&format!(" min {min} bypass {bypass}")), "{line}: {min} {bypass}");
+    }
 }
 
 /// Each case of the folder `cases` of `trace`, whose reports `crates/trace/cases.py` counts.

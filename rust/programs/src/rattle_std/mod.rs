@@ -19,9 +19,9 @@ pub mod cell {
 pub mod env {
     use super::runtime::HostRuntime;
 
-    /// The arguments, the first of which names the program.
-    pub fn args(_: &HostRuntime) -> std::io::Result<std::env::Args> {
-        Ok(std::env::args())
+    /// The arguments, the first of which names the program. What is not UTF-8 is replaced.
+    pub fn args(_: &HostRuntime) -> std::io::Result<impl Iterator<Item = String>> {
+        Ok(std::env::args_os().map(|it| it.to_string_lossy().into_owned()))
     }
 }
 

@@ -24,23 +24,22 @@ bytes; an empty or longer line is only counted.
 The output is a line for each named size, and then a bar for each power of two: the part of the references that miss.
 
 --best adds to each line how often the best possible policies miss: min stores each key, bypass may leave a key out. It
-takes 16 bytes more for each line.
+takes 16 to 32 bytes more for each reference.
 
 Exit status: 0 after the report, 1 if the first line has no sizes, 2 if a read or a write failed, 3 without memory,
-4 after an unknown argument.
+4 if an argument is unknown or cannot be read.
 ";
 
 pub(crate) fn main(rt: HostRuntime) -> ExitCode {
-    let argument = match env::args(&rt) {
-        Ok(mut arguments) => arguments.nth(1),
-        Err(_) => return ExitCode::from(UNKNOWN),
+    let Ok(arguments) = env::args(&rt) else {
+        return ExitCode::from(UNKNOWN);
     };
     let mut best = false;
-    if let Some(argument) = argument {
-        best = argument.as_str() == "--best";
-        if !best {
+    for argument in arguments.skip(1) {
+        if argument.as_str() != "--best" {
             return answer(&rt, argument.as_str());
         }
+        best = true;
     }
     let Ok(mut reader) = BufReader::new(rt.alloc(), rt.reader()) else {
         return ExitCode::from(NO_BUFFER);
