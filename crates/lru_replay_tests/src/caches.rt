@@ -1,11 +1,12 @@
 //! Calls of the caches of `lru_caches` that are references: a memo, a loader and a page cache.
-ghost use Rattle.std.specs.Prelude.{◌≡◌, Bool, IfOk, IsOk, Result, nat_eq};
+ghost use Rattle.std.specs.Prelude.{◌≡◌, ◌≤◌, ◌∷◌, ℕ, Bool, IfOk, IsOk, List, OnOk, Result, nat_eq, take};
 ghost use Rattle.std.specs.declared.alloc.AllocError.{AllocError};
 ghost use Rattle.lru_caches.specs.Answers.{AreAnswers, loads};
 ghost use Rattle.lru_model.specs.Kept.{KeepsToLength};
 ghost use Rattle.lru_model.specs.Lists.{keys_of};
 ghost use Rattle.lru_replay.specs.References.{Reference, of_length};
-ghost use Rattle.lru_theory.specs.Traces.{refer};
+ghost use Rattle.lru_theory.specs.Inclusion.{IsIncluded};
+ghost use Rattle.lru_theory.specs.Traces.{recency, refer};
 
 use lru_caches::{BlockDevice, Loader, Memo, PageCache, PageError};
 use lru_replay::references::calls_make_references;
@@ -38,11 +39,34 @@ fn load<F: Fn(u64) -> Result<u64, u64>>(
     Ok(value)
 }
 
-/// Reads a block through a page cache. The pages are those of an LRU cache after a reference to the number.
+/// Reads a block through a page cache. The pages are those of an LRU cache after a reference to the number (`refers`). So
+/// if they were those of the numbers that were read last, they are so afterwards (`newest`).
 fn read<D: BlockDevice<u8>>(cache: &mut PageCache<u8, D>, n: u64) -> Result<u8, PageError<D::Error>>
-    ensures { IfOk result
+    ensures refers { IfOk result
         (λ block. keys_of cache.new.pages ≡ refer nat_eq cache.old.capacity n (keys_of cache.old.pages)) }
+    ensures newest { (past : List ℕ) →
+        keys_of cache.old.pages ≡ take cache.old.capacity (recency nat_eq past) →
+        OnOk result (keys_of cache.new.pages ≡ take cache.old.capacity (recency nat_eq (n ∷ past))) }
 {
+    lru_theory::a_cache_is_the_newest::<u64>();
     let block = cache.read(n)?;
+    Ok(block)
+}
+
+/// Reads a block through two page caches. The smaller cache stays included in the larger one.
+fn read_both<D: BlockDevice<u8>>(
+    small: &mut PageCache<u8, D>,
+    large: &mut PageCache<u8, D>,
+    n: u64,
+) -> Result<u8, PageError<D::Error>>
+    requires ordered { small.old.capacity ≤ large.old.capacity }
+    requires included { IsIncluded nat_eq small.old.capacity large.old.capacity (keys_of small.old.pages)
+        (keys_of large.old.pages) }
+    ensures { OnOk result (IsIncluded nat_eq small.old.capacity large.old.capacity (keys_of small.new.pages)
+        (keys_of large.new.pages)) }
+{
+    lru_theory::a_smaller_cache_is_included::<u64>();
+    read(small, n)?;
+    let block = read(large, n)?;
     Ok(block)
 }
