@@ -1,10 +1,16 @@
 //! Callers of runs, whose contracts follow from laws on runs: the code of docs/CALLING.md.
-ghost use Rattle.std.specs.Prelude.{◌≡◌, ◌≤◌, ℕ, Bool, true, length, OnOk};
-ghost use Rattle.std.specs.List.{sum_by};
-ghost use Rattle.lru_model.specs.Lists.{IsFront};
+ghost use Rattle.std.specs.Prelude.{◌≡◌, ◌≤◌, ◌+◌, ◌*◌, ℕ, Bool, true, length, IfOk, OnOk, nat_eq};
+ghost use Rattle.std.specs.List.{IsDistinct, sum_by};
+ghost use Rattle.lru_model.specs.Exact.{HasTableFor};
+ghost use Rattle.lru_model.specs.Lists.{IsFront, keys_of};
+ghost use Rattle.lru_model.specs.State.{contents};
+ghost use Rattle.lru_replay.specs.CallRuns.{IsRun};
+ghost use Rattle.lru_replay.specs.ListRuns.{ListCallStep};
+ghost use Rattle.lru_replay.specs.Replies.{all_said};
 ghost use Rattle.lru_model.specs.Theorems.{PaysForMoves, UsesAtMost, others};
 
-use lru_replay::laws::lists_are_runs;
+use lru_limits::{Insertion, KeyHasher, Limiter};
+use lru_replay::laws::{granted_calls_are_exact, lists_are_runs};
 use lru_replay::{Answer, Call, run_calls, run_summing};
 use schnellru::{Both, ByCost, ByLength, ByMemoryUsage, LruMap, RandomState, laws};
 use std::alloc::{AllocError, Global};
@@ -56,4 +62,23 @@ fn charge_both(
         Call::Insert(second.0, second.1),
     ]?;
     run_summing(alloc, map, calls)
+}
+
+/// Makes calls on a map with a maximum length as on a plain list: list and limiter determine each answer, if a table for
+/// 8 times the pairs is within reach.
+fn call_on_list<S: KeyHasher<u64>>(
+    alloc: Global,
+    map: &mut LruMap<u64, u64, ByLength, S>,
+    calls: Vec<Call<u64, u64, ByLength>>,
+) -> Result<Vec<Answer<u64, u64>>, AllocError>
+    requires reached { HasTableFor (8 * (length map.old.pairs + length calls.items + 1)) map.old }
+    ensures { IfOk result (λ answers. IsRun (ListCallStep ⟦<ByLength as Limiter<u64, u64>>⟧.rules
+        ⟦<ByLength as Insertion<u64, u64, u64>>⟧.offers nat_eq (S.hash_of map.old.hasher))
+        (λ list. IsDistinct nat_eq (keys_of list.pairs)) (contents map.old) calls.items (all_said answers.items)
+        (contents map.new)) }
+{
+    granted_calls_are_exact::<u64, u64, ByLength, S>();
+    let _len = map.len();
+    let answers = run_calls(alloc, map, calls)?;
+    Ok(answers)
 }
