@@ -53,9 +53,11 @@ fn charge_both(
 ) -> Result<Vec<Answer<u64, u64>>, AllocError>
     requires summed { map.old.limiter.cost ≡ sum_by (λ p. p.1) map.old.pairs }
     requires within { map.old.limiter.cost ≤ map.old.limiter.limit }
-    ensures { OnOk result (map.new.limiter.cost ≤ map.new.limiter.limit) }
+    ensures within { OnOk result (map.new.limiter.cost ≤ map.new.limiter.limit) }
+    ensures summed { OnOk result (map.new.limiter.cost ≡ sum_by (λ p. p.1) map.new.pairs) }
 {
     lists_are_runs::<u64, u64, ByCost, RandomState>();
+    laws::runs_keep_sums::<u64, u64, u64, ByCost, RandomState>();
     laws::runs_keep_the_budget::<u64, u64, ByCost, RandomState>();
     let calls = vec![in alloc;
         Call::Insert(first.0, first.1),
@@ -64,8 +66,8 @@ fn charge_both(
     run_summing(alloc, map, calls)
 }
 
-/// Makes calls on a map with a maximum length as on a plain list: list and limiter determine each answer, if a table for
-/// 8 times the pairs is within reach.
+/// Makes calls on a map with a maximum length as on a list without a table, if a table for 8 times the pairs is within
+/// reach.
 fn call_on_list<S: KeyHasher<u64>>(
     alloc: Global,
     map: &mut LruMap<u64, u64, ByLength, S>,

@@ -1,5 +1,6 @@
 //! Programs with `String` keys under a limit of cost, that prove how often they load a value.
-ghost use Rattle.std.specs.Prelude.{◌≡◌, ◌≤◌, ◌<◌, ◌+◌, ◌*◌, ◌^◌, ℕ, [], true, length, IfOk, OnOk, string_len, vec_len};
+ghost use Rattle.std.specs.Prelude.{◌≡◌, ◌≤◌, ◌<◌, ◌+◌, ◌*◌, ◌^◌, ℕ, [], true, length, take, IfOk, OnOk, string_len, vec_len};
+ghost use Rattle.std.specs.Prelude.{Ok, Vec};
 ghost use Rattle.std.specs.List.{All};
 ghost use Rattle.std.specs.String.{string_eq};
 ghost use Rattle.std.specs.declared.alloc.Global.{Global};
@@ -8,15 +9,17 @@ ghost use Rattle.lru_limits.specs.Budget.{pair_cost};
 ghost use Rattle.lru_model.specs.Lists.{keys_of};
 ghost use Rattle.lru_replay.specs.References.{KeepsToCost, Reference, Referenced, of_cost};
 ghost use Rattle.lru_theory.specs.Budgets.{faults_within};
-ghost use Rattle.lru_theory.specs.Traces.{fault};
+ghost use Rattle.lru_theory.specs.Traces.{AreEqual, fault};
 ghost use Rattle.std.proofs.Common.{ap, nat_eq};
 ghost use Rattle.std.specs.String.{string_bytes};
 ghost use Rattle.lru_theory.proofs.EqualKeys.{equal_long};
 
 use lru_replay::costs::{
-    calls_make_references, maps_keep_to_their_cost, references_keep_the_newest,
+    calls_make_references, gets_that_insert_if_made_make_references,
+    gets_that_insert_make_references, maps_keep_to_their_cost, more_capacity_never_misses_more,
+    references_keep_the_newest,
 };
-use schnellru::{ByCost, ByWeight, LruMap, RandomState};
+use schnellru::{ByCost, ByWeight, GetOrInsertError, LruMap, RandomState};
 use std::alloc::{AllocError, Global};
 use std::test::Fail;
 use test_helpers::check;
@@ -106,6 +109,68 @@ fn compare<L: Source>(
         read_through(&mut small, texts, source)?,
         read_through(&mut large, texts, source)?,
     ))
+}
+
+/// Looks up the texts in two maps, and loads what is not there. The texts of the map with the smaller limit are the newest
+/// of the other, and so it loads at least as often.
+fn read_both<L: Source>(
+    small: &mut LruMap<String, Vec<u8>, ByCost>,
+    large: &mut LruMap<String, Vec<u8>, ByCost>,
+    texts: &[String],
+    source: &L,
+) -> Result<(u64, u64), AllocError>
+    requires keeps { KeepsToCost (λ key bytes. vec_len bytes) L.size small.old
+        × KeepsToCost (λ key bytes. vec_len bytes) L.size large.old }
+    requires ordered { small.old.limiter.limit ≤ large.old.limiter.limit }
+    requires newest { AreEqual string_eq (keys_of small.old.pairs)
+        (take (length small.old.pairs) (keys_of large.old.pairs)) }
+    requires cheap { All (λ text. L.size text ≤ small.old.limiter.limit) texts.now
+        × All (λ text. L.size text ≤ large.old.limiter.limit) texts.now }
+    ensures { IfOk result (λ counts. counts.1 ≤ counts.0) }
+{
+    more_capacity_never_misses_more::<String, Vec<u8>, RandomState>();
+    Ok((
+        read_through(small, texts, source)?,
+        read_through(large, texts, source)?,
+    ))
+}
+
+/// Makes a text the newest, with a value that is made if it is not there. If a text determines how many bytes its value
+/// has, this is a reference.
+fn remember<F: FnOnce() -> Vec<u8>>(
+    map: &mut LruMap<String, Vec<u8>, ByCost>,
+    text: String,
+    make: F,
+) -> Result<bool, AllocError>
+    requires callable { F.pre make }
+    ensures { (size : String Global → ℕ) →
+        ((key other : String Global) → string_eq key other ≡ true → size key ≡ size other) →
+        KeepsToCost (λ key bytes. vec_len bytes) size map.old →
+        ((bytes : Vec ℕ Global) → F.post make bytes → vec_len bytes ≡ size text) → size text ≤ map.old.limiter.limit →
+        OnOk result (Reference (of_cost string_eq (λ key bytes. vec_len bytes) size) text map.old map.new) }
+{
+    gets_that_insert_make_references::<String, Vec<u8>, F, RandomState>();
+    let kept = map.ensure_newest(text, make)?;
+    Ok(kept)
+}
+
+/// The same with a value that may not be made.
+fn try_to_remember<F: FnOnce() -> Result<Vec<u8>, u64>>(
+    map: &mut LruMap<String, Vec<u8>, ByCost>,
+    text: String,
+    make: F,
+) -> Result<bool, GetOrInsertError<u64>>
+    requires callable { F.pre make }
+    ensures { (size : String Global → ℕ) →
+        ((key other : String Global) → string_eq key other ≡ true → size key ≡ size other) →
+        KeepsToCost (λ key bytes. vec_len bytes) size map.old →
+        ((bytes : Vec ℕ Global) → F.post make (Ok bytes) → vec_len bytes ≡ size text) →
+        size text ≤ map.old.limiter.limit →
+        OnOk result (Reference (of_cost string_eq (λ key bytes. vec_len bytes) size) text map.old map.new) }
+{
+    gets_that_insert_if_made_make_references::<String, Vec<u8>, u64, F, RandomState>();
+    let kept = map.ensure_newest_fallible(text, make)?;
+    Ok(kept)
 }
 
 /// Inserts a text under a number, with a limit of weight. If an entry costs what its key costs, this is a reference.

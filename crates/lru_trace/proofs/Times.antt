@@ -18,11 +18,11 @@ use Rattle.std.specs.Int.{from_bool}
 use Rattle.std.specs.List.{All, list_any}
 use Rattle.std.specs.Ordering.{nat_cmp, is_eq, is_lt, match_ordering, ord_max}
 use Rattle.std.specs.declared.cmp.Ordering.TheVariants.{Less, Equal, Greater}
-use Rattle.std.specs.Prelude.{◌||◌, not, ◌==◌, nat_lt, nat_le, nat_eq}
+use Rattle.std.specs.Prelude.{◌||◌, not, ◌==◌, nat_lt, nat_eq}
 use Rattle.std.specs.Set.{remove_key}
 use Rattle.std.specs.Str.{bytes_eq}
 use Rattle.lru_theory.specs.Best.{until, put, min_refer, bypass_refer, faults_ahead, min_misses}
-use Rattle.lru_theory.specs.Traces.{is_in, fault}
+use Rattle.lru_theory.specs.Traces.{is_in}
 use Rattle.lru_theory.proofs.Nexts.{Later, Ordered, left, until_next, until_now, none_now, others_differ}
 use Rattle.lru_theory.proofs.Nexts.{without_absent, later_take, ordered_take, ordered_put, absent_take}
 use Rattle.lru_trace.specs.Times.{next_times, with_time}

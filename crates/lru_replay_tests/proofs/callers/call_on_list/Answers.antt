@@ -1,5 +1,4 @@
-use Rattle.std.proofs.Common.{ℕ, nat_le}
-use Rattle.lru_model.proofs.CallerLemmas.{plain-grants}
+use Rattle.std.proofs.Common.{refl}
 use Rattle.lru_replay.specs.Replies.{all_said}
 use Rattle.lru_replay_tests.proofs.callers.call_on_list.Goals as goal
 
@@ -10,4 +9,4 @@ returns g c =
     let law = c.granted_calls_are_exact.ensures in
     let reached = law.reached old new calls (all_said c.in_ok-answers.answers.items) c.requires.reached
     c.len-len.ensures.map run in
-    law.exact old new calls (all_said c.in_ok-answers.answers.items) (plain-grants ℕ ℕ _) reached.0 reached.1
+    law.exact old new calls (all_said c.in_ok-answers.answers.items) (λ s bytes. (refl, refl)) reached.0 reached.1

@@ -1,8 +1,8 @@
-use Rattle.std.proofs.Common.{◌-◌, ◌+◌, ◌≡◌, ◌<◌, ◌∙◌, length, get_or, arith, subst, sym, ap, refl, suc, set}
+use Rattle.std.proofs.Common.{◌-◌, ◌+◌, ◌≡◌, ◌<◌, length, get_or, arith, subst, sym, refl, suc, set}
 use Rattle.std.proofs.lemmas.List.{get_or_read}
 use Rattle.std.proofs.lemmas.List.Elements.{All-get_or}
 use Rattle.std.specs.List.{All}
-use Rattle.lru_trace.proofs.Times.{Seen, nothing_seen, sees}
+use Rattle.lru_trace.proofs.Times.{Seen, sees}
 use Rattle.lru_trace.proofs.best.next_times.Goals as goal
 
 pub loop-done-preserved : goal.loop-done-preserved

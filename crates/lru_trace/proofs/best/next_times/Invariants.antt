@@ -1,4 +1,4 @@
-use Rattle.std.proofs.Common.{◌≡◌, ◌-◌, ◌<◌, ◌≤◌, length}
+use Rattle.std.proofs.Common.{◌≡◌, ◌-◌, length}
 use Rattle.lru_trace.proofs.Times.{Seen}
 use Rattle.lru_trace.proofs.best.next_times.Given as goal
 

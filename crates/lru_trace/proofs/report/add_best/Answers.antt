@@ -1,8 +1,6 @@
-use Rattle.std.proofs.Common.{◌≡◌, ◌++◌, ℕ, decimal, codes, ap, sym, ◌∙◌}
+use Rattle.std.proofs.Common.{◌≡◌, ◌++◌, ap, sym, ◌∙◌}
 use Rattle.std.specs.Prelude.{is_some, true}
 use Rattle.std.specs.String.{string_bytes}
-use Rattle.std.specs.Str.{bytes_eq}
-use Rattle.lru_theory.specs.Best.{min_misses, bypass_misses}
 use Rattle.lru_trace.specs.Report.{best_text}
 use Rattle.lru_trace.proofs.report.add_best.Goals as goal
 

@@ -15,8 +15,8 @@ pub fn lists_are_runs<K: Eq + Hash, V, L: Insertion<K, V, K>, S: KeyHasher<K>>()
 
 /// If the limiter permits every growth, as `ByLength`, `ByCost` and the unlimited ones do, and the tables that the
 /// pairs may need are within the reach of links and bytes, a run is one on a list of pairs with distinct keys that has
-/// no table: the list and the limiter determine each answer and each state (`exact`). With n pairs and m calls, those
-/// tables are within reach if a table for 8 * (n + m + 1) pairs is (`reached`).
+/// no table: `ListCallStep` says of each answer and each state what the list and the limiter make of it (`exact`). With
+/// n pairs and m calls, those tables are within reach if a table for 8 * (n + m + 1) pairs is (`reached`).
 pub fn granted_calls_are_exact<K: Eq + Hash, V, L: Insertion<K, V, K>, S: KeyHasher<K>>() {
     laws::granted_inserts_are_exact::<K, V, K, L, S>();
     laws::calls_add_one_pair::<K, V, K, L, S>();

@@ -4,8 +4,9 @@
 #[allow(unused_imports)]
 use crate::rattle_std::prelude::*;
 
+use crate::erased::lru_limits::{Insertion, KeyHasher, Limiter};
 use crate::erased::schnellru::{Both, ByCost, ByLength, ByMemoryUsage, LruMap, RandomState, laws};
-use crate::programs::lru_replay::laws::lists_are_runs;
+use crate::programs::lru_replay::laws::{granted_calls_are_exact, lists_are_runs};
 use crate::programs::lru_replay::{Answer, Call, run_calls, run_summing};
 use crate::rattle_std::alloc::{AllocError, Global};
 
@@ -38,10 +39,24 @@ fn charge_both(
     second: (u64, u64),
 ) -> Result<Vec<Answer<u64, u64>>, AllocError> {
     lists_are_runs::<u64, u64, ByCost, RandomState>();
+    laws::runs_keep_sums::<u64, u64, u64, ByCost, RandomState>();
     laws::runs_keep_the_budget::<u64, u64, ByCost, RandomState>();
     let calls = vec![in alloc;
         Call::Insert(first.0, first.1),
         Call::Insert(second.0, second.1),
     ]?;
     run_summing(alloc, map, calls)
+}
+
+/// Makes calls on a map with a maximum length as on a list without a table, if a table for 8 times the pairs is within
+/// reach.
+fn call_on_list<S: KeyHasher<u64>>(
+    alloc: Global,
+    map: &mut LruMap<u64, u64, ByLength, S>,
+    calls: Vec<Call<u64, u64, ByLength>>,
+) -> Result<Vec<Answer<u64, u64>>, AllocError> {
+    granted_calls_are_exact::<u64, u64, ByLength, S>();
+    let _len = map.len();
+    let answers = run_calls(alloc, map, calls)?;
+    Ok(answers)
 }

@@ -4,8 +4,11 @@
 #[allow(unused_imports)]
 use crate::rattle_std::prelude::*;
 
-use crate::erased::schnellru::{ByCost, ByWeight, LruMap, RandomState};
-use crate::programs::lru_replay::costs::{calls_make_references, maps_keep_to_their_cost, references_keep_the_newest};
+use crate::erased::schnellru::{ByCost, ByWeight, GetOrInsertError, LruMap, RandomState};
+use crate::programs::lru_replay::costs::{
+    calls_make_references, gets_that_insert_if_made_make_references, gets_that_insert_make_references,
+    maps_keep_to_their_cost, more_capacity_never_misses_more, references_keep_the_newest,
+};
 use crate::programs::test_helpers::check;
 use crate::rattle_std::alloc::{AllocError, Global};
 use crate::rattle_std::test::Fail;
@@ -62,6 +65,41 @@ fn compare<L: Source>(
     let mut small = map_within::<L>(alloc, limits.0);
     let mut large = map_within::<L>(alloc, limits.1);
     Ok((read_through(&mut small, texts, source)?, read_through(&mut large, texts, source)?))
+}
+
+/// Looks up the texts in two maps, and loads what is not there. The texts of the map with the smaller limit are the newest
+/// of the other, and so it loads at least as often.
+fn read_both<L: Source>(
+    small: &mut LruMap<String, Vec<u8>, ByCost>,
+    large: &mut LruMap<String, Vec<u8>, ByCost>,
+    texts: &[String],
+    source: &L,
+) -> Result<(u64, u64), AllocError> {
+    more_capacity_never_misses_more::<String, Vec<u8>, RandomState>();
+    Ok((read_through(small, texts, source)?, read_through(large, texts, source)?))
+}
+
+/// Makes a text the newest, with a value that is made if it is not there. If a text determines how many bytes its value
+/// has, this is a reference.
+fn remember<F: FnOnce() -> Vec<u8>>(
+    map: &mut LruMap<String, Vec<u8>, ByCost>,
+    text: String,
+    make: F,
+) -> Result<bool, AllocError> {
+    gets_that_insert_make_references::<String, Vec<u8>, F, RandomState>();
+    let kept = map.ensure_newest(text, make)?;
+    Ok(kept)
+}
+
+/// The same with a value that may not be made.
+fn try_to_remember<F: FnOnce() -> Result<Vec<u8>, u64>>(
+    map: &mut LruMap<String, Vec<u8>, ByCost>,
+    text: String,
+    make: F,
+) -> Result<bool, GetOrInsertError<u64>> {
+    gets_that_insert_if_made_make_references::<String, Vec<u8>, u64, F, RandomState>();
+    let kept = map.ensure_newest_fallible(text, make)?;
+    Ok(kept)
 }
 
 /// Inserts a text under a number, with a limit of weight. If an entry costs what its key costs, this is a reference.

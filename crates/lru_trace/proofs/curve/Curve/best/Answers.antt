@@ -1,5 +1,4 @@
 use Rattle.std.proofs.Common.{◌≡◌, subst, sym, ap, ◌∙◌}
-use Rattle.std.specs.Option.{option_map}
 use Rattle.std.specs.Prelude.{nat_eq}
 use Rattle.lru_trace.specs.Counted.{IsOf, number_in}
 use Rattle.lru_trace.specs.Times.{next_times}
