@@ -1,10 +1,11 @@
 //! Keys whose `==` and `Hash` say anything, limiters that do anything, callbacks and drops that panic at random, and
-//! iterators that are forgotten: the map stays one, and nothing is dropped twice or used after its drop.
+//! iterators that are forgotten: the map stays one, and nothing is dropped twice or used after its drop. And a writer
+//! that lies to a report.
 
 mod common;
 
 use common::{Item, Key, Limit, Map, Seed, Value, any, assert_is_map, told, world};
-use jeerdurian::{Limiter, More};
+use jeerdurian::{Limiter, More, trace};
 
 /// Makes a random call.
 fn call<P: Default + Clone + 'static, N>(map: &mut Map<P, N>, kind: u64, n: u64)
@@ -126,4 +127,22 @@ fn lying_callbacks() {
 #[test]
 fn panicking_and_lying_callbacks() {
     lives(true, 30);
+}
+
+/// A writer that says that it wrote more than it was given.
+struct Boaster;
+
+impl std::io::Write for Boaster {
+    fn write(&mut self, bytes: &[u8]) -> std::io::Result<usize> {
+        Ok(bytes.len() + 1)
+    }
+
+    fn flush(&mut self) -> std::io::Result<()> {
+        Ok(())
+    }
+}
+
+#[test]
+fn a_writer_that_says_too_much() {
+    assert!(std::panic::catch_unwind(|| trace::report(b"2\na\n".as_slice(), Boaster)).is_err());
 }

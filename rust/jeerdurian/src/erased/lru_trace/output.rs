@@ -13,7 +13,7 @@ pub fn write_bytes<W: Write>(writer: &mut W, bytes: &[u8]) -> bool {
         }
         match writer.write(rest) {
             Ok(0) => return false,
-            Ok(n) => rest = &(*at!(rest, n..)),
+            Ok(n) => rest = &rest[n..],
             Err(e) => {
                 if e.kind() != ErrorKind::Interrupted {
                     return false;
