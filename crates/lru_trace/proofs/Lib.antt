@@ -7,3 +7,5 @@ pub mod Bars
 pub mod Ended
 pub mod Written
 pub mod Times
+pub mod SeenTimes
+pub mod Turns

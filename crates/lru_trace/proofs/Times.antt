@@ -1,27 +1,19 @@
 -- The keys of MIN, seen as the times of their next references.
 --     key, rest    the reference at time i, and those that follow
-use Rattle.std.proofs.Common.{◌≡◌, ◌≢◌, ℕ, zero, suc, ◌+◌, ◌-◌, ◌≤◌, ◌<◌, Bool, true, false, cond, List, [], ◌∷◌, length, take}
-use Rattle.std.proofs.Common.{drop, get_or, set, replicate, refl, sym, ap, ◌∙◌, subst, arith, inl, inr, ◌⊎◌}
+use Rattle.std.proofs.Common.{◌≡◌, ℕ, zero, suc, ◌+◌, ◌≤◌, ◌<◌, Bool, true, false, cond, List, [], ◌∷◌, length, take}
+use Rattle.std.proofs.Common.{drop, get_or, refl, sym, ap, ◌∙◌, subst, arith, inl, inr, ◌⊎◌}
 use Rattle.std.proofs.Math.ListN.{drop_of_length-le}
-use Rattle.std.proofs.Math.Seq.{drop-cons}
-use Rattle.std.proofs.lemmas.List.{drop-set, length-set, length-replicate, get_or-replicate}
-use Rattle.std.proofs.lemmas.List.{get_or-set_other}
-use Rattle.std.proofs.lemmas.List.Elements.{All-get_or, All-more}
 use Rattle.std.proofs.lemmas.Bool.{lt-ltb, le-ltb, le-leb, lt-leb, cases_lt, or_parts}
-use Rattle.std.proofs.lemmas.Bool.Decides.{eqb_tells}
-use Rattle.std.proofs.lemmas.Grind.{get_or-set_at}
 use Rattle.std.specs.BTreeMap.{is_at}
 use Rattle.std.specs.BTreeSet.{insert_key}
 use Rattle.std.specs.Cmp.{IsEquivalence, nat_cmp_is}
-use Rattle.std.specs.Cmp.Lexicographic.{nat_list_eq_equiv}
 use Rattle.std.specs.Int.{from_bool}
-use Rattle.std.specs.List.{All, list_any}
-use Rattle.std.specs.Ordering.{nat_cmp, is_eq, is_lt, match_ordering, ord_max}
+use Rattle.std.specs.List.{list_any}
+use Rattle.std.specs.Ordering.{nat_cmp, is_eq, match_ordering}
 use Rattle.std.specs.declared.cmp.Ordering.TheVariants.{Less, Equal, Greater}
-use Rattle.std.specs.Prelude.{◌||◌, not, ◌==◌, nat_lt, nat_eq}
+use Rattle.std.specs.Prelude.{◌||◌, not, nat_lt}
 use Rattle.std.specs.Set.{remove_key}
-use Rattle.std.specs.Str.{bytes_eq}
-use Rattle.lru_theory.specs.Best.{until, put, min_refer, bypass_refer, faults_ahead, min_misses}
+use Rattle.lru_theory.specs.Best.{until, put, min_refer, bypass_refer, faults_ahead}
 use Rattle.lru_theory.specs.Traces.{is_in}
 use Rattle.lru_theory.proofs.Nexts.{Later, Ordered, left, until_next, until_now, none_now, others_differ}
 use Rattle.lru_theory.proofs.Nexts.{without_absent, later_take, ordered_take, ordered_put, absent_take}
@@ -331,177 +323,3 @@ module _ {K : Type 0} {eq : K → K → Bool} (laws : IsEquivalence eq) (refer :
         times_are = (λ j. after (at.end j) (next j) (remove_key (is_at (nat_cmp now)) (are j))) ∙ after_it.1;
         count = omega (arith, so_far.count, ap (faults_ahead eq refer keys) at.is, now_missed);
       }
-
--- What is known of the references from time `now` on: the time of the next one to each, and the first one to each key.
-pub record Seen (numbers nexts seen : List ℕ) (bound now : ℕ) : Type 0 where
-  pub size : length nexts ≡ length numbers
-  pub keys : length seen ≡ bound
-  pub known : drop now nexts ≡ next_times nat_eq now (drop now numbers)
-  pub first : (key : ℕ) → key < bound → get_or seen key 0 ≡ now + until nat_eq key (drop now numbers)
-
-module _ (numbers : List ℕ) (bound : ℕ) where
-  pub nothing_seen : (now : ℕ) → now ≡ length numbers
-      → Seen numbers (replicate (length numbers) now) (replicate bound now) bound now
-  nothing_seen now e =
-      let none : drop now numbers ≡ [] = drop_of_length-le numbers {i = now} (omega (arith, e)) in
-      record {
-        size = length-replicate (length numbers) now;
-        keys = length-replicate bound now;
-        known = drop_of_length-le (replicate (length numbers) now) {i = now}
-            (omega (arith, e, length-replicate (length numbers) now)) ∙ sym (ap (next_times nat_eq now) none);
-        first = λ key h. omega (arith, get_or-replicate bound key now 0 h, ap (until nat_eq key) none);
-      }
-
-  pub sees : (nexts seen : List ℕ) (now : ℕ) → now < length numbers → All (λ n. n < bound) numbers
-      → Seen numbers nexts seen bound (suc now)
-      → let key = get_or numbers now 0 in
-      Seen numbers (set nexts now (get_or seen key 0)) (set seen key now) bound now
-  sees nexts seen now h small so_far =
-      let key = get_or numbers now 0 in
-      let rest = drop (suc now) numbers in
-      let is : drop now numbers ≡ key ∷ rest = drop-cons numbers now 0 h in
-      let within = All-get_or (λ n. n < bound) numbers now 0 h small in
-      let next = so_far.first key within in
-      record {
-        size = length-set nexts now (get_or seen key 0) ∙ so_far.size;
-        keys = length-set seen key now ∙ so_far.keys;
-        known = drop-set nexts now (get_or seen key 0) (omega (arith, h, so_far.size))
-            ∙ ap (λ i. get_or seen key 0 ∷ drop i nexts) one_more ∙ (λ j. next j ∷ so_far.known j) ∙ sym (ap (next_times nat_eq now) is);
-        first = λ other small. go key is within other small (eqb_tells other key);
-      }
-    where
-      one_more : now + 1 ≡ suc now
-      one_more = omega arith
-
-      go : (key : ℕ) → drop now numbers ≡ key ∷ drop (suc now) numbers → key < bound → (other : ℕ) → other < bound
-          → ((nat_eq other key ≡ true) × (other ≡ key)) ⊎ ((nat_eq other key ≡ false) × (other ≢ key))
-          → get_or (set seen key now) other 0 ≡ now + until nat_eq other (drop now numbers)
-      go key is within other small (inl (e, same)) =
-          let wait = ap (until nat_eq other) is ∙ ap (λ b. cond {A = ℕ} b 0 (suc (until nat_eq other (drop (suc now) numbers)))) e in
-          omega (arith, wait, get_or-set_at seen key other now 0 same (omega (arith, within, so_far.keys)))
-      go key is within other small (inr (e, apart)) =
-          let wait = ap (until nat_eq other) is ∙ ap (λ b. cond {A = ℕ} b 0 (suc (until nat_eq other (drop (suc now) numbers)))) e in
-          omega (arith, wait, get_or-set_other seen key other now 0 apart, so_far.first other small)
-
-pub at_least : (a b : ℕ) → (a ≤ ord_max nat_cmp a b) × (b ≤ ord_max nat_cmp a b)
-at_least a b = go (cases_lt b a)
-  where
-    not_less : (t : Bool) → cond (is_lt (cond t Equal Greater)) a b ≡ b
-    not_less true = refl
-    not_less false = refl
-
-    go : (b < a) ⊎ (a ≤ b) → (a ≤ ord_max nat_cmp a b) × (b ≤ ord_max nat_cmp a b)
-    go (inl h) =
-        let is : ord_max nat_cmp a b ≡ a = ap (λ o. cond (is_lt o) a b) (sym (nat_cmp_is b a Less h)) in
-        (omega (arith, is), omega (arith, is, h))
-    go (inr h) =
-        let is : ord_max nat_cmp a b ≡ b =
-        ap (λ t. cond (is_lt (cond t Less (cond (b == a) Equal Greater))) a b) (le-ltb b a h) ∙ not_less (b == a) in
-        (omega (arith, is, h), omega (arith, is))
-
-pub bounded_more : (numbers : List ℕ) (i was bound : ℕ) → i < length numbers → All (λ n. n < was) (take i numbers)
-    → was ≤ bound → get_or numbers i 0 < bound → All (λ n. n < bound) (take (i + 1) numbers)
-bounded_more numbers i was bound h all more small = All-more (λ n. n < bound) numbers i 0 h
-    (λ k d within. omega (arith, all k d within, more)) small
-
--- MIN and MIN with bypass in this many places
-module _ {K : Type 0} {eq : K → K → Bool} (laws : IsEquivalence eq) (places : ℕ) (trace : List K) (now missed : ℕ)
-    (ts : List ℕ) (h : now < length trace) where
-  pub min_refers : 0 < places → Missed eq (min_refer eq places) trace now missed ts
-      → Missed eq (min_refer eq places) trace (suc now) (missed + from_bool (not (list_any (is_at (nat_cmp now)) ts)))
-      (with_time (length trace) (get_or (next_times eq 0 trace) now 0)
-      (take (places - 1) (remove_key (is_at (nat_cmp now)) ts)))
-  min_refers some = refers laws (min_refer eq places) (λ end next us. with_time end next (take (places - 1) us))
-      (go places some) trace now missed ts h
-    where
-      go : (n : ℕ) → 0 < n → (i : ℕ) (key : K) (rest xs : List K) → Ordered eq (key ∷ rest) xs
-          → Ordered eq rest (min_refer eq n key rest xs)
-          × (with_time (suc i + length rest) (suc i + until eq key rest)
-          (take (n - 1) (remove_key (is_at (nat_cmp i)) (times eq i (key ∷ rest) xs)))
-          ≡ times eq (suc i) rest (min_refer eq n key rest xs))
-      go zero some i key rest xs o = absurd (omega (arith, some))
-      go (suc n) some i key rest xs o =
-          let less : suc n - 1 ≡ n = omega arith in
-          let is = min_times laws i key rest n xs o in (
-            is.0,
-            ap (λ m. with_time (suc i + length rest) (suc i + until eq key rest)
-                (take m (remove_key (is_at (nat_cmp i)) (times eq i (key ∷ rest) xs)))) less ∙ is.1,
-          )
-
-  pub bypass_refers : Missed eq (bypass_refer eq places) trace now missed ts
-      → Missed eq (bypass_refer eq places) trace (suc now)
-      (missed + from_bool (not (list_any (is_at (nat_cmp now)) ts)))
-      (take places (with_time (length trace) (get_or (next_times eq 0 trace) now 0)
-      (remove_key (is_at (nat_cmp now)) ts)))
-  bypass_refers = refers laws (bypass_refer eq places) (λ end next us. take places (with_time end next us))
-      (λ i key rest xs o. bypass_times laws i key rest places xs o) trace now missed ts h
-
-length-next_times : {K : Type 0} (eq : K → K → Bool) (i : ℕ) (trace : List K)
-    → length (next_times eq i trace) ≡ length trace
-length-next_times eq i [] = refl
-length-next_times eq i (key ∷ trace) = ap suc (length-next_times eq (suc i) trace)
-
--- One turn of the loops of `best`: of the times ts those of now were taken, `left` are left, and the reference of now
--- comes again at the time `next`.
-module _ (trace : List (List ℕ)) {nexts : List ℕ} (are : nexts ≡ next_times bytes_eq 0 trace) (now places : ℕ)
-    (h : now < length nexts) (missed count next : ℕ) (found : Bool) (ts left new : List ℕ)
-    (found_is : found ≡ list_any (is_at (nat_cmp now)) ts) (count_is : count ≡ from_bool (not found))
-    (left_is : left ≡ remove_key (is_at (nat_cmp now)) ts) (next_is : next ≡ get_or nexts now 0) where
-  size : length nexts ≡ length trace
-  size = ap length are ∙ length-next_times bytes_eq 0 trace
-
-  within_trace : now < length trace
-  within_trace = omega (arith, h, size)
-
-  -- the same numbers and times, as the loop computes them
-  computed : (refer : List ℕ → List (List ℕ) → List (List ℕ) → List (List ℕ)) (us : List ℕ) → us ≡ new
-      → Missed bytes_eq refer trace (suc now) (missed + from_bool (not (list_any (is_at (nat_cmp now)) ts))) us
-      → Missed bytes_eq refer trace (now + 1) (missed + count) new
-  computed refer us e is = subst (λ n. Missed bytes_eq refer trace n (missed + count) new) one_more
-      (subst (λ m. Missed bytes_eq refer trace (suc now) m new) counted
-      (subst (λ l. Missed bytes_eq refer trace (suc now) (missed + from_bool (not (list_any (is_at (nat_cmp now)) ts))) l)
-      e is))
-    where
-      one_more : suc now ≡ now + 1
-      one_more = omega arith
-
-      counted : missed + from_bool (not (list_any (is_at (nat_cmp now)) ts)) ≡ missed + count
-      counted = ap (λ b. missed + from_bool (not b)) (sym found_is) ∙ ap (λ n. missed + n) (sym count_is)
-
-  pub min_turn : 0 < places → (kept : List ℕ) → kept ≡ take (places - 1) left
-      → new ≡ with_time (length nexts) next kept → Missed bytes_eq (min_refer bytes_eq places) trace now missed ts
-      → Missed bytes_eq (min_refer bytes_eq places) trace (now + 1) (missed + count) new
-  min_turn some kept kept_is new_is so_far =
-      let same : get_or (next_times bytes_eq 0 trace) now 0 ≡ next = ap (λ l. get_or l now 0) (sym are) ∙ sym next_is in
-      let rest : take (places - 1) (remove_key (is_at (nat_cmp now)) ts) ≡ kept =
-      ap (take (places - 1)) (sym left_is) ∙ sym kept_is in
-      computed (min_refer bytes_eq places)
-      (with_time (length trace) (get_or (next_times bytes_eq 0 trace) now 0)
-      (take (places - 1) (remove_key (is_at (nat_cmp now)) ts)))
-      ((λ j. with_time (sym size j) (same j) (rest j)) ∙ sym new_is)
-      (min_refers nat_list_eq_equiv places trace now missed ts within_trace some so_far)
-
-  pub bypass_turn : (with_it : List ℕ) → with_it ≡ with_time (length nexts) next left → new ≡ take places with_it
-      → Missed bytes_eq (bypass_refer bytes_eq places) trace now missed ts
-      → Missed bytes_eq (bypass_refer bytes_eq places) trace (now + 1) (missed + count) new
-  bypass_turn with_it with_is new_is so_far =
-      let same : get_or (next_times bytes_eq 0 trace) now 0 ≡ next = ap (λ l. get_or l now 0) (sym are) ∙ sym next_is in
-      computed (bypass_refer bytes_eq places)
-      (take places (with_time (length trace) (get_or (next_times bytes_eq 0 trace) now 0)
-      (remove_key (is_at (nat_cmp now)) ts)))
-      ((λ j. take places (with_time (sym size j) (same j) (sym left_is j))) ∙ ap (take places) (sym with_is) ∙ sym new_is)
-      (bypass_refers nat_list_eq_equiv places trace now missed ts within_trace so_far)
-
-module _ (trace : List (List ℕ)) {nexts : List ℕ} (are : nexts ≡ next_times bytes_eq 0 trace) where
-  pub turns_end : (refer : List ℕ → List (List ℕ) → List (List ℕ) → List (List ℕ)) (now missed : ℕ) (ts : List ℕ)
-      → length nexts ≤ now → Missed bytes_eq refer trace now missed ts → missed ≡ faults_ahead bytes_eq refer [] trace
-  turns_end refer now missed ts h = all_missed bytes_eq refer trace now missed ts
-      (omega (arith, h, ap length are, length-next_times bytes_eq 0 trace))
-
-  pub no_places : (places : ℕ) → places ≡ 0 → length nexts ≡ min_misses bytes_eq places trace
-  no_places places none = ap length are ∙ length-next_times bytes_eq 0 trace ∙ each trace
-      ∙ ap (λ n. min_misses bytes_eq n trace) (sym none)
-    where
-      each : (trace : List (List ℕ)) → length trace ≡ min_misses bytes_eq 0 trace
-      each [] = refl
-      each (key ∷ trace) = omega (arith, each trace)

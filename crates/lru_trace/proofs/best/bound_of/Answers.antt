@@ -1,7 +1,7 @@
 use Rattle.std.proofs.Common.{◌+◌, ◌<◌, get_or, arith, subst}
 use Rattle.std.proofs.lemmas.List.{take_all}
 use Rattle.std.specs.List.{All}
-use Rattle.lru_trace.proofs.Times.{at_least, bounded_more}
+use Rattle.lru_trace.proofs.SeenTimes.{at_least, bounded_more}
 use Rattle.lru_trace.proofs.best.bound_of.Goals as goal
 
 pub loop-number-preserved : goal.loop-number-preserved

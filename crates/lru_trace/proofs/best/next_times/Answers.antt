@@ -2,7 +2,7 @@ use Rattle.std.proofs.Common.{◌-◌, ◌+◌, ◌≡◌, ◌<◌, length, get_
 use Rattle.std.proofs.lemmas.List.{get_or_read}
 use Rattle.std.proofs.lemmas.List.Elements.{All-get_or}
 use Rattle.std.specs.List.{All}
-use Rattle.lru_trace.proofs.Times.{Seen, sees}
+use Rattle.lru_trace.proofs.SeenTimes.{Seen, sees}
 use Rattle.lru_trace.proofs.best.next_times.Goals as goal
 
 pub loop-done-preserved : goal.loop-done-preserved

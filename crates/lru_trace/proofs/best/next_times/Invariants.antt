@@ -1,5 +1,5 @@
 use Rattle.std.proofs.Common.{◌≡◌, ◌-◌, length}
-use Rattle.lru_trace.proofs.Times.{Seen}
+use Rattle.lru_trace.proofs.SeenTimes.{Seen}
 use Rattle.lru_trace.proofs.best.next_times.Given as goal
 
 abbrev pub invariant-loop-done : goal.invariant-loop-done

@@ -4,7 +4,8 @@ use Rattle.std.specs.Prelude.{not}
 use Rattle.std.specs.Str.{bytes_eq}
 use Rattle.lru_theory.specs.Best.{bypass_refer}
 use Rattle.lru_trace.specs.Times.{with_time}
-use Rattle.lru_trace.proofs.Times.{Missed, at_most_one, bypass_turn, nothing_missed, turns_end}
+use Rattle.lru_trace.proofs.Times.{Missed, at_most_one, nothing_missed}
+use Rattle.lru_trace.proofs.Turns.{bypass_turn, turns_end}
 use Rattle.lru_trace.proofs.best.Best.bypass_misses.Goals as goal
 
 pub loop-now-init : goal.loop-now-init

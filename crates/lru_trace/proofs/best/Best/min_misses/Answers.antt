@@ -4,7 +4,8 @@ use Rattle.std.specs.Str.{bytes_eq}
 use Rattle.lru_theory.specs.Best.{min_refer}
 use Rattle.std.specs.Prelude.{not}
 use Rattle.lru_trace.specs.Times.{with_time}
-use Rattle.lru_trace.proofs.Times.{Missed, at_most_one, min_turn, nothing_missed, turns_end, no_places}
+use Rattle.lru_trace.proofs.Times.{Missed, at_most_one, nothing_missed}
+use Rattle.lru_trace.proofs.Turns.{min_turn, turns_end, no_places}
 use Rattle.lru_trace.proofs.best.Best.min_misses.Goals as goal
 
 pub returns-then-places-eq0 : goal.returns-then-places-eq0
