@@ -37,7 +37,6 @@ module _ {T F : Type 0} (closure : Mut F (Bor T × Unit {0}) Bool) (slots : List
       let called = subst (λ j. Answers closure slots j b true found.last) same found.accepted in
       (called.entry, called.there, sym (tests _ _ _ called.called).0)
 
-  -- if nothing was found, no entry of that hash passes, whatever hashes fit
   pub FindsNone-test : (hash : ℕ) → FindsNone closure slots hash f → (hash_of : ℕ → ℕ) → Fits slots hash_of
       → (b : ℕ) (entry : T) → hash_of b ≡ hash
       → entry_at slots b ≡ Some entry → test entry ≡ false

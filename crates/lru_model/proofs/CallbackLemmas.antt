@@ -48,7 +48,6 @@ module _ {K V S F : Type 0} (rules : Rules K V S) (closure : Mut F (K × (V × U
   pub always_each : (pairs : List (K × V)) (f : F) → always_mut closure f → MayTakeEach rules closure pairs f
   always_each pairs f h = λ before g pair fewer all taken passed. may_take_always closure f before g pair h taken
 
-  -- with each of these pairs, by an invariant
   pub each_by : (pairs : List (K × V)) (Inv : ℕ → F → Type 0)
       → ((m : ℕ) (g : F) (pair : K × V) → m < length pairs → Inv m g → IsLeftOf rules pairs pair
       → MayBeCalled closure g (pair.0, (pair.1, tt)))

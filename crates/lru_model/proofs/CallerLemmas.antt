@@ -89,7 +89,6 @@ module _ {K V : Type 0} (names : K → Bool) where
           ap (λ b. cond b (Some p.1) (lookup names (without names xs))) (found_named names xs p e)
           ∙ sym (lookup-entry names xs ∙ ap (option_map (λ p. p.1)) e)
 
-  -- nothing is found
   module _ (xs : List (K × V)) (none : lookup names xs ≡ None) where
     no_entry : lookup_entry names xs ≡ None
     no_entry = go (lookup_entry names xs) refl
@@ -188,7 +187,6 @@ module _ {K V : Type 0} (P : K × V → Type 0) (names : K → Bool) where
       go None e = all-without xs h
       go (Some p) e = All-cons P p (without names xs) (found-all xs p e h) (all-without xs h)
 
-  -- the pair that comes by an insert is the one that is found under the inserted key then
   pub inserted-all : {refuses : K × V → Type 0} (old new : List (K × V)) → EvictsOldest names refuses old new
       → All P old → ((p : K × V) → names p.0 ≡ true → lookup names new ≡ Some p.1 → P p) → All P new
   inserted-all old new (behind newest named (rest, e)) h one = go new e one
@@ -204,7 +202,6 @@ module _ {K V : Type 0} (P : K × V → Type 0) (names : K → Bool) where
   inserted-all old new (with_none absent (rest, e)) h one = all-front P new rest (subst (All P) e h)
   inserted-all old new (without_one pair found refused is) h one = subst (All P) (sym is) (all-without old h)
 
--- those permit every growth that answer true
 pub plain-grants : (K V : Type 0) {S : Type 0} (over : S → ℕ → Bool)
     → AlwaysGrants (plain {K = K} {V = V} over (λ _ _. true))
 plain-grants K V over = λ s bytes. (refl, refl)
@@ -238,7 +235,6 @@ module _ {K V S H : Type 0} (names : K → Bool) (st : State K V S H) where
   read_back value found = ap (λ pairs. record (promoted names st) { pairs = pairs })
       (set_value_same names (front names st.pairs) value (lookup-front names st.pairs ∙ found))
 
-  -- the sum of the costs stays
   pub promoted-summed : (cost : K → V → ℕ) (account : S → ℕ) → IsSummed cost account st
       → IsSummed cost account (promoted names st)
   promoted-summed cost account summed =
@@ -270,7 +266,6 @@ module _ {K V S H : Type 0} (names : K → Bool) (st : State K V S H) where
       → All P (written names v (promoted names st)).pairs
   read-all P v found h = subst (λ s. All P s.pairs) (sym (read_back v found)) (front-all P names st.pairs h)
 
--- a search by a hash through which nothing is written brings the pair of its key to the front, and no more
 pub given-promoted : {K V S H : Type 0} {eq : K → K → Bool} (laws : IsEquivalence eq) (key : K) (st : State K V S H)
     (pair : K × V) → lookup_entry (eq key) st.pairs ≡ Some pair
     → written (eq pair.0) pair.1 (promoted (eq pair.0) st) ≡ promoted (eq key) st

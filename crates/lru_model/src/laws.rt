@@ -1,6 +1,6 @@
 //! What is proved of inserts and other single calls, of what inserts keep (`kept`), of shrinks (`shrinks`), of each
-//! call (`calls`), of calls one after another (`runs`), and of both with `ByBytes` (`bytes`). Each theorem is the contract of a function that does
-//! nothing.
+//! call (`calls`), of calls one after another (`runs`), and of both with `ByBytes` (`bytes`). Each theorem is the
+//! contract of a function that does nothing.
 
 ghost use Rattle.std.specs.Prelude.{◌≡◌, ◌≢◌, ℕ, ◌≤◌, ◌<◌, ◌+◌, ◌*◌, ◌/◌, ◌⊎◌, ◌∷◌, Bool, false, Option, Some, None};
 ghost use Rattle.std.specs.Prelude.{IfSome, Result, Ok, true, IsOk, IsErr, length, List};

@@ -23,8 +23,7 @@ use thiserror::Error;
 pub struct Inserted<V> {
     /// Whether the key is in the map.
     pub kept: bool,
-    /// The old value of a key that was there, or the new value, if the limiter rejected it. `None` if the key was not
-    /// there.
+    /// The value that the map does not keep, if the key was there.
     pub unkept: Option<V>,
 }
 

@@ -67,7 +67,6 @@ module _ {N K V L S R : Type 0} {eq : N → N → Bool} (name : N)
   on-same laws cache was is does = on-from cache cache was was is does
       (subst (λ t. Leaves eq name t cache cache) is (leaves-same laws name cache))
 
--- a tenant that is open is not opened
 pub open-again : {N K V L S : Type 0} {eq : N → N → Bool} → IsEquivalence eq → (name : N) (fresh : State K V L S)
     (over : Bool) (cache : Cache N K V L S) → is_some (tenant (eq name) cache) ≡ true
     → On eq name (Opens over fresh) cache (Err AlreadyOpen) cache

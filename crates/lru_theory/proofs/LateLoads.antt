@@ -21,7 +21,6 @@ clash : {A : Type 0} {b : Bool} → b ≡ true → b ≡ false → A
 clash e h = absurd cc
 
 module _ {K : Type 0} {eq : K → K → Bool} (laws : IsEquivalence eq) where
-  -- a key that was removed was there
   removed_there : (key : K) (xs : List K) → length (remove_key (eq key) xs) + 1 ≡ length xs → is_in eq key xs ≡ true
   removed_there key [] e = absurd (omega (arith, e))
   removed_there key (x ∷ xs) e = go (eq key x) (removed_there key xs) e
@@ -113,7 +112,6 @@ module _ {K : Type 0} {eq : K → K → Bool} (laws : IsEquivalence eq) where
               ]
             ]
 
-        -- the key is loaded, after some of the keys were evicted
         loaded : (rest : List K) → is_in eq key keys ≡ false → length rest + 1 ≤ h
             → ((x : K) → is_in eq x (remove_key (eq key) mid) ≡ true → is_in eq x keys ≡ true → is_in eq x rest ≡ true)
             → Demands eq h key keys 1 (key ∷ rest)

@@ -135,7 +135,6 @@ module _ {K : Type 0} {eq : K → K → Bool} (laws : IsEquivalence eq) where
           later true other e = refl
           later false other e = e
 
-  -- a demand policy loads the key that it misses
   nothing_outside : (old xs : List K) → Within eq xs old → outside eq old xs ≡ 0
   nothing_outside old [] within = refl
   nothing_outside old (x ∷ xs) within =

@@ -54,7 +54,7 @@ impl<K: Eq + Hash, V, L: Limiter<K, V>, S: KeyHasher<K>> LruMap<K, V, L, S> {
     /// ```
     /// assert!(rt; map.keys().next() == Some(&3) && map.keys().next_back() == Some(&1));
     /// ```
-    ///
+    /// Cost: as `iter`.
     /// Cost: `O(1)`, and so is each step of the walk from either end.
     ///
     /// After std's `HashMap::keys`.
@@ -71,7 +71,7 @@ impl<K: Eq + Hash, V, L: Limiter<K, V>, S: KeyHasher<K>> LruMap<K, V, L, S> {
     /// assert!(rt; map.values().next() == Some(&30) && map.values().len() == 3);
     /// ```
     ///
-    /// Cost: `O(1)`, and so is each step of the walk from either end.
+    /// Cost: as `iter`.
     ///
     /// After std's `HashMap::values`.
     pub fn values(&self) -> Values<'_, K, V, L::LinkType>

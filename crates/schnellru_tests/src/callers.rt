@@ -160,8 +160,6 @@ fn put_within_both(
     map.insert(key, value)
 }
 
-/// Removes a key and inserts another one. The limiter still holds the sum of the bytes of the texts, and they are
-/// within its limit.
 fn exchange(
     map: &mut LruMap<String, String, ByCost>,
     old: &str,
@@ -205,7 +203,6 @@ fn put_two(
     Ok(())
 }
 
-/// Puts a pair into a map. If its table grows, it can hold fewer than four times the entries.
 fn put_tightly(map: &mut LruMap<String, u64>, key: String, value: u64) -> Result<bool, AllocError>
     ensures { buckets map.old < buckets map.new →
         full_capacity (buckets map.new) < 4 * (length map.old.pairs + 1) }
@@ -215,8 +212,6 @@ fn put_tightly(map: &mut LruMap<String, u64>, key: String, value: u64) -> Result
     map.insert(key, value)
 }
 
-/// Puts a pair of a new key into a map. If it is there afterwards, the map kept all others, or it has at least half of
-/// what the table may hold.
 fn put_and_keep_half(
     map: &mut LruMap<String, u64, ByMemoryUsage>,
     key: String,
@@ -258,8 +253,6 @@ fn forget(map: &mut LruMap<String, u64>, key: &str) -> Option<u64>
     map.remove(&key)
 }
 
-/// Shrinks the table. A table of at most n bytes has at most n bytes afterwards, whatever the result is. If the result
-/// is true, all entries are counted as rehashed.
 fn shrink_within(map: &mut LruMap<String, u64>) -> Result<bool, AllocError>
     ensures usage { (n : ℕ) → UsesAtMost n map.old → UsesAtMost n map.new }
     ensures counted { result ≡ Ok true →
@@ -270,8 +263,6 @@ fn shrink_within(map: &mut LruMap<String, u64>) -> Result<bool, AllocError>
     map.shrink_to_fit()
 }
 
-/// Shrinks the table, and then reserves growth for n entries. Returns whether there is growth for them. The entries, their
-/// order and the count of stored entries stay.
 fn resize(map: &mut LruMap<String, u64>, n: usize) -> bool
     ensures pairs { map.new.pairs ≡ map.old.pairs }
     ensures placed { map.new.counts.placed ≡ map.old.counts.placed }
@@ -298,8 +289,6 @@ fn usage_again(map: &LruMap<String, u64>, entry_bytes: usize) -> usize
     LruMap::<String, u64>::memory_usage_for_memory_budget(bytes, entry_bytes)
 }
 
-/// Inserts an entry, and passes what leaves to the callback. If the insert returns true, nothing is lost: the entries
-/// of the map, and then those that were passed, oldest last, are the new entry and the others in their order.
 #[tactic(auto, using(lru_model::proofs::CallbackLemmas::may_take_always))]
 fn put_and_show<F: FnMut(u64, u64)>(
     map: &mut LruMap<u64, u64>,
@@ -347,7 +336,6 @@ fn map_of_length(alloc: Global, most: u32) -> LruMap<u64, u64>
     LruMap::new(alloc, ByLength::new(most), [1, 2, 3, 4], 24)
 }
 
-/// The map then has the newest pairs, up to its maximum length.
 fn put_newest(map: &mut LruMap<u64, u64>, key: u64, value: u64) -> Result<bool, AllocError>
     requires { KeepsToLength map.old }
     ensures newest { OnOk result

@@ -1,4 +1,3 @@
-//! `clone_with`: a table of the same buckets with its own entries.
 ghost use Rattle.std.specs.Prelude.{◌≡◌, ℕ, ◌<◌, length, IfOk, IsOk};
 ghost use Rattle.std.specs.List.{AllZip};
 ghost use Rattle.group_table.specs.Bucket.{marks_of};

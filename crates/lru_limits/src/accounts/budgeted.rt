@@ -1,4 +1,3 @@
-//! Limiters with a running total and a budget that can be changed.
 ghost use Rattle.std.specs.Prelude.{◌≡◌, ℕ, Bool};
 ghost use Rattle.lru_limits.specs.Admissions.{offers_of};
 ghost use Rattle.lru_limits.specs.Budgeted.{IsBudgeted};

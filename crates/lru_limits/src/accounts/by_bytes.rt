@@ -1,4 +1,3 @@
-//! The limiter by the bytes of the table and of what the entries own.
 ghost use Rattle.std.specs.Prelude.{◌≡◌, ◌+◌, Some, None, if◌then◌else◌};
 ghost use Rattle.lru_limits.specs.Budget.{can_add};
 ghost use Rattle.lru_limits.specs.Bytes.{both_own, left_for_entries, by_bytes, bytes_terms, bytes-sums};
@@ -63,8 +62,6 @@ impl ByBytes {
     }
 
     /// Returns the same limiter with another limit.
-    ///
-    /// `map.set_limiter(map.limiter().with_limit(n))` sets the limit of a map.
     ///
     /// ```
     /// assert_eq!(rt; limiter.with_limit(300).limit(), 300);

@@ -1,4 +1,3 @@
-//! The limiter by the sum of the costs of the values.
 ghost use Rattle.std.specs.Prelude.{◌≡◌};
 ghost use Rattle.lru_limits.specs.Budget.{can_add, by_cost, charges-sums, budget_terms};
 ghost use Rattle.lru_limits.specs.Budgeted.{weighs-budgeted};

@@ -1,4 +1,3 @@
-//! The limiter by the sum of the costs of keys, values and entries.
 ghost use Rattle.std.specs.Prelude.{◌≡◌};
 ghost use Rattle.lru_limits.specs.Budget.{can_add, pair_cost, by_weight, weighs-sums, budget_terms};
 ghost use Rattle.lru_limits.specs.Budgeted.{weighs-budgeted};

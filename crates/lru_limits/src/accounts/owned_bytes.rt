@@ -1,4 +1,3 @@
-//! The bytes that a value owns outside of itself.
 ghost use Rattle.std.specs.Prelude.{◌≡◌, ◌+◌, ◌*◌, ◌==◌, ℕ, Some, None, MatchOption, sum_by, string_capacity};
 ghost use Rattle.std.specs.Prelude.{vec_capacity, option_map, unwrap_or};
 ghost use Rattle.std.specs.Mem.{type_size};
@@ -18,7 +17,6 @@ use std::mem::size_of;
 /// assert_eq!(rt; (block.owned_bytes(), 7u64.owned_bytes()), (48, 0));
 /// ```
 pub trait OwnedBytes {
-    /// Returns the bytes that the value owns.
     ghost owned: { Self → ℕ };
 
     /// Returns the bytes that the value owns.

@@ -1,4 +1,3 @@
-//! Two limiters for one map.
 ghost use Rattle.lru_limits.specs.Both.{both_rules, both_terms, both-sums};
 
 use crate::accounts::Summing;

@@ -1,4 +1,3 @@
-//! The limiter by the number of entries.
 ghost use Rattle.std.specs.Prelude.{◌≡◌};
 ghost use Rattle.lru_limits.specs.Limiters.{length_rules, length_terms};
 

@@ -1,4 +1,3 @@
-//! The limiter by the size of the table.
 ghost use Rattle.std.specs.Prelude.{◌≡◌};
 ghost use Rattle.lru_limits.specs.Limiters.{memory_rules, all_terms};
 

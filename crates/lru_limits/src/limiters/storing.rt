@@ -1,4 +1,3 @@
-//! An adapter for limiters that store each entry as it comes.
 ghost use Rattle.lru_limits.specs.Limiters.{all_terms};
 ghost use Rattle.lru_limits.specs.Stores.{rules_at};
 

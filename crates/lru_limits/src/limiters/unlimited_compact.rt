@@ -1,4 +1,3 @@
-//! The limiter that limits nothing, with links of 32 bits.
 ghost use Rattle.lru_limits.specs.Limiters.{no_rules, all_terms};
 
 use crate::admission::Admission;

@@ -39,7 +39,6 @@ module _ {K V S H : Type 0} (st : State K V S H) (ok : IsSized st) where
 
 module _ {K V S H : Type 0} (rules : Rules K V S) (hash_of : H → K → ℕ) (pair : K × V) (old new : State K V S H)
     (ok : IsSized old) where
-  -- the table was rehashed at its size
   pub rehash_place : (result : Result Bool AllocError) → HasNoBucket (hash_of old.hasher pair.0) old
       → length old.pairs < full_capacity (buckets old) / 2 →
       IsPlacedIfMemory rules pair (buckets old) (full_capacity (buckets old) - length old.pairs - 1)

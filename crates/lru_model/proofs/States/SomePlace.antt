@@ -80,7 +80,6 @@ module _ {K V S H : Type 0} where
   ]
 
   module _ (pair : K × V) (old : State K V S H) (ok : IsSized old) where
-    -- the pair can fill a bucket, with this number of buckets deleted then
     some_bucket : (deletions : ℕ) → length old.pairs + 1 + deletions ≤ full_capacity (buckets old)
         → (buckets old ≤ 16 → deletions ≡ 0)
         → (new : State K V S H)

@@ -148,7 +148,6 @@ module _ {K V S H : Type 0} (rules : Rules K V S) (old : State K V S H) where
 module _ {K V S I H : Type 0} (rules : Rules K V S) (offers : Offers K V S I) (names : I → K → Bool)
     {hash_of : H → K → ℕ} (i : I) (v : V) (old : State K V S H) (result : Result Bool AllocError)
     (new : State K V S H) where
-  -- An insert ends as the table reports, in the words of the caller.
   pub insert_reports : Insert rules offers names hash_of i v old result new
       → (report : Report) × ((Tells : S → K × V → Report → Type 0)
       → ((s : S) (pair : K × V) → MayGive rules offers names i v (contents old) s (Some pair) → (ready : State K V S H)
@@ -218,7 +217,6 @@ module _ {K V S I : Type 0} (rules : Rules K V S) (offers : Offers K V S I) (nam
   )
   new_ends result new ok (not_placed s pair n report t r e) = ok-not_err result ok r
 
-  -- Two inserts of the same end alike, if what is offered and reported is determined.
   pub inserts_alike : IsDetermined offers → (result other : Result Bool AllocError) (new others : Contents K V S)
       → IsOk result → IsOk other → InsertsGiven rules offers names reports i v old result new
       → InsertsGiven rules offers names reports i v old other others → (result ≡ other) × (new ≡ others)
@@ -236,7 +234,6 @@ module _ {K V S I : Type 0} (rules : Rules K V S) (offers : Offers K V S I) (nam
           sym a.3 ∙ (λ j. ending_new (d.0 j) (d.1 j)) ∙ b.3
       go (Some pair) h k = sym h ∙ k
 
--- In tables of up to 16 buckets the map determines the report.
 module _ {K V S H : Type 0} (rules : Rules K V S) (old : State K V S H) (small : buckets old ≤ 16) (s : S)
     (ready : State K V S H) (l : Leaves (record old { limiter = s }) (way rules old s) ready) where
   pub reports_small : (hash : ℕ) (report : Report) → MayReport rules hash ready report

@@ -133,7 +133,6 @@ module _ {K V S H I : Type 0} {rules : Rules K V S} {offers : Offers K V S I} {n
     {hash_of : H → K → ℕ} {eq : K → K → Bool} {query_input : I → List (List ℕ)} {key_input : K → List (List ℕ)}
     (looks_up : IsLookup names eq query_input key_input)
     (laws : IsInsertion names eq offers) (i : I) (v : V) (old : State K V S H) where
-  -- Inserts evict pairs from the old end alone, except one whose new value is rejected.
   pub insert_evicts : (result : Result Bool AllocError) (new : State K V S H)
       → Insert rules offers names hash_of i v old result new
       → EvictsOldest (names i) (λ pair. (replacement rules offers names pair i v (contents old)).taken ≡ false)

@@ -15,7 +15,6 @@ use Rattle.lru_model.specs.Exact.{InsertsInList}
 use Rattle.lru_model.proofs.States.LeavingPairs.{length-without_last}
 use Rattle.lru_model.proofs.Theorems.Exactness.{insert_reports}
 
--- with growth left the pair is stored in the same table
 pub place_with_room : {K V S H : Type 0} (rules : Rules K V S) (pair : K × V) (old : State K V S H)
     (hash_of : H → K → ℕ) → 0 < growth_left old → (outcome : Outcome) (new : State K V S H)
     → Place rules hash_of pair old outcome new
@@ -29,7 +28,6 @@ place_with_room rules pair old hash_of some outcome new (not_grown g mid c e) =
     absurd (omega (arith, some, g.no_bucket.no_growth_left))
 
 module _ {K V S H : Type 0} (rules : Rules K V S) (old : State K V S H) where
-  -- after room was made, the map has as many pairs as before, or one fewer
   way_length : (c : Contents K V S) → (length (make_room rules c).pairs ≡ length c.pairs)
       ⊎ (length (make_room rules c).pairs + 1 ≡ length c.pairs)
   way_length c = go (rules.is_over_the_limit c.limiter (length c.pairs + 1))
@@ -42,7 +40,6 @@ module _ {K V S H : Type 0} (rules : Rules K V S) (old : State K V S H) where
       ]
       go false = inl refl
 
-  -- so there is a table for the pair
   way_tables : HasTables old → (s : S) (ready : State K V S H)
       → Leaves (record old { limiter = s }) (make_room rules (record { pairs = old.pairs; limiter = s })) ready
       → table_for 1 ready ≢ no_table
@@ -88,7 +85,6 @@ module _ {K V S H I : Type 0} (rules : Rules K V S) (offers : Offers K V S I) (n
       comes s pair n ready l hash report (too_small b m pos one bound e) =
           subst (Comes s) (sym e) (full s pair n ready l hash b m)
 
-  -- If growth is permitted and there are tables, an insert is one into a list,
   pub insert_if_tables : {hash_of : H → K → ℕ} → AlwaysGrants rules
       → ((s : S) (pair : K × V) → MayGive rules offers names i v (contents old) s (Some pair)
       → (ready : State K V S H) → Ready s ready → table_for 1 ready ≢ no_table)
@@ -109,7 +105,6 @@ module _ {K V S H I : Type 0} (rules : Rules K V S) (offers : Offers K V S I) (n
       → Insert rules offers names hash_of i v old result new → EndsSo
   insert_granted grants tables = insert_if_tables grants (λ s pair n ready l. way_tables rules old tables s ready l)
 
-  -- and if growth is left.
   pub insert_with_room : {hash_of : H → K → ℕ} → 0 < growth_left old → Insert rules offers names hash_of i v old result new
       → EndsSo
   insert_with_room some =

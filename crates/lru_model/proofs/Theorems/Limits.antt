@@ -103,7 +103,6 @@ module _ {K V : Type 0} (f : K × V → ℕ) where
         settled no_memory b h = inr
             (omega (arith, ap (λ st. total f st.pairs) h.1, total-least f _ ready.pairs b, fewer))
 
--- no greater total is left by an update either, or the limiter is not over
 pub update_within : {K V S H I : Type 0} (f : K × V → ℕ) {rules : Rules K V S} {offers : Offers K V S I}
     {names : I → K → Bool} {i : I} {v : V} {old new : State K V S H} (result : Updated V)
     → Update rules offers names i v old result new
@@ -129,7 +128,6 @@ length-update {names = names} {i} {old = old} result (rejected pair found y r l)
     omega (arith, ap (λ st. length st.pairs) l.is, length-without (names i) old.pairs)
 length-update result (not_there a r e) = omega (arith, ap (λ st. length st.pairs) e)
 
--- if a map that is not over the limit has at most `most` pairs, no more are left
 pub length_at_most : {K V S H : Type 0} (rules : Rules K V S) (most : S → ℕ) (old new : State K V S H)
     → ((s : S) (n : ℕ) → rules.is_over_the_limit s n ≡ false → n ≤ most s) → most new.limiter ≡ most old.limiter
     → IsWithin rules (contents new) ⊎ (total (λ _. 1) new.pairs ≤ total (λ _. 1) old.pairs)
@@ -141,7 +139,6 @@ length_at_most rules most old new within same (inl (inr e)) few =
 length_at_most rules most old new within same (inr e) few =
     omega (arith, e, few, total-one old.pairs, total-one new.pairs)
 
--- if at most `most` bytes are permitted, a table uses no more
 pub uses_at_most : {K V S H : Type 0} (rules : Rules K V S) (most : S → ℕ) (P : S → Type 0) (more anew : ℕ)
     (old new : State K V S H)
     → ((s : S) (bytes : ℕ) → (rules.on_grow s bytes).allowed ≡ true → bytes ≤ most s)

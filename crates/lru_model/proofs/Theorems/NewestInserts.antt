@@ -35,7 +35,6 @@ use Rattle.lru_model.proofs.Theorems.RunLimits.{step_keeps_number, step_stays_sh
 use Rattle.lru_model.proofs.Theorems.Runs.{any_step_same}
 
 module _ {X : Type 0} where
-  -- all but the last of n + 1 elements are the first n
   but_last : (n : ℕ) (xs : List X) → length xs ≡ n + 1 → without_last xs ≡ take n xs
   but_last n [] e = absurd (omega (arith, e))
   but_last zero (x ∷ []) e = refl
@@ -43,7 +42,6 @@ module _ {X : Type 0} where
   but_last zero (x ∷ y ∷ ys) e = absurd (omega (arith, e))
   but_last (suc n) (x ∷ y ∷ ys) e = ap (λ zs. x ∷ zs) (but_last n (y ∷ ys) (omega (arith, e)))
 
-  -- the first n of a list that begins with x
   take_after : (n : ℕ) (x : X) (xs : List X) → 0 < n → take n (x ∷ xs) ≡ x ∷ take (n - 1) xs
   take_after zero x xs some = absurd (omega arith)
   take_after (suc n) x xs some = let e : n ≡ suc n - 1 = omega arith in ap (λ m. x ∷ take m xs) e
@@ -52,7 +50,6 @@ module _ {X : Type 0} where
   take_few n xs = omega (arith, length-take n xs)
 
 module _ {K V : Type 0} where
-  -- room is made for one more
   way_is : (most : ℕ) (pairs : List (K × V)) → 0 < most → length pairs ≤ most
       → make_room length_rules (record { pairs = pairs; limiter = most })
       ≡ record { pairs = take (most - 1) pairs; limiter = most }
@@ -87,11 +84,9 @@ module _ {K V : Type 0} (eq : K → K → Bool) (key : K) (value : V) (old new :
   abbrev newest : List (K × V)
   newest = (stored_key (eq key) key old.pairs, value) ∷ without (eq key) old.pairs
 
-  -- a result, and what is left with it
   answered : new.pairs ≡ take old.limiter newest → EndsSo (Ok (nat_lt 0 old.limiter))
   answered is = record { answer = λ _. refl; newest = is; others = tt }
 
-  -- the pair that was stored or replaced is left, if it is the newest
   ended : (c : Contents K V ℕ) → length c.pairs ≤ c.limiter → 0 < length c.pairs → 0 < old.limiter
       → c.pairs ≡ take old.limiter newest → trimmed length_rules c ≡ (result, new) → EndsSo result
   ended c within some more is h =
@@ -100,7 +95,6 @@ module _ {K V : Type 0} (eq : K → K → Bool) (key : K) (value : V) (old new :
       ∙ sym (lt-ltb 0 old.limiter more) in
       rw (sym (ap (λ x. x.0) h) ∙ ap Ok flag) (answered (ap (λ d. d.pairs) (sym (ap (λ x. x.1) h) ∙ none) ∙ is))
 
-  -- the key is there
   there : (was : K × V) → lookup_entry (eq key) old.pairs ≡ Some was
       → exchanged length_rules length_offers eq key value old was ≡ (result, new) → EndsSo result
   there was found h =
@@ -112,20 +106,17 @@ module _ {K V : Type 0} (eq : K → K → Bool) (key : K) (value : V) (old new :
       (ap (λ k. (k, value) ∷ without (eq key) old.pairs) stored
       ∙ sym (take_all old.limiter newest (omega (arith, fewer, few)))) h
 
-  -- out of memory
   short : (result : Result Bool AllocError) → IsErr result → new.pairs ≡ take (old.limiter - 1) old.pairs
       → EndsSo result
   short (Ok b) h is = absurd (grind (arith, h))
   short (Err e) h is = record { answer = λ ok. absurd (grind (arith, ok)); newest = tt; others = is }
 
-  -- room is made for the new pair
   way : (s : ℕ) (pair : K × V) → ReturnsPairIf (nat_lt 0 old.limiter) old.limiter key value s (Some pair)
       → make_room length_rules (record { pairs = old.pairs; limiter = s })
       ≡ record { pairs = take (old.limiter - 1) old.pairs; limiter = old.limiter }
   way s pair n = ap (λ t. make_room length_rules (record { pairs = old.pairs; limiter = t })) n.limiter
       ∙ way_is old.limiter old.pairs (more_than_none old.limiter key value s pair n) few
 
-  -- the key is new, and the pair is stored, or the length is 0
   absent : lookup_entry (eq key) old.pairs ≡ None
       → InsertsNew length_rules length_offers eq (λ s pair report. report ≡ at_once) key value old result new
       → EndsSo result
@@ -161,14 +152,12 @@ module _ {K V : Type 0} (eq : K → K → Bool) (key : K) (value : V) (old new :
 
 module _ {K V H : Type 0} (eq : K → K → Bool) (key : K) (value : V) (old : State K V ℕ H)
     (result : Result Bool AllocError) (new : State K V ℕ H) where
-  -- with growth left
   pub leaves_with_room : {hash_of : H → K → ℕ} → length old.pairs ≤ old.limiter → 0 < growth_left old
       → Insert length_rules length_offers eq hash_of key value old result new
       → LeavesTheNewest eq old.limiter key value old.pairs result new.pairs
   leaves_with_room few some step = list_leaves eq key value (contents old) (contents new) result few
       (insert_with_room length_rules length_offers eq key value old new result some step)
 
-  -- if the map keeps to its length
   pub leaves_newest : {hash_of : H → K → ℕ} → KeepsToLength old
       → Insert length_rules length_offers eq hash_of key value old result new
       → LeavesTheNewest eq old.limiter key value old.pairs result new.pairs
@@ -190,7 +179,6 @@ module _ {K V H : Type 0} (eq : K → K → Bool) (key : K) (value : V) (old : S
           (omega (arith, ap length left, take_few (old.limiter - 1) old.pairs, some, keeps.half))
 
 module _ {K V H : Type 0} (eq : K → K → Bool) (old new : State K V ℕ H) where
-  -- a map that keeps to its length goes on to do so
   pub keeps_on : {hash_of : H → K → ℕ} → KeepsToLength old → IsSized new
       → Step length_rules length_offers eq hash_of old new → KeepsToLength new
   keeps_on {hash_of} keeps sized step =
@@ -204,7 +192,6 @@ module _ {K V H : Type 0} (eq : K → K → Bool) (old new : State K V ℕ H) wh
         sized = sized;
       }
 
--- and so does one into which a value is written
 pub keeps_written : {K V H : Type 0} (names : K → Bool) (value : V) (old : State K V ℕ H) → KeepsToLength old
     → KeepsToLength (written names value old)
 keeps_written names value old keeps = record {
@@ -215,7 +202,6 @@ keeps_written names value old keeps = record {
   sized = written_sized old names value keeps.sized;
 }
 
--- after a list of inserts
 module _ {K V H : Type 0} (eq : K → K → Bool) (old : State K V ℕ H) (keeps : KeepsToLength old) where
   pub record LeavesNewestOf (inserted : List (K × V)) (new : State K V ℕ H) : Type 0 where
     pub keeps_on : KeepsToLength new

@@ -57,7 +57,6 @@ module _ {K V S H I : Type 0} (rules : Rules K V S) (offers : Offers K V S I) (n
   abbrev EndsSo : Type 0
   EndsSo = LosesNothing rules offers names i v old result passed new
 
-  -- a pair that the limiter returned is the last that is passed on
   turned : lookup_entry (names i) old.pairs ≡ None → (s : S) (pair : K × V)
       → MayGive rules offers names i v (contents old) s (Some pair) → (result ≡ Ok true → ⊥)
       → (mid : State K V (S × List (K × V)) H) → all_of (contents mid) ≡ old.pairs
@@ -66,7 +65,6 @@ module _ {K V S H I : Type 0} (rules : Rules K V S) (offers : Offers K V S I) (n
       (ap (λ st. st.limiter.1) e ∙ noted_same rules leaves mid.limiter.1 mid.limiter.0 pair)
       (ap (λ st. st.pairs ++ reverse mid.limiter.1) e ∙ same)
 
-  -- what the insert leaves, for each outcome of the insertion into the table
   settles : lookup_entry (names i) old.pairs ≡ None → (s : S) (pair : K × V)
       → MayGive rules offers names i v (contents old) s (Some pair)
       → (outcome : Outcome) (ready mid landed : State K V (S × List (K × V)) H) → all_of (contents mid) ≡ old.pairs

@@ -60,7 +60,6 @@ module _ {K V S H : Type 0} (rules : Rules K V S) (hash_of : H → K → ℕ) (p
       ap (λ st. length st.pairs) gone.is ∙ length-pops rules n (contents mid)
       ∙ ap (λ st. length st.pairs - n) (known_is rules old mid c)
 
-  -- growth is refused, n of the oldest are evicted, and the pair is stored with the others
   eviction_keeps_half : HasPairsButNoGrowth old → full_capacity (buckets old) / 2 < length old.pairs + 1
       → (mid : State K V S H)
       → CannotGrow rules old mid → (n : ℕ) → (buckets old ≤ 16 → n ≡ 1)

@@ -81,7 +81,6 @@ module _ {K V S H I : Type 0} (rules : Rules K V S) (offers : Offers K V S I) (n
 
 module _ {K V S H I : Type 0} (rules : Rules K V S) (offers : Offers K V S I) (names : I → K → Bool) (i : I) (v : V)
     (pair : K × V) (old : State K V S H) (result : Result Bool AllocError) (new : State K V S H) where
-  -- the limiter together with a list accepts it too, so the list stays
   pub passes_nothing : {hash_of : H → K → ℕ} (passed : List (K × V))
       → AcceptsNew rules offers names i v (contents old) pair
       → lookup_entry (names i) old.pairs ≡ None → 0 < growth_left old

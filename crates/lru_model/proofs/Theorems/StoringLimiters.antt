@@ -15,7 +15,6 @@ use Rattle.lru_model.specs.Theorems.{Stores, left, given, KeepsValues}
 use Rattle.lru_model.specs.Kept.{ChangesNoPair, AcceptsNew, stored_key}
 use Rattle.lru_model.proofs.Theorems.Fronts.{found_named}
 
--- a limiter that ignores its notifications changes no pair, nor do `ByWeight` and `ByCost`
 pub plain-changes_none : {K V S : Type 0} (over grants : S → ℕ → Bool) → ChangesNoPair
     (plain {K = K} {V = V} over grants)
 plain-changes_none over grants = record { key = λ s k v. refl; value = λ s k v. refl }
@@ -27,7 +26,6 @@ pub by_cost-changes_none : {K V : Type 0} (cost : V → ℕ) → ChangesNoPair (
 by_cost-changes_none cost = by_weight-changes_none (λ k v. cost v)
 
 module _ {K V S : Type 0} (terms : Terms K V S) where
-  -- a limiter that stores pairs as they come keeps their values, leaves nothing open, and does not run out of memory
   pub offers_of-keeps : KeepsValues (offers_of terms)
   offers_of-keeps = record {
     given = λ s n i v t k w h. ap (λ p. p.1) (given-is (terms.accepts s n i v) (terms.admit s n i v) i v t (k, w) h);
@@ -37,7 +35,6 @@ module _ {K V S : Type 0} (terms : Terms K V S) where
   pub offers_of-determined : IsDetermined (offers_of terms)
   offers_of-determined = λ s n i v t u given other h k. (h.limiter ∙ sym k.limiter, h.pair ∙ sym k.pair)
 
-  -- it accepts a pair, if the terms do, and it is not over with one more then
   pub offers_of-accepts : (rules : Rules K V S) (eq : K → K → Bool) (key : K) (value : V) (c : Contents K V S)
       → terms.accepts c.limiter (length c.pairs) key value ≡ true
       → rules.is_over_the_limit (terms.admit c.limiter (length c.pairs) key value) (length c.pairs + 1) ≡ false
@@ -50,7 +47,6 @@ module _ {K V S : Type 0} (terms : Terms K V S) where
     );
   }
 
--- a key that equals no other key is stored as it came
 pub stored_key-same : {K V : Type 0} (names : K → Bool) (key : K) (pairs : List (K × V))
     → ((k : K) → names k ≡ true → key ≡ k) → stored_key names key pairs ≡ key
 stored_key-same {K} {V} names key pairs one = go (lookup_entry names pairs) refl
@@ -59,7 +55,6 @@ stored_key-same {K} {V} names key pairs one = go (lookup_entry names pairs) refl
     go None e = refl
     go (Some was) e = sym (one was.0 (found_named names pairs was e))
 
--- and a limiter that stores pairs as they come stores it with its value
 pub stored-came : {K V S H : Type 0} (rules : Rules K V S) (terms : Terms K V S) (eq : K → K → Bool) (key : K)
     (value : V) (old : State K V S H) (pair : K × V) → ((k : K) → eq key k ≡ true → key ≡ k)
     → Stores rules (offers_of terms) eq key value old pair → pair ≡ (key, value)

@@ -1,5 +1,3 @@
-//! What is proved of each call, and of calls one after another, with `ByBytes`.
-
 ghost use Rattle.std.specs.Prelude.{◌≡◌, ℕ, ◌+◌, ◌≤◌, Bool, true, Result};
 ghost use Rattle.lru_limits.specs.Bytes.{both_own};
 ghost use Rattle.lru_model.specs.Bytes.{CountsBytes, KeepsBytes, TakesAtMost};
@@ -47,8 +45,8 @@ pub fn calls_keep_the_bytes<
         KeepsBytes (both_own K.owned V.owned) new }
 {}
 
-/// With `ByBytes` any calls, and any writes of values that own what the values before them owned, leave the table and
-/// what the entries own within the limit, together, and leave the limit as it is.
+/// What `calls_keep_the_bytes` says of each call (`kept`, `limit`) holds of any calls, and any writes of values that
+/// own what the values before them owned.
 pub fn runs_keep_the_bytes<
     K: OwnedBytes + Eq + Hash + Drop,
     V: OwnedBytes + Drop,

@@ -1,5 +1,3 @@
-//! What is proved of runs, which are calls one after another.
-
 ghost use Rattle.std.specs.Prelude.{◌≡◌, ℕ, ◌≤◌, Bool, length};
 ghost use Rattle.lru_limits.specs.Admissions.{offers_of};
 ghost use Rattle.lru_limits.specs.Laws.{IsAccount};
@@ -74,8 +72,7 @@ pub fn each_insert_of_a_run_evicts_the_oldest<
         EachStep (InsertEvictsOldest L.rules L.offers I.names S.hash_of) run }
 {}
 
-/// With a limiter that limits the length to `most` entries, as `calls_keep_the_length` demands, there are at most `most`
-/// entries after any calls and writes of values, if there were no more before. The limit stays as it is.
+/// What `calls_keep_the_length` says of each call holds of any calls and writes of values.
 pub fn runs_keep_the_length<K: Eq + Hash, V, L: Insertion<K, V, K>, S: KeyHasher<K>>()
     ensures limit { (most : L → ℕ) → LimitsLength L.rules L.offers most → (old new : State K V L S) →
         Run (StepOrWrite L.rules L.offers K.eq S.hash_of) new old → most new.limiter ≡ most old.limiter }
@@ -84,8 +81,7 @@ pub fn runs_keep_the_length<K: Eq + Hash, V, L: Insertion<K, V, K>, S: KeyHasher
         length old.pairs ≤ most old.limiter → length new.pairs ≤ most old.limiter }
 {}
 
-/// With a limiter that permits tables of at most `most` bytes, as `calls_keep_the_memory_usage` demands, the table uses
-/// at most `most` bytes after any calls and writes of values, if it used no more before. The limit stays as it is.
+/// What `calls_keep_the_memory_usage` says of each call holds of any calls and writes of values.
 pub fn runs_keep_the_memory_usage<K: Eq + Hash, V, L: Insertion<K, V, K>, S: KeyHasher<K>>()
     ensures limit { (most : L → ℕ) → LimitsMemory L.rules L.offers most → (old new : State K V L S) →
         Run (StepOrWrite L.rules L.offers K.eq S.hash_of) new old → most new.limiter ≡ most old.limiter }
@@ -94,9 +90,8 @@ pub fn runs_keep_the_memory_usage<K: Eq + Hash, V, L: Insertion<K, V, K>, S: Key
         UsesAtMost (most old.limiter) old → UsesAtMost (most old.limiter) new }
 {}
 
-/// With any limiter that has a budget the running total is at most the budget after any calls, and any writes of values
-/// that cost what the values before them cost, if that held before and the total was the sum of the costs of the
-/// entries. The budget stays as it is, whatever is written.
+/// What `calls_keep_the_budget` says of each call holds of any calls, and any writes of values that cost what the
+/// values before them cost. The budget stays as it is, whatever is written.
 pub fn runs_keep_the_budget<K: Eq + Hash, V, L: Budgeted<K, V>, S: KeyHasher<K>>()
     ensures total { (old new : State K V L S) →
         Run (StepOrKeptWrite L.rules (offers_of L.terms) K.eq S.hash_of L.cost_of) new old →

@@ -1,4 +1,3 @@
-//! Getting a value, which is put if its key is not there.
 ghost use Rattle.std.specs.Prelude.{◌≡◌, None, Some, Ok, Err, IfSome};
 ghost use Rattle.std.specs.Borrow.{sem};
 ghost use Rattle.lru_limits.specs.Admissions.{offers_of};

@@ -35,9 +35,11 @@ impl<
     /// assert_eq!(rt; left, 7);
     /// ```
     ///
-    /// Cost: as `put`, with one call of the callback for each entry that it gets.
+    /// Cost: as `put`, and the calls of the callback.
     ///
     /// # Errors
+    ///
+    /// As `put`.
     pub fn put_with<F: FnMut(K, V)>(
         &mut self,
         name: &N,
@@ -60,17 +62,12 @@ impl<
         put_answer(insert(own, key, value, sink))
     }
 
-    /// As `put_with`, and returns the value that the tenant does not keep, as `LruMap::insert_full` does, but also the
-    /// rejected value of a new key.
+    /// As `put_with`, and returns the value that the tenant does not keep, as [`Inserted`] says, but also the rejected
+    /// value of a new key: then `kept` is false, the tenant stays as it is, the callback gets nothing, and the key is
+    /// dropped.
     ///
-    /// - The key was not there, and the limiter rejects its entry: `kept` is false, and `unkept` is the new value. The
-    ///   tenant stays as it is, the callback gets nothing, and the key is dropped.
-    /// - The key was not there, and the limiter accepts its entry: `unkept` is `None`, and `kept` says whether the
-    ///   entry is there.
-    /// - The key was there, and the limiter accepts the new value: `kept` is false if the entry was evicted afterwards;
-    ///   the callback got it with the new value.
-    /// - The key was there, and the limiter rejects the new value: `kept` is false, and `unkept` is the new value. The
-    ///   entry was removed; the callback got it with the old value.
+    /// If the entry of a key that was there is not kept, the callback got it: with the new value if it was evicted,
+    /// with the old value if the limiter rejected the new one.
     ///
     /// ```
     /// let replaced = cache.put_full(&1, 7, 3, &mut |_, _| {})?;
@@ -120,9 +117,11 @@ impl<
     /// assert_eq!(rt; evicted, 7);
     /// ```
     ///
-    /// Cost: as `set_budget`, with one call of the callback for each evicted entry.
+    /// Cost: as `set_budget`, and the calls of the callback.
     ///
     /// # Errors
+    ///
+    /// As `set_budget`.
     pub fn set_budget_with<F: FnMut(K, V)>(
         &mut self,
         name: &N,

@@ -50,7 +50,6 @@ module _ {K V N : Type 0} (slots : List (Slot (Entry K V N))) (b : ℕ) (entry :
       }
 
   module _ (number : N → ℕ) (at to : N) (is : b ≡ number at) where
-    -- a write of the link of one kind
     set_link : (kind other : Entry K V N → N) (next : Entry K V N)
         → pair_slots (set slots b (refilled (bucket_at slots b) next)) ≡ pair_slots slots
         → kind next ≡ to → other next ≡ other entry

@@ -26,7 +26,6 @@ below_next : (b old : ℕ) → b < old + 1 → b ≢ old → b < old
 below_next b old p other = elim (dec_lt b old) [ yes q ↦ q | no q ↦ absurd (other (omega arith)) ]
 
 module _ {N : Type 0} (number : N → ℕ) (none : N) {K V : Type 0} where
-  -- a write of both links of an entry
   pub MovesLinks-written : (links : List N) (slots : List (Slot (Entry K V N))) (b : ℕ) (entry : Entry K V N)
       → entry_at slots b ≡ Some entry → (newer older : N)
       → newer ≡ moved_link number none links entry.newer → older ≡ moved_link number none links entry.older

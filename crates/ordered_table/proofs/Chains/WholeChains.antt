@@ -41,7 +41,6 @@ module _ {N : Type 0} {number : N → ℕ} {link : ℕ → N} {none : N}
   one_along n slots from older (Some entry) e = ap (λ l. number from ∷ along number n slots l)
       (same_Some entry.older older e)
 
-  -- the links lead along the order
   along-chain : (slots : List (Slot (Entry K V N))) → length slots < number none → (n : ℕ) (order : List ℕ)
       → AllPairs ◌≢◌ order
       → ((x : ℕ) → Contains order x → x < number none)
@@ -77,7 +76,6 @@ module _ {N : Type 0} {number : N → ℕ} {link : ℕ → N} {none : N}
   IsWhole-shown {slots} {newest} {oldest} whole = subst (IsWhole number link none slots newest oldest)
       (sym (whole_order whole)) whole
 
-  -- a whole table is linked
   pub IsLinked-view : {insertions : Insertions} {slots : List (Slot (Entry K V N))} {newest oldest : N} {order : List ℕ}
       → IsWhole number link none slots newest oldest order
       → IsTable (marks_of slots)
@@ -90,7 +88,6 @@ module _ {N : Type 0} {number : N → ℕ} {link : ℕ → N} {none : N}
     count = entry_count-pair_slots slots ∙ whole.count;
   }
 
-  -- a chain stays if its entries stay
   pub IsChain-kept : (old new : List (Slot (Entry K V N))) (newest oldest : N) (order : List ℕ) → length new
       ≡ length old
       → ((b : ℕ) → Contains order b → bucket_at new b ≡ bucket_at old b)

@@ -1,4 +1,3 @@
-//! A copy of the table with its order.
 ghost use Rattle.std.specs.Prelude.{◌≡◌, ℕ, List, length, IfOk, IsOk};
 ghost use Rattle.std.specs.List.{AllZip};
 ghost use Rattle.group_table.specs.Bucket.{marks_of};
@@ -13,11 +12,6 @@ use group_table::LinkType;
 use std::alloc::AllocError;
 
 impl<K: Drop, V: Drop, N: LinkType> LinkedTable<K, V, N> {
-    // Cost: `O(buckets)`, and a clone of each key and value.
-    //
-    // # Errors
-    //
-    // Out of memory; never for no buckets.
     pub(crate) fn copy(&self) -> Result<Self, AllocError>
     where
         K: Clone,

@@ -17,11 +17,6 @@ use std::alloc::AllocError;
 use std::hash::{BuildHasher, Hash};
 
 impl<K: Eq + Hash, V, N: LinkType> LinkedTable<K, V, N> {
-    // `O(buckets)` of both tables, and a hash for each pair.
-    //
-    // # Errors
-    //
-    // Nothing has changed.
     pub(crate) fn move_to<S: KeyHasher<K>>(
         &mut self,
         buckets: usize,

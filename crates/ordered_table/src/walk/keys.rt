@@ -162,7 +162,7 @@ impl<'a, K, V, N: LinkType> Clone for Values<'a, K, V, N> {
 impl<K, V, N: LinkType> OrderedTable<K, V, N> {
     /// Returns an iterator over the keys, newest first.
     ///
-    /// Cost: `O(1)`, and so is each step of the walk from either end.
+    /// Cost: as `iter`.
     pub fn keys(&self) -> Keys<'_, K, V, N>
         ensures rest { result ≡ keys_of (pairs_of self.now) }
         ensures runs { ShowsInOrder (deref {X = K}) }
@@ -172,7 +172,7 @@ impl<K, V, N: LinkType> OrderedTable<K, V, N> {
 
     /// Returns an iterator over the values, newest first.
     ///
-    /// Cost: `O(1)`, and so is each step of the walk from either end.
+    /// Cost: as `iter`.
     pub fn values(&self) -> Values<'_, K, V, N>
         ensures rest { result ≡ values_of (pairs_of self.now) }
         ensures runs { ShowsInOrder (deref {X = V}) }

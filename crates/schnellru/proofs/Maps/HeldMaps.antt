@@ -79,7 +79,6 @@ module _ {K V S H : Type 0} (fields : Fields S H) where
       (subst (λ n. (bytes : ℕ) × (usage fields.entry_bytes n ≡ Some bytes)) e sized.usable) sized.moved placed
       sized.shrunk
 
-  -- what holds of a map holds after some pairs left
   pub leaves_holds : (eq : K → K → Bool) (hash_of : H → K → ℕ) (t u : OrderedTable K V) (left : Contents K V S) (l : S)
       → Holds eq hash_of t fields → IsLinked u → KeysFit (hash_of fields.hasher) u.slots → length u.slots
       ≡ length t.slots
@@ -127,7 +126,6 @@ module _ {K V S H : Type 0} (eq : K → K → Bool) (hash_of : H → K → ℕ) 
         };
       }
 
--- what holds of a map holds after its pairs were written or reordered in their buckets, with distinct keys that fit
 pub alike_holds : {K V S H : Type 0} (fields : Fields S H) (eq : K → K → Bool) (hash_of : H → K → ℕ)
     (t u : OrderedTable K V) → u.insertions ≡ t.insertions
     → Holds eq hash_of t fields → IsLinked u → KeysFit (hash_of fields.hasher) u.slots

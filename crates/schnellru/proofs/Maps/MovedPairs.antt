@@ -35,7 +35,6 @@ module _ {K V S H : Type 0} (t u : OrderedTable K V) (count : ℕ) (linked : IsL
     };
   }
 
-  -- if the table is at most half full then, what holds of every map holds
   pub moves_holds : (eq : K → K → Bool) (hash_of : H → K → ℕ) → Holds eq hash_of t fields
       → KeysFit (hash_of fields.hasher) u.slots → count < fields.max
       → ((bytes : ℕ) × (usage fields.entry_bytes count ≡ Some bytes)) → 2 * length (pairs_of t) ≤ full_capacity count

@@ -87,7 +87,6 @@ make_room-empty {K} {V} {S} rules c none = go c.pairs none (rules.is_over_the_li
     go [] e false = refl
     go (p ∷ ps) e over = absurd (false≢true e)
 
--- the pair that was not placed goes to the list
 pub noted_unstored : {K V S H : Type 0} (rules : Rules K V S) (before : List (K × V)) (old new : State K V S H)
     (pair left : K × V) (s : S) → new ≡ record old { limiter = s } → s ≡ notified_of rules (Some pair) old.limiter →
     Some left ≡ left_of rules old.limiter (Some pair) →

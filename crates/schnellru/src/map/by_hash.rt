@@ -13,8 +13,7 @@ use std::hash::Hash;
 impl<K: Eq + Hash, V, L: Limiter<K, V>, S: KeyHasher<K>> LruMap<K, V, L, S> {
     ghost use Rattle.schnellru.specs.Lending.Values.{lends_given};
 
-    /// Lends the value of an entry that `is_eq` accepts, for writing, and makes the entry the newest. The limiter is
-    /// not notified of what is written.
+    /// Lends the value of an entry that `is_eq` accepts, for writing, and makes the entry the newest.
     ///
     /// `is_eq` gets only entries whose hashes agree with `hash` in the top 7 bits: each at most once, and none after it
     /// accepted one, which is only tested. It may accept an entry of another hash: let it compare keys. `None` says
@@ -67,8 +66,8 @@ impl<K: Eq + Hash, V, L: Limiter<K, V>, S: KeyHasher<K>> LruMap<K, V, L, S> {
         Some(&self.pair_in(b).value)
     }
 
-    /// Lends the value of an entry that `is_eq` accepts, for writing. The order stays. The limiter is not notified of
-    /// what is written. `is_eq` is called as by `get_by_hash`.
+    /// Lends the value of an entry that `is_eq` accepts, for writing. The order stays. `is_eq` is called as by
+    /// `get_by_hash`.
     ///
     /// ```
     /// let hash = RandomState::default().hash_one(&1u64);

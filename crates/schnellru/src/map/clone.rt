@@ -1,4 +1,3 @@
-//! A copy of a map.
 ghost use Rattle.std.specs.Prelude.{◌≡◌, IfOk, IsOk, IsTrue};
 ghost use Rattle.lru_model.specs.Clones.{IsClone};
 ghost use Rattle.lru_model.specs.State.{buckets};

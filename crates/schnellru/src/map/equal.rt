@@ -1,5 +1,3 @@
-//! Equal maps.
-
 use crate::map::LruMap;
 use lru_limits::{KeyHasher, Limiter};
 use std::hash::Hash;

@@ -1,4 +1,3 @@
-//! Inserting many entries.
 ghost use Rattle.std.specs.Prelude.{MatchResult, List, Some};
 ghost use Rattle.std.specs.Iterator.{IsFiniteIterable, Drains, YieldsThen};
 ghost use Rattle.lru_model.specs.Extends.{InsertsAll, FailsAt};

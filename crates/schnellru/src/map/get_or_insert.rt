@@ -1,4 +1,3 @@
-//! Getting a value, which is inserted if its key is not there.
 ghost use Rattle.std.specs.Prelude.{◌≡◌, ◌<◌, true, length, None, Ok, OnErr, IsErrOf};
 ghost use Rattle.lru_model.specs.Lists.{lookup};
 ghost use Rattle.lru_model.specs.State.{IsMap};
@@ -260,8 +259,7 @@ impl<K: Eq + Hash + Drop, V: Drop, L: Limiter<K, V>, S: KeyHasher<K>> LruMap<K, 
     ///
     /// # Errors
     ///
-    /// `Caller` contains the error of the closure. `Memory`: the closure was called, and the insert failed as `insert`
-    /// does. The oldest entries may have been evicted.
+    /// As `ensure_newest_fallible`.
     ///
     /// After schnellru's `LruMap::get_or_insert_fallible`.
     pub fn get_or_insert_fallible<I: LookupKey<K> + Drop, E, F: FnOnce() -> Result<V, E>>(

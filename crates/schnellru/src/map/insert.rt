@@ -1,4 +1,3 @@
-//! `insert` and its forms.
 ghost use Rattle.std.specs.Prelude.{◌≡◌, true, Some, IfSome, IfOk, Ok, OnErr, List, IsTrue};
 ghost use Rattle.lru_model.specs.Lists.{first, IsFront};
 ghost use Rattle.lru_model.specs.State.{contents, IsMap};
@@ -78,7 +77,7 @@ impl<K: Eq + Hash, V: Drop, L: Limiter<K, V>, S: KeyHasher<K>> LruMap<K, V, L, S
     /// assert_eq!(rt; left, Some((1, 10)));
     /// ```
     ///
-    /// Cost: as `insert`, with one call of the callback for each entry that it gets.
+    /// Cost: as `insert`, and the calls of the callback.
     ///
     /// # Errors
     ///

@@ -1,4 +1,3 @@
-//! An insert that returns the entries that it evicts, removes or cannot store.
 ghost use Rattle.std.specs.Prelude.{◌≡◌, ◌+◌, ◌<◌, ◌++◌, [], ◌∷◌, true, Ok, IfOk, IfSome, OnErr};
 ghost use Rattle.std.specs.Vec.{vec_len, vec_capacity};
 ghost use Rattle.lru_model.specs.Callbacks.{InsertPasses};

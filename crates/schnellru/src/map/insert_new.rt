@@ -1,4 +1,3 @@
-//! Inserting a key that is not there.
 ghost use Rattle.std.specs.Prelude.{◌≡◌, ◌∷◌, None, IsTrue};
 ghost use Rattle.lru_model.specs.Lists.{lookup_entry};
 ghost use Rattle.lru_model.specs.State.{contents, growth_left};

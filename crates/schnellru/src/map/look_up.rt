@@ -1,4 +1,3 @@
-//! Looking up a key.
 ghost use Rattle.std.specs.Prelude.{◌≡◌, ◌<◌, length, option_map, is_some, Some};
 ghost use Rattle.std.specs.Option.{option_copied, option_copied_mut};
 ghost use Rattle.std.specs.Borrow.{sem};
@@ -95,8 +94,6 @@ impl<K: Eq + Hash, V, L: Limiter<K, V>, S: KeyHasher<K>> LruMap<K, V, L, S> {
 
     /// Makes the entry of a key the oldest, and returns whether the key is there.
     ///
-    /// The oldest entry is the next one to be evicted.
-    ///
     /// ```
     /// assert!(rt; map.demote(&3) && !map.demote(&9));
     /// assert!(rt; map.peek_oldest() == Some((&3, &30)));
@@ -119,7 +116,7 @@ impl<K: Eq + Hash, V, L: Limiter<K, V>, S: KeyHasher<K>> LruMap<K, V, L, S> {
         }
     }
 
-    /// Lends the value of the newest entry for writing. The limiter is not notified of what is written.
+    /// Lends the value of the newest entry for writing.
     ///
     /// `None` says that the map is empty. After `ensure_newest` returned true, it is the value of that key. Cost:
     /// `O(1)`.
@@ -207,7 +204,7 @@ impl<K: Eq + Hash, V, L: Limiter<K, V>, S: KeyHasher<K>> LruMap<K, V, L, S> {
         Some((&pair.key, &pair.value))
     }
 
-    /// Lends the value of a key for writing. The order stays. The limiter is not notified of what is written.
+    /// Lends the value of a key for writing. The order stays.
     ///
     /// ```
     /// if let Some(value) = map.peek_mut(&1) {

@@ -1,4 +1,3 @@
-//! Removing the oldest entry if a closure agrees.
 ghost use Rattle.std.specs.Prelude.{◌≡◌, Some, IfSome, IfOk};
 ghost use Rattle.std.specs.Borrow.{Bor};
 ghost use Rattle.lru_model.specs.Lists.{last};

@@ -1,4 +1,3 @@
-//! Offering the limiter a new value for a key that is there.
 ghost use Rattle.std.specs.Prelude.{◌≡◌, ℕ, true, false, length, Some, Contains, IsTrue};
 ghost use Rattle.group_table.specs.Bucket.{entry_at};
 ghost use Rattle.ordered_table.specs.OrderedTable.{IsLinked, KeysFit};

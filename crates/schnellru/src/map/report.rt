@@ -1,4 +1,3 @@
-//! How many entries inserts moved and stored, and how many shrinks rehashed.
 ghost use Rattle.std.specs.Prelude.{◌≡◌, ◌+◌, ◌*◌, ◌≤◌};
 
 use crate::map::LruMap;

@@ -1,4 +1,3 @@
-//! Growth ahead of inserts.
 ghost use Rattle.std.specs.Prelude.{◌≡◌, ◌+◌, ◌/◌, ◌<◌, ◌≤◌, length, OnOk};
 ghost use Rattle.group_table.specs.Sizes.{full_capacity};
 ghost use Rattle.lru_model.specs.State.{buckets, growth_left, IsMap};

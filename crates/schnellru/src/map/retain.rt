@@ -1,4 +1,3 @@
-//! Removing the entries that a closure rejects.
 ghost use Rattle.std.specs.Prelude.{◌≡◌, ◌++◌, ◌∷◌, length, slice_get, Some, List};
 ghost use Rattle.lru_model.specs.ByHash.{Asks};
 ghost use Rattle.lru_model.specs.Callbacks.{CalledWith};
@@ -44,7 +43,7 @@ impl<K: Eq + Hash, V, L: Limiter<K, V>, S: KeyHasher<K>> LruMap<K, V, L, S> {
     /// assert_eq!(rt; removed, 2);
     /// ```
     ///
-    /// Cost: as `retain`, with one call of the callback for each removed entry.
+    /// Cost: as `retain`, and the calls of the callback.
     pub fn retain_with<F: FnMut(&K, &V) -> bool, G: FnMut(K, V)>(
         &mut self,
         mut keep: F,

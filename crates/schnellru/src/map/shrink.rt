@@ -1,4 +1,3 @@
-//! A table of as few buckets as hold the pairs.
 ghost use Rattle.lru_model.specs.State.{IsMap};
 ghost use Rattle.lru_model.specs.Shrinks.{Shrink};
 

@@ -1,4 +1,3 @@
-//! Bringing a map within its limit without an insert.
 ghost use Rattle.std.specs.Prelude.{◌≡◌, List};
 ghost use Rattle.lru_model.specs.State.{IsMap, IsWithin, Trims, contents};
 ghost use Rattle.lru_model.specs.Callbacks.{CalledWith, TrimPasses};
@@ -65,7 +64,7 @@ impl<K: Eq + Hash, V, L: Limiter<K, V>, S: KeyHasher<K>> LruMap<K, V, L, S> {
     /// assert_eq!(rt; evicted, 3);
     /// ```
     ///
-    /// Cost: as `trim`, with one call of the callback for each evicted entry.
+    /// Cost: as `trim`, and the calls of the callback.
     pub fn trim_with<F: FnMut(K, V)>(&mut self, sink: &mut F)
         requires callable { MayTakeEach L.rules F.FnMut self.old.pairs sink.old }
         ensures step { Trims L.rules self.old self.new }
@@ -89,7 +88,7 @@ impl<K: Eq + Hash, V, L: Limiter<K, V>, S: KeyHasher<K>> LruMap<K, V, L, S> {
     /// assert_eq!(rt; evicted, 3);
     /// ```
     ///
-    /// Cost: as `set_limiter`, with one call of the callback for each evicted entry.
+    /// Cost: as `set_limiter`, and the calls of the callback.
     pub fn set_limiter_with<F: FnMut(K, V)>(&mut self, limiter: L, sink: &mut F) -> L
         requires callable { MayTakeEach L.rules F.FnMut self.old.pairs sink.old }
         ensures limiter { result ≡ self.old.limiter }

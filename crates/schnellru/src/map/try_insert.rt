@@ -1,4 +1,3 @@
-//! Inserting a new entry only if nothing has to be evicted for it.
 ghost use Rattle.std.specs.Prelude.{◌≡◌, ◌∷◌, ◌<◌, true, false, None, Ok, OnOk, OnErr, IfErr, IsTrue, length};
 ghost use Rattle.lru_limits.specs.Admissions.{offers_of};
 ghost use Rattle.lru_model.specs.Lists.{lookup_entry};

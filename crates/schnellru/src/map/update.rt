@@ -1,4 +1,3 @@
-//! Replacing a value, with the entry in its place.
 ghost use Rattle.std.specs.Prelude.{List};
 ghost use Rattle.lru_model.specs.Callbacks.{noting, noting_offers, noted, CalledWith};
 ghost use Rattle.schnellru.specs.Inside.Passing.{Passes};
@@ -47,7 +46,7 @@ impl<K: Eq + Hash, V, L: Limiter<K, V>, S: KeyHasher<K>> LruMap<K, V, L, S> {
     /// assert!(rt; left.is_none() && map.peek(&2) == Some(&21));
     /// ```
     ///
-    /// Cost: as `update`, with one call of the callback for each entry that it gets.
+    /// Cost: as `update`, and the calls of the callback.
     pub fn update_with<I: LookupKey<K> + Drop, F: FnMut(K, V)>(
         &mut self,
         key: I,

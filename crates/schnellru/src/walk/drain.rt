@@ -1,4 +1,3 @@
-//! Draining a map: a walk that takes the entries out.
 ghost use Rattle.std.specs.Prelude.{◌≡◌, length, Some, IfSome};
 ghost use Rattle.std.specs.Iterator.{UpTo};
 ghost use Rattle.std.specs.Iterator.SizeHint.{IsWithinCount};
@@ -97,7 +96,7 @@ impl<K: Eq + Hash, V, L: Limiter<K, V>, S: KeyHasher<K>> LruMap<K, V, L, S> {
     /// assert!(rt; map.is_empty());
     /// ```
     ///
-    /// Cost:
+    /// Cost: `O(1)`, and `O(1)` for each entry that is taken.
     ///
     /// After schnellru's `LruMap::drain`.
     pub fn drain(&mut self) -> Drain<'_, K, V, L, S>

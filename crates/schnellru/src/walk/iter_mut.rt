@@ -1,4 +1,3 @@
-//! An iterator that lends each value for writing.
 ghost use Rattle.std.specs.Prelude.{◌≡◌, ◌≤◌, length, slice_get, Some};
 ghost use Rattle.lru_model.specs.Lists.{last_of, set_value_at};
 ghost use Rattle.lru_model.specs.State.{IsMap};
@@ -155,8 +154,7 @@ impl<'a, K: Eq + Hash, V, L: Limiter<K, V>, S: KeyHasher<K>> IterMut<'a, K, V, L
 impl<K: Eq + Hash, V, L: Limiter<K, V>, S: KeyHasher<K>> LruMap<K, V, L, S> {
     ghost use Rattle.schnellru.specs.Walks.{walk_map, walk_lender, walk_start, walk_end};
 
-    /// Returns an iterator over the entries, newest first, that lends each value for writing. The order stays. The
-    /// limiter is not notified of what is written.
+    /// Returns an iterator over the entries, newest first, that lends each value for writing. The order stays.
     ///
     /// It is no `Iterator`, so no `for` loop walks it: write `while let Some((key, value)) = walk.next()`, or call
     /// `for_each_mut`.
@@ -192,8 +190,7 @@ impl<K: Eq + Hash, V, L: Limiter<K, V>, S: KeyHasher<K>> LruMap<K, V, L, S> {
         }
     }
 
-    /// Lends the closure each value for writing, with its key, newest first. The order stays. The limiter is not
-    /// notified of what is written.
+    /// Lends the closure each value for writing, with its key, newest first. The order stays.
     ///
     /// ```
     /// map.for_each_mut(|_, value| *value = value.saturating_add(1));

@@ -1,4 +1,3 @@
--- `allocate` takes a block of bare places, and keeps the right to give it back.
 use Rattle.std.proofs.Common.{◌≡◌, ℕ, ◌*◌, ◌^◌, ◌<◌, List, [], ◌∷◌, length, replicate, refl, sym, subst, ap, arith}
 use Rattle.std.proofs.Common.{lit<, w64}
 use Rattle.std.proofs.lemmas.List.{length-replicate}

@@ -1,4 +1,3 @@
--- `deallocate` makes a block of its bare places, and gives it back with the allocator's token.
 use Rattle.std.proofs.Common.{◌≡◌, ℕ, ◌*◌, ◌^◌, ◌<◌, T, List, [], ◌∷◌, replicate, refl, sym, subst, ap, ◌∙◌, arith, w64}
 use Rattle.std.proofs.lemmas.List.{length-replicate}
 use Rattle.std.specs.Prelude.{Option, None}

@@ -112,8 +112,6 @@ fn put_within_both(
     map.insert(key, value)
 }
 
-/// Removes a key and inserts another one. The limiter still holds the sum of the bytes of the texts, and they are
-/// within its limit.
 fn exchange(
     map: &mut LruMap<String, String, ByCost>,
     old: &str,
@@ -139,15 +137,12 @@ fn put_two(map: &mut LruMap<String, u64>, first: String, second: String, value: 
     Ok(())
 }
 
-/// Puts a pair into a map. If its table grows, it can hold fewer than four times the entries.
 fn put_tightly(map: &mut LruMap<String, u64>, key: String, value: u64) -> Result<bool, AllocError> {
     laws::inserts_grow_little::<String, u64, String, ByLength, RandomState>();
     let _len = map.len();
     map.insert(key, value)
 }
 
-/// Puts a pair of a new key into a map. If it is there afterwards, the map kept all others, or it has at least half of
-/// what the table may hold.
 fn put_and_keep_half(
     map: &mut LruMap<String, u64, ByMemoryUsage>,
     key: String,
@@ -171,16 +166,12 @@ fn forget(map: &mut LruMap<String, u64>, key: &str) -> Option<u64> {
     map.remove(&key)
 }
 
-/// Shrinks the table. A table of at most n bytes has at most n bytes afterwards, whatever the result is. If the result
-/// is true, all entries are counted as rehashed.
 fn shrink_within(map: &mut LruMap<String, u64>) -> Result<bool, AllocError> {
     laws::shrinks_pay_for_moves::<String, u64, ByLength, RandomState>();
     laws::shrinks_leave_a_tight_table::<String, u64, ByLength, RandomState>();
     map.shrink_to_fit()
 }
 
-/// Shrinks the table, and then reserves growth for n entries. Returns whether there is growth for them. The entries, their
-/// order and the count of stored entries stay.
 fn resize(map: &mut LruMap<String, u64>, n: usize) -> bool {
     laws::shrinks_keep_the_list::<String, u64, ByLength, RandomState>();
     laws::reservations_keep_the_list::<String, u64, ByLength, RandomState>();
@@ -198,9 +189,6 @@ fn usage_again(map: &LruMap<String, u64>, entry_bytes: usize) -> usize {
     let bytes = map.memory_usage();
     LruMap::<String, u64>::memory_usage_for_memory_budget(bytes, entry_bytes)
 }
-
-/// Inserts an entry, and passes what leaves to the callback. If the insert returns true, nothing is lost: the entries
-/// of the map, and then those that were passed, oldest last, are the new entry and the others in their order.
 
 fn put_and_show<F: FnMut(u64, u64)>(
     map: &mut LruMap<u64, u64>,
@@ -233,7 +221,6 @@ fn map_of_length(alloc: Global, most: u32) -> LruMap<u64, u64> {
     LruMap::new(alloc, ByLength::new(most), [1, 2, 3, 4], 24)
 }
 
-/// The map then has the newest pairs, up to its maximum length.
 fn put_newest(map: &mut LruMap<u64, u64>, key: u64, value: u64) -> Result<bool, AllocError> {
     laws::inserts_leave_the_newest::<u64, u64, RandomState>();
     laws::maps_keep_to_their_length::<u64, u64, RandomState>();

@@ -20,8 +20,6 @@ fn put_exactly<K: Eq + Hash, V, L: Insertion<K, V, K>, S: KeyHasher<K>>(
     map.insert(key, value)
 }
 
-/// Puts a pair into two maps with the same entries. Both inserts return the same, and leave the same entries, wherever
-/// each table has them, if there are tables for one entry more.
 fn put_into_both(
     one: &mut LruMap<u64, u64>,
     other: &mut LruMap<u64, u64>,

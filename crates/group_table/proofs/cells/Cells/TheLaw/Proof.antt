@@ -1,4 +1,3 @@
--- A `&` to the owner of places reaches each entry.
 use mathlib.Core.List.{[], ◌++◌}
 use base.Fml.{Incl-trans}
 use contract.BorrowLft.{meet_⊑_left}

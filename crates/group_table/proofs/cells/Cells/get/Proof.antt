@@ -1,4 +1,3 @@
--- `get` shows one of the entries that a `&` to the places reaches.
 use Rattle.std.proofs.Common.{◌≡◌, ℕ, ◌+◌, ◌*◌, List, [], ◌∷◌, refl, sym, ◌∙◌, w64}
 use Rattle.std.specs.Prelude.{Option, Some, None, get_or}
 use mir.Syntax.{a_type, named}

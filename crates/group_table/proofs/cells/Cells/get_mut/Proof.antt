@@ -1,4 +1,3 @@
--- `get_mut` lends one of the entries, and the owner of the places follows it.
 use Rattle.std.proofs.Common.{◌≡◌, ℕ, ◌+◌, ◌*◌, List, [], ◌∷◌, refl, sym, ◌∙◌, w64}
 use Rattle.std.specs.Prelude.{Option, Some, None, get_or, slice_set}
 use mir.Syntax.{a_type, named}

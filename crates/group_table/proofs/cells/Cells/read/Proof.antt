@@ -1,4 +1,3 @@
--- `read` takes an entry out, and its place is bare.
 use Rattle.std.proofs.Common.{◌≡◌, ℕ, ◌+◌, ◌*◌, List, [], ◌∷◌, refl, sym, ◌∙◌, w64}
 use Rattle.std.specs.Prelude.{Option, Some, None, get_or, slice_set}
 use mir.Syntax.{a_type, named}

@@ -1,4 +1,3 @@
--- `write` puts an entry into a place that is bare.
 use Rattle.std.proofs.Common.{◌≡◌, ℕ, ◌+◌, ◌*◌, ◌<◌, List, [], ◌∷◌, ◌++◌, length, refl, sym, subst, ◌∙◌, w64}
 use Rattle.std.specs.Prelude.{Option, Some, None, get_or, slice_set}
 use mir.Syntax.{a_type}

@@ -1,4 +1,3 @@
--- A `&` to a deed holds nothing.
 use denote.RattleType.{RattleType}
 use denote.RawPtr.{RawPtr}
 use denote.Param.Laws.{Laws}

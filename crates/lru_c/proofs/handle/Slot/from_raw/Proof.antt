@@ -1,4 +1,3 @@
--- `from_raw` copies the address of a box into a handle.
 use Rattle.std.proofs.Common.{◌≡◌, [], ◌∷◌, refl}
 use Rattle.std.specs.Prelude.{Option, Some}
 use mir.Val.{Val}

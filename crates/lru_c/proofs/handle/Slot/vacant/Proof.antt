@@ -1,4 +1,3 @@
--- `vacant` makes a handle of the null pointer.
 use Rattle.std.proofs.Common.{◌≡◌, [], ◌∷◌, refl}
 use Rattle.std.specs.Prelude.{Option, None}
 use mir.Val.{Val}

@@ -1,4 +1,3 @@
--- `from_box` keeps what `Box::into_raw` gives for a box.
 use Rattle.std.proofs.Common.{◌≡◌, List, [], ◌∷◌, ◌++◌, refl, sym, ap, subst}
 use mir.Syntax.{a_type, dcons, dnil}
 use mir.MapTy.{inst_fn}

@@ -1,4 +1,3 @@
--- `into_box` gives `Box::from_raw` what it demands: the memory at the address, and the right to free it.
 use Rattle.std.proofs.Common.{◌≡◌, T as True, List, [], ◌∷◌, ◌++◌, refl, sym, ap, subst}
 use mir.Syntax.{a_type, dcons, dnil}
 use mir.MapTy.{inst_fn}

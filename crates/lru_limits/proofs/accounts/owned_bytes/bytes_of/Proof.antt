@@ -1,4 +1,3 @@
--- `bytes_of` is the size of the type, held down to a word.
 use Rattle.std.proofs.Common.{◌≡◌, ℕ, ◌^◌, ◌<◌, List, [], ◌∷◌, refl, w64}
 use Rattle.std.specs.Mem.{type_size}
 use mir.Syntax.{a_type}

@@ -1,6 +1,4 @@
 // Erased from crates/group_table/src/table/copies.rt: do not edit.
-//! `clone_with`: a table of the same buckets with its own entries.
-
 #[allow(unused_imports)]
 use crate::rattle_std::prelude::*;
 

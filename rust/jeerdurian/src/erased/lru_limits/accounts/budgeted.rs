@@ -1,6 +1,4 @@
 // Erased from crates/lru_limits/src/accounts/budgeted.rt: do not edit.
-//! Limiters with a running total and a budget that can be changed.
-
 #[allow(unused_imports)]
 use crate::rattle_std::prelude::*;
 

@@ -1,6 +1,4 @@
 // Erased from crates/lru_limits/src/accounts/by_bytes.rt: do not edit.
-//! The limiter by the bytes of the table and of what the entries own.
-
 #[allow(unused_imports)]
 use crate::rattle_std::prelude::*;
 
@@ -47,8 +45,6 @@ impl ByBytes {
     }
 
     /// Returns the same limiter with another limit.
-    ///
-    /// `map.set_limiter(map.limiter().with_limit(n))` sets the limit of a map.
     ///
     /// ```text
     /// assert_eq!(rt; limiter.with_limit(300).limit(), 300);

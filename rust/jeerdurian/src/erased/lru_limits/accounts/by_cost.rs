@@ -1,6 +1,4 @@
 // Erased from crates/lru_limits/src/accounts/by_cost.rt: do not edit.
-//! The limiter by the sum of the costs of the values.
-
 #[allow(unused_imports)]
 use crate::rattle_std::prelude::*;
 

@@ -1,6 +1,4 @@
 // Erased from crates/lru_limits/src/accounts/by_weight.rt: do not edit.
-//! The limiter by the sum of the costs of keys, values and entries.
-
 #[allow(unused_imports)]
 use crate::rattle_std::prelude::*;
 

@@ -1,6 +1,4 @@
 // Erased from crates/lru_limits/src/accounts/owned_bytes.rt: do not edit.
-//! The bytes that a value owns outside of itself.
-
 #[allow(unused_imports)]
 use crate::rattle_std::prelude::*;
 

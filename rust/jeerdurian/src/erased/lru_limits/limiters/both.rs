@@ -1,6 +1,4 @@
 // Erased from crates/lru_limits/src/limiters/both.rt: do not edit.
-//! Two limiters for one map.
-
 #[allow(unused_imports)]
 use crate::rattle_std::prelude::*;
 

@@ -1,6 +1,4 @@
 // Erased from crates/lru_limits/src/limiters/by_length.rt: do not edit.
-//! The limiter by the number of entries.
-
 #[allow(unused_imports)]
 use crate::rattle_std::prelude::*;
 

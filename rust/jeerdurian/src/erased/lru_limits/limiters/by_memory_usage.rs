@@ -1,6 +1,4 @@
 // Erased from crates/lru_limits/src/limiters/by_memory_usage.rt: do not edit.
-//! The limiter by the size of the table.
-
 #[allow(unused_imports)]
 use crate::rattle_std::prelude::*;
 

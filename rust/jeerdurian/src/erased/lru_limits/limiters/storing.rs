@@ -1,6 +1,4 @@
 // Erased from crates/lru_limits/src/limiters/storing.rt: do not edit.
-//! An adapter for limiters that store each entry as it comes.
-
 #[allow(unused_imports)]
 use crate::rattle_std::prelude::*;
 

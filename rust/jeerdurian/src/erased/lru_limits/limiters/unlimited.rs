@@ -1,6 +1,4 @@
 // Erased from crates/lru_limits/src/limiters/unlimited.rt: do not edit.
-//! The limiter that limits nothing.
-
 #[allow(unused_imports)]
 use crate::rattle_std::prelude::*;
 

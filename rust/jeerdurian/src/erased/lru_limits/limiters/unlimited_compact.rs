@@ -1,6 +1,4 @@
 // Erased from crates/lru_limits/src/limiters/unlimited_compact.rt: do not edit.
-//! The limiter that limits nothing, with links of 32 bits.
-
 #[allow(unused_imports)]
 use crate::rattle_std::prelude::*;
 

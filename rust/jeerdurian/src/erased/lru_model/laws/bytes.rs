@@ -1,6 +1,4 @@
 // Erased from crates/lru_model/src/laws/bytes.rt: do not edit.
-//! What is proved of each call, and of calls one after another, with `ByBytes`.
-
 #[allow(unused_imports)]
 use crate::rattle_std::prelude::*;
 
@@ -16,6 +14,6 @@ use crate::rattle_std::hash::Hash;
 /// trim of `set_limiter` gets within it, if the table by itself is within it (`trimmed`).
 pub fn calls_keep_the_bytes<K: OwnedBytes + Eq + Hash, V: OwnedBytes, S: KeyHasher<K>>() {}
 
-/// With `ByBytes` any calls, and any writes of values that own what the values before them owned, leave the table and
-/// what the entries own within the limit, together, and leave the limit as it is.
+/// What `calls_keep_the_bytes` says of each call (`kept`, `limit`) holds of any calls, and any writes of values that
+/// own what the values before them owned.
 pub fn runs_keep_the_bytes<K: OwnedBytes + Eq + Hash, V: OwnedBytes, S: KeyHasher<K>>() {}

@@ -1,6 +1,4 @@
 // Erased from crates/lru_model/src/laws/runs.rt: do not edit.
-//! What is proved of runs, which are calls one after another.
-
 #[allow(unused_imports)]
 use crate::rattle_std::prelude::*;
 
@@ -37,17 +35,14 @@ pub fn each_insert_of_a_run_evicts_the_oldest<
 >() {
 }
 
-/// With a limiter that limits the length to `most` entries, as `calls_keep_the_length` demands, there are at most `most`
-/// entries after any calls and writes of values, if there were no more before. The limit stays as it is.
+/// What `calls_keep_the_length` says of each call holds of any calls and writes of values.
 pub fn runs_keep_the_length<K: Eq + Hash, V, L: Insertion<K, V, K>, S: KeyHasher<K>>() {}
 
-/// With a limiter that permits tables of at most `most` bytes, as `calls_keep_the_memory_usage` demands, the table uses
-/// at most `most` bytes after any calls and writes of values, if it used no more before. The limit stays as it is.
+/// What `calls_keep_the_memory_usage` says of each call holds of any calls and writes of values.
 pub fn runs_keep_the_memory_usage<K: Eq + Hash, V, L: Insertion<K, V, K>, S: KeyHasher<K>>() {}
 
-/// With any limiter that has a budget the running total is at most the budget after any calls, and any writes of values
-/// that cost what the values before them cost, if that held before and the total was the sum of the costs of the
-/// entries. The budget stays as it is, whatever is written.
+/// What `calls_keep_the_budget` says of each call holds of any calls, and any writes of values that cost what the
+/// values before them cost. The budget stays as it is, whatever is written.
 pub fn runs_keep_the_budget<K: Eq + Hash, V, L: Budgeted<K, V>, S: KeyHasher<K>>() {}
 
 /// A new map, which contains no entries and no buckets, satisfies `IsMap`, the premise of `runs_keep_maps`.

@@ -1,6 +1,4 @@
 // Erased from crates/lru_model/src/laws/shrinks.rt: do not edit.
-//! What is proved of a shrink.
-
 #[allow(unused_imports)]
 use crate::rattle_std::prelude::*;
 

@@ -1,6 +1,4 @@
 // Erased from crates/lru_tenants/src/cache/get_or_put.rt: do not edit.
-//! Getting a value, which is put if its key is not there.
-
 #[allow(unused_imports)]
 use crate::rattle_std::prelude::*;
 

@@ -1,6 +1,4 @@
 // Erased from crates/ordered_table/src/linked/copy.rt: do not edit.
-//! A copy of the table with its order.
-
 #[allow(unused_imports)]
 use crate::rattle_std::prelude::*;
 
@@ -11,11 +9,6 @@ use crate::erased::ordered_table::ordered::Pair;
 use crate::rattle_std::alloc::AllocError;
 
 impl<K, V, N: LinkType> LinkedTable<K, V, N> {
-    // Cost: `O(buckets)`, and a clone of each key and value.
-    //
-    // # Errors
-    //
-    // Out of memory; never for no buckets.
     pub(crate) fn copy(&self) -> Result<Self, AllocError>
     where
         K: TryClone,

@@ -11,11 +11,6 @@ use crate::rattle_std::alloc::AllocError;
 use crate::rattle_std::hash::{BuildHasher, Hash};
 
 impl<K: Eq + Hash, V, N: LinkType> LinkedTable<K, V, N> {
-    // `O(buckets)` of both tables, and a hash for each pair.
-    //
-    // # Errors
-    //
-    // Nothing has changed.
     pub(crate) fn move_to<S: KeyHasher<K>>(&mut self, buckets: usize, hasher: &S) -> Result<(), AllocError> {
         let links = renumber_entries(&mut self.chain.table, buckets, hasher)?;
         self.chain.rewrite(links.as_slice());

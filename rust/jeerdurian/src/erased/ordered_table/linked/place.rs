@@ -15,8 +15,6 @@ impl<K, V, N: LinkType> LinkedTable<K, V, N> {
     }
 
     // For any table.
-    //
-    // # Errors
     pub(crate) fn try_place(&mut self, hash: u64, pair: (K, V)) -> Result<(), (K, V)> {
         let first = self.chain.newest;
         match self.chain.table.try_place(hash, newest_entry(pair, first)) {

@@ -110,14 +110,14 @@ impl<'a, K, V, N: LinkType> Clone for Values<'a, K, V, N> {
 impl<K, V, N: LinkType> OrderedTable<K, V, N> {
     /// Returns an iterator over the keys, newest first.
     ///
-    /// Cost: `O(1)`, and so is each step of the walk from either end.
+    /// Cost: as `iter`.
     pub fn keys(&self) -> Keys<'_, K, V, N> {
         Keys { walk: self.iter() }
     }
 
     /// Returns an iterator over the values, newest first.
     ///
-    /// Cost: `O(1)`, and so is each step of the walk from either end.
+    /// Cost: as `iter`.
     pub fn values(&self) -> Values<'_, K, V, N> {
         Values { walk: self.iter() }
     }

@@ -1,6 +1,4 @@
 // Erased from crates/schnellru/src/map/clone.rt: do not edit.
-//! A copy of a map.
-
 #[allow(unused_imports)]
 use crate::rattle_std::prelude::*;
 

@@ -1,6 +1,4 @@
 // Erased from crates/schnellru/src/map/equal.rt: do not edit.
-//! Equal maps.
-
 #[allow(unused_imports)]
 use crate::rattle_std::prelude::*;
 

@@ -1,6 +1,4 @@
 // Erased from crates/schnellru/src/map/extend.rt: do not edit.
-//! Inserting many entries.
-
 #[allow(unused_imports)]
 use crate::rattle_std::prelude::*;
 

@@ -1,6 +1,4 @@
 // Erased from crates/schnellru/src/map/get_or_insert.rt: do not edit.
-//! Getting a value, which is inserted if its key is not there.
-
 #[allow(unused_imports)]
 use crate::rattle_std::prelude::*;
 
@@ -207,8 +205,7 @@ impl<K: Eq + Hash, V, L: Limiter<K, V>, S: KeyHasher<K>> LruMap<K, V, L, S> {
     ///
     /// # Errors
     ///
-    /// `Caller` contains the error of the closure. `Memory`: the closure was called, and the insert failed as `insert`
-    /// does. The oldest entries may have been evicted.
+    /// As `ensure_newest_fallible`.
     ///
     /// After schnellru's `LruMap::get_or_insert_fallible`.
     pub fn get_or_insert_fallible<I: LookupKey<K>, E, F: FnOnce() -> Result<V, E>>(

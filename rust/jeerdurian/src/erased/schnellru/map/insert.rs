@@ -1,6 +1,4 @@
 // Erased from crates/schnellru/src/map/insert.rt: do not edit.
-//! `insert` and its forms.
-
 #[allow(unused_imports)]
 use crate::rattle_std::prelude::*;
 
@@ -66,7 +64,7 @@ impl<K: Eq + Hash, V, L: Limiter<K, V>, S: KeyHasher<K>> LruMap<K, V, L, S> {
     /// assert_eq!(rt; left, Some((1, 10)));
     /// ```
     ///
-    /// Cost: as `insert`, with one call of the callback for each entry that it gets.
+    /// Cost: as `insert`, and the calls of the callback.
     ///
     /// # Errors
     ///

@@ -1,6 +1,4 @@
 // Erased from crates/schnellru/src/map/insert_and_keep.rt: do not edit.
-//! An insert that returns the entries that it evicts, removes or cannot store.
-
 #[allow(unused_imports)]
 use crate::rattle_std::prelude::*;
 

@@ -1,6 +1,4 @@
 // Erased from crates/schnellru/src/map/insert_new.rt: do not edit.
-//! Inserting a key that is not there.
-
 #[allow(unused_imports)]
 use crate::rattle_std::prelude::*;
 

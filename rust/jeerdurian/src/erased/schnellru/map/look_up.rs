@@ -1,6 +1,4 @@
 // Erased from crates/schnellru/src/map/look_up.rt: do not edit.
-//! Looking up a key.
-
 #[allow(unused_imports)]
 use crate::rattle_std::prelude::*;
 
@@ -74,8 +72,6 @@ impl<K: Eq + Hash, V, L: Limiter<K, V>, S: KeyHasher<K>> LruMap<K, V, L, S> {
 
     /// Makes the entry of a key the oldest, and returns whether the key is there.
     ///
-    /// The oldest entry is the next one to be evicted.
-    ///
     /// ```text
     /// assert!(rt; map.demote(&3) && !map.demote(&9));
     /// assert!(rt; map.peek_oldest() == Some((&3, &30)));
@@ -94,7 +90,7 @@ impl<K: Eq + Hash, V, L: Limiter<K, V>, S: KeyHasher<K>> LruMap<K, V, L, S> {
         }
     }
 
-    /// Lends the value of the newest entry for writing. The limiter is not notified of what is written.
+    /// Lends the value of the newest entry for writing.
     ///
     /// `None` says that the map is empty. After `ensure_newest` returned true, it is the value of that key. Cost:
     /// `O(1)`.
@@ -164,7 +160,7 @@ impl<K: Eq + Hash, V, L: Limiter<K, V>, S: KeyHasher<K>> LruMap<K, V, L, S> {
         Some((&pair.key, &pair.value))
     }
 
-    /// Lends the value of a key for writing. The order stays. The limiter is not notified of what is written.
+    /// Lends the value of a key for writing. The order stays.
     ///
     /// ```text
     /// if let Some(value) = map.peek_mut(&1) {

@@ -1,6 +1,4 @@
 // Erased from crates/schnellru/src/map/pop_if.rt: do not edit.
-//! Removing the oldest entry if a closure agrees.
-
 #[allow(unused_imports)]
 use crate::rattle_std::prelude::*;
 

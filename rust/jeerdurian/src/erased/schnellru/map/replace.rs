@@ -1,6 +1,4 @@
 // Erased from crates/schnellru/src/map/replace.rt: do not edit.
-//! Offering the limiter a new value for a key that is there.
-
 #[allow(unused_imports)]
 use crate::rattle_std::prelude::*;
 

@@ -1,6 +1,4 @@
 // Erased from crates/schnellru/src/map/report.rt: do not edit.
-//! How many entries inserts moved and stored, and how many shrinks rehashed.
-
 #[allow(unused_imports)]
 use crate::rattle_std::prelude::*;
 

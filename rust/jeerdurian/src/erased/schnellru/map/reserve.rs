@@ -1,6 +1,4 @@
 // Erased from crates/schnellru/src/map/reserve.rt: do not edit.
-//! Growth ahead of inserts.
-
 #[allow(unused_imports)]
 use crate::rattle_std::prelude::*;
 

@@ -1,6 +1,4 @@
 // Erased from crates/schnellru/src/map/retain.rt: do not edit.
-//! Removing the entries that a closure rejects.
-
 #[allow(unused_imports)]
 use crate::rattle_std::prelude::*;
 
@@ -36,7 +34,7 @@ impl<K: Eq + Hash, V, L: Limiter<K, V>, S: KeyHasher<K>> LruMap<K, V, L, S> {
     /// assert_eq!(rt; removed, 2);
     /// ```
     ///
-    /// Cost: as `retain`, with one call of the callback for each removed entry.
+    /// Cost: as `retain`, and the calls of the callback.
     pub fn retain_with<F: FnMut(&K, &V) -> bool, G: FnMut(K, V)>(&mut self, mut keep: F, sink: &mut G) {
         let mut left = self.len();
         let (_, mut next) = self.ends();

@@ -1,6 +1,4 @@
 // Erased from crates/schnellru/src/map/shrink.rt: do not edit.
-//! A table of as few buckets as hold the pairs.
-
 #[allow(unused_imports)]
 use crate::rattle_std::prelude::*;
 

@@ -1,6 +1,4 @@
 // Erased from crates/schnellru/src/map/trim.rt: do not edit.
-//! Bringing a map within its limit without an insert.
-
 #[allow(unused_imports)]
 use crate::rattle_std::prelude::*;
 
@@ -56,7 +54,7 @@ impl<K: Eq + Hash, V, L: Limiter<K, V>, S: KeyHasher<K>> LruMap<K, V, L, S> {
     /// assert_eq!(rt; evicted, 3);
     /// ```
     ///
-    /// Cost: as `trim`, with one call of the callback for each evicted entry.
+    /// Cost: as `trim`, and the calls of the callback.
     pub fn trim_with<F: FnMut(K, V)>(&mut self, sink: &mut F) {
         if !self.is_empty() {
             self.evict_over_limit(sink);
@@ -72,7 +70,7 @@ impl<K: Eq + Hash, V, L: Limiter<K, V>, S: KeyHasher<K>> LruMap<K, V, L, S> {
     /// assert_eq!(rt; evicted, 3);
     /// ```
     ///
-    /// Cost: as `set_limiter`, with one call of the callback for each evicted entry.
+    /// Cost: as `set_limiter`, and the calls of the callback.
     pub fn set_limiter_with<F: FnMut(K, V)>(&mut self, limiter: L, sink: &mut F) -> L {
         let old = mem::replace(&mut self.limiter, limiter);
         self.trim_with(sink);

@@ -1,6 +1,4 @@
 // Erased from crates/schnellru/src/map/try_insert.rt: do not edit.
-//! Inserting a new entry only if nothing has to be evicted for it.
-
 #[allow(unused_imports)]
 use crate::rattle_std::prelude::*;
 

@@ -1,6 +1,4 @@
 // Erased from crates/schnellru/src/map/update.rt: do not edit.
-//! Replacing a value, with the entry in its place.
-
 #[allow(unused_imports)]
 use crate::rattle_std::prelude::*;
 
@@ -43,7 +41,7 @@ impl<K: Eq + Hash, V, L: Limiter<K, V>, S: KeyHasher<K>> LruMap<K, V, L, S> {
     /// assert!(rt; left.is_none() && map.peek(&2) == Some(&21));
     /// ```
     ///
-    /// Cost: as `update`, with one call of the callback for each entry that it gets.
+    /// Cost: as `update`, and the calls of the callback.
     pub fn update_with<I: LookupKey<K>, F: FnMut(K, V)>(&mut self, key: I, value: V, sink: &mut F) -> Updated<V>
     where
         L: Insertion<K, V, I>,

@@ -1,6 +1,4 @@
 // Erased from crates/schnellru/src/walk/drain.rt: do not edit.
-//! Draining a map: a walk that takes the entries out.
-
 #[allow(unused_imports)]
 use crate::rattle_std::prelude::*;
 
@@ -81,7 +79,7 @@ impl<K: Eq + Hash, V, L: Limiter<K, V>, S: KeyHasher<K>> LruMap<K, V, L, S> {
     /// assert!(rt; map.is_empty());
     /// ```
     ///
-    /// Cost:
+    /// Cost: `O(1)`, and `O(1)` for each entry that is taken.
     ///
     /// After schnellru's `LruMap::drain`.
     pub fn drain(&mut self) -> Drain<'_, K, V, L, S> {

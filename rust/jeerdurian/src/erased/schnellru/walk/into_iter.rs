@@ -1,6 +1,4 @@
 // Erased from crates/schnellru/src/walk/into_iter.rt: do not edit.
-//! Taking a map apart.
-
 #[allow(unused_imports)]
 use crate::rattle_std::prelude::*;
 

@@ -1,6 +1,4 @@
 // Erased from crates/schnellru/src/walk/iter_mut.rt: do not edit.
-//! An iterator that lends each value for writing.
-
 #[allow(unused_imports)]
 use crate::rattle_std::prelude::*;
 
@@ -123,8 +121,7 @@ impl<'a, K: Eq + Hash, V, L: Limiter<K, V>, S: KeyHasher<K>> IterMut<'a, K, V, L
 }
 
 impl<K: Eq + Hash, V, L: Limiter<K, V>, S: KeyHasher<K>> LruMap<K, V, L, S> {
-    /// Returns an iterator over the entries, newest first, that lends each value for writing. The order stays. The
-    /// limiter is not notified of what is written.
+    /// Returns an iterator over the entries, newest first, that lends each value for writing. The order stays.
     ///
     /// It is no `Iterator`, so no `for` loop walks it: write `while let Some((key, value)) = walk.next()`, or call
     /// `for_each_mut`.
@@ -149,8 +146,7 @@ impl<K: Eq + Hash, V, L: Limiter<K, V>, S: KeyHasher<K>> LruMap<K, V, L, S> {
         IterMut { map: self, start: 0, end, front, back }
     }
 
-    /// Lends the closure each value for writing, with its key, newest first. The order stays. The limiter is not
-    /// notified of what is written.
+    /// Lends the closure each value for writing, with its key, newest first. The order stays.
     ///
     /// ```text
     /// map.for_each_mut(|_, value| *value = value.saturating_add(1));

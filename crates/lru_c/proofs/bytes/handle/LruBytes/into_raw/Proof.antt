@@ -1,4 +1,3 @@
--- `into_raw` compares the address with null.
 use Rattle.std.proofs.Common.{◌≡◌, T, List, [], ◌∷◌, ◌++◌, refl, sym, ap, ◌∙◌, lit<}
 use Rattle.std.specs.Prelude.{Option, None, Some}
 use mir.Val.{Val, vstruct, vcons, vnil, of_list, has_ty, WT}
