@@ -1,7 +1,7 @@
 -- What a memo or a loader may return, and what a memo remembers.
 --     eq            the keys' `==`
 --     post k v      the function may return v at k
-use Rattle.std.specs.Prelude.{◌≡◌, ℕ, Bool, true, List, Result, Ok}
+use Rattle.std.specs.Prelude.{◌≡◌, ℕ, Bool, true, List, Result, Ok, Err}
 use Rattle.std.specs.List.{All}
 use Rattle.std.specs.declared.alloc.AllocError.{AllocError}
 use Rattle.lru_limits.specs.Rules.{Rules, Offers}
@@ -33,3 +33,10 @@ module _ {K V : Type 0} (eq : K → K → Bool) (post : K → V → Type 0) wher
 -- the function may load the value at the key
 abbrev pub loads : {K V E : Type 0} → (K → Result V E → Type 0) → K → V → Type 0
 loads post key value = post key (Ok value)
+
+-- The function, which was called at a key, gave a value, and this was read from it, or it failed with this error.
+pub data ReadsLoaded {V E R : Type 0} (gives : Result V E → Type 0) (reads : V → R → Type 0) (result : Result R E)
+    : Type 0 where
+  loaded : (value : V) (given : R) → gives (Ok value) → reads value given → result ≡ Ok given →
+      ReadsLoaded gives reads result
+  failed : (error : E) → gives (Err error) → result ≡ Err error → ReadsLoaded gives reads result

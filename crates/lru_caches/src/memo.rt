@@ -1,7 +1,8 @@
 //! `Memo`. A contract sees a memo as the map of its stored answers, and its function.
-ghost use Rattle.std.specs.Prelude.{◌≡◌, [], length, IfSome};
-ghost use Rattle.std.specs.Borrow.{Bor};
+ghost use Rattle.std.specs.Prelude.{◌≡◌, [], length, IfSome, Option, is_some};
+ghost use Rattle.std.specs.Fn.{FnReturnsAt, FnOnceReturnsAt};
 ghost use Rattle.std.specs.Map.{lookup};
+ghost use Rattle.lru_model.specs.Calls.{Remove, cleared};
 ghost use Rattle.lru_model.specs.Lists.{is_empty};
 ghost use Rattle.lru_model.specs.State.{IsMap, empty_map};
 ghost use Rattle.lru_model.specs.Theorems.{KeepsValues};
@@ -21,17 +22,16 @@ pub(crate) mod table;
 /// inserted (`step` of `answer`).
 ///
 /// ```
-/// let mut squares = Memo::new(alloc, ByLength::new(9), |n: u64| n.wrapping_mul(n));
+/// let mut squares = Memo::new(alloc, ByLength::new(9), |n: &u64| n.wrapping_mul(*n));
 /// assert_eq!(rt; (squares.answer(3), squares.len()), (9, 1));
 /// ```
 #[derive(Drop)]
-pub struct Memo<K: Copy + Eq + Hash, V, F, L: Insertion<K, V, K>, S: KeyHasher<K> = RandomState> {
+pub struct Memo<K: Eq + Hash, V, F, L: Insertion<K, V, K>, S: KeyHasher<K> = RandomState> {
     map: LruMap<K, V, L, S>,
     function: F,
 }
 
-impl<K: Copy + Eq + Hash, V, F, L: Insertion<K, V, K>, S: KeyHasher<K>> Model
-    for Memo<K, V, F, L, S> {
+impl<K: Eq + Hash, V, F, L: Insertion<K, V, K>, S: KeyHasher<K>> Model for Memo<K, V, F, L, S> {
     ghost use Rattle.lru_model.specs.Theorems.{KeepsValues};
     ghost use Rattle.lru_caches.specs.Answers.{Memoized};
 
@@ -42,20 +42,20 @@ impl<K: Copy + Eq + Hash, V, F, L: Insertion<K, V, K>, S: KeyHasher<K>> Model
     ghost invariant = { λ m. KeepsValues L.offers };
 }
 
-impl<K: Copy + Eq + Hash, V, F: Fn(K) -> V, L: Insertion<K, V, K>> Memo<K, V, F, L, RandomState> {
+impl<K: Eq + Hash, V, F: Fn(&K) -> V, L: Insertion<K, V, K>> Memo<K, V, F, L, RandomState> {
     /// Makes a memo of a function, with no results yet.
     ///
     /// If strangers choose the keys, call `with_hasher`. Cost: `O(1)`, and no memory.
     ///
     /// ```
-    /// let mut squares = Memo::new(alloc, ByLength::new(9), |n: u64| n.wrapping_mul(n));
+    /// let mut squares = Memo::new(alloc, ByLength::new(9), |n: &u64| n.wrapping_mul(*n));
     /// ```
     pub fn new(alloc: Global, limiter: L, function: F) -> Self
         requires { KeepsValues L.offers }
         ensures map { result.map ≡ empty_map limiter result.map.hasher result.map.entry_bytes
             (L.LinkType.number L.LinkType.MAX) }
         ensures empty { result.map.pairs ≡ [] }
-        ensures known { AreAnswers K.eq (F.post result.function) result.map.pairs }
+        ensures known { AreAnswers K.eq (FnReturnsAt F.Fn result.function) result.map.pairs }
         ensures function { result.function ≡ function }
     {
         Memo {
@@ -65,19 +65,13 @@ impl<K: Copy + Eq + Hash, V, F: Fn(K) -> V, L: Insertion<K, V, K>> Memo<K, V, F,
     }
 }
 
-impl<K: Copy + Eq + Hash, V, F: Fn(K) -> V, L: Insertion<K, V, K>, S: KeyHasher<K>> Memo<
-    K,
-    V,
-    F,
-    L,
-    S,
-> {
+impl<K: Eq + Hash, V, F: Fn(&K) -> V, L: Insertion<K, V, K>, S: KeyHasher<K>> Memo<K, V, F, L, S> {
     /// Makes a memo of a function as `new` does, with this hasher of keys, and `entry_bytes` as for
     /// `LruMap::with_hasher`.
     ///
     /// ```
     /// let seeded = RandomState::with_seeds([5, 6, 7, 8]);
-    /// let cubes = Memo::with_hasher(alloc, ByLength::new(9), seeded, 24, |n: u64| n.wrapping_pow(3));
+    /// let cubes = Memo::with_hasher(alloc, ByLength::new(9), seeded, 24, |n: &u64| n.wrapping_pow(3));
     /// assert!(rt; cubes.is_empty());
     /// ```
     ///
@@ -92,7 +86,7 @@ impl<K: Copy + Eq + Hash, V, F: Fn(K) -> V, L: Insertion<K, V, K>, S: KeyHasher<
         requires { KeepsValues L.offers }
         ensures map { result.map ≡ empty_map limiter hasher entry_bytes (L.LinkType.number L.LinkType.MAX) }
         ensures empty { result.map.pairs ≡ [] }
-        ensures known { AreAnswers K.eq (F.post result.function) result.map.pairs }
+        ensures known { AreAnswers K.eq (FnReturnsAt F.Fn result.function) result.map.pairs }
         ensures function { result.function ≡ function }
     {
         Memo {
@@ -120,7 +114,7 @@ impl<K: Copy + Eq + Hash, V, F: Fn(K) -> V, L: Insertion<K, V, K>, S: KeyHasher<
     ///
     /// ```
     /// let seeded = RandomState::with_seeds([5, 6, 7, 8]);
-    /// let cubes = Memo::with_hasher(alloc, ByLength::new(9), seeded, 24, |n: u64| n.wrapping_pow(3));
+    /// let cubes = Memo::with_hasher(alloc, ByLength::new(9), seeded, 24, |n: &u64| n.wrapping_pow(3));
     /// assert!(rt; cubes.is_empty());
     /// ```
     pub fn is_empty(&self) -> bool
@@ -130,13 +124,13 @@ impl<K: Copy + Eq + Hash, V, F: Fn(K) -> V, L: Insertion<K, V, K>, S: KeyHasher<
     }
 }
 
-impl<K: Copy + Eq + Hash, V: Copy, F: Fn(K) -> V, L: Insertion<K, V, K>, S: KeyHasher<K>> Memo<
-    K,
-    V,
-    F,
-    L,
-    S,
-> {
+impl<
+    K: Eq + Hash + Drop,
+    V: Copy + Drop,
+    F: Fn(&K) -> V,
+    L: Insertion<K, V, K>,
+    S: KeyHasher<K>,
+> Memo<K, V, F, L, S> {
     /// Returns what the function returns at a key: the stored result, or else the result of a call, which is stored.
     ///
     /// If the memo runs out of memory or its limiter rejects the result, the result is returned without being stored.
@@ -149,19 +143,19 @@ impl<K: Copy + Eq + Hash, V: Copy, F: Fn(K) -> V, L: Insertion<K, V, K>, S: KeyH
     /// Cost: a get, and if no result is stored, a call of the function and an insert.
     pub fn answer(&mut self, key: K) -> V
         requires callable { F.IsAlwaysCallable self.old.function }
-        requires known { AreAnswers K.eq (F.post self.old.function) self.old.map.pairs }
-        ensures answer { IsAnswer K.eq (F.post self.old.function) key result }
+        requires known { AreAnswers K.eq (FnReturnsAt F.Fn self.old.function) self.old.map.pairs }
+        ensures answer { IsAnswer K.eq (FnReturnsAt F.Fn self.old.function) key result }
         ensures stored { IfSome (lookup (K.eq key) self.old.map.pairs) (λ value. result ≡ value) }
         ensures step { Remembers L.rules L.offers K.eq S.hash_of key result self.old.map self.new.map }
         ensures map { IsMap K.eq self.new.map }
-        ensures known { AreAnswers K.eq (F.post self.new.function) self.new.map.pairs }
+        ensures known { AreAnswers K.eq (FnReturnsAt F.Fn self.new.function) self.new.map.pairs }
         ensures function { self.new.function ≡ self.old.function }
     {
-        remembered(&mut self.map, &self.function, key)
+        self.answer_with(key, |value| *value)
     }
 }
 
-impl<K: Copy + Eq + Hash, V: Drop, F: Fn(K) -> V, L: Insertion<K, V, K>, S: KeyHasher<K>> Memo<
+impl<K: Eq + Hash + Drop, V: Drop, F: Fn(&K) -> V, L: Insertion<K, V, K>, S: KeyHasher<K>> Memo<
     K,
     V,
     F,
@@ -173,76 +167,87 @@ impl<K: Copy + Eq + Hash, V: Drop, F: Fn(K) -> V, L: Insertion<K, V, K>, S: KeyH
     /// The closure is called once. It is lent a result also if that is not stored.
     ///
     /// ```
-    /// let mut blocks = Memo::new(alloc, ByLength::new(9), |n: usize| vec![in alloc; 7u8; n].ok());
+    /// let mut blocks = Memo::new(alloc, ByLength::new(9), |n: &usize| vec![in alloc; 7u8; *n].ok());
     /// assert_eq!(rt; (blocks.answer_with(3, |block| block.is_some()), blocks.len()), (true, 1));
     /// ```
     ///
     /// Cost: as `answer`, and a call of the closure.
     pub fn answer_with<R, U: FnOnce(&V) -> R>(&mut self, key: K, read: U) -> R
         requires callable { F.IsAlwaysCallable self.old.function }
-        requires readable { (value : Bor V) → U.pre read value }
-        requires known { AreAnswers K.eq (F.post self.old.function) self.old.map.pairs }
-        ensures answer { (value : Bor V) × IsAnswer K.eq (F.post self.old.function) key value.now
-            × Remembers L.rules L.offers K.eq S.hash_of key value.now self.old.map self.new.map
-            × U.post read value result }
+        requires readable { U.IsAlwaysCallable read }
+        requires known { AreAnswers K.eq (FnReturnsAt F.Fn self.old.function) self.old.map.pairs }
+        ensures answer { (value : V) × IsAnswer K.eq (FnReturnsAt F.Fn self.old.function) key value
+            × Remembers L.rules L.offers K.eq S.hash_of key value self.old.map self.new.map
+            × FnOnceReturnsAt U.FnOnce read value result }
         ensures map { IsMap K.eq self.new.map }
         ensures stored { IfSome (lookup (K.eq key) self.old.map.pairs)
-            (λ value. (shown : Bor V) × (shown.now ≡ value) × U.post read shown result) }
-        ensures known { AreAnswers K.eq (F.post self.new.function) self.new.map.pairs }
+            (λ value. FnOnceReturnsAt U.FnOnce read value result) }
+        ensures known { AreAnswers K.eq (FnReturnsAt F.Fn self.new.function) self.new.map.pairs }
         ensures function { self.new.function ≡ self.old.function }
     {
         read_remembered(&mut self.map, &self.function, key, read)
     }
-}
 
-fn remembered<K: Copy + Eq + Hash, V: Copy, F: Fn(K) -> V, L: Insertion<K, V, K>, S: KeyHasher<K>>(
-    map: &mut LruMap<K, V, L, S>,
-    function: &F,
-    key: K,
-) -> V
-    requires callable { F.IsAlwaysCallable function.now }
-    requires keeps { KeepsValues L.offers }
-    requires known { AreAnswers K.eq (F.post function.now) map.old.pairs }
-    ensures answer { IsAnswer K.eq (F.post function.now) key result }
-    ensures step { Remembers L.rules L.offers K.eq S.hash_of key result map.old map.new }
-    ensures map { IsMap K.eq map.new }
-    ensures stored { IfSome (lookup (K.eq key) map.old.pairs) (λ value. result ≡ value) }
-    ensures known { AreAnswers K.eq (F.post function.now) map.new.pairs }
-{
-    laws::inserts_evict_the_oldest::<K, V, K, L, S>();
-    if let Some(value) = map.get(&key) {
-        return *value;
+    /// Removes the stored result of a key, and returns whether there was one.
+    ///
+    /// ```
+    /// assert!(rt; squares.answer(3) == 9 && squares.remove(&3) && squares.is_empty());
+    /// ```
+    ///
+    /// Cost: `O(1)` expected.
+    pub fn remove(&mut self, key: &K) -> bool
+        requires known { AreAnswers K.eq (FnReturnsAt F.Fn self.old.function) self.old.map.pairs }
+        ensures there { result ≡ is_some (lookup (K.eq key.now) self.old.map.pairs) }
+        ensures step { (value : Option V) × Remove L.rules (K.eq key.now) self.old.map value self.new.map }
+        ensures map { IsMap K.eq self.new.map }
+        ensures known { AreAnswers K.eq (FnReturnsAt F.Fn self.new.function) self.new.map.pairs }
+        ensures function { self.new.function ≡ self.old.function }
+    {
+        self.map.remove(key).is_some()
     }
-    let value = function(key);
-    let _ = map.insert(key, value);
-    value
+
+    /// Drops all stored results.
+    ///
+    /// ```
+    /// squares.clear();
+    /// ```
+    ///
+    /// Cost: `O(n)` for n results.
+    pub fn clear(&mut self)
+        ensures step { self.new.map ≡ cleared L.rules self.old.map }
+        ensures map { IsMap K.eq self.new.map }
+        ensures known { AreAnswers K.eq (FnReturnsAt F.Fn self.new.function) self.new.map.pairs }
+        ensures function { self.new.function ≡ self.old.function }
+    {
+        self.map.clear();
+    }
 }
 
 fn read_remembered<
-    K: Copy + Eq + Hash,
+    K: Eq + Hash + Drop,
     V: Drop,
-    F: Fn(K) -> V,
+    F: Fn(&K) -> V,
     L: Insertion<K, V, K>,
     S: KeyHasher<K>,
     R,
     U: FnOnce(&V) -> R,
 >(map: &mut LruMap<K, V, L, S>, function: &F, key: K, read: U) -> R
     requires callable { F.IsAlwaysCallable function.now }
-    requires readable { (value : Bor V) → U.pre read value }
+    requires readable { U.IsAlwaysCallable read }
     requires keeps { KeepsValues L.offers }
-    requires known { AreAnswers K.eq (F.post function.now) map.old.pairs }
-    ensures answer { (value : Bor V) × IsAnswer K.eq (F.post function.now) key value.now
-        × Remembers L.rules L.offers K.eq S.hash_of key value.now map.old map.new × U.post read value result }
+    requires known { AreAnswers K.eq (FnReturnsAt F.Fn function.now) map.old.pairs }
+    ensures answer { (value : V) × IsAnswer K.eq (FnReturnsAt F.Fn function.now) key value
+        × Remembers L.rules L.offers K.eq S.hash_of key value map.old map.new
+        × FnOnceReturnsAt U.FnOnce read value result }
     ensures map { IsMap K.eq map.new }
-    ensures stored { IfSome (lookup (K.eq key) map.old.pairs)
-        (λ value. (shown : Bor V) × (shown.now ≡ value) × U.post read shown result) }
-    ensures known { AreAnswers K.eq (F.post function.now) map.new.pairs }
+    ensures stored { IfSome (lookup (K.eq key) map.old.pairs) (λ value. FnOnceReturnsAt U.FnOnce read value result) }
+    ensures known { AreAnswers K.eq (FnReturnsAt F.Fn function.now) map.new.pairs }
 {
     laws::inserts_evict_the_oldest::<K, V, K, L, S>();
     if let Some(value) = map.get(&key) {
         return read(&*value);
     }
-    let value = function(key);
+    let value = function(&key);
     let result = read(&value);
     let _ = map.insert(key, value);
     result

@@ -176,7 +176,7 @@ fn of_memo_loader(rt: HostRuntime) {
     let mut blocks = Loader::new(
         alloc,
         ByLength::new(9),
-        |n: usize| disk.get(n).copied().ok_or(n),
+        |n: &usize| disk.get(*n).copied().ok_or(*n),
     );
     let held = all!(
         (blocks.load(1), blocks.len()) == (Ok(11), 1),
@@ -188,9 +188,15 @@ fn of_memo_loader(rt: HostRuntime) {
         ByLength::new(9),
         seeded,
         24,
-        |n: u64| n.checked_add(1).ok_or(n),
+        |n: &u64| n.checked_add(1).ok_or(*n),
     );
     let held = held & all!(empty.is_empty());
+    let mut texts = Loader::new(
+        alloc,
+        ByLength::new(9),
+        |n: &usize| vec![in alloc; 7u8; *n].map_err(|_| *n),
+    );
+    let held = held & all!((texts.load_with(3, |text| text.len()), texts.len()) == (Ok(3), 1));
     check!(rt; held);
 }
 
@@ -199,17 +205,21 @@ fn of_memo_table(rt: HostRuntime) {
     let alloc = rt.alloc();
     let mut squares = MemoTable::new(alloc, ByLength::new(9), Squares);
     squares.store(3, 9);
-    let held = (squares.get(3), squares.get(4), squares.len()) == (Some(9), None, 1);
+    let held = (squares.get(&3), squares.get(&4), squares.len()) == (Some(9), None, 1);
     let seeded = RandomState::with_seeds([5, 6, 7, 8]);
     let empty = MemoTable::with_hasher(alloc, ByLength::new(9), seeded, 24, Squares);
-    let held = held & all!(empty.is_empty());
+    let held = held
+        & all!(
+            empty.is_empty(),
+            squares.get_with(&3, |square| *square + 1) == Some(10)
+        );
     check!(rt; held);
 }
 
 #[test]
 fn of_memo(rt: HostRuntime) {
     let alloc = rt.alloc();
-    let mut squares = Memo::new(alloc, ByLength::new(9), |n: u64| n.wrapping_mul(n));
+    let mut squares = Memo::new(alloc, ByLength::new(9), |n: &u64| n.wrapping_mul(*n));
     let held = (squares.answer(3), squares.len()) == (9, 1);
     let seeded = RandomState::with_seeds([5, 6, 7, 8]);
     let cubes = Memo::with_hasher(
@@ -217,16 +227,20 @@ fn of_memo(rt: HostRuntime) {
         ByLength::new(9),
         seeded,
         24,
-        |n: u64| n.wrapping_pow(3),
+        |n: &u64| n.wrapping_pow(3),
     );
     let held = held & all!(cubes.is_empty());
     let mut blocks = Memo::new(
         alloc,
         ByLength::new(9),
-        |n: usize| vec![in alloc; 7u8; n].ok(),
+        |n: &usize| vec![in alloc; 7u8; *n].ok(),
     );
     let held = held
-        & all!((blocks.answer_with(3, |block| block.is_some()), blocks.len()) == (true, 1));
+        & all!(
+            (blocks.answer_with(3, |block| block.is_some()), blocks.len()) == (true, 1),
+            squares.answer(3) == 9 && squares.remove(&3) && squares.is_empty()
+        );
+    squares.clear();
     check!(rt; held);
 }
 

@@ -1,5 +1,7 @@
 //! Calls of the caches of `lru_caches` that are references: a memo, a loader and a page cache.
 ghost use Rattle.std.specs.Prelude.{◌≡◌, ◌≤◌, ◌∷◌, ℕ, Bool, IfOk, IsOk, List, OnOk, Result, nat_eq, take};
+ghost use Rattle.std.specs.Fn.{FnReturnsAt};
+ghost use Rattle.std.specs.String.{string_eq};
 ghost use Rattle.std.specs.declared.alloc.AllocError.{AllocError};
 ghost use Rattle.lru_caches.specs.Answers.{AreAnswers, loads};
 ghost use Rattle.lru_model.specs.Kept.{KeepsToLength};
@@ -13,28 +15,28 @@ use lru_replay::references::calls_make_references;
 use schnellru::{ByLength, RandomState};
 
 /// Returns an answer of a memo. Unless the memo ran out of memory, the call is a reference.
-fn answer<F: Fn(u64) -> u64>(memo: &mut Memo<u64, u64, F, ByLength>, key: u64) -> u64
+fn answer<F: Fn(&String) -> u64>(memo: &mut Memo<String, u64, F, ByLength>, key: String) -> u64
     requires callable { F.IsAlwaysCallable memo.old.function }
-    requires known { AreAnswers nat_eq (F.post memo.old.function) memo.old.map.pairs }
+    requires known { AreAnswers string_eq (FnReturnsAt F.Fn memo.old.function) memo.old.map.pairs }
     requires keeps { KeepsToLength memo.old.map }
-    ensures { (kept : Result Bool AllocError) × (IsOk kept → Reference (of_length nat_eq) key memo.old.map memo.new.map) }
+    ensures { (kept : Result Bool AllocError) × (IsOk kept → Reference (of_length string_eq) key memo.old.map memo.new.map) }
 {
-    calls_make_references::<u64, u64, RandomState>();
+    calls_make_references::<String, u64, RandomState>();
     memo.answer(key)
 }
 
 /// Returns a value of a loader. If it was loaded, and the loader did not run out of memory, the call is a reference.
-fn load<F: Fn(u64) -> Result<u64, u64>>(
-    loader: &mut Loader<u64, u64, F, ByLength>,
-    key: u64,
+fn load<F: Fn(&String) -> Result<u64, u64>>(
+    loader: &mut Loader<String, u64, F, ByLength>,
+    key: String,
 ) -> Result<u64, u64>
     requires callable { F.IsAlwaysCallable loader.old.function }
-    requires known { AreAnswers nat_eq (loads (F.post loader.old.function)) loader.old.map.pairs }
+    requires known { AreAnswers string_eq (loads (FnReturnsAt F.Fn loader.old.function)) loader.old.map.pairs }
     requires keeps { KeepsToLength loader.old.map }
     ensures { IfOk result (λ value. (kept : Result Bool AllocError) ×
-        (IsOk kept → Reference (of_length nat_eq) key loader.old.map loader.new.map)) }
+        (IsOk kept → Reference (of_length string_eq) key loader.old.map loader.new.map)) }
 {
-    calls_make_references::<u64, u64, RandomState>();
+    calls_make_references::<String, u64, RandomState>();
     let value = loader.load(key)?;
     Ok(value)
 }

@@ -7,7 +7,7 @@ ghost use Rattle.lru_limits.specs.Mixing.{seeded};
 ghost use Rattle.lru_limits.specs.Admissions.{offers_of};
 ghost use Rattle.lru_model.specs.Calls.{Remove, cleared};
 ghost use Rattle.lru_model.specs.Lists.{is_empty};
-ghost use Rattle.lru_tenants.specs.Cache.{budgets, budgets_with, is_over, fresh, IsTenant, AreTenants, On};
+ghost use Rattle.lru_tenants.specs.Cache.{tenant, budgets, budgets_with, is_over, fresh, IsTenant, AreTenants, Leaves, On};
 ghost use Rattle.lru_tenants.specs.TenantRuns.{OfOpen, IfOpen, Opens, SetsBudget, Puts, Closes};
 
 use crate::error::TenantError;
@@ -335,10 +335,22 @@ impl<
         ensures total { budgets L.budget_of self.new ≡ budgets_with L.budget_of (N.eq name.now) 0 self.old }
         ensures tenants { AreTenants K.eq L.cost_of L.account L.budget_of self.new }
     {
-        let Some(map) = self.tenants.remove(name) else {
+        let Some(map) = self.take_tenant(name) else {
             return Err(TenantError::NotOpen);
         };
-        self.budgets -= map.limiter().budget() as u128;
         Ok(map.len())
+    }
+
+    pub(crate) fn take_tenant(&mut self, name: &N) -> Option<LruMap<K, V, L, S>>
+        ensures taken { result ≡ tenant (N.eq name.now) self.old }
+        ensures leaves { Leaves N.eq name.now None self.old self.new }
+        ensures total { budgets L.budget_of self.new ≡ budgets_with L.budget_of (N.eq name.now) 0 self.old }
+        ensures tenants { AreTenants K.eq L.cost_of L.account L.budget_of self.new }
+    {
+        let Some(map) = self.tenants.remove(name) else {
+            return None;
+        };
+        self.budgets -= map.limiter().budget() as u128;
+        Some(map)
     }
 }

@@ -254,8 +254,8 @@ fn memos_count_the_bytes_of_their_entries() {
     type S = std::hash::BuildHasherDefault<std::hash::DefaultHasher>;
     let limit = ByMemoryUsage::new(5000);
     let mut map = LruMap::with_hasher(limit, S::new());
-    let mut memo = Memo::with_hasher(limit, S::new(), |n: u64| n);
-    let mut loader = Loader::with_hasher(limit, S::new(), |n: u64| Ok::<_, ()>(n));
+    let mut memo = Memo::with_hasher(limit, S::new(), |n: &u64| *n);
+    let mut loader = Loader::with_hasher(limit, S::new(), |n: &u64| Ok::<_, ()>(*n));
     for n in 0..500u64 {
         assert_eq!((map.insert(n, n), memo.answer(n), loader.load(n)), (true, n, Ok(n)));
         assert_eq!((memo.len(), loader.len()), (map.len(), map.len()));

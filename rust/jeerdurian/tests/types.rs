@@ -90,7 +90,7 @@ macro_rules! lend_alike {
         same!(Vec<$type>:
             IntoIter<$type, u8, ByLength, RandomState>, IntoIter<u8, $type, ByLength, RandomState>,
             caches::OrderedMap<u8, $type>, caches::IntoEntries<u8, $type, RandomState>,
-            caches::Memo<u8, $type, fn(u8) -> $type>, tenants::TenantCache<u8, u8, Vec<$type>>);
+            caches::Memo<u8, $type, fn(&u8) -> $type>, tenants::TenantCache<u8, u8, Vec<$type>>);
     )*};
 }
 

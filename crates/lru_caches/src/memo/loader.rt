@@ -1,10 +1,11 @@
 //! `Loader`. A contract sees a loader as the map of its stored values, and its function.
 ghost use Rattle.std.specs.Prelude.{◌≡◌, [], length, None, Ok, IfOk, IfSome, OnErr};
+ghost use Rattle.std.specs.Fn.{FnReturnsAt, FnOnceReturnsAt};
 ghost use Rattle.std.specs.Map.{lookup};
 ghost use Rattle.lru_model.specs.Lists.{is_empty};
 ghost use Rattle.lru_model.specs.Theorems.{KeepsValues};
 ghost use Rattle.lru_model.specs.State.{IsMap, empty_map};
-ghost use Rattle.lru_caches.specs.Answers.{IsAnswer, AreAnswers, Remembers, loads};
+ghost use Rattle.lru_caches.specs.Answers.{IsAnswer, AreAnswers, Remembers, ReadsLoaded, loads};
 
 use schnellru::{Insertion, KeyHasher, LruMap, RandomState, laws};
 use std::alloc::Global;
@@ -21,24 +22,17 @@ use std::marker::Model;
 ///
 /// ```
 /// let disk = [10, 11, 12];
-/// let mut blocks = Loader::new(alloc, ByLength::new(9), |n: usize| disk.get(n).copied().ok_or(n));
+/// let mut blocks = Loader::new(alloc, ByLength::new(9), |n: &usize| disk.get(*n).copied().ok_or(*n));
 /// assert_eq!(rt; (blocks.load(1), blocks.len()), (Ok(11), 1));
 /// assert_eq!(rt; (blocks.load(3), blocks.len()), (Err(3), 1));
 /// ```
 #[derive(Drop)]
-pub struct Loader<
-    K: Copy + Eq + Hash,
-    V: Copy,
-    F,
-    L: Insertion<K, V, K>,
-    S: KeyHasher<K> = RandomState,
-> {
+pub struct Loader<K: Eq + Hash, V, F, L: Insertion<K, V, K>, S: KeyHasher<K> = RandomState> {
     map: LruMap<K, V, L, S>,
     function: F,
 }
 
-impl<K: Copy + Eq + Hash, V: Copy, F, L: Insertion<K, V, K>, S: KeyHasher<K>> Model
-    for Loader<K, V, F, L, S> {
+impl<K: Eq + Hash, V, F, L: Insertion<K, V, K>, S: KeyHasher<K>> Model for Loader<K, V, F, L, S> {
     ghost use Rattle.lru_model.specs.Theorems.{KeepsValues};
     ghost use Rattle.lru_caches.specs.Answers.{Memoized};
 
@@ -49,7 +43,7 @@ impl<K: Copy + Eq + Hash, V: Copy, F, L: Insertion<K, V, K>, S: KeyHasher<K>> Mo
     ghost invariant = { λ m. KeepsValues L.offers };
 }
 
-impl<K: Copy + Eq + Hash, V: Copy, E, F: Fn(K) -> Result<V, E>, L: Insertion<K, V, K>> Loader<
+impl<K: Eq + Hash, V, E, F: Fn(&K) -> Result<V, E>, L: Insertion<K, V, K>> Loader<
     K,
     V,
     F,
@@ -61,14 +55,14 @@ impl<K: Copy + Eq + Hash, V: Copy, E, F: Fn(K) -> Result<V, E>, L: Insertion<K, 
     /// If strangers choose the keys, call `with_hasher`. Cost: `O(1)`, and no memory.
     ///
     /// ```
-    /// let mut blocks = Loader::new(alloc, ByLength::new(9), |n: usize| disk.get(n).copied().ok_or(n));
+    /// let mut blocks = Loader::new(alloc, ByLength::new(9), |n: &usize| disk.get(*n).copied().ok_or(*n));
     /// ```
     pub fn new(alloc: Global, limiter: L, function: F) -> Self
         requires { KeepsValues L.offers }
         ensures map { result.map ≡ empty_map limiter result.map.hasher result.map.entry_bytes
             (L.LinkType.number L.LinkType.MAX) }
         ensures empty { result.map.pairs ≡ [] }
-        ensures known { AreAnswers K.eq (loads (F.post result.function)) result.map.pairs }
+        ensures known { AreAnswers K.eq (loads (FnReturnsAt F.Fn result.function)) result.map.pairs }
         ensures function { result.function ≡ function }
     {
         Loader {
@@ -78,20 +72,19 @@ impl<K: Copy + Eq + Hash, V: Copy, E, F: Fn(K) -> Result<V, E>, L: Insertion<K, 
     }
 }
 
-impl<
-    K: Copy + Eq + Hash,
-    V: Copy,
-    E,
-    F: Fn(K) -> Result<V, E>,
-    L: Insertion<K, V, K>,
-    S: KeyHasher<K>,
-> Loader<K, V, F, L, S> {
+impl<K: Eq + Hash, V, E, F: Fn(&K) -> Result<V, E>, L: Insertion<K, V, K>, S: KeyHasher<K>> Loader<
+    K,
+    V,
+    F,
+    L,
+    S,
+> {
     /// Makes a loader by a function as `new` does, with this hasher of keys, and `entry_bytes` as for
     /// `LruMap::with_hasher`.
     ///
     /// ```
     /// let seeded = RandomState::with_seeds([5, 6, 7, 8]);
-    /// let empty = Loader::with_hasher(alloc, ByLength::new(9), seeded, 24, |n: u64| n.checked_add(1).ok_or(n));
+    /// let empty = Loader::with_hasher(alloc, ByLength::new(9), seeded, 24, |n: &u64| n.checked_add(1).ok_or(*n));
     /// assert!(rt; empty.is_empty());
     /// ```
     ///
@@ -106,43 +99,13 @@ impl<
         requires { KeepsValues L.offers }
         ensures map { result.map ≡ empty_map limiter hasher entry_bytes (L.LinkType.number L.LinkType.MAX) }
         ensures empty { result.map.pairs ≡ [] }
-        ensures known { AreAnswers K.eq (loads (F.post result.function)) result.map.pairs }
+        ensures known { AreAnswers K.eq (loads (FnReturnsAt F.Fn result.function)) result.map.pairs }
         ensures function { result.function ≡ function }
     {
         Loader {
             map: LruMap::with_hasher(alloc, limiter, hasher, entry_bytes),
             function,
         }
-    }
-
-    /// Returns the stored value of a key, or else the result of a call of the function. A value that was loaded is
-    /// stored.
-    ///
-    /// If the loader runs out of memory or its limiter rejects the value, the value is returned without being stored.
-    ///
-    /// ```
-    /// assert_eq!(rt; (blocks.load(1), blocks.len()), (Ok(11), 1));
-    /// ```
-    ///
-    /// Cost: a get, and if no value is stored, a call of the function and an insert.
-    ///
-    /// # Errors
-    ///
-    /// The function failed, with this error. The stored values stay.
-    pub fn load(&mut self, key: K) -> Result<V, E>
-        requires callable { F.IsAlwaysCallable self.old.function }
-        requires known { AreAnswers K.eq (loads (F.post self.old.function)) self.old.map.pairs }
-        ensures value { IfOk result (IsAnswer K.eq (loads (F.post self.old.function)) key) }
-        ensures stored { IfSome (lookup (K.eq key) self.old.map.pairs) (λ value. result ≡ Ok value) }
-        ensures loaded { lookup (K.eq key) self.old.map.pairs ≡ None → F.post self.old.function key result }
-        ensures step { IfOk result
-            (λ value. Remembers L.rules L.offers K.eq S.hash_of key value self.old.map self.new.map) }
-        ensures map { IsMap K.eq self.new.map }
-        ensures failed { OnErr result (self.new.map ≡ self.old.map) }
-        ensures known { AreAnswers K.eq (loads (F.post self.new.function)) self.new.map.pairs }
-        ensures function { self.new.function ≡ self.old.function }
-    {
-        loaded(&mut self.map, &self.function, key)
     }
 
     /// Returns how many values are stored.
@@ -164,7 +127,7 @@ impl<
     ///
     /// ```
     /// let seeded = RandomState::with_seeds([5, 6, 7, 8]);
-    /// let empty = Loader::with_hasher(alloc, ByLength::new(9), seeded, 24, |n: u64| n.checked_add(1).ok_or(n));
+    /// let empty = Loader::with_hasher(alloc, ByLength::new(9), seeded, 24, |n: &u64| n.checked_add(1).ok_or(*n));
     /// assert!(rt; empty.is_empty());
     /// ```
     pub fn is_empty(&self) -> bool
@@ -174,33 +137,121 @@ impl<
     }
 }
 
-fn loaded<
-    K: Copy + Eq + Hash,
-    V: Copy,
-    E,
-    F: Fn(K) -> Result<V, E>,
+impl<
+    K: Eq + Hash + Drop,
+    V: Copy + Drop,
+    E: Drop,
+    F: Fn(&K) -> Result<V, E>,
     L: Insertion<K, V, K>,
     S: KeyHasher<K>,
->(map: &mut LruMap<K, V, L, S>, function: &F, key: K) -> Result<V, E>
+> Loader<K, V, F, L, S> {
+    /// Returns the stored value of a key, or else the result of a call of the function. A value that was loaded is
+    /// stored.
+    ///
+    /// If the loader runs out of memory or its limiter rejects the value, the value is returned without being stored.
+    ///
+    /// ```
+    /// assert_eq!(rt; (blocks.load(1), blocks.len()), (Ok(11), 1));
+    /// ```
+    ///
+    /// Cost: a get, and if no value is stored, a call of the function and an insert.
+    ///
+    /// # Errors
+    ///
+    /// The function failed, with this error. The stored values stay.
+    pub fn load(&mut self, key: K) -> Result<V, E>
+        requires callable { F.IsAlwaysCallable self.old.function }
+        requires known { AreAnswers K.eq (loads (FnReturnsAt F.Fn self.old.function)) self.old.map.pairs }
+        ensures value { IfOk result (IsAnswer K.eq (loads (FnReturnsAt F.Fn self.old.function)) key) }
+        ensures stored { IfSome (lookup (K.eq key) self.old.map.pairs) (λ value. result ≡ Ok value) }
+        ensures loaded { lookup (K.eq key) self.old.map.pairs ≡ None → FnReturnsAt F.Fn self.old.function key result }
+        ensures step { IfOk result
+            (λ value. Remembers L.rules L.offers K.eq S.hash_of key value self.old.map self.new.map) }
+        ensures map { IsMap K.eq self.new.map }
+        ensures failed { OnErr result (self.new.map ≡ self.old.map) }
+        ensures known { AreAnswers K.eq (loads (FnReturnsAt F.Fn self.new.function)) self.new.map.pairs }
+        ensures function { self.new.function ≡ self.old.function }
+    {
+        self.load_with(key, |value| *value)
+    }
+}
+
+impl<
+    K: Eq + Hash + Drop,
+    V: Drop,
+    E: Drop,
+    F: Fn(&K) -> Result<V, E>,
+    L: Insertion<K, V, K>,
+    S: KeyHasher<K>,
+> Loader<K, V, F, L, S> {
+    /// Lends a closure what `load` would return, and returns what the closure returns. The values need not be `Copy`.
+    ///
+    /// ```
+    /// let mut texts = Loader::new(alloc, ByLength::new(9), |n: &usize| vec![in alloc; 7u8; *n].map_err(|_| *n));
+    /// assert_eq!(rt; (texts.load_with(3, |text| text.len()), texts.len()), (Ok(3), 1));
+    /// ```
+    ///
+    /// Cost: as `load`, and a call of the closure.
+    ///
+    /// # Errors
+    ///
+    /// The function failed, with this error. The closure is not called, and the stored values stay.
+    pub fn load_with<R, U: FnOnce(&V) -> R>(&mut self, key: K, read: U) -> Result<R, E>
+        requires callable { F.IsAlwaysCallable self.old.function }
+        requires readable { U.IsAlwaysCallable read }
+        requires known { AreAnswers K.eq (loads (FnReturnsAt F.Fn self.old.function)) self.old.map.pairs }
+        ensures value { IfOk result (λ given. (value : V)
+            × IsAnswer K.eq (loads (FnReturnsAt F.Fn self.old.function)) key value
+            × Remembers L.rules L.offers K.eq S.hash_of key value self.old.map self.new.map
+            × FnOnceReturnsAt U.FnOnce read value given) }
+        ensures stored { IfSome (lookup (K.eq key) self.old.map.pairs)
+            (λ value. (given : R) × (result ≡ Ok given) × FnOnceReturnsAt U.FnOnce read value given) }
+        ensures loaded { lookup (K.eq key) self.old.map.pairs ≡ None →
+            ReadsLoaded (FnReturnsAt F.Fn self.old.function key) (FnOnceReturnsAt U.FnOnce read) result }
+        ensures map { IsMap K.eq self.new.map }
+        ensures failed { OnErr result (self.new.map ≡ self.old.map) }
+        ensures known { AreAnswers K.eq (loads (FnReturnsAt F.Fn self.new.function)) self.new.map.pairs }
+        ensures function { self.new.function ≡ self.old.function }
+    {
+        read_loaded(&mut self.map, &self.function, key, read)
+    }
+}
+
+fn read_loaded<
+    K: Eq + Hash + Drop,
+    V: Drop,
+    E: Drop,
+    F: Fn(&K) -> Result<V, E>,
+    L: Insertion<K, V, K>,
+    S: KeyHasher<K>,
+    R,
+    U: FnOnce(&V) -> R,
+>(map: &mut LruMap<K, V, L, S>, function: &F, key: K, read: U) -> Result<R, E>
     requires callable { F.IsAlwaysCallable function.now }
+    requires readable { U.IsAlwaysCallable read }
     requires keeps { KeepsValues L.offers }
-    requires known { AreAnswers K.eq (loads (F.post function.now)) map.old.pairs }
-    ensures value { IfOk result (IsAnswer K.eq (loads (F.post function.now)) key) }
-    ensures stored { IfSome (lookup (K.eq key) map.old.pairs) (λ value. result ≡ Ok value) }
-    ensures loaded { lookup (K.eq key) map.old.pairs ≡ None → F.post function.now key result }
-    ensures step { IfOk result (λ value. Remembers L.rules L.offers K.eq S.hash_of key value map.old map.new) }
+    requires known { AreAnswers K.eq (loads (FnReturnsAt F.Fn function.now)) map.old.pairs }
+    ensures value { IfOk result (λ given. (value : V)
+        × IsAnswer K.eq (loads (FnReturnsAt F.Fn function.now)) key value
+        × Remembers L.rules L.offers K.eq S.hash_of key value map.old map.new
+        × FnOnceReturnsAt U.FnOnce read value given) }
+    ensures stored { IfSome (lookup (K.eq key) map.old.pairs)
+        (λ value. (given : R) × (result ≡ Ok given) × FnOnceReturnsAt U.FnOnce read value given) }
+    ensures loaded { lookup (K.eq key) map.old.pairs ≡ None →
+        ReadsLoaded (FnReturnsAt F.Fn function.now key) (FnOnceReturnsAt U.FnOnce read) result }
     ensures map { IsMap K.eq map.new }
     ensures failed { OnErr result (map.new ≡ map.old) }
-    ensures known { AreAnswers K.eq (loads (F.post function.now)) map.new.pairs }
+    ensures known { AreAnswers K.eq (loads (FnReturnsAt F.Fn function.now)) map.new.pairs }
 {
     laws::inserts_evict_the_oldest::<K, V, K, L, S>();
     if let Some(value) = map.get(&key) {
-        return Ok(*value);
+        return Ok(read(&*value));
     }
-    match function(key) {
+    match function(&key) {
         Ok(value) => {
+            let given = read(&value);
             let _ = map.insert(key, value);
-            Ok(value)
+            Ok(given)
         }
         Err(error) => Err(error),
     }

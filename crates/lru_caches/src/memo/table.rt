@@ -1,5 +1,6 @@
 //! `MemoTable`. A contract sees a table as its stored answers, newest first.
-ghost use Rattle.std.specs.Prelude.{◌≡◌, [], length, IfSome, Some, None, true, false};
+ghost use Rattle.std.specs.Prelude.{◌≡◌, [], length, IfSome, MatchOption, Some, None, true, false};
+ghost use Rattle.std.specs.Fn.{FnOnceReturnsAt};
 ghost use Rattle.std.specs.Map.{lookup};
 ghost use Rattle.lru_model.specs.Lists.{front, is_empty, lookup_entry};
 ghost use Rattle.lru_model.specs.Theorems.{IsNewest, KeepsValues};
@@ -32,11 +33,11 @@ pub trait Question<K, V> {
 /// ```
 /// let mut squares = MemoTable::new(alloc, ByLength::new(9), Squares);
 /// squares.store(3, 9);
-/// assert_eq!(rt; (squares.get(3), squares.get(4), squares.len()), (Some(9), None, 1));
+/// assert_eq!(rt; (squares.get(&3), squares.get(&4), squares.len()), (Some(9), None, 1));
 /// ```
 #[derive(Drop)]
 pub struct MemoTable<
-    K: Copy + Eq + Hash,
+    K: Eq + Hash,
     V,
     Q: Question<K, V>,
     L: Insertion<K, V, K>,
@@ -46,7 +47,7 @@ pub struct MemoTable<
     question: Q,
 }
 
-impl<K: Copy + Eq + Hash, V, Q: Question<K, V>, L: Insertion<K, V, K>, S: KeyHasher<K>> Model
+impl<K: Eq + Hash, V, Q: Question<K, V>, L: Insertion<K, V, K>, S: KeyHasher<K>> Model
     for MemoTable<K, V, Q, L, S> {
     ghost use Rattle.std.specs.Prelude.{List};
     ghost use Rattle.lru_model.specs.Theorems.{KeepsValues};
@@ -59,13 +60,7 @@ impl<K: Copy + Eq + Hash, V, Q: Question<K, V>, L: Insertion<K, V, K>, S: KeyHas
     ghost invariant = { λ t. KeepsValues L.offers × AreAnswers K.eq Q.answers t.map.pairs };
 }
 
-impl<K: Copy + Eq + Hash, V, Q: Question<K, V>, L: Insertion<K, V, K>> MemoTable<
-    K,
-    V,
-    Q,
-    L,
-    RandomState,
-> {
+impl<K: Eq + Hash, V, Q: Question<K, V>, L: Insertion<K, V, K>> MemoTable<K, V, Q, L, RandomState> {
     /// Makes an empty table.
     ///
     /// If strangers choose the keys, call `with_hasher`. Cost: `O(1)`, and no memory.
@@ -84,7 +79,7 @@ impl<K: Copy + Eq + Hash, V, Q: Question<K, V>, L: Insertion<K, V, K>> MemoTable
     }
 }
 
-impl<K: Copy + Eq + Hash, V, Q: Question<K, V>, L: Insertion<K, V, K>, S: KeyHasher<K>> MemoTable<
+impl<K: Eq + Hash, V, Q: Question<K, V>, L: Insertion<K, V, K>, S: KeyHasher<K>> MemoTable<
     K,
     V,
     Q,
@@ -121,7 +116,7 @@ impl<K: Copy + Eq + Hash, V, Q: Question<K, V>, L: Insertion<K, V, K>, S: KeyHas
     /// Cost: `O(1)`.
     ///
     /// ```
-    /// assert_eq!(rt; (squares.get(3), squares.get(4), squares.len()), (Some(9), None, 1));
+    /// assert_eq!(rt; (squares.get(&3), squares.get(&4), squares.len()), (Some(9), None, 1));
     /// ```
     pub fn len(&self) -> usize
         ensures { result ≡ length self.now }
@@ -146,8 +141,8 @@ impl<K: Copy + Eq + Hash, V, Q: Question<K, V>, L: Insertion<K, V, K>, S: KeyHas
 }
 
 impl<
-    K: Copy + Eq + Hash,
-    V: Copy,
+    K: Eq + Hash + Drop,
+    V: Drop,
     Q: Question<K, V>,
     L: Insertion<K, V, K>,
     S: KeyHasher<K>,
@@ -155,16 +150,35 @@ impl<
     /// Returns the stored answer at a key, or at a key that equals it, and makes it the newest.
     ///
     /// ```
-    /// assert_eq!(rt; (squares.get(3), squares.get(4), squares.len()), (Some(9), None, 1));
+    /// assert_eq!(rt; (squares.get(&3), squares.get(&4), squares.len()), (Some(9), None, 1));
     /// ```
     ///
     /// Cost: `O(1)` expected.
-    pub fn get(&mut self, key: K) -> Option<V>
-        ensures answer { IfSome result (IsAnswer K.eq Q.answers key) }
-        ensures stored { result ≡ lookup (K.eq key) self.old }
-        ensures newest { self.new ≡ front (K.eq key) self.old }
+    pub fn get(&mut self, key: &K) -> Option<V>
+    where
+        V: Copy,
+        ensures answer { IfSome result (IsAnswer K.eq Q.answers key.now) }
+        ensures stored { result ≡ lookup (K.eq key.now) self.old }
+        ensures newest { self.new ≡ front (K.eq key.now) self.old }
     {
-        stored::<K, V, Q, L, S>(&mut self.map, key)
+        self.get_with(key, |value| *value)
+    }
+
+    /// Lends a closure what `get` would return, and returns what the closure returns. The answers need not be `Copy`.
+    ///
+    /// ```
+    /// assert_eq!(rt; squares.get_with(&3, |square| *square + 1), Some(10));
+    /// ```
+    ///
+    /// Cost: as `get`, and a call of the closure.
+    pub fn get_with<R, U: FnOnce(&V) -> R>(&mut self, key: &K, read: U) -> Option<R>
+        requires readable { U.IsAlwaysCallable read }
+        ensures answer { IfSome (lookup (K.eq key.now) self.old) (IsAnswer K.eq Q.answers key.now) }
+        ensures stored { MatchOption (lookup (K.eq key.now) self.old) (result ≡ None)
+            (λ value. (given : R) × (result ≡ Some given) × FnOnceReturnsAt U.FnOnce read value given) }
+        ensures newest { self.new ≡ front (K.eq key.now) self.old }
+    {
+        read_stored::<K, V, Q, L, S, R, U>(&mut self.map, key, read)
     }
 
     /// Stores an answer at a key, as the newest, and returns whether it is stored. It is not if the table runs out of
@@ -185,23 +199,30 @@ impl<
     }
 }
 
-fn stored<K: Copy + Eq + Hash, V: Copy, Q: Question<K, V>, L: Insertion<K, V, K>, S: KeyHasher<K>>(
-    map: &mut LruMap<K, V, L, S>,
-    key: K,
-) -> Option<V>
+fn read_stored<
+    K: Eq + Hash,
+    V,
+    Q: Question<K, V>,
+    L: Insertion<K, V, K>,
+    S: KeyHasher<K>,
+    R,
+    U: FnOnce(&V) -> R,
+>(map: &mut LruMap<K, V, L, S>, key: &K, read: U) -> Option<R>
+    requires readable { U.IsAlwaysCallable read }
     requires known { AreAnswers K.eq Q.answers map.old.pairs }
-    ensures answer { IfSome result (IsAnswer K.eq Q.answers key) }
-    ensures stored { result ≡ lookup (K.eq key) map.old.pairs }
-    ensures newest { map.new.pairs ≡ front (K.eq key) map.old.pairs }
+    ensures answer { IfSome (lookup (K.eq key.now) map.old.pairs) (IsAnswer K.eq Q.answers key.now) }
+    ensures stored { MatchOption (lookup (K.eq key.now) map.old.pairs) (result ≡ None)
+        (λ value. (given : R) × (result ≡ Some given) × FnOnceReturnsAt U.FnOnce read value given) }
+    ensures newest { map.new.pairs ≡ front (K.eq key.now) map.old.pairs }
     ensures known { AreAnswers K.eq Q.answers map.new.pairs }
 {
-    match map.get(&key) {
-        Some(value) => Some(*value),
+    match map.get(key) {
+        Some(value) => Some(read(&*value)),
         None => None,
     }
 }
 
-fn keep<K: Copy + Eq + Hash, V: Copy, Q: Question<K, V>, L: Insertion<K, V, K>, S: KeyHasher<K>>(
+fn keep<K: Eq + Hash + Drop, V: Drop, Q: Question<K, V>, L: Insertion<K, V, K>, S: KeyHasher<K>>(
     map: &mut LruMap<K, V, L, S>,
     key: K,
     value: V,

@@ -1,4 +1,5 @@
 //! A memo and a loader, compared with a list of the keys whose results they remember.
+ghost use Rattle.std.specs.Fn.{FnReturnsAt};
 ghost use Rattle.std.specs.Prelude.{nat_eq};
 ghost use Rattle.lru_caches.specs.Answers.{AreAnswers, loads};
 
@@ -27,16 +28,16 @@ fn use_key(keys: &mut [u64; 100], length: u32, key: u64) -> bool {
     false
 }
 
-fn count<F: Fn(u64) -> u64, G: Fn(u64) -> Result<u64, u64>>(
+fn count<F: Fn(&u64) -> u64, G: Fn(&u64) -> Result<u64, u64>>(
     mut memo: Memo<u64, u64, F, ByLength>,
     mut loader: Loader<u64, u64, G, ByLength>,
     calls: &Cell<u64>,
     length: u32,
 ) -> u64
     requires callable { F.IsAlwaysCallable memo.function }
-    requires known { AreAnswers nat_eq (F.post memo.function) memo.map.pairs }
+    requires known { AreAnswers nat_eq (FnReturnsAt F.Fn memo.function) memo.map.pairs }
     requires can_load { G.IsAlwaysCallable loader.function }
-    requires loaded { AreAnswers nat_eq (loads (G.post loader.function)) loader.map.pairs }
+    requires loaded { AreAnswers nat_eq (loads (FnReturnsAt G.Fn loader.function)) loader.map.pairs }
 {
     let (mut keys, mut random, mut count) = ([u64::MAX; 100], Random::new(3), 0u64);
     for _ in 0..CALLS / LENGTHS.len() as u64 {
@@ -56,13 +57,13 @@ pub fn calls_that_agree(alloc: Global) -> u64 {
     let mut sum = 0u64;
     for length in LENGTHS {
         let calls = Cell::new(0u64);
-        let mut memo = Memo::new(alloc, ByLength::new(length), |n: u64| {
+        let mut memo = Memo::new(alloc, ByLength::new(length), |n: &u64| {
             calls.set(calls.get().saturating_add(1));
-            n
+            *n
         });
-        let mut loader = Loader::new(alloc, ByLength::new(length), |n: u64| {
+        let mut loader = Loader::new(alloc, ByLength::new(length), |n: &u64| {
             calls.set(calls.get().saturating_add(1));
-            if n <= KEYS { Ok(n) } else { Err(n) }
+            if *n <= KEYS { Ok(*n) } else { Err(*n) }
         });
         let hog = Hog::new(alloc, &[]);
         let (answer, loaded) = (memo.answer(0), loader.load(0));

@@ -18,7 +18,7 @@ fn fibonacci(table: &mut MemoTable<u64, u64, FibonacciNumbers, ByLength>, n: u64
     if n < 2 {
         return n;
     }
-    if let Some(value) = table.get(n) {
+    if let Some(value) = table.get(&n) {
         return value;
     }
     let newer = fibonacci(table, n - 1);

@@ -180,10 +180,9 @@ impl<
         ensures callable { F.IsAlwaysCallable sink.new }
         ensures tenants { AreTenants K.eq L.cost_of L.account L.budget_of self.new }
     {
-        let Some(mut map) = self.tenants.remove(name) else {
+        let Some(mut map) = self.take_tenant(name) else {
             return Err(TenantError::NotOpen);
         };
-        self.budgets -= map.limiter().budget() as u128;
         Ok(empty(&mut map, sink))
     }
 }

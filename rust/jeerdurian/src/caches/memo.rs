@@ -15,12 +15,12 @@ use core::hash::{BuildHasher, Hash};
 /// ```
 /// use jeerdurian::{ByLength, caches::Memo};
 ///
-/// let mut squares = Memo::new(ByLength::new(9), |n: u64| n * n);
+/// let mut squares = Memo::new(ByLength::new(9), |n: &u64| n * n);
 /// assert_eq!((squares.answer(3), squares.len()), (9, 1));
 /// ```
 pub struct Memo<K, V, F, L = ByLength, S = RandomState>
 where
-    K: Copy + Eq + Hash,
+    K: Eq + Hash,
     L: Admission<K, V>,
     S: BuildHasher,
 {
@@ -28,12 +28,12 @@ where
 }
 
 #[cfg(feature = "runtime-rng")]
-impl<K: Copy + Eq + Hash, V, F: Fn(K) -> V, L: Admission<K, V>> Memo<K, V, F, L> {
+impl<K: Eq + Hash, V, F: Fn(&K) -> V, L: Admission<K, V>> Memo<K, V, F, L> {
     /// Makes a memo of a function without results, with a hasher with random seeds. It takes no memory.
     ///
     /// ```
     /// # use jeerdurian::{ByLength, caches::Memo};
-    /// let squares = Memo::new(ByLength::new(9), |n: u64| n * n);
+    /// let squares = Memo::new(ByLength::new(9), |n: &u64| n * n);
     /// assert!(squares.is_empty());
     /// ```
     pub fn new(limiter: L, function: F) -> Self {
@@ -41,12 +41,12 @@ impl<K: Copy + Eq + Hash, V, F: Fn(K) -> V, L: Admission<K, V>> Memo<K, V, F, L>
     }
 }
 
-impl<K: Copy + Eq + Hash, V, F: Fn(K) -> V, L: Admission<K, V>, S: BuildHasher> Memo<K, V, F, L, S> {
+impl<K: Eq + Hash, V, F: Fn(&K) -> V, L: Admission<K, V>, S: BuildHasher> Memo<K, V, F, L, S> {
     /// Makes a memo of a function without results, with this hasher of keys. It takes no memory.
     ///
     /// ```
     /// # use jeerdurian::{ByLength, RandomState, caches::Memo};
-    /// let cubes = Memo::with_hasher(ByLength::new(9), RandomState::default(), |n: u64| n * n * n);
+    /// let cubes = Memo::with_hasher(ByLength::new(9), RandomState::default(), |n: &u64| n * n * n);
     /// assert!(cubes.is_empty());
     /// ```
     pub fn with_hasher(limiter: L, hasher: S, function: F) -> Self {
@@ -58,7 +58,7 @@ impl<K: Copy + Eq + Hash, V, F: Fn(K) -> V, L: Admission<K, V>, S: BuildHasher> 
     ///
     /// ```
     /// # use jeerdurian::{ByLength, caches::Memo};
-    /// let mut squares = Memo::new(ByLength::new(9), |n: u64| n * n);
+    /// let mut squares = Memo::new(ByLength::new(9), |n: &u64| n * n);
     /// assert_eq!((squares.answer(3), squares.len()), (9, 1));
     /// ```
     pub fn len(&self) -> usize {
@@ -69,7 +69,7 @@ impl<K: Copy + Eq + Hash, V, F: Fn(K) -> V, L: Admission<K, V>, S: BuildHasher> 
     ///
     /// ```
     /// # use jeerdurian::{ByLength, caches::Memo};
-    /// assert!(Memo::new(ByLength::new(9), |n: u64| n * n).is_empty());
+    /// assert!(Memo::new(ByLength::new(9), |n: &u64| n * n).is_empty());
     /// ```
     pub fn is_empty(&self) -> bool {
         self.memo.is_empty()
@@ -84,7 +84,7 @@ impl<K: Copy + Eq + Hash, V, F: Fn(K) -> V, L: Admission<K, V>, S: BuildHasher> 
     /// ```
     /// # use jeerdurian::{ByLength, caches::Memo};
     /// let calls = std::cell::Cell::new(0);
-    /// let mut squares = Memo::new(ByLength::new(9), |n: u64| {
+    /// let mut squares = Memo::new(ByLength::new(9), |n: &u64| {
     ///     calls.set(calls.get() + 1);
     ///     n * n
     /// });
@@ -103,7 +103,7 @@ impl<K: Copy + Eq + Hash, V, F: Fn(K) -> V, L: Admission<K, V>, S: BuildHasher> 
     ///
     /// ```
     /// # use jeerdurian::{ByLength, caches::Memo};
-    /// let mut names = Memo::new(ByLength::new(9), |n: u64| n.to_string());
+    /// let mut names = Memo::new(ByLength::new(9), |n: &u64| n.to_string());
     /// assert_eq!(names.answer_with(123, |name| name.len()), 3);
     /// ```
     pub fn answer_with<R>(&mut self, key: K, read: impl FnOnce(&V) -> R) -> R {
@@ -120,14 +120,13 @@ impl<K: Copy + Eq + Hash, V, F: Fn(K) -> V, L: Admission<K, V>, S: BuildHasher> 
 /// use jeerdurian::{ByLength, caches::Loader};
 ///
 /// let disk = [10, 11, 12];
-/// let mut blocks = Loader::new(ByLength::new(9), |n: usize| disk.get(n).copied().ok_or(n));
+/// let mut blocks = Loader::new(ByLength::new(9), |n: &usize| disk.get(*n).copied().ok_or(*n));
 /// assert_eq!((blocks.load(1), blocks.len()), (Ok(11), 1));
 /// assert_eq!((blocks.load(3), blocks.len()), (Err(3), 1));
 /// ```
 pub struct Loader<K, V, F, L = ByLength, S = RandomState>
 where
-    K: Copy + Eq + Hash,
-    V: Copy,
+    K: Eq + Hash,
     L: Admission<K, V>,
     S: BuildHasher,
 {
@@ -135,12 +134,12 @@ where
 }
 
 #[cfg(feature = "runtime-rng")]
-impl<K: Copy + Eq + Hash, V: Copy, E, F: Fn(K) -> Result<V, E>, L: Admission<K, V>> Loader<K, V, F, L> {
+impl<K: Eq + Hash, V, E, F: Fn(&K) -> Result<V, E>, L: Admission<K, V>> Loader<K, V, F, L> {
     /// Makes a loader by a function without values, with a hasher with random seeds. It takes no memory.
     ///
     /// ```
     /// # use jeerdurian::{ByLength, caches::Loader};
-    /// let next = Loader::new(ByLength::new(9), |n: u64| n.checked_add(1).ok_or(n));
+    /// let next = Loader::new(ByLength::new(9), |n: &u64| n.checked_add(1).ok_or(*n));
     /// assert!(next.is_empty());
     /// ```
     pub fn new(limiter: L, function: F) -> Self {
@@ -150,9 +149,8 @@ impl<K: Copy + Eq + Hash, V: Copy, E, F: Fn(K) -> Result<V, E>, L: Admission<K, 
 
 impl<K, V, E, F, L, S> Loader<K, V, F, L, S>
 where
-    K: Copy + Eq + Hash,
-    V: Copy,
-    F: Fn(K) -> Result<V, E>,
+    K: Eq + Hash,
+    F: Fn(&K) -> Result<V, E>,
     L: Admission<K, V>,
     S: BuildHasher,
 {
@@ -161,7 +159,7 @@ where
     /// ```
     /// # use jeerdurian::{ByLength, RandomState, caches::Loader};
     /// let hasher = RandomState::default();
-    /// let next = Loader::with_hasher(ByLength::new(9), hasher, |n: u64| n.checked_add(1).ok_or(n));
+    /// let next = Loader::with_hasher(ByLength::new(9), hasher, |n: &u64| n.checked_add(1).ok_or(*n));
     /// assert!(next.is_empty());
     /// ```
     pub fn with_hasher(limiter: L, hasher: S, function: F) -> Self {
@@ -173,7 +171,7 @@ where
     ///
     /// ```
     /// # use jeerdurian::{ByLength, caches::Loader};
-    /// let mut next = Loader::new(ByLength::new(9), |n: u64| n.checked_add(1).ok_or(n));
+    /// let mut next = Loader::new(ByLength::new(9), |n: &u64| n.checked_add(1).ok_or(*n));
     /// assert_eq!((next.load(1), next.len()), (Ok(2), 1));
     /// ```
     pub fn len(&self) -> usize {
@@ -184,7 +182,7 @@ where
     ///
     /// ```
     /// # use jeerdurian::{ByLength, caches::Loader};
-    /// assert!(Loader::new(ByLength::new(9), |n: u64| n.checked_add(1).ok_or(n)).is_empty());
+    /// assert!(Loader::new(ByLength::new(9), |n: &u64| n.checked_add(1).ok_or(*n)).is_empty());
     /// ```
     pub fn is_empty(&self) -> bool {
         self.loader.is_empty()
@@ -202,10 +200,30 @@ where
     ///
     /// ```
     /// # use jeerdurian::{ByLength, caches::Loader};
-    /// let mut next = Loader::new(ByLength::new(9), |n: u64| n.checked_add(1).ok_or(n));
+    /// let mut next = Loader::new(ByLength::new(9), |n: &u64| n.checked_add(1).ok_or(*n));
     /// assert_eq!((next.load(1), next.load(u64::MAX)), (Ok(2), Err(u64::MAX)));
     /// ```
-    pub fn load(&mut self, key: K) -> Result<V, E> {
+    pub fn load(&mut self, key: K) -> Result<V, E>
+    where
+        V: Copy,
+    {
         self.loader.load(key)
+    }
+
+    /// Lends a closure what [`load`](Self::load) would return, and returns what the closure returns. The values need
+    /// not be `Copy`.
+    ///
+    /// # Errors
+    ///
+    /// The function failed, with this error. The closure is not called, and the stored values stay.
+    ///
+    /// ```
+    /// # use jeerdurian::{ByLength, caches::Loader};
+    /// let mut texts = Loader::new(ByLength::new(9), |name: &String| std::fs::read_to_string(name));
+    /// let len = texts.load_with("Cargo.toml".to_string(), |text| text.len()).unwrap_or(0);
+    /// assert_eq!((len > 0, texts.len()), (true, 1));
+    /// ```
+    pub fn load_with<R>(&mut self, key: K, read: impl FnOnce(&V) -> R) -> Result<R, E> {
+        self.loader.load_with(key, read)
     }
 }

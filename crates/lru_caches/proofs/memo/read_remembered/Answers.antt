@@ -1,5 +1,6 @@
 use Rattle.std.proofs.Common.{◌≡◌, Ok, true, refl, sym, subst}
-use Rattle.std.specs.Borrow.{Bor}
+use Rattle.std.proofs.lemmas.Fn.{says_at}
+use Rattle.std.specs.Fn.{FnReturnsAt, FnOnceReturnsAt}
 use Rattle.std.specs.Prelude.{IfSome}
 use Rattle.lru_model.proofs.CallerLemmas.{read-all, read_back, inserted-all, inserted-only}
 use Rattle.lru_model.specs.Calls.{found}
@@ -12,14 +13,14 @@ pub returns-in-Some-clause-answer : goal.returns-in-Some-clause-answer
 returns-in-Some-clause-answer g c =
     let there = sym c.in-Some.ensures.value in (
       _,
-      found_answer g.K.PartialEq.eq g.met.K.Eq.laws (goal.F-post g c.args.function.now) c.args.key c.args.map.now.pairs
-          c.in-Some.value.now c.requires.known there,
+      found_answer g.K.PartialEq.eq g.met.K.Eq.laws (FnReturnsAt g.F.Fn c.args.function.now) c.args.key
+          c.args.map.now.pairs c.in-Some.value.now c.requires.known there,
       (
         Ok true,
         got c.in-Some.value.now there refl
             (read_back (g.K.PartialEq.eq c.args.key) c.args.map.now c.in-Some.value.now there),
       ),
-      c.read.ensures,
+      (_, c.read.ensures, refl),
     )
 
 pub returns-in-Some-clause-map : goal.returns-in-Some-clause-map
@@ -28,21 +29,25 @@ returns-in-Some-clause-map g c =
 
 pub returns-in-Some-clause-stored : goal.returns-in-Some-clause-stored
 returns-in-Some-clause-stored g c = subst
-    (λ there. IfSome there (λ value. (shown : Bor g.row.V.Denot) × (shown.now ≡ value)
-    × goal.U-post g c.args.read shown c.read.result)) c.in-Some.ensures.value (_, refl, c.read.ensures)
+    (λ there. IfSome there (λ value. FnOnceReturnsAt g.U.FnOnce c.args.read value c.read.result))
+    c.in-Some.ensures.value (_, c.read.ensures, refl)
 
 pub returns-in-Some-clause-known : goal.returns-in-Some-clause-known
 returns-in-Some-clause-known g c =
     let eq = g.K.PartialEq.eq in
-    read-all (eq c.args.key) c.args.map.now (λ p. IsAnswer eq (goal.F-post g c.args.function.now) p.0 p.1)
+    read-all (eq c.args.key) c.args.map.now (λ p. IsAnswer eq (FnReturnsAt g.F.Fn c.args.function.now) p.0 p.1)
     c.in-Some.value.now (sym c.in-Some.ensures.value) c.requires.known
 
 pub returns-clause-answer : goal.returns-clause-answer
 returns-clause-answer g c = (
   _,
-  (c.args.key, g.met.K.Eq.laws.refl c.args.key, c.function-value.ensures),
+  (
+    c.args.key,
+    g.met.K.Eq.laws.refl c.args.key,
+    says_at g.F.Fn c.function-value.ensures refl,
+  ),
   (c.insert.result, inserted (sym c.in_default.ensures.value) c.function-value.result refl c.insert.ensures.step),
-  c.read-result.ensures,
+  (_, c.read-result.ensures, refl),
 )
 
 pub returns-clause-known : goal.returns-clause-known
@@ -50,12 +55,12 @@ returns-clause-known g c =
     let eq = g.K.PartialEq.eq in
     let key = c.args.key in
     let value = c.function-value.result in
-    let post = goal.F-post g c.args.function.now in
+    let post = FnReturnsAt g.F.Fn c.args.function.now in
+    let returned : post key value = says_at g.F.Fn c.function-value.ensures refl in
     let old = c.args.map.now in
     let new = c.insert.new.self in
     let insert = c.insert.ensures in
     let evicts = c.inserts_evict_the_oldest.ensures key value old c.insert.result new insert.step in
     let only = inserted-only c.requires.keeps _ eq key old new c.insert.result insert.says insert.stores in
     inserted-all (λ p. IsAnswer eq post p.0 p.1) (eq key) old.pairs new.pairs evicts c.requires.known
-    (λ p named there. inserted_answer eq g.met.K.Eq.laws post key p.0 value p.1 c.function-value.ensures named
-    (only p.1 there))
+    (λ p named there. inserted_answer eq g.met.K.Eq.laws post key p.0 value p.1 returned named (only p.1 there))

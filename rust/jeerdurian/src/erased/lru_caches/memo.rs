@@ -17,35 +17,35 @@ pub(crate) mod table;
 /// inserted (`step` of `answer`).
 ///
 /// ```text
-/// let mut squares = Memo::new(alloc, ByLength::new(9), |n: u64| n.wrapping_mul(n));
+/// let mut squares = Memo::new(alloc, ByLength::new(9), |n: &u64| n.wrapping_mul(*n));
 /// assert_eq!(rt; (squares.answer(3), squares.len()), (9, 1));
 /// ```
 
-pub struct Memo<K: Copy + Eq + Hash, V, F, L: Insertion<K, V, K>, S: KeyHasher<K> = RandomState> {
+pub struct Memo<K: Eq + Hash, V, F, L: Insertion<K, V, K>, S: KeyHasher<K> = RandomState> {
     map: LruMap<K, V, L, S>,
     function: F,
 }
 
-impl<K: Copy + Eq + Hash, V, F: Fn(K) -> V, L: Insertion<K, V, K>> Memo<K, V, F, L, RandomState> {
+impl<K: Eq + Hash, V, F: Fn(&K) -> V, L: Insertion<K, V, K>> Memo<K, V, F, L, RandomState> {
     /// Makes a memo of a function, with no results yet.
     ///
     /// If strangers choose the keys, call `with_hasher`. Cost: `O(1)`, and no memory.
     ///
     /// ```text
-    /// let mut squares = Memo::new(alloc, ByLength::new(9), |n: u64| n.wrapping_mul(n));
+    /// let mut squares = Memo::new(alloc, ByLength::new(9), |n: &u64| n.wrapping_mul(*n));
     /// ```
     pub fn new(alloc: Global, limiter: L, function: F) -> Self {
         Memo { map: LruMap::with_limiter(alloc, limiter), function }
     }
 }
 
-impl<K: Copy + Eq + Hash, V, F: Fn(K) -> V, L: Insertion<K, V, K>, S: KeyHasher<K>> Memo<K, V, F, L, S> {
+impl<K: Eq + Hash, V, F: Fn(&K) -> V, L: Insertion<K, V, K>, S: KeyHasher<K>> Memo<K, V, F, L, S> {
     /// Makes a memo of a function as `new` does, with this hasher of keys, and `entry_bytes` as for
     /// `LruMap::with_hasher`.
     ///
     /// ```text
     /// let seeded = RandomState::with_seeds([5, 6, 7, 8]);
-    /// let cubes = Memo::with_hasher(alloc, ByLength::new(9), seeded, 24, |n: u64| n.wrapping_pow(3));
+    /// let cubes = Memo::with_hasher(alloc, ByLength::new(9), seeded, 24, |n: &u64| n.wrapping_pow(3));
     /// assert!(rt; cubes.is_empty());
     /// ```
     ///
@@ -71,7 +71,7 @@ impl<K: Copy + Eq + Hash, V, F: Fn(K) -> V, L: Insertion<K, V, K>, S: KeyHasher<
     ///
     /// ```text
     /// let seeded = RandomState::with_seeds([5, 6, 7, 8]);
-    /// let cubes = Memo::with_hasher(alloc, ByLength::new(9), seeded, 24, |n: u64| n.wrapping_pow(3));
+    /// let cubes = Memo::with_hasher(alloc, ByLength::new(9), seeded, 24, |n: &u64| n.wrapping_pow(3));
     /// assert!(rt; cubes.is_empty());
     /// ```
     pub fn is_empty(&self) -> bool {
@@ -79,7 +79,7 @@ impl<K: Copy + Eq + Hash, V, F: Fn(K) -> V, L: Insertion<K, V, K>, S: KeyHasher<
     }
 }
 
-impl<K: Copy + Eq + Hash, V: Copy, F: Fn(K) -> V, L: Insertion<K, V, K>, S: KeyHasher<K>> Memo<K, V, F, L, S> {
+impl<K: Eq + Hash, V: Copy, F: Fn(&K) -> V, L: Insertion<K, V, K>, S: KeyHasher<K>> Memo<K, V, F, L, S> {
     /// Returns what the function returns at a key: the stored result, or else the result of a call, which is stored.
     ///
     /// If the memo runs out of memory or its limiter rejects the result, the result is returned without being stored.
@@ -91,17 +91,17 @@ impl<K: Copy + Eq + Hash, V: Copy, F: Fn(K) -> V, L: Insertion<K, V, K>, S: KeyH
     ///
     /// Cost: a get, and if no result is stored, a call of the function and an insert.
     pub fn answer(&mut self, key: K) -> V {
-        remembered(&mut self.map, &self.function, key)
+        self.answer_with(key, |value| *value)
     }
 }
 
-impl<K: Copy + Eq + Hash, V, F: Fn(K) -> V, L: Insertion<K, V, K>, S: KeyHasher<K>> Memo<K, V, F, L, S> {
+impl<K: Eq + Hash, V, F: Fn(&K) -> V, L: Insertion<K, V, K>, S: KeyHasher<K>> Memo<K, V, F, L, S> {
     /// Lends a closure what `answer` would return, and returns what the closure returns. The values need not be `Copy`.
     ///
     /// The closure is called once. It is lent a result also if that is not stored.
     ///
     /// ```text
-    /// let mut blocks = Memo::new(alloc, ByLength::new(9), |n: usize| vec![in alloc; 7u8; n].ok());
+    /// let mut blocks = Memo::new(alloc, ByLength::new(9), |n: &usize| vec![in alloc; 7u8; *n].ok());
     /// assert_eq!(rt; (blocks.answer_with(3, |block| block.is_some()), blocks.len()), (true, 1));
     /// ```
     ///
@@ -109,31 +109,31 @@ impl<K: Copy + Eq + Hash, V, F: Fn(K) -> V, L: Insertion<K, V, K>, S: KeyHasher<
     pub fn answer_with<R, U: FnOnce(&V) -> R>(&mut self, key: K, read: U) -> R {
         read_remembered(&mut self.map, &self.function, key, read)
     }
-}
 
-fn remembered<K: Copy + Eq + Hash, V: Copy, F: Fn(K) -> V, L: Insertion<K, V, K>, S: KeyHasher<K>>(
-    map: &mut LruMap<K, V, L, S>,
-    function: &F,
-    key: K,
-) -> V {
-    laws::inserts_evict_the_oldest::<K, V, K, L, S>();
-    if let Some(value) = map.get(&key) {
-        return *value;
+    /// Removes the stored result of a key, and returns whether there was one.
+    ///
+    /// ```text
+    /// assert!(rt; squares.answer(3) == 9 && squares.remove(&3) && squares.is_empty());
+    /// ```
+    ///
+    /// Cost: `O(1)` expected.
+    pub fn remove(&mut self, key: &K) -> bool {
+        self.map.remove(key).is_some()
     }
-    let value = function(key);
-    let _ = map.insert(key, value);
-    value
+
+    /// Drops all stored results.
+    ///
+    /// ```text
+    /// squares.clear();
+    /// ```
+    ///
+    /// Cost: `O(n)` for n results.
+    pub fn clear(&mut self) {
+        self.map.clear();
+    }
 }
 
-fn read_remembered<
-    K: Copy + Eq + Hash,
-    V,
-    F: Fn(K) -> V,
-    L: Insertion<K, V, K>,
-    S: KeyHasher<K>,
-    R,
-    U: FnOnce(&V) -> R,
->(
+fn read_remembered<K: Eq + Hash, V, F: Fn(&K) -> V, L: Insertion<K, V, K>, S: KeyHasher<K>, R, U: FnOnce(&V) -> R>(
     map: &mut LruMap<K, V, L, S>,
     function: &F,
     key: K,
@@ -143,7 +143,7 @@ fn read_remembered<
     if let Some(value) = map.get(&key) {
         return read(&*value);
     }
-    let value = function(key);
+    let value = function(&key);
     let result = read(&value);
     let _ = map.insert(key, value);
     result

@@ -228,10 +228,17 @@ impl<N: Eq + Hash, K: Eq + Hash, V, L: Budgeted<K, V>, S: KeyHasher<K> + Copy> T
     ///
     /// `NotOpen`: nothing has changed.
     pub fn close(&mut self, name: &N) -> Result<usize, TenantError> {
-        let Some(map) = self.tenants.remove(name) else {
+        let Some(map) = self.take_tenant(name) else {
             return Err(TenantError::NotOpen);
         };
-        self.budgets -= map.limiter().budget() as u128;
         Ok(map.len())
+    }
+
+    pub(crate) fn take_tenant(&mut self, name: &N) -> Option<LruMap<K, V, L, S>> {
+        let Some(map) = self.tenants.remove(name) else {
+            return None;
+        };
+        self.budgets -= map.limiter().budget() as u128;
+        Some(map)
     }
 }

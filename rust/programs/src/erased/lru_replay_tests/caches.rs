@@ -9,14 +9,17 @@ use crate::erased::schnellru::{ByLength, RandomState};
 use crate::programs::lru_replay::references::calls_make_references;
 
 /// Returns an answer of a memo. Unless the memo ran out of memory, the call is a reference.
-fn answer<F: Fn(u64) -> u64>(memo: &mut Memo<u64, u64, F, ByLength>, key: u64) -> u64 {
-    calls_make_references::<u64, u64, RandomState>();
+fn answer<F: Fn(&String) -> u64>(memo: &mut Memo<String, u64, F, ByLength>, key: String) -> u64 {
+    calls_make_references::<String, u64, RandomState>();
     memo.answer(key)
 }
 
 /// Returns a value of a loader. If it was loaded, and the loader did not run out of memory, the call is a reference.
-fn load<F: Fn(u64) -> Result<u64, u64>>(loader: &mut Loader<u64, u64, F, ByLength>, key: u64) -> Result<u64, u64> {
-    calls_make_references::<u64, u64, RandomState>();
+fn load<F: Fn(&String) -> Result<u64, u64>>(
+    loader: &mut Loader<String, u64, F, ByLength>,
+    key: String,
+) -> Result<u64, u64> {
+    calls_make_references::<String, u64, RandomState>();
     let value = loader.load(key)?;
     Ok(value)
 }

@@ -1,95 +1,29 @@
-use Rattle.std.proofs.Common.{arith, Some, None, Ok, Err, [], sym, refl, ◌∙◌, ap}
-use Rattle.std.specs.Option.{option_map, unwrap_or}
+use Rattle.std.proofs.Common.{Some, None, Ok, Err, [], sym, refl, ◌∙◌, ap}
 use Rattle.lru_tenants.specs.TenantRuns.{OfOpen, Closes, ClosePasses, PassesOn}
 use Rattle.lru_tenants.specs.declared.error.TenantError.TheVariants.{NotOpen}
-use Rattle.lru_tenants.proofs.Changes.{on-removed}
-use Rattle.lru_tenants.proofs.Kept.{kept-removed-by, own-within, sum-removed}
+use Rattle.lru_tenants.proofs.Changes.{on-from}
 use Rattle.lru_tenants.proofs.cache.TenantCache.close_with.Goals as goal
 
-pub invariant_of-self : goal.invariant_of-self
-invariant_of-self g c = kept-removed-by g.N.PartialEq.eq c.self.inside.tenants c.remove.new.self c.self.invariant
-    c.args.name.now
-    c.remove.ensures.entries c.remove.ensures.hasher c.self.inside.budgets (omega (
-      arith,
-      ap (λ o. unwrap_or (option_map (λ map. g.L.Budgeted.budget_of map.limiter) o) 0)
-          (sym c.remove.ensures.value ∙ c.in_default.is),
-    ))
-
-pub overflow_sub-self : goal.overflow_sub-self
-overflow_sub-self g c = omega (
-  arith,
-  c.budget.ensures ∙ ap g.L.Budgeted.budget_of c.limiter.ensures,
-  own-within c.self.inside.entry_bytes c.self.inside.tenants c.self.invariant (g.N.PartialEq.eq c.args.name.now)
-      c.in-Some.map (sym c.in-Some.ensures.value),
-)
-
-pub invariant_of-self-2 : goal.invariant_of-self-2
-invariant_of-self-2 g c =
-    let there = ap (λ o. unwrap_or (option_map (λ map. g.L.Budgeted.budget_of map.limiter) o) 0)
-    (sym c.in-Some.ensures.value) in
-    kept-removed-by g.N.PartialEq.eq c.self.inside.tenants c.remove.new.self c.self.invariant c.args.name.now
-    c.remove.ensures.entries c.remove.ensures.hasher _ (omega (
-      arith,
-      there,
-      c.budget.ensures ∙ ap g.L.Budgeted.budget_of c.limiter.ensures,
-      own-within c.self.inside.entry_bytes c.self.inside.tenants c.self.invariant (g.N.PartialEq.eq c.args.name.now)
-          c.in-Some.map (sym c.in-Some.ensures.value),
-    ))
-
-pub returns-clause-tenants : goal.returns-clause-tenants
-returns-clause-tenants g c = (invariant_of-self-2 g c).tenants
-
-pub returns-in_default-clause-tenants : goal.returns-in_default-clause-tenants
-returns-in_default-clause-tenants g c = (invariant_of-self g c).tenants
-
-pub returns-in_default-clause-total : goal.returns-in_default-clause-total
-returns-in_default-clause-total g c = rw (← c.self.view_is) (omega (
-  arith,
-  c.self.invariant.sum,
-  sum-removed g.N.PartialEq.eq c.self.inside.tenants c.remove.new.self c.self.invariant c.args.name.now
-      c.remove.ensures.entries c.remove.ensures.hasher,
-))
-
-pub returns-clause-total : goal.returns-clause-total
-returns-clause-total g c = rw (← c.self.view_is) (omega (
-  arith,
-  c.self.invariant.sum,
-  sum-removed g.N.PartialEq.eq c.self.inside.tenants c.remove.new.self c.self.invariant c.args.name.now
-      c.remove.ensures.entries c.remove.ensures.hasher,
-))
-
 pub returns-in_default-clause-closes : goal.returns-in_default-clause-closes
-returns-in_default-clause-closes g c =
-    rw (← c.self.view_is) (on-removed g.N.PartialEq.eq c.args.name.now
-    c.self.inside.tenants c.remove.new.self
-    (OfOpen Closes) (Err NotOpen) None
-    (sym c.remove.ensures.value ∙ c.in_default.is) c.remove.ensures.updates (refl, refl))
+returns-in_default-clause-closes g c = on-from c.args.name.now (OfOpen Closes) (Err NotOpen) _ _ None None
+    (sym c.take_tenant.ensures.taken ∙ c.in_default.is) (refl, refl) c.take_tenant.ensures.leaves
 
 pub returns-clause-closes : goal.returns-clause-closes
-returns-clause-closes g c =
-    rw (← c.self.view_is) (on-removed g.N.PartialEq.eq c.args.name.now
-    c.self.inside.tenants c.remove.new.self
-    (OfOpen Closes) _ (Some c.in-Some.map)
-    (sym c.in-Some.ensures.value) c.remove.ensures.updates (ap Ok c.empty.ensures.count, refl))
+returns-clause-closes g c = on-from c.args.name.now (OfOpen Closes) _ _ _ (Some c.in-Some.map) None
+    (sym c.take_tenant.ensures.taken ∙ c.in-Some.is) (ap Ok c.empty.ensures.count, refl) c.take_tenant.ensures.leaves
 
 pub returns-in_default-clause-passed : goal.returns-in_default-clause-passed
-returns-in_default-clause-passed g c =
-    rw (← c.self.view_is) (
-      [],
-      refl,
-      on-removed g.N.PartialEq.eq c.args.name.now
-          c.self.inside.tenants
-          c.remove.new.self (PassesOn ClosePasses) [] None
-          (sym c.remove.ensures.value ∙ c.in_default.is) c.remove.ensures.updates (refl, refl),
-    )
+returns-in_default-clause-passed g c = (
+  [],
+  refl,
+  on-from c.args.name.now (PassesOn ClosePasses) [] _ _ None None
+      (sym c.take_tenant.ensures.taken ∙ c.in_default.is) (refl, refl) c.take_tenant.ensures.leaves,
+)
 
 pub returns-clause-passed : goal.returns-clause-passed
-returns-clause-passed g c =
-    rw (← c.self.view_is) (
-      _,
-      c.empty.ensures.passed,
-      on-removed g.N.PartialEq.eq
-          c.args.name.now c.self.inside.tenants c.remove.new.self
-          (PassesOn ClosePasses) _ (Some c.in-Some.map) (sym c.in-Some.ensures.value) c.remove.ensures.updates
-          (refl, refl),
-    )
+returns-clause-passed g c = (
+  _,
+  c.empty.ensures.passed,
+  on-from c.args.name.now (PassesOn ClosePasses) _ _ _ (Some c.in-Some.map) None
+      (sym c.take_tenant.ensures.taken ∙ c.in-Some.is) (refl, refl) c.take_tenant.ensures.leaves,
+)

@@ -18,62 +18,42 @@ use crate::rattle_std::hash::Hash;
 ///
 /// ```text
 /// let disk = [10, 11, 12];
-/// let mut blocks = Loader::new(alloc, ByLength::new(9), |n: usize| disk.get(n).copied().ok_or(n));
+/// let mut blocks = Loader::new(alloc, ByLength::new(9), |n: &usize| disk.get(*n).copied().ok_or(*n));
 /// assert_eq!(rt; (blocks.load(1), blocks.len()), (Ok(11), 1));
 /// assert_eq!(rt; (blocks.load(3), blocks.len()), (Err(3), 1));
 /// ```
 
-pub struct Loader<K: Copy + Eq + Hash, V: Copy, F, L: Insertion<K, V, K>, S: KeyHasher<K> = RandomState> {
+pub struct Loader<K: Eq + Hash, V, F, L: Insertion<K, V, K>, S: KeyHasher<K> = RandomState> {
     map: LruMap<K, V, L, S>,
     function: F,
 }
 
-impl<K: Copy + Eq + Hash, V: Copy, E, F: Fn(K) -> Result<V, E>, L: Insertion<K, V, K>> Loader<K, V, F, L, RandomState> {
+impl<K: Eq + Hash, V, E, F: Fn(&K) -> Result<V, E>, L: Insertion<K, V, K>> Loader<K, V, F, L, RandomState> {
     /// Makes a loader by a function, with no values yet.
     ///
     /// If strangers choose the keys, call `with_hasher`. Cost: `O(1)`, and no memory.
     ///
     /// ```text
-    /// let mut blocks = Loader::new(alloc, ByLength::new(9), |n: usize| disk.get(n).copied().ok_or(n));
+    /// let mut blocks = Loader::new(alloc, ByLength::new(9), |n: &usize| disk.get(*n).copied().ok_or(*n));
     /// ```
     pub fn new(alloc: Global, limiter: L, function: F) -> Self {
         Loader { map: LruMap::with_limiter(alloc, limiter), function }
     }
 }
 
-impl<K: Copy + Eq + Hash, V: Copy, E, F: Fn(K) -> Result<V, E>, L: Insertion<K, V, K>, S: KeyHasher<K>>
-    Loader<K, V, F, L, S>
-{
+impl<K: Eq + Hash, V, E, F: Fn(&K) -> Result<V, E>, L: Insertion<K, V, K>, S: KeyHasher<K>> Loader<K, V, F, L, S> {
     /// Makes a loader by a function as `new` does, with this hasher of keys, and `entry_bytes` as for
     /// `LruMap::with_hasher`.
     ///
     /// ```text
     /// let seeded = RandomState::with_seeds([5, 6, 7, 8]);
-    /// let empty = Loader::with_hasher(alloc, ByLength::new(9), seeded, 24, |n: u64| n.checked_add(1).ok_or(n));
+    /// let empty = Loader::with_hasher(alloc, ByLength::new(9), seeded, 24, |n: &u64| n.checked_add(1).ok_or(*n));
     /// assert!(rt; empty.is_empty());
     /// ```
     ///
     /// Cost: `O(1)`, and no memory.
     pub fn with_hasher(alloc: Global, limiter: L, hasher: S, entry_bytes: usize, function: F) -> Self {
         Loader { map: LruMap::with_hasher(alloc, limiter, hasher, entry_bytes), function }
-    }
-
-    /// Returns the stored value of a key, or else the result of a call of the function. A value that was loaded is
-    /// stored.
-    ///
-    /// If the loader runs out of memory or its limiter rejects the value, the value is returned without being stored.
-    ///
-    /// ```text
-    /// assert_eq!(rt; (blocks.load(1), blocks.len()), (Ok(11), 1));
-    /// ```
-    ///
-    /// Cost: a get, and if no value is stored, a call of the function and an insert.
-    ///
-    /// # Errors
-    ///
-    /// The function failed, with this error. The stored values stay.
-    pub fn load(&mut self, key: K) -> Result<V, E> {
-        loaded(&mut self.map, &self.function, key)
     }
 
     /// Returns how many values are stored.
@@ -93,7 +73,7 @@ impl<K: Copy + Eq + Hash, V: Copy, E, F: Fn(K) -> Result<V, E>, L: Insertion<K, 
     ///
     /// ```text
     /// let seeded = RandomState::with_seeds([5, 6, 7, 8]);
-    /// let empty = Loader::with_hasher(alloc, ByLength::new(9), seeded, 24, |n: u64| n.checked_add(1).ok_or(n));
+    /// let empty = Loader::with_hasher(alloc, ByLength::new(9), seeded, 24, |n: &u64| n.checked_add(1).ok_or(*n));
     /// assert!(rt; empty.is_empty());
     /// ```
     pub fn is_empty(&self) -> bool {
@@ -101,19 +81,70 @@ impl<K: Copy + Eq + Hash, V: Copy, E, F: Fn(K) -> Result<V, E>, L: Insertion<K, 
     }
 }
 
-fn loaded<K: Copy + Eq + Hash, V: Copy, E, F: Fn(K) -> Result<V, E>, L: Insertion<K, V, K>, S: KeyHasher<K>>(
+impl<K: Eq + Hash, V: Copy, E, F: Fn(&K) -> Result<V, E>, L: Insertion<K, V, K>, S: KeyHasher<K>>
+    Loader<K, V, F, L, S>
+{
+    /// Returns the stored value of a key, or else the result of a call of the function. A value that was loaded is
+    /// stored.
+    ///
+    /// If the loader runs out of memory or its limiter rejects the value, the value is returned without being stored.
+    ///
+    /// ```text
+    /// assert_eq!(rt; (blocks.load(1), blocks.len()), (Ok(11), 1));
+    /// ```
+    ///
+    /// Cost: a get, and if no value is stored, a call of the function and an insert.
+    ///
+    /// # Errors
+    ///
+    /// The function failed, with this error. The stored values stay.
+    pub fn load(&mut self, key: K) -> Result<V, E> {
+        self.load_with(key, |value| *value)
+    }
+}
+
+impl<K: Eq + Hash, V, E, F: Fn(&K) -> Result<V, E>, L: Insertion<K, V, K>, S: KeyHasher<K>> Loader<K, V, F, L, S> {
+    /// Lends a closure what `load` would return, and returns what the closure returns. The values need not be `Copy`.
+    ///
+    /// ```text
+    /// let mut texts = Loader::new(alloc, ByLength::new(9), |n: &usize| vec![in alloc; 7u8; *n].map_err(|_| *n));
+    /// assert_eq!(rt; (texts.load_with(3, |text| text.len()), texts.len()), (Ok(3), 1));
+    /// ```
+    ///
+    /// Cost: as `load`, and a call of the closure.
+    ///
+    /// # Errors
+    ///
+    /// The function failed, with this error. The closure is not called, and the stored values stay.
+    pub fn load_with<R, U: FnOnce(&V) -> R>(&mut self, key: K, read: U) -> Result<R, E> {
+        read_loaded(&mut self.map, &self.function, key, read)
+    }
+}
+
+fn read_loaded<
+    K: Eq + Hash,
+    V,
+    E,
+    F: Fn(&K) -> Result<V, E>,
+    L: Insertion<K, V, K>,
+    S: KeyHasher<K>,
+    R,
+    U: FnOnce(&V) -> R,
+>(
     map: &mut LruMap<K, V, L, S>,
     function: &F,
     key: K,
-) -> Result<V, E> {
+    read: U,
+) -> Result<R, E> {
     laws::inserts_evict_the_oldest::<K, V, K, L, S>();
     if let Some(value) = map.get(&key) {
-        return Ok(*value);
+        return Ok(read(&*value));
     }
-    match function(key) {
+    match function(&key) {
         Ok(value) => {
+            let given = read(&value);
             let _ = map.insert(key, value);
-            Ok(value)
+            Ok(given)
         }
         Err(error) => Err(error),
     }

@@ -27,15 +27,15 @@ pub trait Question<K, V> {}
 /// ```text
 /// let mut squares = MemoTable::new(alloc, ByLength::new(9), Squares);
 /// squares.store(3, 9);
-/// assert_eq!(rt; (squares.get(3), squares.get(4), squares.len()), (Some(9), None, 1));
+/// assert_eq!(rt; (squares.get(&3), squares.get(&4), squares.len()), (Some(9), None, 1));
 /// ```
 
-pub struct MemoTable<K: Copy + Eq + Hash, V, Q: Question<K, V>, L: Insertion<K, V, K>, S: KeyHasher<K> = RandomState> {
+pub struct MemoTable<K: Eq + Hash, V, Q: Question<K, V>, L: Insertion<K, V, K>, S: KeyHasher<K> = RandomState> {
     map: LruMap<K, V, L, S>,
     question: Q,
 }
 
-impl<K: Copy + Eq + Hash, V, Q: Question<K, V>, L: Insertion<K, V, K>> MemoTable<K, V, Q, L, RandomState> {
+impl<K: Eq + Hash, V, Q: Question<K, V>, L: Insertion<K, V, K>> MemoTable<K, V, Q, L, RandomState> {
     /// Makes an empty table.
     ///
     /// If strangers choose the keys, call `with_hasher`. Cost: `O(1)`, and no memory.
@@ -48,7 +48,7 @@ impl<K: Copy + Eq + Hash, V, Q: Question<K, V>, L: Insertion<K, V, K>> MemoTable
     }
 }
 
-impl<K: Copy + Eq + Hash, V, Q: Question<K, V>, L: Insertion<K, V, K>, S: KeyHasher<K>> MemoTable<K, V, Q, L, S> {
+impl<K: Eq + Hash, V, Q: Question<K, V>, L: Insertion<K, V, K>, S: KeyHasher<K>> MemoTable<K, V, Q, L, S> {
     /// Makes an empty table as `new` does, with this hasher of keys, and `entry_bytes` as for `LruMap::with_hasher`.
     ///
     /// ```text
@@ -67,7 +67,7 @@ impl<K: Copy + Eq + Hash, V, Q: Question<K, V>, L: Insertion<K, V, K>, S: KeyHas
     /// Cost: `O(1)`.
     ///
     /// ```text
-    /// assert_eq!(rt; (squares.get(3), squares.get(4), squares.len()), (Some(9), None, 1));
+    /// assert_eq!(rt; (squares.get(&3), squares.get(&4), squares.len()), (Some(9), None, 1));
     /// ```
     pub fn len(&self) -> usize {
         self.map.len()
@@ -87,16 +87,30 @@ impl<K: Copy + Eq + Hash, V, Q: Question<K, V>, L: Insertion<K, V, K>, S: KeyHas
     }
 }
 
-impl<K: Copy + Eq + Hash, V: Copy, Q: Question<K, V>, L: Insertion<K, V, K>, S: KeyHasher<K>> MemoTable<K, V, Q, L, S> {
+impl<K: Eq + Hash, V, Q: Question<K, V>, L: Insertion<K, V, K>, S: KeyHasher<K>> MemoTable<K, V, Q, L, S> {
     /// Returns the stored answer at a key, or at a key that equals it, and makes it the newest.
     ///
     /// ```text
-    /// assert_eq!(rt; (squares.get(3), squares.get(4), squares.len()), (Some(9), None, 1));
+    /// assert_eq!(rt; (squares.get(&3), squares.get(&4), squares.len()), (Some(9), None, 1));
     /// ```
     ///
     /// Cost: `O(1)` expected.
-    pub fn get(&mut self, key: K) -> Option<V> {
-        stored::<K, V, Q, L, S>(&mut self.map, key)
+    pub fn get(&mut self, key: &K) -> Option<V>
+    where
+        V: Copy,
+    {
+        self.get_with(key, |value| *value)
+    }
+
+    /// Lends a closure what `get` would return, and returns what the closure returns. The answers need not be `Copy`.
+    ///
+    /// ```text
+    /// assert_eq!(rt; squares.get_with(&3, |square| *square + 1), Some(10));
+    /// ```
+    ///
+    /// Cost: as `get`, and a call of the closure.
+    pub fn get_with<R, U: FnOnce(&V) -> R>(&mut self, key: &K, read: U) -> Option<R> {
+        read_stored::<K, V, Q, L, S, R, U>(&mut self.map, key, read)
     }
 
     /// Stores an answer at a key, as the newest, and returns whether it is stored. It is not if the table runs out of
@@ -112,17 +126,18 @@ impl<K: Copy + Eq + Hash, V: Copy, Q: Question<K, V>, L: Insertion<K, V, K>, S: 
     }
 }
 
-fn stored<K: Copy + Eq + Hash, V: Copy, Q: Question<K, V>, L: Insertion<K, V, K>, S: KeyHasher<K>>(
+fn read_stored<K: Eq + Hash, V, Q: Question<K, V>, L: Insertion<K, V, K>, S: KeyHasher<K>, R, U: FnOnce(&V) -> R>(
     map: &mut LruMap<K, V, L, S>,
-    key: K,
-) -> Option<V> {
-    match map.get(&key) {
-        Some(value) => Some(*value),
+    key: &K,
+    read: U,
+) -> Option<R> {
+    match map.get(key) {
+        Some(value) => Some(read(&*value)),
         None => None,
     }
 }
 
-fn keep<K: Copy + Eq + Hash, V: Copy, Q: Question<K, V>, L: Insertion<K, V, K>, S: KeyHasher<K>>(
+fn keep<K: Eq + Hash, V, Q: Question<K, V>, L: Insertion<K, V, K>, S: KeyHasher<K>>(
     map: &mut LruMap<K, V, L, S>,
     key: K,
     value: V,

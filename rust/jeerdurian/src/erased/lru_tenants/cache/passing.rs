@@ -109,10 +109,9 @@ impl<N: Eq + Hash, K: Eq + Hash, V, L: Budgeted<K, V>, S: KeyHasher<K> + Copy> T
     ///
     /// `NotOpen`: nothing has changed.
     pub fn close_with<F: FnMut(K, V)>(&mut self, name: &N, sink: &mut F) -> Result<usize, TenantError> {
-        let Some(mut map) = self.tenants.remove(name) else {
+        let Some(mut map) = self.take_tenant(name) else {
             return Err(TenantError::NotOpen);
         };
-        self.budgets -= map.limiter().budget() as u128;
         Ok(empty(&mut map, sink))
     }
 }

@@ -29,7 +29,7 @@ fn use_key(keys: &mut [u64; 100], length: u32, key: u64) -> bool {
     false
 }
 
-fn count<F: Fn(u64) -> u64, G: Fn(u64) -> Result<u64, u64>>(
+fn count<F: Fn(&u64) -> u64, G: Fn(&u64) -> Result<u64, u64>>(
     mut memo: Memo<u64, u64, F, ByLength>,
     mut loader: Loader<u64, u64, G, ByLength>,
     calls: &Cell<u64>,
@@ -53,13 +53,13 @@ pub fn calls_that_agree(alloc: Global) -> u64 {
     let mut sum = 0u64;
     for length in LENGTHS {
         let calls = Cell::new(0u64);
-        let mut memo = Memo::new(alloc, ByLength::new(length), |n: u64| {
+        let mut memo = Memo::new(alloc, ByLength::new(length), |n: &u64| {
             calls.set(calls.get().saturating_add(1));
-            n
+            *n
         });
-        let mut loader = Loader::new(alloc, ByLength::new(length), |n: u64| {
+        let mut loader = Loader::new(alloc, ByLength::new(length), |n: &u64| {
             calls.set(calls.get().saturating_add(1));
-            if n <= KEYS { Ok(n) } else { Err(n) }
+            if *n <= KEYS { Ok(*n) } else { Err(*n) }
         });
         let hog = Hog::new(alloc, &[]);
         let (answer, loaded) = (memo.answer(0), loader.load(0));
