@@ -10,5 +10,6 @@ bool fits(struct lru &lru, struct lru_bytes &bytes) {
     lru_free(&none);
     lru_bytes_free(&no_bytes);
     return lru_new(&lru, 2, seeds) && lru_insert(&lru, 1, 2, &evicted).code == LRU_STORED
-        && lru_bytes_new(&bytes, 200, seeds) && lru_bytes_put(&bytes, key, 1, key, 0) == LRU_STORED;
+        && lru_bytes_new(&bytes, 200, seeds) && lru_bytes_put(&bytes, key, 1, NULL, 0) == LRU_STORED
+        && lru_bytes_peek(&bytes, key, 1, NULL, 0).found;
 }

@@ -13,9 +13,9 @@
  * What the caller must guarantee, since nothing checks it:
  * - A handle is LRU_NONE, or what the last call left in it. Nothing writes its field, and no copy of a handle is
  *   used besides it. A handle may be moved, as by memcpy, if the old place is not used any more.
- * - No pointer is null, even if its length is 0. A handle is writable and aligned. A pointer with a length points to
- *   that number of elements. What a pointer points to has been written before, as by an initializer, also if the call
- *   only writes it. What a call writes overlaps nothing else of the call.
+ * - No pointer is null, except one whose length is 0. A handle is writable and aligned. A pointer with a length points
+ *   to that number of elements. What a pointer points to has been written before, as by an initializer, also if the
+ *   call only writes it. What a call writes overlaps nothing else of the call.
  * - There is one call on a handle at a time. A thread that takes a handle over from another one synchronises with it.
  * - No call comes from a signal handler, or from the forked child of a process with threads.
  * - malloc, realloc and free belong together, and align a block of n bytes to each power of two up to 16 that
@@ -260,6 +260,40 @@ void lru_bytes_set_budget(struct lru_bytes *lru, uint64_t budget);
 
 /* Removes all entries. The map keeps the memory of its table. */
 void lru_bytes_clear(struct lru_bytes *lru);
+
+/* The functions of the library take no null. These macros, which have the functions' names, pass an address that nothing
+ * reads or writes instead of a null whose length is 0. So lru_bytes_peek(&lru, key, len, NULL, 0) returns the length of a
+ * value. A program that calls the functions by their addresses passes no null. */
+static inline const uint8_t *lru_bytes_in(const uint8_t *bytes) {
+    static const uint8_t none = 0;
+    return bytes ? bytes : &none;
+}
+
+static inline uint8_t *lru_bytes_out(uint8_t *bytes) {
+    static uint8_t none = 0;
+    return bytes ? bytes : &none;
+}
+
+static inline struct lru_entry *lru_entries_out(struct lru_entry *entries) {
+    static struct lru_entry none = {0, 0};
+    return entries ? entries : &none;
+}
+
+#define lru_copy_newest(lru, entries, count) (lru_copy_newest)(lru, lru_entries_out(entries), count)
+#define lru_bytes_put(lru, key, key_len, value, value_len) \
+    (lru_bytes_put)(lru, lru_bytes_in(key), key_len, lru_bytes_in(value), value_len)
+#define lru_bytes_get(lru, key, key_len, buffer, size) \
+    (lru_bytes_get)(lru, lru_bytes_in(key), key_len, lru_bytes_out(buffer), size)
+#define lru_bytes_peek(lru, key, key_len, buffer, size) \
+    (lru_bytes_peek)(lru, lru_bytes_in(key), key_len, lru_bytes_out(buffer), size)
+#define lru_bytes_contains(lru, key, key_len) (lru_bytes_contains)(lru, lru_bytes_in(key), key_len)
+#define lru_bytes_remove(lru, key, key_len) (lru_bytes_remove)(lru, lru_bytes_in(key), key_len)
+#define lru_bytes_pop_oldest(lru, key, key_size, value, value_size) \
+    (lru_bytes_pop_oldest)(lru, lru_bytes_out(key), key_size, lru_bytes_out(value), value_size)
+#define lru_bytes_peek_oldest(lru, key, key_size, value, value_size) \
+    (lru_bytes_peek_oldest)(lru, lru_bytes_out(key), key_size, lru_bytes_out(value), value_size)
+#define lru_bytes_peek_at(lru, index, key, key_size, value, value_size) \
+    (lru_bytes_peek_at)(lru, index, lru_bytes_out(key), key_size, lru_bytes_out(value), value_size)
 
 #ifdef __cplusplus
 }

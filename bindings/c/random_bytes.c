@@ -75,6 +75,14 @@ static struct buffer buffer_of(size_t size) {
     return buffer;
 }
 
+/* Where a call writes: null now and then, if that is nowhere. */
+static uint8_t *start_of(struct buffer buffer) {
+    return buffer.size || next() % 2 ? buffer.block + SPARE : NULL;
+}
+
+/* The bytes of a text: null now and then, if there are none. */
+static const uint8_t *bytes_of(const struct text *text) { return text->len || next() % 2 ? text->bytes : NULL; }
+
 /* Whether the buffer begins with the text, if there is one, and nothing else was written. Frees the buffer. */
 static bool holds(struct buffer buffer, const struct text *text) {
     size_t len = text ? text->len : 0;
@@ -87,7 +95,7 @@ static bool holds(struct buffer buffer, const struct text *text) {
 
 static bool try_put(struct lru_bytes *lru, struct list *list, struct text key, struct text value) {
     int i = find(list, &key);
-    uint32_t code = lru_bytes_put(lru, key.bytes, key.len, value.bytes, value.len);
+    uint32_t code = lru_bytes_put(lru, bytes_of(&key), key.len, bytes_of(&value), value.len);
     if (code == LRU_OUT_OF_MEMORY) {
         CHECK(fail_each && weight(&key, &value) <= list->budget);
         return true;
@@ -114,9 +122,9 @@ static bool try_read(struct lru_bytes *lru, struct list *list, bool promotes, st
     int i = find(list, &key);
     size_t len = i < 0 ? 0 : list->value[i].len;
     struct buffer buffer = buffer_of(next() % 2 ? len + next() % 3 : next() % (len + 1));
-    uint8_t *start = buffer.block + SPARE;
-    struct lru_value got = promotes ? lru_bytes_get(lru, key.bytes, key.len, start, buffer.size)
-                                    : lru_bytes_peek(lru, key.bytes, key.len, start, buffer.size);
+    uint8_t *start = start_of(buffer);
+    struct lru_value got = promotes ? lru_bytes_get(lru, bytes_of(&key), key.len, start, buffer.size)
+                                    : lru_bytes_peek(lru, bytes_of(&key), key.len, start, buffer.size);
     CHECK(got.found == (i >= 0) && got.len == len);
     CHECK(holds(buffer, i >= 0 && len <= buffer.size ? &list->value[i] : NULL));
     if (i < 0 || !promotes) return true;
@@ -132,7 +140,7 @@ static bool try_pop(struct lru_bytes *lru, struct list *list) {
     struct buffer value = buffer_of(next() % 4 ? value_len + next() % 3 : next() % (value_len + 1));
     bool fits = list->len && key_len <= key.size && value_len <= value.size;
     struct lru_popped popped =
-        lru_bytes_pop_oldest(lru, key.block + SPARE, key.size, value.block + SPARE, value.size);
+        lru_bytes_pop_oldest(lru, start_of(key), key.size, start_of(value), value.size);
     CHECK(popped.found == (list->len > 0) && popped.removed == fits);
     CHECK(popped.key_len == key_len && popped.value_len == value_len);
     CHECK(holds(key, fits ? &list->key[0] : NULL));
@@ -151,7 +159,7 @@ static bool try_peek(struct lru_bytes *lru, const struct list *list, bool oldest
     struct buffer key = buffer_of(next() % 4 ? key_len + next() % 3 : next() % (key_len + 1));
     struct buffer value = buffer_of(next() % 4 ? value_len + next() % 3 : next() % (value_len + 1));
     bool fits = found && key_len <= key.size && value_len <= value.size;
-    uint8_t *key_start = key.block + SPARE, *value_start = value.block + SPARE;
+    uint8_t *key_start = start_of(key), *value_start = start_of(value);
     struct lru_popped seen = oldest ? lru_bytes_peek_oldest(lru, key_start, key.size, value_start, value.size)
                                     : lru_bytes_peek_at(lru, index, key_start, key.size, value_start, value.size);
     CHECK(seen.found == found && !seen.removed && seen.key_len == key_len && seen.value_len == value_len);
@@ -196,9 +204,9 @@ static bool try_call(struct lru_bytes *lru, struct list *list, const uint64_t se
     if (kind < 450) return try_put(lru, list, key, random_value());
     if (kind < 800) return try_read(lru, list, kind < 650, key);
     if (kind < 850) {
-        CHECK(lru_bytes_contains(lru, key.bytes, key.len) == (i >= 0));
+        CHECK(lru_bytes_contains(lru, bytes_of(&key), key.len) == (i >= 0));
     } else if (kind < 900) {
-        CHECK(lru_bytes_remove(lru, key.bytes, key.len) == (i >= 0));
+        CHECK(lru_bytes_remove(lru, bytes_of(&key), key.len) == (i >= 0));
         if (i >= 0) drop(list, i);
     } else if (kind < 960) {
         return try_pop(lru, list);

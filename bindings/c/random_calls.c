@@ -108,7 +108,7 @@ static bool try_copy(struct lru *lru, const struct list *list) {
     size_t count = next() % (MOST + 2), copied = count < list->len ? count : list->len;
     memset(entries, 0xa5, sizeof entries);
     struct lru_entry untouched = entries[MOST + 1];
-    CHECK(lru_copy_newest(lru, entries, count) == copied);
+    CHECK(lru_copy_newest(lru, count || next() % 2 ? entries : NULL, count) == copied);
     for (size_t i = 0; i < copied; i++) {
         struct lru_pair entry = {entries[i].key, entries[i].value, true};
         CHECK(same(entry, at(list, list->len - 1 - i)));

@@ -7,8 +7,8 @@ use Rattle.std.proofs.lemmas.List.Sums.{sum_by-cons, sum_by-set, get_or-le-sum_b
 use Rattle.std.proofs.Math.ListN.{get_or-map}
 use native.Mathlib.Decide.{dec_lt}
 use Rattle.group_table.specs.Sizes.{full_capacity}
-use Rattle.group_table.specs.Bucket.{Bucket, Mark, empty, deleted, full, is_full, is_deleted, is_used, bucket_at}
-use Rattle.group_table.specs.Bucket.{IsFull, entry_count, mark_of, marks_of, growth_left}
+use Rattle.group_table.specs.Bucket.{Bucket, BucketState, empty, deleted, full, is_full, is_deleted, is_used, bucket_at}
+use Rattle.group_table.specs.Bucket.{IsFull, entry_count, bucket_state, bucket_states, growth_left}
 
 module _ {A : Type 0} where
   pub empty_not_full : (s : Bucket A) → s ≡ empty → is_full s ≡ true → ⊥
@@ -21,25 +21,25 @@ module _ {A : Type 0} where
   full_not_deleted s h e = false≢true (sym (ap is_full e) ∙ h)
 
 module _ {A : Type 0} where
-  pub mark_of-full : (s : Bucket A) → is_full (mark_of s) ≡ is_full s
-  mark_of-full empty = refl
-  mark_of-full deleted = refl
-  mark_of-full (full held) = refl
+  pub bucket_state-full : (s : Bucket A) → is_full (bucket_state s) ≡ is_full s
+  bucket_state-full empty = refl
+  bucket_state-full deleted = refl
+  bucket_state-full (full held) = refl
 
-  pub mark_of-used : (s : Bucket A) → is_used (mark_of s) ≡ is_used s
-  mark_of-used empty = refl
-  mark_of-used deleted = refl
-  mark_of-used (full held) = refl
+  pub bucket_state-used : (s : Bucket A) → is_used (bucket_state s) ≡ is_used s
+  bucket_state-used empty = refl
+  bucket_state-used deleted = refl
+  bucket_state-used (full held) = refl
 
-  pub mark_of-deleted : (s : Bucket A) → is_deleted (mark_of s) ≡ is_deleted s
-  mark_of-deleted empty = refl
-  mark_of-deleted deleted = refl
-  mark_of-deleted (full held) = refl
+  pub bucket_state-deleted : (s : Bucket A) → is_deleted (bucket_state s) ≡ is_deleted s
+  bucket_state-deleted empty = refl
+  bucket_state-deleted deleted = refl
+  bucket_state-deleted (full held) = refl
 
-  mark_empty : (s : Bucket A) → mark_of s ≡ empty → s ≡ empty
-  mark_empty empty e = refl
-  mark_empty deleted e = absurd (empty_not_deleted {A = Unit {0}} deleted e refl)
-  mark_empty (full held) e = absurd (empty_not_full {A = Unit {0}} (full tt) e refl)
+  state_empty : (s : Bucket A) → bucket_state s ≡ empty → s ≡ empty
+  state_empty empty e = refl
+  state_empty deleted e = absurd (empty_not_deleted {A = Unit {0}} deleted e refl)
+  state_empty (full held) e = absurd (empty_not_full {A = Unit {0}} (full tt) e refl)
 
   pub used_from_full : (s : Bucket A) → is_full s ≡ true → is_used s ≡ true
   used_from_full empty e = e
@@ -55,24 +55,24 @@ module _ {A : Type 0} where
     | no p ↦ absurd (empty_not_full _ (bucket_at-past buckets b (omega arith)) there)
   ]
 
-  pub length-marks_of : (buckets : List (Bucket A)) → length (marks_of buckets) ≡ length buckets
-  length-marks_of buckets = length-map buckets mark_of
+  pub length-bucket_states : (buckets : List (Bucket A)) → length (bucket_states buckets) ≡ length buckets
+  length-bucket_states buckets = length-map buckets bucket_state
 
-  pub bucket_at-marks_of : (buckets : List (Bucket A)) (b : ℕ)
-      → bucket_at (marks_of buckets) b ≡ mark_of (bucket_at buckets b)
-  bucket_at-marks_of buckets b = get_or-map mark_of buckets b empty
+  pub bucket_at-bucket_states : (buckets : List (Bucket A)) (b : ℕ)
+      → bucket_at (bucket_states buckets) b ≡ bucket_state (bucket_at buckets b)
+  bucket_at-bucket_states buckets b = get_or-map bucket_state buckets b empty
 
-  pub marks_of-set : (buckets : List (Bucket A)) (b : ℕ) (s : Bucket A)
-      → marks_of (set buckets b s) ≡ set (marks_of buckets) b (mark_of s)
-  marks_of-set buckets b s = map-set mark_of buckets b s
+  pub bucket_states-set : (buckets : List (Bucket A)) (b : ℕ) (s : Bucket A)
+      → bucket_states (set buckets b s) ≡ set (bucket_states buckets) b (bucket_state s)
+  bucket_states-set buckets b s = map-set bucket_state buckets b s
 
-  pub empty_mark : (buckets : List (Bucket A)) (b : ℕ) → bucket_at (marks_of buckets) b ≡ empty
+  pub empty_state : (buckets : List (Bucket A)) (b : ℕ) → bucket_at (bucket_states buckets) b ≡ empty
       → bucket_at buckets b ≡ empty
-  empty_mark buckets b e = mark_empty _ (sym (bucket_at-marks_of buckets b) ∙ e)
+  empty_state buckets b e = state_empty _ (sym (bucket_at-bucket_states buckets b) ∙ e)
 
-  pub is_full-marks_of : (buckets : List (Bucket A)) (b : ℕ)
-      → is_full (bucket_at (marks_of buckets) b) ≡ is_full (bucket_at buckets b)
-  is_full-marks_of buckets b = ap is_full (bucket_at-marks_of buckets b) ∙ mark_of-full (bucket_at buckets b)
+  pub is_full-bucket_states : (buckets : List (Bucket A)) (b : ℕ)
+      → is_full (bucket_at (bucket_states buckets) b) ≡ is_full (bucket_at buckets b)
+  is_full-bucket_states buckets b = ap is_full (bucket_at-bucket_states buckets b) ∙ bucket_state-full (bucket_at buckets b)
 
   pub count_by-cons : (p : Bucket A → Bool) (s : Bucket A) (rest : List (Bucket A))
       → count_by p (s ∷ rest) ≡ cond (p s) 1 0 + count_by p rest
@@ -97,23 +97,23 @@ module _ {A : Type 0} where
       let one : ◌≡◌ {A = ℕ} (cond (p (bucket_at buckets b)) 1 0) 1 = ap (λ t. cond {A = ℕ} t 1 0) e in
       omega (arith, least, one)
 
-module _ {A : Type 0} (p : Bucket A → Bool) (q : Mark → Bool) (same : (s : Bucket A) → q (mark_of s) ≡ p s) where
-  count_by-marks_of : (buckets : List (Bucket A)) → count_by q (marks_of buckets) ≡ count_by p buckets
-  count_by-marks_of [] = refl
-  count_by-marks_of (s ∷ rest) =
-      count_by-cons q (mark_of s) (marks_of rest) ∙ ap (λ t. cond {A = ℕ} t 1 0 + count_by q (marks_of rest)) (same s)
-      ∙ ap (λ n. cond {A = ℕ} (p s) 1 0 + n) (count_by-marks_of rest) ∙ sym (count_by-cons p s rest)
+module _ {A : Type 0} (p : Bucket A → Bool) (q : BucketState → Bool) (same : (s : Bucket A) → q (bucket_state s) ≡ p s) where
+  count_by-bucket_states : (buckets : List (Bucket A)) → count_by q (bucket_states buckets) ≡ count_by p buckets
+  count_by-bucket_states [] = refl
+  count_by-bucket_states (s ∷ rest) =
+      count_by-cons q (bucket_state s) (bucket_states rest) ∙ ap (λ t. cond {A = ℕ} t 1 0 + count_by q (bucket_states rest)) (same s)
+      ∙ ap (λ n. cond {A = ℕ} (p s) 1 0 + n) (count_by-bucket_states rest) ∙ sym (count_by-cons p s rest)
 
 module _ {A : Type 0} where
-  pub entry_count-marks_of : (buckets : List (Bucket A)) → entry_count (marks_of buckets) ≡ entry_count buckets
-  entry_count-marks_of buckets = count_by-marks_of is_full is_full mark_of-full buckets
+  pub entry_count-bucket_states : (buckets : List (Bucket A)) → entry_count (bucket_states buckets) ≡ entry_count buckets
+  entry_count-bucket_states buckets = count_by-bucket_states is_full is_full bucket_state-full buckets
 
-  pub used_count-marks_of : (buckets : List (Bucket A)) → count_by is_used (marks_of buckets) ≡ count_by is_used buckets
-  used_count-marks_of buckets = count_by-marks_of is_used is_used mark_of-used buckets
+  pub used_count-bucket_states : (buckets : List (Bucket A)) → count_by is_used (bucket_states buckets) ≡ count_by is_used buckets
+  used_count-bucket_states buckets = count_by-bucket_states is_used is_used bucket_state-used buckets
 
-  pub deleted_count-marks_of : (buckets : List (Bucket A))
-      → count_by is_deleted (marks_of buckets) ≡ count_by is_deleted buckets
-  deleted_count-marks_of buckets = count_by-marks_of is_deleted is_deleted mark_of-deleted buckets
+  pub deleted_count-bucket_states : (buckets : List (Bucket A))
+      → count_by is_deleted (bucket_states buckets) ≡ count_by is_deleted buckets
+  deleted_count-bucket_states buckets = count_by-bucket_states is_deleted is_deleted bucket_state-deleted buckets
 
   pub used_count-split : (buckets : List (Bucket A))
       → count_by is_used buckets ≡ entry_count buckets + count_by is_deleted buckets
@@ -162,6 +162,6 @@ module _ {A : Type 0} where
   some_empty (full held ∷ rest) p = let w = some_empty rest (omega (arith, count_by-cons is_used (full held) rest)) in
       (suc w.0, omega (arith, w.1), w.2)
 
-pub room_is : (marks : List Mark) → growth_left marks ≡ full_capacity (length marks) - count_by is_used marks
+pub room_is : (states : List BucketState) → growth_left states ≡ full_capacity (length states) - count_by is_used states
 unfolding growth_left
-room_is marks = refl
+room_is states = refl

@@ -43,15 +43,15 @@ none_val = vstruct (vcons (vstruct vnil) vnil)
 
 module _ (R : RattleType) where
   -- the owner of places, and the right to give a block back, by what they have in memory
-  abbrev pub Mark : RattleType
-  Mark = Struct (shape (cells.the_type R))
+  abbrev pub BucketState : RattleType
+  BucketState = Struct (shape (cells.the_type R))
 
-  pub none_told : (vs : List Val) → Is Mark (tt, tt) vs → vs ≡ none_val ∷ []
+  pub none_told : (vs : List Val) → Is BucketState (tt, tt) vs → vs ≡ none_val ∷ []
   none_told vs is = is.1.0 ∙ ap (λ (ws : List Val). vstruct (of_list (ws ++ [])) ∷ []) is.1.1.0.1.0
 
   module _ {M : Type 1} {𝓤 : Ura M} (𝓛 : Logic 𝓤) where
-    pub none_made : ent 𝓤 (emp 𝓤) (sem 𝓛 (Mark.own_val (tt, tt) (none_val ∷ [])))
-    none_made = makes_shadow 𝓛 (Mark.own_val (tt, tt) (none_val ∷ [])) (λ vss. (tt, ((λ uss. (tt, tt)), tt)))
+    pub none_made : ent 𝓤 (emp 𝓤) (sem 𝓛 (BucketState.own_val (tt, tt) (none_val ∷ [])))
+    none_made = makes_shadow 𝓛 (BucketState.own_val (tt, tt) (none_val ∷ [])) (λ vss. (tt, ((λ uss. (tt, tt)), tt)))
         ((vstruct vnil ∷ [], tt), (refl, ((tt, (refl, tt)), tt)))
 
     pub block_made : (p : Ptr)

@@ -2,22 +2,22 @@
 use Rattle.std.proofs.Common.{◌≡◌, ◌≢◌, ℕ, ◌+◌, ◌<◌, cond, List, [], ◌∷◌, length, set, None, inl, inr, refl, ap}
 use Rattle.std.proofs.Common.{sym, ◌∙◌, arith, length-set}
 use Rattle.group_table.specs.Bucket.{Bucket, Slot, Tagged, empty, deleted, full, bucket_at, is_full, IsFull, entry_at}
-use Rattle.group_table.specs.Bucket.{entry_of, entry_count, mark_of, marks_of}
+use Rattle.group_table.specs.Bucket.{entry_of, entry_count, bucket_state, bucket_states}
 use Rattle.group_table.specs.Probe.{hash_tag}
 use Rattle.group_table.specs.Table.{Table, Insertions}
-use Rattle.group_table.specs.Change.{Places, Removes, count_up, placings, one_placed, some_moved}
+use Rattle.group_table.specs.Change.{Places, Removes, count_up, insertion_count, one_placed, some_moved}
 use Rattle.group_table.proofs.BucketLemmas.{bucket_at-set_same, bucket_at-set_other, count_by-set}
-use Rattle.group_table.proofs.BucketLemmas.{full_lt, is_full-marks_of, marks_of-set}
+use Rattle.group_table.proofs.BucketLemmas.{full_lt, is_full-bucket_states, bucket_states-set}
 
-pub placings-placed : (c : Insertions) → placings (one_placed c) ≡ count_up (placings c) 1
-placings-placed c = omega arith
+pub insertion_count-placed : (c : Insertions) → insertion_count (one_placed c) ≡ count_up (insertion_count c) 1
+insertion_count-placed c = omega arith
 
-pub placings-moved : (c : Insertions) (n : ℕ) → placings (some_moved c n) ≡ count_up (placings c) n
-placings-moved c n = omega arith
+pub insertion_count-moved : (c : Insertions) (n : ℕ) → insertion_count (some_moved c n) ≡ count_up (insertion_count c) n
+insertion_count-moved c n = omega arith
 
 module _ {T : Type 0} (old new : Table T) (hash : ℕ) (entry : T) (b : ℕ) (places : Places old new hash entry b) where
-  placed_free : is_full (bucket_at old.slots b) ≡ is_full (bucket_at (marks_of old.slots) b)
-  placed_free = sym (is_full-marks_of old.slots b)
+  placed_free : is_full (bucket_at old.slots b) ≡ is_full (bucket_at (bucket_states old.slots) b)
+  placed_free = sym (is_full-bucket_states old.slots b)
 
   module _ (within : b < length old.slots) where
     pub entry_count-places : entry_count new.slots ≡ entry_count old.slots + 1
@@ -60,16 +60,16 @@ module _ {T : Type 0} (old new : List (Slot T)) (b : ℕ) where
   entry_count-removes there (inr w) = one_fewer deleted refl there w.1
 
 module _ {A : Type 0} where
-  state_again : (s : Bucket A) → mark_of (mark_of s) ≡ mark_of s
+  state_again : (s : Bucket A) → bucket_state (bucket_state s) ≡ bucket_state s
   state_again empty = refl
   state_again deleted = refl
   state_again (full held) = refl
 
-  states_again : (buckets : List (Bucket A)) → marks_of (marks_of buckets) ≡ marks_of buckets
+  states_again : (buckets : List (Bucket A)) → bucket_states (bucket_states buckets) ≡ bucket_states buckets
   states_again [] = refl
-  states_again (s ∷ rest) = ap (λ t. t ∷ marks_of (marks_of rest)) (state_again s)
-      ∙ ap (λ ts. mark_of s ∷ ts) (states_again rest)
+  states_again (s ∷ rest) = ap (λ t. t ∷ bucket_states (bucket_states rest)) (state_again s)
+      ∙ ap (λ ts. bucket_state s ∷ ts) (states_again rest)
 
-  pub states-removed : (old new : List (Bucket A)) (b : ℕ) → Removes old new b → Removes (marks_of old) (marks_of new) b
-  states-removed old new b (inl w) = inl (rw (states_again old) w.0, ap marks_of w.1 ∙ marks_of-set old b empty)
-  states-removed old new b (inr w) = inr (rw (states_again old) w.0, ap marks_of w.1 ∙ marks_of-set old b deleted)
+  pub states-removed : (old new : List (Bucket A)) (b : ℕ) → Removes old new b → Removes (bucket_states old) (bucket_states new) b
+  states-removed old new b (inl w) = inl (rw (states_again old) w.0, ap bucket_states w.1 ∙ bucket_states-set old b empty)
+  states-removed old new b (inr w) = inr (rw (states_again old) w.0, ap bucket_states w.1 ∙ bucket_states-set old b deleted)

@@ -8,12 +8,12 @@ use Rattle.std.specs.declared.alloc.AllocError.{AllocError}
 use Rattle.std.specs.Borrow.{Bor}
 use Rattle.std.specs.Fn.{Shared}
 use Rattle.group_table.specs.Bucket.{Slot, Tagged, empty, deleted, full, bucket_at, is_used, is_full, entry_count}
-use Rattle.group_table.specs.Bucket.{mark_of, marks_of}
+use Rattle.group_table.specs.Bucket.{bucket_state, bucket_states}
 use Rattle.group_table.specs.Fits.{Fits}
 use Rattle.group_table.specs.Layout.{slot_of, slots_of, byte_of, Agrees, IsValid}
 use Rattle.group_table.specs.Copies.{IsCopyOf, Copies, IsPlaceCopy}
-use Rattle.group_table.proofs.BucketLemmas.{empty_not_full, empty_not_deleted, full_not_deleted, used_count-marks_of}
-use Rattle.group_table.proofs.BucketLemmas.{entry_count-marks_of, is_full-marks_of}
+use Rattle.group_table.proofs.BucketLemmas.{empty_not_full, empty_not_deleted, full_not_deleted, used_count-bucket_states}
+use Rattle.group_table.proofs.BucketLemmas.{entry_count-bucket_states, is_full-bucket_states}
 use Rattle.group_table.proofs.FitsLemmas.{one_held}
 use Rattle.group_table.proofs.WriteLemmas.{byte_at-same}
 
@@ -66,17 +66,17 @@ module _ {T F : Type 0} (closure : Shared F (Bor T × Unit {0}) (Result T AllocE
   byte_of-copy deleted n h = ap byte_of h
   byte_of-copy (full held) n h = ap byte_of h.2
 
-  mark_of-copy : (s n : Slot T) → IsCopyOf closure f s n → mark_of n ≡ mark_of s
-  mark_of-copy empty n h = ap mark_of h
-  mark_of-copy deleted n h = ap mark_of h
-  mark_of-copy (full held) n h = ap mark_of h.2
+  bucket_state-copy : (s n : Slot T) → IsCopyOf closure f s n → bucket_state n ≡ bucket_state s
+  bucket_state-copy empty n h = ap bucket_state h
+  bucket_state-copy deleted n h = ap bucket_state h
+  bucket_state-copy (full held) n h = ap bucket_state h.2
 
-  pub marks_of-copies : (old new : List (Slot T)) → Copies closure f old new → marks_of new ≡ marks_of old
-  marks_of-copies [] [] h = refl
-  marks_of-copies [] (n ∷ new) h = absurd h
-  marks_of-copies (s ∷ old) [] h = absurd h
-  marks_of-copies (s ∷ old) (n ∷ new) h =
-      ap (λ m. m ∷ marks_of new) (mark_of-copy s n h.0) ∙ ap (λ ms. mark_of s ∷ ms) (marks_of-copies old new h.1)
+  pub bucket_states-copies : (old new : List (Slot T)) → Copies closure f old new → bucket_states new ≡ bucket_states old
+  bucket_states-copies [] [] h = refl
+  bucket_states-copies [] (n ∷ new) h = absurd h
+  bucket_states-copies (s ∷ old) [] h = absurd h
+  bucket_states-copies (s ∷ old) (n ∷ new) h =
+      ap (λ m. m ∷ bucket_states new) (bucket_state-copy s n h.0) ∙ ap (λ ms. bucket_state s ∷ ms) (bucket_states-copies old new h.1)
 
   was_full : (s n : Slot T) (held : Tagged T) → IsCopyOf closure f s n → n ≡ full held → (was : Tagged T)
       × (s ≡ full was) × (held.tag ≡ was.tag)
@@ -92,13 +92,13 @@ module _ {T F : Type 0} (closure : Shared F (Bor T × Unit {0}) (Result T AllocE
   pub Fits-copies : (old new : List (Slot T)) (hash_of : ℕ → ℕ) → Copies closure f old new → Fits old hash_of
       → Fits new hash_of
   Fits-copies old new hash_of h fits =
-      let marks = marks_of-copies old new h in
+      let states = bucket_states-copies old new h in
       record {
         tags = λ b held e. let w = was_full (bucket_at old b) (bucket_at new b) held (copy_each old new h b) e in
             w.2 ∙ fits.tags b w.0 w.1;
-        reached = λ b there. rw marks
+        reached = λ b there. rw states
             (fits.reached b
-            (sym (is_full-marks_of old b) ∙ ap (λ ms. is_full (bucket_at ms b)) (sym marks) ∙ is_full-marks_of new b
+            (sym (is_full-bucket_states old b) ∙ ap (λ ms. is_full (bucket_at ms b)) (sym states) ∙ is_full-bucket_states new b
             ∙ there));
       }
 
@@ -115,20 +115,20 @@ module _ {T F : Type 0} (closure : Shared F (Bor T × Unit {0}) (Result T AllocE
     copied : Copies closure f (slots_of control entries) (slots_of control copies)
     copied = Copies-places control entries copies h
 
-    marks : marks_of (slots_of control copies) ≡ marks_of (slots_of control entries)
-    marks = marks_of-copies _ _ copied
+    states : bucket_states (slots_of control copies) ≡ bucket_states (slots_of control entries)
+    states = bucket_states-copies _ _ copied
 
     same_slots : length (slots_of control copies) ≡ length (slots_of control entries)
     same_slots = sym (length_all_zip (IsCopyOf closure f) _ _ copied)
 
     pub entry_count-copied : entry_count (slots_of control copies) ≡ entry_count (slots_of control entries)
     entry_count-copied =
-        sym (entry_count-marks_of (slots_of control copies)) ∙ ap entry_count marks
-        ∙ entry_count-marks_of (slots_of control entries)
+        sym (entry_count-bucket_states (slots_of control copies)) ∙ ap entry_count states
+        ∙ entry_count-bucket_states (slots_of control entries)
 
     used_same : count_by is_used (slots_of control copies) ≡ count_by is_used (slots_of control entries)
-    used_same = sym (used_count-marks_of (slots_of control copies)) ∙ ap (count_by is_used) marks
-        ∙ used_count-marks_of (slots_of control entries)
+    used_same = sym (used_count-bucket_states (slots_of control copies)) ∙ ap (count_by is_used) states
+        ∙ used_count-bucket_states (slots_of control entries)
 
     same_byte : (k : ℕ) → byte_of (bucket_at (slots_of control copies) k)
         ≡ byte_of (bucket_at (slots_of control entries) k)

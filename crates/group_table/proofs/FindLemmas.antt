@@ -9,16 +9,16 @@ use Rattle.std.specs.Fn.{Mut}
 use Rattle.std.proofs.lemmas.Bool.{ne_eqb}
 use native.Mathlib.Decide.{dec_lt}
 use Rattle.group_table.specs.Sizes.{IsPowerFromFour}
-use Rattle.group_table.specs.Bucket.{Slot, empty, deleted, full, bucket_at, has_tag, marks_of}
-use Rattle.group_table.specs.Probe.{hash_tag, probed, mark_probed, Reaches}
+use Rattle.group_table.specs.Bucket.{Slot, empty, deleted, full, bucket_at, has_tag, bucket_states}
+use Rattle.group_table.specs.Probe.{hash_tag, probed, state_probed, Reaches}
 use Rattle.group_table.specs.Search.{candidates, Answers, RejectsEach, Finds, FindsNone}
-use Rattle.group_table.specs.Layout.{slot_of, slots_of, marks_by, IsLaidOut}
+use Rattle.group_table.specs.Layout.{slot_of, slots_of, states_by, IsLaidOut}
 use Rattle.group_table.specs.Group.{width, tagged_lanes, IsEmptyLane, HasEmptyLane, HasNoEmptyLane, AcceptsIn}
 use Rattle.group_table.specs.Group.{RejectsGroup, IsProbe, passed_by}
 use Rattle.group_table.specs.Control.{buckets_of}
 use Rattle.group_table.specs.declared.probe.Probe.{Probe}
 use Rattle.group_table.proofs.ControlLemmas.{buckets_are}
-use Rattle.group_table.proofs.BucketLemmas.{full_lt, empty_not_full, bucket_at-past, length-marks_of}
+use Rattle.group_table.proofs.BucketLemmas.{full_lt, empty_not_full, bucket_at-past, length-bucket_states}
 use Rattle.group_table.proofs.ProbeLemmas.{probed-meets, probed-lane, up_to_lane, up_to_end, group_within, probe_within}
 use Rattle.group_table.proofs.LayoutLemmas.{length-laid_out, bucket_at-laid_out}
 use Rattle.group_table.proofs.LayoutLemmas.{power_of}
@@ -77,11 +77,11 @@ module _ {T : Type 0} (control : List ℕ) (entries : List (Option T)) (laid_out
 
 module _ {T F : Type 0} (closure : Mut F (Bor T × Unit {0}) Bool) (slots : List (Slot T)) (hash s : ℕ)
     (power : IsPowerFromFour (length slots)) (whole : s % 16 ≡ 0)
-    (within : s < length slots) (none_before : (t : ℕ) → t < s → mark_probed (marks_of slots) hash t ≢ empty)
+    (within : s < length slots) (none_before : (t : ℕ) → t < s → state_probed (bucket_states slots) hash t ≢ empty)
     (f between g : F)
     (before : RejectsEach closure slots f (candidates slots hash s) between) where
   reached_here : (lanes : ℕ) → lanes ≤ 16 → (step earlier : ℕ) → step < s + lanes → earlier / 16 < step / 16
-      → mark_probed (marks_of slots) hash earlier ≢ empty
+      → state_probed (bucket_states slots) hash earlier ≢ empty
   reached_here lanes small step earlier p q = none_before earlier (omega arith)
 
   pub Finds-from : (b : ℕ) → AcceptsIn closure slots (hash_tag hash) (probed (length slots) hash s) between b g
@@ -117,17 +117,17 @@ module _ {T F : Type 0} (closure : Mut F (Bor T × Unit {0}) Bool) (slots : List
 
   reached_by : (lane : ℕ) → lane < min 16 (length slots) → IsEmptyLane slots (probed (length slots) hash s) lane
       → (b : ℕ) → b < length slots
-      → Reaches (marks_of slots) hash b → (t : ℕ) × (t < s + min 16 (length slots)) × (probed (length slots) hash t ≡ b)
+      → Reaches (bucket_states slots) hash b → (t : ℕ) × (t < s + min 16 (length slots)) × (probed (length slots) hash t ≡ b)
   reached_by lane p ends b small r =
       let n = length slots in
-      let same = length-marks_of slots in
+      let same = length-bucket_states slots in
       elim (dec_lt 16 n) [
         | yes q ↦
             let at : probed n hash r.step ≡ b = rw same at r.there in
             elim (dec_lt (s / 16) (r.step / 16)) [
               | yes past ↦
                   let group : (s + lane) / 16 ≡ s / 16 = omega arith in
-                  let met : bucket_at (marks_of slots) (probed n hash (s + lane)) ≡ empty =
+                  let met : bucket_at (bucket_states slots) (probed n hash (s + lane)) ≡ empty =
                   rw (probed-lane n hash s lane whole (omega arith)) ends in
                   absurd (r.goes_on (s + lane) (omega arith) (rw same met))
               | no past ↦ (r.step, omega arith, at)
@@ -137,7 +137,7 @@ module _ {T F : Type 0} (closure : Mut F (Bor T × Unit {0}) Bool) (slots : List
 
   all_asked : HasEmptyLane slots (probed (length slots) hash s) (min 16 (length slots)) → (b : ℕ)
       → has_tag (hash_tag hash) (bucket_at slots b) ≡ true
-      → Reaches (marks_of slots) hash b → Contains (candidates slots hash (s + min 16 (length slots))) b
+      → Reaches (bucket_states slots) hash b → Contains (candidates slots hash (s + min 16 (length slots))) b
   all_asked ends b tagged reached =
       let last = s + min 16 (length slots) in
       let r = reached_by ends.0 ends.1 ends.2 b
@@ -167,7 +167,7 @@ module _ {T F : Type 0} (closure : Mut F (Bor T × Unit {0}) Bool) (slots : List
         complete = λ hash_of fitting b there e.
             let held = held_by (bucket_at slots b) there in
             all_asked ends b (has_tag-full _ held.0 _ held.1 (fitting.tags b held.0 held.1 ∙ ap hash_tag e))
-            (subst (λ h. Reaches (marks_of slots) h b) e (fitting.reached b there));
+            (subst (λ h. Reaches (bucket_states slots) h b) e (fitting.reached b there));
       }
 
 pub FindsNone-empty : {T F : Type 0} (closure : Mut F (Bor T × Unit {0}) Bool) (slots : List (Slot T)) (hash : ℕ)
@@ -191,30 +191,30 @@ FindsNone-empty closure slots hash f e = record {
 
 module _ {T : Type 0} (control : List ℕ) (entries : List (Option T)) (laid_out : IsLaidOut control entries) (hash s : ℕ)
     (pos : 0 < length entries) (whole : s % 16 ≡ 0)
-    (none_before : (t : ℕ) → t < s → mark_probed (marks_by control entries) hash t ≢ empty)
+    (none_before : (t : ℕ) → t < s → state_probed (states_by control entries) hash t ≢ empty)
     (none_here : HasNoEmptyLane (slots_of control entries) (probed (length (slots_of control entries)) hash s)
     (width (slots_of control entries))) where
   none_up_to : (t : ℕ) → t < s + min 16 (length entries)
-      → bucket_at (marks_by control entries) (probed (length entries) hash t) ≢ empty
+      → bucket_at (states_by control entries) (probed (length entries) hash t) ≢ empty
   none_up_to =
       let same = length-laid_out control entries laid_out in
-      let marks = length-marks_of (slots_of control entries) in
-      up_to_lane (length entries) hash s whole (λ b. bucket_at (marks_by control entries) b ≢ empty)
+      let states = length-bucket_states (slots_of control entries) in
+      up_to_lane (length entries) hash s whole (λ b. bucket_at (states_by control entries) b ≢ empty)
       (min 16 (length entries)) (omega arith)
-      (λ t p. rw (marks, same) at (none_before t p))
+      (λ t p. rw (states, same) at (none_before t p))
       (rw same at none_here)
 
-  pub not_ended : (b : ℕ) → b < length entries → bucket_at (marks_by control entries) b ≡ empty
+  pub not_ended : (b : ℕ) → b < length entries → bucket_at (states_by control entries) b ≡ empty
       → s + 16 < length entries
   not_ended b p e = elim (dec_lt (s + 16) (length entries)) [
     | yes q ↦ q
     | no q ↦ absurd
-        (up_to_end (length entries) hash s whole (λ k. bucket_at (marks_by control entries) k ≢ empty)
+        (up_to_end (length entries) hash s whole (λ k. bucket_at (states_by control entries) k ≢ empty)
         (power_of control entries laid_out pos) (omega arith) none_up_to b p e)
   ]
 
-  pub none_on : s + 16 < length entries → (t : ℕ) → t < s + 16 → mark_probed (marks_by control entries) hash t ≢ empty
-  none_on q t p = rw (length-marks_of (slots_of control entries), length-laid_out control entries laid_out)
+  pub none_on : s + 16 < length entries → (t : ℕ) → t < s + 16 → state_probed (states_by control entries) hash t ≢ empty
+  none_on q t p = rw (length-bucket_states (slots_of control entries), length-laid_out control entries laid_out)
       (none_up_to t (omega arith))
 
 -- a search for the hash goes past its first n steps: `f` refused the candidates there and is then `g`, and none of the
@@ -223,11 +223,11 @@ pub record GoesPast {T F : Type 0} (closure : Mut F (Bor T × Unit {0}) Bool) (s
     (f g : F) : Type 0 where
   pub within : n < length slots
   pub refused : RejectsEach closure slots f (candidates slots hash n) g
-  pub not_empty : (before : ℕ) → before < n → mark_probed (marks_of slots) hash before ≢ empty
+  pub not_empty : (before : ℕ) → before < n → state_probed (bucket_states slots) hash before ≢ empty
 
 module _ {T F : Type 0} (closure : Mut F (Bor T × Unit {0}) Bool) (control : List ℕ) (entries : List (Option T))
     (laid_out : IsLaidOut control entries)
-    (some : (b : ℕ) × (b < length entries) × (bucket_at (marks_by control entries) b ≡ empty)) (hash : ℕ) where
+    (some : (b : ℕ) × (b < length entries) × (bucket_at (states_by control entries) b ≡ empty)) (hash : ℕ) where
   abbrev slots : List (Slot T)
   slots = slots_of control entries
 

@@ -7,11 +7,11 @@ use Rattle.std.proofs.lemmas.List.Sums.{sum_by-cons}
 use native.Mathlib.Decide.{dec_lt}
 use Rattle.group_table.specs.Sizes.{IsPowerFromFour, full_capacity}
 use Rattle.group_table.specs.Bucket.{Bucket, Slot, Tagged, empty, deleted, full, is_used, is_full, bucket_at}
-use Rattle.group_table.specs.Bucket.{entry_count, marks_of, growth_left}
+use Rattle.group_table.specs.Bucket.{entry_count, bucket_states, growth_left}
 use Rattle.group_table.specs.Fits.{Fits}
 use Rattle.group_table.specs.Layout.{slot_of, slots_of, byte_of, byte_at, IsLaidOut, IsValid}
-use Rattle.group_table.proofs.BucketLemmas.{empty_not_deleted, count_by-pos, count_by-cons, room_is, length-marks_of}
-use Rattle.group_table.proofs.BucketLemmas.{used_count-marks_of}
+use Rattle.group_table.proofs.BucketLemmas.{empty_not_deleted, count_by-pos, count_by-cons, room_is, length-bucket_states}
+use Rattle.group_table.proofs.BucketLemmas.{used_count-bucket_states}
 use Rattle.group_table.proofs.LayoutLemmas.{bucket_at-laid_out, length-laid_out}
 use Rattle.group_table.proofs.CopyLemmas.{copy_at, replicate-from}
 use Rattle.group_table.proofs.FitsLemmas.{Fits-none}
@@ -72,16 +72,16 @@ module _ (T : Type 0) where
   pub entry_count-fresh : (n m : ℕ) → n ≤ m → entry_count (slots_of {T = T} (replicate m 255) (replicate n None)) ≡ 0
   entry_count-fresh n m p = rw (slots_of-fresh n m p) (none_counted {A = Tagged T} is_full refl n)
 
-  pub growth_left-fresh : (n : ℕ) → growth_left (marks_of (replicate {A = Slot T} n empty))
+  pub growth_left-fresh : (n : ℕ) → growth_left (bucket_states (replicate {A = Slot T} n empty))
       ≡ full_capacity (length (replicate {A = Slot T} n empty))
   growth_left-fresh n =
       let slots : List (Slot T) = replicate n empty in
       omega (
         arith,
-        room_is (marks_of slots),
+        room_is (bucket_states slots),
         ap full_capacity
-            (length-marks_of slots),
-        used_count-marks_of slots,
+            (length-bucket_states slots),
+        used_count-bucket_states slots,
         none_counted {A = Tagged T} is_used refl n,
       )
 

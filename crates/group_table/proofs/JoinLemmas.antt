@@ -14,7 +14,7 @@ use Rattle.group_table.proofs.BucketLemmas.{used_count-split, count_by-pos, coun
 use Rattle.group_table.proofs.BucketLemmas.{bucket_at-set_other}
 use Rattle.group_table.proofs.ControlLemmas.{buckets_are}
 use Rattle.group_table.proofs.ProbeLemmas.{probed-lt}
-use Rattle.group_table.proofs.LayoutLemmas.{length-laid_out, length-marks_by, bucket_at-laid_out}
+use Rattle.group_table.proofs.LayoutLemmas.{length-laid_out, length-states_by, bucket_at-laid_out}
 use Rattle.group_table.proofs.WriteLemmas.{slots_of-written}
 use Rattle.group_table.proofs.PlaceLemmas.{Spends, IsFreeFor, place_reached, free_slot, IsValid-placed}
 use Rattle.group_table.proofs.PlaceLemmas.{entry_count-placed}
@@ -44,7 +44,7 @@ module _ {T : Type 0} (control : List ℕ) (entries : List (Option T)) (r : ℕ)
     pub join_within : b < length entries
     join_within =
         let there : probed (length entries) hash reached.0.step ≡ b =
-        rw (length-marks_by control entries valid.laid_out) at reached.0.there in
+        rw (length-states_by control entries valid.laid_out) at reached.0.there in
         rw (← there) (probed-lt (length entries) hash reached.0.step some_buckets)
 
     free_there : ((bucket_at (slots_of control entries) b ≡ empty) ⊎ (bucket_at (slots_of control entries) b ≡ deleted))

@@ -11,10 +11,10 @@ use Rattle.group_table.specs.Sizes.{IsPowerFromFour}
 use Rattle.group_table.specs.Bucket.{Slot, empty, full, bucket_at}
 use Rattle.group_table.specs.Search.{Answers, RejectsEach}
 use Rattle.group_table.specs.Lanes.{IsRepeated, IsMaskAt, IsMaskOf, HasLane}
-use Rattle.group_table.specs.Layout.{slots_of, marks_by, byte_of, IsLaidOut}
+use Rattle.group_table.specs.Layout.{slots_of, states_by, byte_of, IsLaidOut}
 use Rattle.group_table.specs.Group.{width, tagged_lanes, HasEmptyLane, HasNoEmptyLane, AcceptsIn, RejectsGroup}
 use Rattle.group_table.specs.Group.{IsFreeLane}
-use Rattle.group_table.proofs.LayoutLemmas.{length-laid_out, power_of, mark_from_byte, byte_from_mark}
+use Rattle.group_table.proofs.LayoutLemmas.{length-laid_out, power_of, state_from_byte, byte_from_state}
 use Rattle.group_table.proofs.WriteLemmas.{byte_at-bucket, byte_at-between, byte_at-again}
 use Rattle.group_table.proofs.Circle.{distance}
 use Rattle.group_table.proofs.FindLemmas.{refused_passed, refused_asked, AcceptsIn-from}
@@ -210,7 +210,7 @@ module _ {T : Type 0} (control : List ℕ) (entries : List (Option T)) (laid_out
   pos : 0 < length entries
   pos = omega arith
 
-  pub ended_lane : (e : ℕ) → e < length entries → bucket_at (marks_by control entries) e ≡ empty → (lane : ℕ)
+  pub ended_lane : (e : ℕ) → e < length entries → bucket_at (states_by control entries) e ≡ empty → (lane : ℕ)
       → lane < 16 → get_or control (start + lane) 0 ≡ 255
       → HasEmptyLane (slots_of control entries) start (width (slots_of control entries))
   ended_lane e within is lane p byte =
@@ -221,8 +221,8 @@ module _ {T : Type 0} (control : List ℕ) (entries : List (Option T)) (laid_out
             let there : get_or control ((start + lane) % n) 0 ≡ 255 =
             sym (lane_byte n start (power_of control entries laid_out pos) bound control
             (repeated_bytes control entries laid_out pos) lane p real) ∙ byte in
-            let mark : bucket_at (marks_by control entries) ((start + lane) % n) ≡ empty =
-            mark_from_byte control entries laid_out ((start + lane) % n) (mod-lt _ pos) there in
+            let mark : bucket_at (states_by control entries) ((start + lane) % n) ≡ empty =
+            state_from_byte control entries laid_out ((start + lane) % n) (mod-lt _ pos) there in
             (passed n start lane, omega (arith, passed-lt n start bound lane p real, same), rw (same, ← place) mark)
         | inr w ↦
             let d = distance n start e bound within in
@@ -240,7 +240,7 @@ module _ {T : Type 0} (control : List ℕ) (entries : List (Option T)) (laid_out
       let real = real_unless_empty n start power bound control repeated lane (used lane inside) in
       used lane inside
       (lane_byte n start power bound control repeated lane inside real
-      ∙ byte_from_mark control entries laid_out ((start + lane) % n) (mod-lt _ pos) (rw same at e))
+      ∙ byte_from_state control entries laid_out ((start + lane) % n) (mod-lt _ pos) (rw same at e))
 
   module _ {F : Type 0} (closure : Mut F (Bor T × Unit {0}) Bool) (tag : ℕ) (low : tag < 128) (f : F) where
     pub AsksLanes-first : (mask : ℕ) → IsMaskAt (λ byte. byte ≡ tag) control start mask

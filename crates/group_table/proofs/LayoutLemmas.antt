@@ -3,12 +3,12 @@ use Rattle.std.proofs.Common.{◌≡◌, ℕ, zero, suc, ◌<◌, ◌≤◌, Lis
 use Rattle.std.proofs.Common.{ap, arith, inl, inr, nat_lt, nat_eq, cond, sym, ◌∙◌, Bool, true, false, IsSome}
 use Rattle.std.proofs.lemmas.Bool.{lt-ltb, false≢true}
 use Rattle.group_table.specs.Bucket.{Tagged, empty, deleted, full, bucket_at, is_full, IsFull, entry_of, entry_at}
-use Rattle.group_table.specs.Bucket.{mark_of}
+use Rattle.group_table.specs.Bucket.{bucket_state}
 use Rattle.group_table.specs.Control.{buckets_of}
 use Rattle.group_table.specs.Sizes.{IsPowerFromFour}
-use Rattle.group_table.specs.Layout.{slot_of, slots_of, marks_by, IsLaidOut, Agrees}
-use Rattle.group_table.proofs.BucketLemmas.{empty_not_deleted, full_lt, bucket_at-marks_of, length-marks_of, empty_mark}
-use Rattle.group_table.proofs.BucketLemmas.{is_full-marks_of}
+use Rattle.group_table.specs.Layout.{slot_of, slots_of, states_by, IsLaidOut, Agrees}
+use Rattle.group_table.proofs.BucketLemmas.{empty_not_deleted, full_lt, bucket_at-bucket_states, length-bucket_states, empty_state}
+use Rattle.group_table.proofs.BucketLemmas.{is_full-bucket_states}
 
 module _ {T : Type 0} where
   length-slots_of : (bytes : List ℕ) (entries : List (Option T)) → length entries ≤ length bytes
@@ -86,8 +86,8 @@ module _ {T : Type 0} (control : List ℕ) (entries : List (Option T)) (laid_out
   pub length-laid_out : length (slots_of control entries) ≡ length entries
   length-laid_out = length-slots_of control entries entries_within
 
-  pub length-marks_by : length (marks_by control entries) ≡ length entries
-  length-marks_by = length-marks_of (slots_of control entries) ∙ length-laid_out
+  pub length-states_by : length (states_by control entries) ≡ length entries
+  length-states_by = length-bucket_states (slots_of control entries) ∙ length-laid_out
 
   module _ (b : ℕ) (within : b < length entries) where
     pub bucket_at-laid_out : bucket_at (slots_of control entries) b
@@ -97,17 +97,17 @@ module _ {T : Type 0} (control : List ℕ) (entries : List (Option T)) (laid_out
     pub is_full-laid_out : is_full (bucket_at (slots_of control entries) b) ≡ nat_lt (get_or control b 0) 128
     is_full-laid_out = rw bucket_at-laid_out (is_full-slot_of _ _ (laid_out.agrees b within))
 
-    pub is_full-byte : is_full (bucket_at (marks_by control entries) b) ≡ nat_lt (get_or control b 0) 128
-    is_full-byte = is_full-marks_of (slots_of control entries) b ∙ is_full-laid_out
+    pub is_full-byte : is_full (bucket_at (states_by control entries) b) ≡ nat_lt (get_or control b 0) 128
+    is_full-byte = is_full-bucket_states (slots_of control entries) b ∙ is_full-laid_out
 
-    pub mark_from_byte : get_or control b 0 ≡ 255 → bucket_at (marks_by control entries) b ≡ empty
-    mark_from_byte e =
-        bucket_at-marks_of (slots_of control entries) b
-        ∙ ap mark_of (bucket_at-laid_out ∙ slot_of-empty _ _ (laid_out.agrees b within) e)
+    pub state_from_byte : get_or control b 0 ≡ 255 → bucket_at (states_by control entries) b ≡ empty
+    state_from_byte e =
+        bucket_at-bucket_states (slots_of control entries) b
+        ∙ ap bucket_state (bucket_at-laid_out ∙ slot_of-empty _ _ (laid_out.agrees b within) e)
 
-    pub byte_from_mark : bucket_at (marks_by control entries) b ≡ empty → get_or control b 0 ≡ 255
-    byte_from_mark e =
-        empty_byte _ _ (laid_out.agrees b within) (sym bucket_at-laid_out ∙ empty_mark (slots_of control entries) b e)
+    pub byte_from_state : bucket_at (states_by control entries) b ≡ empty → get_or control b 0 ≡ 255
+    byte_from_state e =
+        empty_byte _ _ (laid_out.agrees b within) (sym bucket_at-laid_out ∙ empty_state (slots_of control entries) b e)
 
     pub bucket_at-read : (tag : ℕ) (entry : T) → get_or control b 0 ≡ tag → get_or entries b None ≡ Some entry
         → bucket_at (slots_of control entries) b ≡ full (record { tag = tag; entry = entry })

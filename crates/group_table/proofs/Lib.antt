@@ -36,5 +36,5 @@ pub mod TurnLemmas
 pub mod WaitLemmas
 pub mod ChangeLemmas
 pub mod CallerLemmas
-pub mod CountedMarks
+pub mod CountedStates
 pub mod TableLemmas

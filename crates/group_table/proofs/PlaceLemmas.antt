@@ -3,18 +3,18 @@ use Rattle.std.proofs.Common.{◌≡◌, ◌≢◌, ℕ, ◌+◌, ◌-◌, ◌<�
 use Rattle.std.proofs.Common.{Bool, false, refl, ap, sym, ◌∙◌, subst, arith, inl, inr, nat_eq, eq-eqb}
 use Rattle.std.proofs.lemmas.Bool.{ltb-false, eqb-false, cases_eq, ne_eqb, false≢true}
 use Rattle.group_table.specs.Bucket.{Slot, Tagged, empty, deleted, full, bucket_at, is_full, is_used, entry_count}
-use Rattle.group_table.specs.Bucket.{mark_of, growth_left, growth_left_at}
+use Rattle.group_table.specs.Bucket.{bucket_state, growth_left, growth_left_at}
 use Rattle.group_table.specs.Probe.{probed, Reaches, IsFirst, IsFirstFree}
 use Rattle.group_table.specs.Change.{MayFill, HasNoPlace}
-use Rattle.group_table.specs.Layout.{slot_of, slots_of, marks_by, Agrees, IsValid, written}
+use Rattle.group_table.specs.Layout.{slot_of, slots_of, states_by, Agrees, IsValid, written}
 use Rattle.group_table.specs.Control.{buckets_of}
 use Rattle.group_table.specs.Group.{full_at}
-use Rattle.group_table.proofs.BucketLemmas.{bucket_at-marks_of, full_not_deleted}
+use Rattle.group_table.proofs.BucketLemmas.{bucket_at-bucket_states, full_not_deleted}
 use Rattle.group_table.proofs.ProbeLemmas.{probed-lt}
 use Rattle.group_table.proofs.ControlLemmas.{buckets_are}
 use Rattle.group_table.proofs.FitsLemmas.{Reaches-first}
-use Rattle.group_table.proofs.LayoutLemmas.{length-laid_out, length-marks_by, bucket_at-laid_out, is_full-byte}
-use Rattle.group_table.proofs.LayoutLemmas.{byte_from_mark}
+use Rattle.group_table.proofs.LayoutLemmas.{length-laid_out, length-states_by, bucket_at-laid_out, is_full-byte}
+use Rattle.group_table.proofs.LayoutLemmas.{byte_from_state}
 use Rattle.group_table.proofs.WriteLemmas.{IsValid-written, entry_count-written}
 use Rattle.group_table.proofs.TableLemmas.{empty_there, room_by, room_within}
 
@@ -40,11 +40,11 @@ module _ {T : Type 0} where
   abbrev pub Spends : Slot T → ℕ → ℕ → Type 0
   Spends s growth_left spent = ((s ≡ empty) × (0 < growth_left) × (spent ≡ 1)) ⊎ ((s ≡ deleted) × (spent ≡ 0))
 
-  spends_marked : (s : Slot T) (growth_left spent : ℕ) → is_full (mark_of s) ≡ false → spent ≡ cond (is_used (mark_of s)) 0 1
+  spends_state : (s : Slot T) (growth_left spent : ℕ) → is_full (bucket_state s) ≡ false → spent ≡ cond (is_used (bucket_state s)) 0 1
       → spent ≤ growth_left → Spends s growth_left spent
-  spends_marked empty growth_left spent free is within = inl (refl, omega (arith, is, within), is)
-  spends_marked deleted growth_left spent free is within = inr (refl, is)
-  spends_marked (full held) growth_left spent free is within = absurd (false≢true (sym free))
+  spends_state empty growth_left spent free is within = inl (refl, omega (arith, is, within), is)
+  spends_state deleted growth_left spent free is within = inr (refl, is)
+  spends_state (full held) growth_left spent free is within = absurd (false≢true (sym free))
 
   free_of : (s : Slot T) (growth_left spent : ℕ) → Spends s growth_left spent → (is_full s ≡ false)
       × (cond (is_used s) 1 0 + spent ≡ 1) × (spent ≤ growth_left)
@@ -53,14 +53,14 @@ module _ {T : Type 0} where
 
 -- the bucket is free, and a search for the hash reaches it
 abbrev pub IsFreeFor : {T : Type 0} → List ℕ → List (Option T) → ℕ → ℕ → Type 0
-IsFreeFor control entries hash b = Reaches (marks_by control entries) hash b × (128 ≤ get_or control b 0)
+IsFreeFor control entries hash b = Reaches (states_by control entries) hash b × (128 ≤ get_or control b 0)
 
 pub some_empty_byte : {T : Type 0} (control : List ℕ) (entries : List (Option T)) (r : ℕ) → IsValid control entries r
     → 0 < length entries → (b : ℕ) × (b < length entries) × (get_or control b 0 ≡ 255)
 some_empty_byte control entries r valid pos =
     let w = empty_there control entries r valid pos in
-    let within : w.0 < length entries = omega (arith, w.1, length-marks_by control entries valid.laid_out) in
-    (w.0, within, byte_from_mark control entries valid.laid_out w.0 within w.2)
+    let within : w.0 < length entries = omega (arith, w.1, length-states_by control entries valid.laid_out) in
+    (w.0, within, byte_from_state control entries valid.laid_out w.0 within w.2)
 
 pub some_free_byte : {T : Type 0} (control : List ℕ) (entries : List (Option T)) (r : ℕ) → IsValid control entries r
     → 0 < length entries → (b : ℕ) × (b < length entries) × (128 ≤ get_or control b 0)
@@ -68,7 +68,7 @@ some_free_byte control entries r valid pos = let w = some_empty_byte control ent
     (w.0, w.1, omega (arith, w.2))
 
 pub some_buckets : {T : Type 0} {control : List ℕ} {entries : List (Option T)} {r : ℕ} → IsValid control entries r
-    → 0 < growth_left (marks_by control entries) → 0 < buckets_of control
+    → 0 < growth_left (states_by control entries) → 0 < buckets_of control
 some_buckets {T} {control} {entries} {r} valid some = omega (
   arith,
   some,
@@ -98,9 +98,9 @@ module _ {T : Type 0} {control : List ℕ} {entries : List (Option T)} {r : ℕ}
   pub place_within : b < length entries
   place_within = rw (← byte_first.there) (visited byte_first.step)
 
-  pub place_first : IsFirstFree (marks_by control entries) hash b
+  pub place_first : IsFirstFree (states_by control entries) hash b
   place_first =
-      let same = length-marks_by control entries valid.laid_out in
+      let same = length-states_by control entries valid.laid_out in
       record {
         step = byte_first.step;
         there = rw same byte_first.there;
@@ -110,7 +110,7 @@ module _ {T : Type 0} {control : List ℕ} {entries : List (Option T)} {r : ℕ}
       }
 
   pub place_reached : IsFreeFor control entries hash b
-  place_reached = (Reaches-first (marks_by control entries) hash b place_first, byte_free)
+  place_reached = (Reaches-first (states_by control entries) hash b place_first, byte_free)
 
   pub place_none : get_or entries b None ≡ None
   place_none = (free_slot _ _ (valid.laid_out.agrees b place_within) byte_free).1
@@ -141,13 +141,13 @@ module _ {T : Type 0} {control : List ℕ} {entries : List (Option T)} {r : ℕ}
           | inr h ↦ inr (place_deleted h, spent_is ∙ ap (λ t. cond {A = ℕ} t 1 0) (ne_eqb read 255 h))
         ]
 
-    pub no_place_left : r < spent → HasNoPlace (marks_by control entries) hash
+    pub no_place_left : r < spent → HasNoPlace (states_by control entries) hash
     no_place_left less =
         elim (cases_eq read 255) [
           | inl h ↦
               let one : spent ≡ 1 = spent_is ∙ ap (λ t. cond {A = ℕ} t 1 0) (eq-eqb read 255 h) in
               let none : r ≡ 0 = omega (arith, one, less) in
-              let mark = bucket_at-marks_of (slots_of control entries) b ∙ ap mark_of (place_empty h) in
+              let mark = bucket_at-bucket_states (slots_of control entries) b ∙ ap bucket_state (place_empty h) in
               inr (sym (room_by control entries r valid) ∙ none, b, place_first, mark)
           | inr h ↦ let none : spent ≡ 0 = spent_is ∙ ap (λ t. cond {A = ℕ} t 1 0) (ne_eqb read 255 h) in
               absurd (omega (arith, none, less))
@@ -156,17 +156,17 @@ module _ {T : Type 0} {control : List ℕ} {entries : List (Option T)} {r : ℕ}
 module _ {T : Type 0} {control : List ℕ} {entries : List (Option T)} {r spent : ℕ} (valid : IsValid control entries r)
     (b : ℕ)
     (spends : Spends (bucket_at (slots_of control entries) b) r spent) where
-  pub MayFill-from : MayFill (marks_by control entries) b
+  pub MayFill-from : MayFill (states_by control entries) b
   MayFill-from = elim spends [
     | inl w ↦ inl (rw (← room_by control entries r valid) w.1)
-    | inr w ↦ inr (bucket_at-marks_of (slots_of control entries) b ∙ rw w.0)
+    | inr w ↦ inr (bucket_at-bucket_states (slots_of control entries) b ∙ rw w.0)
   ]
 
-  pub room_spent : growth_left_at (marks_by control entries) b ≡ spent
+  pub room_spent : growth_left_at (states_by control entries) b ≡ spent
   room_spent = elim spends [
-    | inl w ↦ ap (λ m. cond {A = ℕ} (is_used m) 0 1) (bucket_at-marks_of (slots_of control entries) b ∙ ap mark_of w.0)
+    | inl w ↦ ap (λ m. cond {A = ℕ} (is_used m) 0 1) (bucket_at-bucket_states (slots_of control entries) b ∙ ap bucket_state w.0)
         ∙ sym w.2
-    | inr w ↦ ap (λ m. cond {A = ℕ} (is_used m) 0 1) (bucket_at-marks_of (slots_of control entries) b ∙ ap mark_of w.0)
+    | inr w ↦ ap (λ m. cond {A = ℕ} (is_used m) 0 1) (bucket_at-bucket_states (slots_of control entries) b ∙ ap bucket_state w.0)
         ∙ sym w.1
   ]
 
@@ -186,15 +186,15 @@ module _ {T : Type 0} {control : List ℕ} {entries : List (Option T)} {r spent 
         ap (λ t. cond {A = ℕ} t 1 0) frees.0 in
         omega (arith, none, entry_count-written control entries r valid b tag (Some entry) within tag_fits)
 
-    pub growth_left-placed : growth_left (marks_by (written control entries b tag) (set entries b (Some entry))) + growth_left_at
-        (marks_by control entries) b ≡ growth_left (marks_by control entries)
+    pub growth_left-placed : growth_left (states_by (written control entries b tag) (set entries b (Some entry))) + growth_left_at
+        (states_by control entries) b ≡ growth_left (states_by control entries)
     growth_left-placed =
         let frees = free_of (bucket_at (slots_of control entries) b) r spent spends in
         omega (arith, frees.2, room_spent, room_by _ _ _ IsValid-placed, room_by control entries r valid)
 
 module _ {T : Type 0} {control : List ℕ} {entries : List (Option T)} {r : ℕ} (valid : IsValid control entries r)
     (b : ℕ) (bucket : b < length (slots_of control entries))
-    (free : is_full (bucket_at (marks_by control entries) b) ≡ false) where
+    (free : is_full (bucket_at (states_by control entries) b) ≡ false) where
   pub free_within : b < length entries
   free_within = omega (arith, bucket, length-laid_out control entries valid.laid_out)
 
@@ -203,10 +203,10 @@ module _ {T : Type 0} {control : List ℕ} {entries : List (Option T)} {r : ℕ}
       let byte = sym (is_full-byte control entries valid.laid_out b free_within) ∙ free in
       (free_slot _ _ (valid.laid_out.agrees b free_within) (ltb-false _ 128 byte)).1
 
-  pub free_spends : (spent : ℕ) → spent ≡ growth_left_at (marks_by control entries) b → spent ≤ growth_left (marks_by control entries)
+  pub free_spends : (spent : ℕ) → spent ≡ growth_left_at (states_by control entries) b → spent ≤ growth_left (states_by control entries)
       → Spends (bucket_at (slots_of control entries) b) r spent
   free_spends spent is enough =
-      let mark = bucket_at-marks_of (slots_of control entries) b in
-      spends_marked _ r spent (sym (ap is_full mark) ∙ free)
+      let mark = bucket_at-bucket_states (slots_of control entries) b in
+      spends_state _ r spent (sym (ap is_full mark) ∙ free)
       (is ∙ ap (λ m. cond {A = ℕ} (is_used m) 0 1) mark)
       (omega (arith, enough, room_by control entries r valid))

@@ -4,7 +4,7 @@ use Rattle.std.proofs.Common.{refl, ap, sym, ◌∙◌, arith, inl, inr}
 use Rattle.std.proofs.lemmas.Bool.{cases_eq}
 use Rattle.std.proofs.Math.Seq.{map-set_same}
 use Rattle.group_table.specs.Bucket.{Slot, empty, deleted, full, bucket_at, is_used, is_full, refilled, IsFull}
-use Rattle.group_table.specs.Bucket.{entry_of, entry_at, entry_count, mark_of, marks_of}
+use Rattle.group_table.specs.Bucket.{entry_of, entry_at, entry_count, bucket_state, bucket_states}
 use Rattle.group_table.specs.Fits.{Fits}
 use Rattle.group_table.specs.Layout.{slot_of, slots_of, IsValid, written}
 use Rattle.group_table.proofs.BucketLemmas.{used_from_full, bucket_at-set_same, bucket_at-set_other, full_not_deleted}
@@ -65,12 +65,12 @@ module _ {T : Type 0} (slots : List (Slot T)) (b : ℕ) (w : T) where
       → entry_at (set slots b (refilled (bucket_at slots b) w)) k ≡ entry_at slots k
   entry_at-refilled_other k other = ap entry_of (bucket_at-set_other slots b k _ other)
 
-pub marks_of-refilled : {T : Type 0} (slots : List (Slot T)) (b : ℕ) (w : T)
-    → marks_of (set slots b (refilled (bucket_at slots b) w)) ≡ marks_of slots
-marks_of-refilled {T} slots b w =
-    map-set_same mark_of slots b (refilled (bucket_at slots b) w) empty (same (bucket_at slots b))
+pub bucket_states-refilled : {T : Type 0} (slots : List (Slot T)) (b : ℕ) (w : T)
+    → bucket_states (set slots b (refilled (bucket_at slots b) w)) ≡ bucket_states slots
+bucket_states-refilled {T} slots b w =
+    map-set_same bucket_state slots b (refilled (bucket_at slots b) w) empty (same (bucket_at slots b))
   where
-    same : (s : Slot T) → mark_of (refilled s w) ≡ mark_of s
+    same : (s : Slot T) → bucket_state (refilled s w) ≡ bucket_state s
     same empty = refl
     same deleted = refl
     same (full held) = refl
@@ -95,5 +95,5 @@ Fits-refilled {T} slots b w hash_of there fits =
             | inl h ↦ rw h there
             | inr h ↦ sym (ap is_full (bucket_at-set_other slots b k now h)) ∙ full_there
           ] in
-          rw (← is, marks_of-refilled slots b w) (fits.reached k old);
+          rw (← is, bucket_states-refilled slots b w) (fits.reached k old);
     }

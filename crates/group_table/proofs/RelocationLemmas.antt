@@ -6,25 +6,25 @@ use Rattle.std.proofs.lemmas.List.Sums.{sum_by-cons}
 use native.Mathlib.Decide.{dec_lt}
 use Rattle.group_table.specs.Sizes.{full_capacity}
 use Rattle.group_table.specs.Bucket.{Slot, deleted, empty, is_full, is_deleted, entry_of, entry_at}
-use Rattle.group_table.specs.Bucket.{entry_count, marks_of, growth_left}
+use Rattle.group_table.specs.Bucket.{entry_count, bucket_states, growth_left}
 use Rattle.group_table.specs.Layout.{slot_of, slots_of, IsLaidOut}
 use Rattle.group_table.specs.Moves.{place_at}
-use Rattle.group_table.proofs.BucketLemmas.{bucket_at-past, room_is, used_count-marks_of, used_count-split}
-use Rattle.group_table.proofs.BucketLemmas.{length-marks_of}
+use Rattle.group_table.proofs.BucketLemmas.{bucket_at-past, room_is, used_count-bucket_states, used_count-split}
+use Rattle.group_table.proofs.BucketLemmas.{length-bucket_states}
 use Rattle.group_table.proofs.LayoutLemmas.{bucket_at-laid_out, length-laid_out, entries_within, is_full-test}
 
 pub growth_left-none_deleted : {T : Type 0} (slots : List (Slot T)) → count_by is_deleted slots ≡ 0
     → entry_count slots ≤ full_capacity (length slots)
-    → growth_left (marks_of slots) + entry_count slots ≡ full_capacity (length slots)
+    → growth_left (bucket_states slots) + entry_count slots ≡ full_capacity (length slots)
 growth_left-none_deleted slots none within =
     omega (
       arith,
       none,
       within,
-      room_is (marks_of slots),
+      room_is (bucket_states slots),
       ap full_capacity
-          (length-marks_of slots),
-      used_count-marks_of slots,
+          (length-bucket_states slots),
+      used_count-bucket_states slots,
       used_count-split slots,
     )
 

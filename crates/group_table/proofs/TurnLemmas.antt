@@ -16,7 +16,7 @@ use Rattle.group_table.specs.Moves.{place_at, Joins}
 use Rattle.group_table.specs.Relocation.{Moves}
 use Rattle.group_table.proofs.InPlace.{IsSettled, IsWaiting, IsHalfway, IsInTurn}
 use Rattle.group_table.proofs.ControlLemmas.{buckets_are}
-use Rattle.group_table.proofs.LayoutLemmas.{length-laid_out, length-marks_by, entries_within}
+use Rattle.group_table.proofs.LayoutLemmas.{length-laid_out, length-states_by, entries_within}
 use Rattle.group_table.proofs.PlaceLemmas.{IsFreeFor, some_free_byte}
 use Rattle.group_table.proofs.JoinLemmas.{some_buckets, first_reached, join_within, join_none, IsValid-joined}
 use Rattle.group_table.proofs.JoinLemmas.{joins_there, deleted_count-joined}
@@ -293,7 +293,7 @@ module _ {T N : Type 0} (number : N → ℕ) (none : N) (link : ℕ → N)
       let stood = stood_there number none IsGiven whole now control links b half entry byte there in
       let free = get_or-set_same now b None None (place_within now b entry there) in
       let laid_out = half_taken.valid.laid_out in
-      let same = buckets_are _ _ laid_out ∙ sym (length-marks_by control half_taken.placed laid_out) in
+      let same = buckets_are _ _ laid_out ∙ sym (length-states_by control half_taken.placed laid_out) in
       let reached : IsFreeFor control half_taken.placed hash b = (
         record {
           step = first.0;

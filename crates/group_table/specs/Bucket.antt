@@ -1,4 +1,4 @@
--- What is in the buckets of a table: in full (slots), or only the bucket states (`Mark`).
+-- What is in the buckets of a table: in full (slots), or only the bucket states (`BucketState`).
 use Rattle.std.specs.Prelude.{◌≡◌, ℕ, ◌-◌, if◌then◌else◌, Bool, true, false, List, length, map, count_by}
 use Rattle.std.specs.Prelude.{slice_index_or, nat_eq, Option, Some, None, IsTrue}
 use Rattle.group_table.specs.Sizes.{full_capacity}
@@ -18,8 +18,8 @@ abbrev pub Slot : Type 0 → Type 0
 Slot T = Bucket (Tagged T)
 
 -- a bucket without it
-abbrev pub Mark : Type 0
-Mark = Bucket (Unit {0})
+abbrev pub BucketState : Type 0
+BucketState = Bucket (Unit {0})
 
 module _ {A : Type 0} where
   abbrev pub is_full : Bucket A → Bool
@@ -54,22 +54,22 @@ module _ {A : Type 0} where
   abbrev pub entry_count : List (Bucket A) → ℕ
   entry_count buckets = count_by is_full buckets
 
-  abbrev pub mark_of : Bucket A → Mark
-  mark_of empty = empty
-  mark_of deleted = deleted
-  mark_of (full held) = full tt
+  abbrev pub bucket_state : Bucket A → BucketState
+  bucket_state empty = empty
+  bucket_state deleted = deleted
+  bucket_state (full held) = full tt
 
   -- the states of the buckets
-  abbrev pub marks_of : List (Bucket A) → List Mark
-  marks_of buckets = map mark_of buckets
+  abbrev pub bucket_states : List (Bucket A) → List BucketState
+  bucket_states buckets = map bucket_state buckets
 
 -- how many more entries are sure to find an empty bucket
-unfoldable pub growth_left : List Mark → ℕ
-growth_left marks = full_capacity (length marks) - count_by is_used marks
+unfoldable pub growth_left : List BucketState → ℕ
+growth_left states = full_capacity (length states) - count_by is_used states
 
 -- what a bucket adds to the growth left: one if it is empty
-abbrev pub growth_left_at : List Mark → ℕ → ℕ
-growth_left_at marks b = if is_used (bucket_at marks b) then 0 else 1
+abbrev pub growth_left_at : List BucketState → ℕ → ℕ
+growth_left_at states b = if is_used (bucket_at states b) then 0 else 1
 
 module _ {T : Type 0} where
   abbrev pub entry_of : Slot T → Option T

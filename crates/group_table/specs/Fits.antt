@@ -1,12 +1,12 @@
 -- Which hashes the entries of a table may have. A table stores none, and each of its contracts holds for all that fit.
 use Rattle.std.specs.Prelude.{◌≡◌, ℕ, List, nat_eq, if◌then◌else◌}
-use Rattle.group_table.specs.Bucket.{Slot, Tagged, full, bucket_at, IsFull, marks_of}
+use Rattle.group_table.specs.Bucket.{Slot, Tagged, full, bucket_at, IsFull, bucket_states}
 use Rattle.group_table.specs.Probe.{hash_tag, Reaches}
 
 -- these hashes of the buckets fit: each entry's tag is the tag of its hash, and a search for it reaches the bucket
 pub record Fits {T : Type 0} (slots : List (Slot T)) (hash_of : ℕ → ℕ) : Type 0 where
   pub tags : (b : ℕ) (held : Tagged T) → bucket_at slots b ≡ full held → held.tag ≡ hash_tag (hash_of b)
-  pub reached : (b : ℕ) → IsFull slots b → Reaches (marks_of slots) (hash_of b) b
+  pub reached : (b : ℕ) → IsFull slots b → Reaches (bucket_states slots) (hash_of b) b
 
 -- the hashes, and this one for the bucket
 abbrev pub with_hash : (ℕ → ℕ) → ℕ → ℕ → ℕ → ℕ

@@ -3,7 +3,7 @@ use Rattle.std.specs.Prelude.{◌≡◌, ◌≢◌, ℕ, ◌+◌, ◌-◌, ◌%�
 use Rattle.std.specs.Prelude.{nat_lt, slice_index}
 use Rattle.std.specs.Borrow.{Bor}
 use Rattle.std.specs.Fn.{Mut}
-use Rattle.group_table.specs.Bucket.{Slot, empty, bucket_at, marks_of}
+use Rattle.group_table.specs.Bucket.{Slot, empty, bucket_at, bucket_states}
 use Rattle.group_table.specs.Probe.{probed, IsFirst}
 use Rattle.group_table.specs.Bytes.{empty_byte, deleted_byte}
 use Rattle.group_table.specs.Search.{tagged, Answers, RejectsEach}
@@ -32,7 +32,7 @@ module _ {T : Type 0} (slots : List (Slot T)) where
 
   -- the bucket at the lane is empty
   abbrev pub IsEmptyLane : ℕ → ℕ → Type 0
-  IsEmptyLane start lane = bucket_at (marks_of slots) ((start + lane) % length slots) ≡ empty
+  IsEmptyLane start lane = bucket_at (bucket_states slots) ((start + lane) % length slots) ≡ empty
 
   -- some of the first lanes is empty
   abbrev pub HasEmptyLane : ℕ → ℕ → Type 0
@@ -41,7 +41,7 @@ module _ {T : Type 0} (slots : List (Slot T)) where
   -- none of the first lanes is empty
   abbrev pub HasNoEmptyLane : ℕ → ℕ → Type 0
   HasNoEmptyLane start lanes = (lane : ℕ) → lane < lanes
-      → bucket_at (marks_of slots) ((start + lane) % length slots) ≢ empty
+      → bucket_at (bucket_states slots) ((start + lane) % length slots) ≢ empty
 
 module _ {T F : Type 0} (closure : Mut F (Bor T × Unit {0}) Bool) (slots : List (Slot T)) (tag start : ℕ) (f : F) where
   -- f was called for the buckets with the tag, in the order of the lanes, and rejected all but the last, which is b

@@ -3,7 +3,7 @@ use Rattle.std.specs.Prelude.{◌≡◌, ℕ, ◌+◌, ◌-◌, ◌^◌, ◌<◌
 use Rattle.std.specs.Prelude.{if◌then◌else◌, nat_lt, nat_eq, slice_index, slice_index_or, slice_set, count_by}
 use Rattle.group_table.specs.Sizes.{IsPowerFromFour, full_capacity}
 use Rattle.group_table.specs.Bytes.{empty_byte, deleted_byte, IsTag}
-use Rattle.group_table.specs.Bucket.{Slot, Mark, empty, deleted, full, bucket_at, is_used, marks_of}
+use Rattle.group_table.specs.Bucket.{Slot, BucketState, empty, deleted, full, bucket_at, is_used, bucket_states}
 
 module _ {T : Type 0} where
   -- the control byte of a bucket
@@ -24,8 +24,8 @@ module _ {T : Type 0} where
   slots_of (byte ∷ bytes) (entry ∷ entries) = slot_of byte entry ∷ slots_of bytes entries
 
   -- the states of the buckets
-  abbrev pub marks_by : List ℕ → List (Option T) → List Mark
-  marks_by bytes entries = marks_of (slots_of bytes entries)
+  abbrev pub states_by : List ℕ → List (Option T) → List BucketState
+  states_by bytes entries = bucket_states (slots_of bytes entries)
 
   -- the control byte at a position: first the bytes of the buckets, then empty ones up to position 16, and then the
   -- bytes of the first buckets again

@@ -1,6 +1,6 @@
 -- Entries move one by one into a fresh table. No public clause cites this module.
 use Rattle.std.specs.Prelude.{◌≡◌, ℕ, ◌<◌, List, length, slice_set, slice_index_or, Option, None}
-use Rattle.group_table.specs.Bucket.{Slot, empty, bucket_at, marks_of}
+use Rattle.group_table.specs.Bucket.{Slot, empty, bucket_at, bucket_states}
 use Rattle.group_table.specs.Probe.{filled, Reaches}
 
 module _ {T : Type 0} where
@@ -10,7 +10,7 @@ module _ {T : Type 0} where
 
   -- the entry filled an empty bucket that a search for its hash reaches
   pub record Joins (old new : List (Slot T)) (hash : ℕ) (entry : T) (b : ℕ) : Type 0 where
-    pub reached : Reaches (marks_of old) hash b
+    pub reached : Reaches (bucket_states old) hash b
     pub within : b < length old
     pub was_empty : bucket_at old b ≡ empty
     pub slots : new ≡ slice_set old b (filled hash entry)

@@ -1,6 +1,6 @@
 -- What the hash of an entry says: the tag in its bucket, and in which order a search visits the buckets.
 use Rattle.std.specs.Prelude.{◌≡◌, ◌≢◌, ℕ, ◌+◌, ◌*◌, ◌/◌, ◌%◌, ◌^◌, ◌<◌, Bool, false, List, length, IsTrue}
-use Rattle.group_table.specs.Bucket.{Slot, Mark, empty, full, bucket_at, is_full}
+use Rattle.group_table.specs.Bucket.{Slot, BucketState, empty, full, bucket_at, is_full}
 
 -- the top 7 bits of a hash
 abbrev pub hash_tag : ℕ → ℕ
@@ -22,17 +22,17 @@ pub record IsFirst (full_at : ℕ → Bool) (order : ℕ → ℕ) (b : ℕ) : Ty
   pub free_there : full_at b ≡ false
   pub full_before : (before : ℕ) → before < step → IsTrue (full_at (order before))
 
-module _ (marks : List Mark) (hash : ℕ) where
+module _ (states : List BucketState) (hash : ℕ) where
   -- what is in the bucket that a search visits at a step
-  abbrev pub mark_probed : ℕ → Mark
-  mark_probed step = bucket_at marks (probed (length marks) hash step)
+  abbrev pub state_probed : ℕ → BucketState
+  state_probed step = bucket_at states (probed (length states) hash step)
 
   -- a search reaches the bucket: it ends at a group with an empty bucket, and no group before has one
   pub record Reaches (b : ℕ) : Type 0 where
     pub step : ℕ
-    pub there : probed (length marks) hash step ≡ b
-    pub goes_on : (before : ℕ) → before / 16 < step / 16 → mark_probed before ≢ empty
+    pub there : probed (length states) hash step ≡ b
+    pub goes_on : (before : ℕ) → before / 16 < step / 16 → state_probed before ≢ empty
 
   -- the first bucket in the order of a search that is empty or deleted
   abbrev pub IsFirstFree : ℕ → Type 0
-  IsFirstFree = IsFirst (λ b. is_full (bucket_at marks b)) (probed (length marks) hash)
+  IsFirstFree = IsFirst (λ b. is_full (bucket_at states b)) (probed (length states) hash)

@@ -4,8 +4,8 @@ use Rattle.std.specs.Prelude.{Some, Contains, AllPairs, IsTrue}
 use Rattle.std.specs.List.{range_with_len, FoldsTo}
 use Rattle.std.specs.Borrow.{Bor}
 use Rattle.std.specs.Fn.{Mut, CalledAt}
-use Rattle.group_table.specs.Bucket.{Slot, empty, bucket_at, entry_at, has_tag, IsFull, marks_of}
-use Rattle.group_table.specs.Probe.{hash_tag, probed, mark_probed, Reaches}
+use Rattle.group_table.specs.Bucket.{Slot, empty, bucket_at, entry_at, has_tag, IsFull, bucket_states}
+use Rattle.group_table.specs.Probe.{hash_tag, probed, state_probed, Reaches}
 use Rattle.group_table.specs.Fits.{Fits}
 
 -- the buckets with the tag, among those that an order visits in the first steps
@@ -22,7 +22,7 @@ module _ {T : Type 0} (slots : List (Slot T)) (hash : ℕ) where
     pub steps : ℕ
     pub within : steps ≤ length slots
     pub reached : (step before : ℕ) → step < steps → before / 16 < step / 16
-        → mark_probed (marks_of slots) hash before ≢ empty
+        → state_probed (bucket_states slots) hash before ≢ empty
     pub in_order : asked ≡ candidates steps
     pub distinct : AllPairs ◌≢◌ asked
 
@@ -54,6 +54,6 @@ module _ {T F : Type 0} (closure : Mut F (Bor T × Unit {0}) Bool) (slots : List
     pub last : F
     pub refused : RejectsEach f asked last
     pub all_reached : (b : ℕ) → IsTrue (has_tag (hash_tag hash) (bucket_at slots b))
-        → Reaches (marks_of slots) hash b → Contains asked b
+        → Reaches (bucket_states slots) hash b → Contains asked b
     pub complete : (hash_of : ℕ → ℕ) → Fits slots hash_of
         → (b : ℕ) → IsFull slots b → hash_of b ≡ hash → Contains asked b

@@ -1,7 +1,7 @@
 -- What a contract sees of a `Table`, and what it knows of any.
 use Rattle.std.specs.Prelude.{◌≡◌, ℕ, ◌+◌, ◌^◌, ◌<◌, ◌≤◌, List, length, count_by, slice_set}
 use Rattle.group_table.specs.Sizes.{IsBucketCount, full_capacity}
-use Rattle.group_table.specs.Bucket.{Slot, Mark, bucket_at, refilled, is_deleted, is_used}
+use Rattle.group_table.specs.Bucket.{Slot, BucketState, bucket_at, refilled, is_deleted, is_used}
 
 -- how many insertions the table has made: of entries that were new to it, and of entries that it moved
 pub record Insertions : Type 0 where
@@ -18,9 +18,9 @@ abbrev pub with_entry : {T : Type 0} → Table T → ℕ → T → Table T
 with_entry t b entry = record t { slots = slice_set t.slots b (refilled (bucket_at t.slots b) entry) }
 
 -- what holds of the bucket states of every table
-pub record IsTable (marks : List Mark) : Type 0 where
-  pub count : IsBucketCount (length marks)
-  pub addressable : length marks + 16 < 2 ^ 63
-  pub used_within : count_by is_used marks ≤ full_capacity (length marks)
+pub record IsTable (states : List BucketState) : Type 0 where
+  pub count : IsBucketCount (length states)
+  pub addressable : length states + 16 < 2 ^ 63
+  pub used_within : count_by is_used states ≤ full_capacity (length states)
   -- up to 16 buckets none is deleted
-  pub none_deleted : length marks ≤ 16 → count_by is_deleted marks ≡ 0
+  pub none_deleted : length states ≤ 16 → count_by is_deleted states ≡ 0

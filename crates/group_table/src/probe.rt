@@ -6,7 +6,7 @@ ghost use Rattle.group_table.specs.Search.{Finds, FindsNone};
 ghost use Rattle.group_table.specs.Group.{IsProbe, passed_by, SearchesGroup, IsFreeLane, full_at};
 ghost use Rattle.group_table.specs.Bytes.{IsTag};
 ghost use Rattle.group_table.specs.Control.{buckets_of, HasFreeByte, IsCircle};
-ghost use Rattle.group_table.specs.Layout.{IsLaidOut, slots_of, marks_by};
+ghost use Rattle.group_table.specs.Layout.{IsLaidOut, slots_of, states_by};
 
 use crate::control::{Control, DELETED, tag_of};
 use crate::entries::Entries;
@@ -65,7 +65,7 @@ fn search_group<T, F: FnMut(&T) -> bool>(
 ) -> Searched
     requires laid_out { IsLaidOut control.now entries.now }
     requires some_empty { (b : ℕ) × (b < length entries.now)
-        × (bucket_at (marks_by control.now entries.now) b ≡ empty) }
+        × (bucket_at (states_by control.now entries.now) b ≡ empty) }
     requires start { start < length entries.now }
     requires tag { IsTag tag }
     requires callable { F.IsAlwaysCallable f.old }
@@ -99,7 +99,7 @@ pub(crate) fn find_bucket<T, F: FnMut(&T) -> bool>(
 ) -> Option<usize>
     requires laid_out { IsLaidOut control.now entries.now }
     requires some_empty { (b : ℕ) × (b < length entries.now)
-        × (bucket_at (marks_by control.now entries.now) b ≡ empty) }
+        × (bucket_at (states_by control.now entries.now) b ≡ empty) }
     requires callable { F.IsAlwaysCallable f }
     ensures found { IfSome result (Finds F.FnMut (slots_of control.now entries.now) hash f) }
     ensures none { IfNone result (FindsNone F.FnMut (slots_of control.now entries.now) hash f) }

@@ -3,7 +3,7 @@ ghost use Rattle.std.specs.Prelude.{◌≡◌, ℕ, ◌+◌, ◌^◌, ◌<◌, �
 ghost use Rattle.std.specs.Prelude.{IfOk, IfErr, OnErr, IsOk, nat_eq};
 ghost use Rattle.std.specs.Borrow.{sem};
 ghost use Rattle.group_table.specs.Sizes.{IsBucketCount};
-ghost use Rattle.group_table.specs.Bucket.{empty, marks_of, IsFull, entry_at, entry_count, growth_left, growth_left_at};
+ghost use Rattle.group_table.specs.Bucket.{empty, bucket_states, IsFull, entry_at, entry_count, growth_left, growth_left_at};
 ghost use Rattle.group_table.specs.Table.{IsTable, with_entry};
 ghost use Rattle.group_table.specs.Fits.{Fits, with_hash};
 ghost use Rattle.group_table.specs.Control.{buckets_of};
@@ -76,7 +76,7 @@ impl<T> Table<T> {
     pub fn new(alloc: Global) -> Self
         ensures slots { result.slots ≡ [] }
         ensures insertions { result.insertions ≡ no_insertions }
-        ensures table { IsTable (marks_of result.slots) }
+        ensures table { IsTable (bucket_states result.slots) }
         ensures fits { (hash_of : ℕ → ℕ) → Fits result.slots hash_of }
     {
         Table {
@@ -103,7 +103,7 @@ impl<T> Table<T> {
         requires addressable { buckets + 16 < 2 ^ 63 }
         ensures slots { IfOk result (λ t. t.slots ≡ replicate buckets empty) }
         ensures insertions { IfOk result (λ t. t.insertions ≡ no_insertions) }
-        ensures table { IfOk result (λ t. IsTable (marks_of t.slots)) }
+        ensures table { IfOk result (λ t. IsTable (bucket_states t.slots)) }
         ensures fits { IfOk result (λ t. (hash_of : ℕ → ℕ) → Fits t.slots hash_of) }
         ensures succeeds { buckets ≡ 0 → IsOk result }
     {
@@ -139,7 +139,7 @@ impl<T> Table<T> {
         ensures found { IfSome result (Finds F.FnMut self.now.slots hash f) }
         ensures full { IfSome result (IsFull self.now.slots) }
         ensures none { IfNone result (FindsNone F.FnMut self.now.slots hash f) }
-        ensures table { IsTable (marks_of self.now.slots) }
+        ensures table { IsTable (bucket_states self.now.slots) }
     {
         if self.control.is_empty_at(hash) {
             return None;
@@ -152,7 +152,7 @@ impl<T> Table<T> {
     pub fn get(&self, b: usize) -> &T
         requires { IsFull self.now.slots b }
         ensures entry { entry_at self.now.slots b ≡ Some result.now }
-        ensures table { IsTable (marks_of self.now.slots) }
+        ensures table { IsTable (bucket_states self.now.slots) }
     {
         self.entries.get(b)
     }
@@ -164,7 +164,7 @@ impl<T> Table<T> {
         requires { IsFull self.old.slots b }
         ensures* writes_back { sem 𝓛 (lends_entry T.row self.entry b result) }
         ensures entry { entry_at self.old.slots b ≡ Some result.now }
-        ensures table { IsTable (marks_of self.old.slots) }
+        ensures table { IsTable (bucket_states self.old.slots) }
         ensures fits { (hash_of : ℕ → ℕ) → Fits self.old.slots hash_of →
             (last : T) → Fits (with_entry self.old b last).slots hash_of }
     {
@@ -180,11 +180,11 @@ impl<T> Table<T> {
         requires { IsFull self.old.slots b }
         ensures entry { entry_at self.old.slots b ≡ Some result }
         ensures removed { Removes self.old.slots self.new.slots b }
-        ensures growth_left { growth_left (marks_of self.new.slots)
-            ≡ growth_left (marks_of self.old.slots) + growth_left_at (marks_of self.new.slots) b }
+        ensures growth_left { growth_left (bucket_states self.new.slots)
+            ≡ growth_left (bucket_states self.old.slots) + growth_left_at (bucket_states self.new.slots) b }
         ensures insertions { self.new.insertions ≡ self.old.insertions }
         ensures fits { (hash_of : ℕ → ℕ) → Fits self.old.slots hash_of → Fits self.new.slots hash_of }
-        ensures table { IsTable (marks_of self.new.slots) }
+        ensures table { IsTable (bucket_states self.new.slots) }
     {
         self.len -= 1;
         let gives_room = ones_if_empty_neighbours(&self.control, b);
@@ -208,13 +208,13 @@ impl<T> Table<T> {
     /// ```
     #[inline(always)]
     pub fn place(&mut self, hash: u64, entry: T) -> usize
-        requires { 0 < growth_left (marks_of self.old.slots) }
+        requires { 0 < growth_left (bucket_states self.old.slots) }
         ensures placed { Places self.old self.new hash entry result }
-        ensures growth_left { growth_left (marks_of self.new.slots) + growth_left_at (marks_of self.old.slots) result
-            ≡ growth_left (marks_of self.old.slots) }
+        ensures growth_left { growth_left (bucket_states self.new.slots) + growth_left_at (bucket_states self.old.slots) result
+            ≡ growth_left (bucket_states self.old.slots) }
         ensures fits { (hash_of : ℕ → ℕ) → Fits self.old.slots hash_of →
             Fits self.new.slots (with_hash hash_of result hash) }
-        ensures table { IsTable (marks_of self.new.slots) }
+        ensures table { IsTable (bucket_states self.new.slots) }
     {
         let b = first_free(&self.control, hash);
         let spent = room_taken(self.control.byte(b));
@@ -231,16 +231,16 @@ impl<T> Table<T> {
     #[inline(always)]
     pub fn try_place(&mut self, hash: u64, entry: T) -> Result<usize, T>
         ensures placed { IfOk result (Places self.old self.new hash entry) }
-        ensures may_fill { IfOk result (MayFill (marks_of self.old.slots)) }
+        ensures may_fill { IfOk result (MayFill (bucket_states self.old.slots)) }
         ensures growth_left { IfOk result (λ b.
-            growth_left (marks_of self.new.slots) + growth_left_at (marks_of self.old.slots) b ≡ growth_left (marks_of self.old.slots)) }
+            growth_left (bucket_states self.new.slots) + growth_left_at (bucket_states self.old.slots) b ≡ growth_left (bucket_states self.old.slots)) }
         ensures fits { IfOk result (λ b. (hash_of : ℕ → ℕ) → Fits self.old.slots hash_of →
             Fits self.new.slots (with_hash hash_of b hash)) }
-        ensures table { IsTable (marks_of self.new.slots) }
+        ensures table { IsTable (bucket_states self.new.slots) }
 
         ensures returned { IfErr result (λ back. back ≡ entry) }
         ensures unchanged { OnErr result (self.new ≡ self.old) }
-        ensures no_place { OnErr result (HasNoPlace (marks_of self.old.slots) hash) }
+        ensures no_place { OnErr result (HasNoPlace (bucket_states self.old.slots) hash) }
     {
         if is_without_buckets(&self.control, self.growth_left) {
             return Err(entry);
@@ -257,15 +257,15 @@ impl<T> Table<T> {
     #[inline(always)]
     fn fill_free(&mut self, b: usize, spent: usize, hash: u64, entry: T)
         requires bucket { b < length self.old.slots }
-        requires first { IsFirstFree (marks_of self.old.slots) hash b }
-        requires spent { spent ≡ growth_left_at (marks_of self.old.slots) b }
-        requires within { spent ≤ growth_left (marks_of self.old.slots) }
+        requires first { IsFirstFree (bucket_states self.old.slots) hash b }
+        requires spent { spent ≡ growth_left_at (bucket_states self.old.slots) b }
+        requires within { spent ≤ growth_left (bucket_states self.old.slots) }
         ensures placed { Places self.old self.new hash entry b }
-        ensures growth_left { growth_left (marks_of self.new.slots) + growth_left_at (marks_of self.old.slots) b
-            ≡ growth_left (marks_of self.old.slots) }
+        ensures growth_left { growth_left (bucket_states self.new.slots) + growth_left_at (bucket_states self.old.slots) b
+            ≡ growth_left (bucket_states self.old.slots) }
         ensures fits { (hash_of : ℕ → ℕ) → Fits self.old.slots hash_of →
             Fits self.new.slots (with_hash hash_of b hash) }
-        ensures table { IsTable (marks_of self.new.slots) }
+        ensures table { IsTable (bucket_states self.new.slots) }
     {
         self.len += 1;
         fill_bucket(&mut self.control, &mut self.entries, b, tag_of(hash), entry);
@@ -277,7 +277,7 @@ impl<T> Table<T> {
         requires { entry_count self.old.slots ≡ 0 }
         ensures slots { self.new.slots ≡ replicate (length self.old.slots) empty }
         ensures insertions { self.new.insertions ≡ self.old.insertions }
-        ensures table { IsTable (marks_of self.new.slots) }
+        ensures table { IsTable (bucket_states self.new.slots) }
     {
         self.control.clear();
         self.growth_left = full_capacity(self.control.buckets());
@@ -322,7 +322,7 @@ impl<T: Drop> Table<T> {
     pub fn clear(&mut self)
         ensures slots { self.new.slots ≡ replicate (length self.old.slots) empty }
         ensures insertions { self.new.insertions ≡ self.old.insertions }
-        ensures table { IsTable (marks_of self.new.slots) }
+        ensures table { IsTable (bucket_states self.new.slots) }
         ensures fits { (hash_of : ℕ → ℕ) → Fits self.new.slots hash_of }
     {
         let most = full_capacity(self.control.buckets());

@@ -15,6 +15,7 @@
 --     inserted-found       under such a limiter, after an insert that returned true, a look-up finds the value
 --     inserted-only        whatever it returned, a look-up finds no other value
 --     inserted-all         what holds of each pair holds of each after an insert, if it holds of the inserted one
+--     all-without          and of each after the removal of one
 --     given-found          a search by a hash with a closure that tests a key returns the pair of that key
 --     given-tag            and only one whose hash has the tag of the hash
 --     given-promoted       one through which nothing is written brings that pair to the front, and no more
@@ -164,7 +165,7 @@ module _ {X : Type 0} (P : X → Type 0) where
       All-cons P x xs (All-head P x (xs ++ rest) h) (all-front xs rest (All-tail P x (xs ++ rest) h))
 
 module _ {K V : Type 0} (P : K × V → Type 0) (names : K → Bool) where
-  all-without : (xs : List (K × V)) → All P xs → All P (without names xs)
+  pub all-without : (xs : List (K × V)) → All P xs → All P (without names xs)
   all-without [] h = h
   all-without (x ∷ xs) h = go (names x.0) (all-without xs (All-tail P x xs h))
     where

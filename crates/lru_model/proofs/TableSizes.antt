@@ -1,8 +1,8 @@
 pub mod Growth
 pub mod Doubling
 pub mod Budgets
-pub mod SizedMarks
+pub mod SizedStates
 pub mod FilledBuckets
 pub mod NextTable
-pub mod SomeMarks
+pub mod SomeStates
 pub mod ReachedTables

@@ -4,8 +4,8 @@ pub mod Potential
 pub mod TableGrowth
 pub mod Ways
 pub mod PaidMoves
-pub mod PaidPlacings
-pub mod CountedPlacings
+pub mod PaidInsertions
+pub mod CountedInsertions
 pub mod Fronts
 pub mod InsertAnswers
 pub mod StoringLimiters

@@ -82,5 +82,5 @@ module _ {K V S H : Type 0} (rules : Rules K V S) where
   cleared st = record st {
     pairs = [];
     limiter = rules.on_cleared st.limiter;
-    table = record { marks = replicate (buckets st) empty; places = [] };
+    table = record { states = replicate (buckets st) empty; places = [] };
   }

@@ -23,6 +23,6 @@ pub mod RunEvictions
 pub mod Written
 pub mod Retains
 pub mod TryInserts
-pub mod PaidPlacings
+pub mod PaidInsertions
 pub mod Updates
 pub mod Bytes

@@ -4,7 +4,7 @@ use Rattle.std.specs.Prelude.{◌≡◌, ℕ, zero, suc, ◌+◌, ◌-◌, ◌/�
 use Rattle.std.specs.Prelude.{length}
 use Rattle.std.specs.Prelude.{Result, Ok, Err, slice_set}
 use Rattle.group_table.specs.Sizes.{full_capacity}
-use Rattle.group_table.specs.Bucket.{Mark, empty, deleted, full, bucket_at, growth_left as growth_left_of}
+use Rattle.group_table.specs.Bucket.{BucketState, empty, deleted, full, bucket_at, growth_left as growth_left_of}
 use Rattle.group_table.specs.Probe.{IsFirstFree}
 use Rattle.lru_limits.specs.Rules.{Rules}
 use Rattle.lru_model.specs.Sizes.{target, Target, no_table, new_table}
@@ -26,25 +26,25 @@ outcome_of (Err e) = no_memory
 -- buckets, the growth left stays.
 pub record FillsBucket (hash : ℕ) (old new : TableState) : Type 0 where
   pub bucket : ℕ
-  pub first : IsFirstFree old.marks hash bucket
-  pub marks : new.marks ≡ slice_set old.marks bucket (full tt)
+  pub first : IsFirstFree old.states hash bucket
+  pub states : new.states ≡ slice_set old.states bucket (full tt)
   pub places : new.places ≡ bucket ∷ old.places
-  pub spends : ((bucket_at old.marks bucket ≡ empty) × (growth_left_of new.marks + 1 ≡ growth_left_of old.marks))
-      ⊎ ((bucket_at old.marks bucket ≡ deleted) × (16 < length old.marks) × (growth_left_of new.marks ≡ growth_left_of old.marks))
+  pub spends : ((bucket_at old.states bucket ≡ empty) × (growth_left_of new.states + 1 ≡ growth_left_of old.states))
+      ⊎ ((bucket_at old.states bucket ≡ deleted) × (16 < length old.states) × (growth_left_of new.states ≡ growth_left_of old.states))
 
 -- In a table of n pairs no bucket takes a pair of this hash: no growth is left, and the first free bucket that a
 -- search finds is empty. A table without pairs is not searched: without growth left it is rehashed, even if a deleted
 -- bucket could take the pair.
-pub record NoBucketTakes (hash n : ℕ) (marks : List Mark) : Type 0 where
-  pub no_growth_left : growth_left_of marks ≡ 0
-  pub first_empty : 0 < n → FirstFreeIs empty hash marks
+pub record NoBucketTakes (hash n : ℕ) (states : List BucketState) : Type 0 where
+  pub no_growth_left : growth_left_of states ≡ 0
+  pub first_empty : 0 < n → FirstFreeIs empty hash states
 
 -- No bucket takes a pair of this hash, and a rehash is no remedy: with one pair more the table would be over half full.
 -- Either there is no table yet, or it contains pairs.
-pub record IsTooSmallFor (hash n : ℕ) (marks : List Mark) : Type 0 where
-  pub no_bucket : NoBucketTakes hash n marks
-  pub above_half : full_capacity (length marks) / 2 < n + 1
-  pub begun : (length marks ≡ 0) ⊎ (0 < n)
+pub record IsTooSmallFor (hash n : ℕ) (states : List BucketState) : Type 0 where
+  pub no_bucket : NoBucketTakes hash n states
+  pub above_half : full_capacity (length states) / 2 < n + 1
+  pub begun : (length states ≡ 0) ⊎ (0 < n)
 
 module _ {K V S H : Type 0} where
   -- the pair is the newest now, in a table of `count` buckets with `spare` growth left, and `moves` entries moved for
@@ -64,11 +64,11 @@ module _ {K V S H : Type 0} where
 
   -- no bucket takes a pair of this hash
   abbrev pub HasNoBucket : ℕ → State K V S H → Type 0
-  HasNoBucket hash st = NoBucketTakes hash (length st.pairs) st.table.marks
+  HasNoBucket hash st = NoBucketTakes hash (length st.pairs) st.table.states
 
   -- no bucket takes a pair of this hash, and a rehash is no remedy
   abbrev pub IsOutgrown : ℕ → State K V S H → Type 0
-  IsOutgrown hash st = IsTooSmallFor hash (length st.pairs) st.table.marks
+  IsOutgrown hash st = IsTooSmallFor hash (length st.pairs) st.table.states
 
   -- into which table a map grows for n more pairs
   abbrev pub table_for : ℕ → State K V S H → Target

@@ -3,7 +3,7 @@ use Rattle.std.specs.Prelude.{◌≡◌, ℕ, zero, suc, ◌+◌, ◌-◌, ◌*�
 use Rattle.std.specs.Prelude.{[], length, Option, Some, None, filter, not, nat_eq}
 use Rattle.std.specs.List.{IsDistinct}
 use Rattle.group_table.specs.Sizes.{full_capacity}
-use Rattle.group_table.specs.Bucket.{Mark, bucket_at, entry_count, growth_left as growth_left_of}
+use Rattle.group_table.specs.Bucket.{BucketState, bucket_at, entry_count, growth_left as growth_left_of}
 use Rattle.group_table.specs.Change.{count_up, Removes}
 use Rattle.group_table.specs.Probe.{IsFirstFree}
 use Rattle.group_table.specs.Table.{IsTable}
@@ -19,18 +19,18 @@ pub record Contents (K V S : Type 0) : Type 0 where
 -- the bucket table, without the pairs
 pub record TableState : Type 0 where
   -- whether each bucket is empty, deleted or full
-  pub marks : List Mark
+  pub states : List BucketState
   -- the bucket of each pair, newest first
   pub places : List ℕ
 
 -- a table without buckets
 abbrev pub empty_table : TableState
-empty_table = record { marks = []; places = [] }
+empty_table = record { states = []; places = [] }
 
 -- what a map counts
 pub record Counts : Type 0 where
   -- how many insertions the table has made
-  pub placings : ℕ
+  pub insertions : ℕ
   -- how many entries inserts moved, and how many new ones they stored
   pub moved : ℕ
   pub placed : ℕ
@@ -52,14 +52,14 @@ pub record State (K V S H : Type 0) : Type 0 where
   pub max : ℕ
 
 -- what holds of the bucket states and the counts of every map with n pairs
-pub record IsSound (n entry_bytes max : ℕ) (marks : List Mark) (counts : Counts) : Type 0 where
-  pub table : IsTable marks
+pub record IsSound (n entry_bytes max : ℕ) (states : List BucketState) (counts : Counts) : Type 0 where
+  pub table : IsTable states
   -- the number of full buckets is the number of pairs
-  pub taken : entry_count marks ≡ n
+  pub taken : entry_count states ≡ n
   -- links reach every bucket
-  pub reachable : (length marks ≡ 0) ⊎ (length marks < max)
+  pub reachable : (length states ≡ 0) ⊎ (length states < max)
   -- the table takes at most 2 ^ 63 - 16 bytes
-  pub usable : (bytes : ℕ) × (usage entry_bytes (length marks) ≡ Some bytes)
+  pub usable : (bytes : ℕ) × (usage entry_bytes (length states) ≡ Some bytes)
   -- the counts fit 64 bits
   pub moved : counts.moved < 2 ^ 64
   pub placed : counts.placed < 2 ^ 64
@@ -77,7 +77,7 @@ pub record IsPaid (potential : ℕ) (counts : Counts) : Type 0 where
 
 -- Pairs were removed, or none: `was` pairs were there, and n are left. Each that is removed may give back one of the
 -- growth left. In a table of up to 16 buckets it does.
-pub record GivesBack (was n : ℕ) (old new : List Mark) : Type 0 where
+pub record GivesBack (was n : ℕ) (old new : List BucketState) : Type 0 where
   pub table : length new ≡ length old
   pub keeps : growth_left_of old ≤ growth_left_of new
   pub at_most : n + growth_left_of new ≤ was + growth_left_of old
@@ -86,25 +86,25 @@ pub record GivesBack (was n : ℕ) (old new : List Mark) : Type 0 where
   pub untouched : n ≡ was → new ≡ old
 
 -- the first bucket that a search for the hash finds empty or deleted is in this state
-abbrev pub FirstFreeIs : Mark → ℕ → List Mark → Type 0
-FirstFreeIs mark hash marks = (b : ℕ) × IsFirstFree marks hash b × (bucket_at marks b ≡ mark)
+abbrev pub FirstFreeIs : BucketState → ℕ → List BucketState → Type 0
+FirstFreeIs state hash states = (b : ℕ) × IsFirstFree states hash b × (bucket_at states b ≡ state)
 
 -- The bucket of a removed pair, `place`, is free now: it is empty if every 16 neighbouring buckets around it contain an
 -- empty one, and deleted otherwise. Each other bucket stays as it was.
 pub record Frees (place : Option ℕ) (old new : TableState) : Type 0 where
   pub bucket : ℕ
   pub there : place ≡ Some bucket
-  pub freed : Removes old.marks new.marks bucket
+  pub freed : Removes old.states new.states bucket
   pub others : new.places ≡ filter (λ b. not (nat_eq b bucket)) old.places
 
 -- the counts of a map that was just made
 abbrev pub no_counts : Counts
-no_counts = record { placings = 0; moved = 0; placed = 0; shrunk = 0 }
+no_counts = record { insertions = 0; moved = 0; placed = 0; shrunk = 0 }
 
 -- the counts after an insertion of an entry for which n others moved
 abbrev pub count_insert : ℕ → Counts → Counts
 count_insert moves c = record c {
-  placings = count_up c.placings (moves + 1);
+  insertions = count_up c.insertions (moves + 1);
   moved = count_up c.moved moves;
   placed = count_up c.placed 1;
 }
@@ -128,11 +128,11 @@ module _ {K V S H : Type 0} where
 
   -- how many buckets its table has
   abbrev pub buckets : State K V S H → ℕ
-  buckets st = length st.table.marks
+  buckets st = length st.table.states
 
   -- the growth left: how many more pairs the table holds for sure
   abbrev pub growth_left : State K V S H → ℕ
-  growth_left st = growth_left_of st.table.marks
+  growth_left st = growth_left_of st.table.states
 
   -- the bucket of the pair of the named key
   abbrev pub place_in : (K → Bool) → State K V S H → Option ℕ
@@ -140,7 +140,7 @@ module _ {K V S H : Type 0} where
 
   -- The table is sound: what holds of the table and the counts of every map, whatever its keys.
   abbrev pub IsSized : State K V S H → Type 0
-  IsSized st = IsSound (length st.pairs) st.entry_bytes st.max st.table.marks st.counts
+  IsSized st = IsSound (length st.pairs) st.entry_bytes st.max st.table.states st.counts
 
   -- twice the number of full and deleted buckets above half of the full capacity, or 0
   abbrev pub potential : State K V S H → ℕ
@@ -155,7 +155,7 @@ module _ {K V S H : Type 0} where
 
   -- the pairs that were removed, if any, gave back growth
   abbrev pub FreesGrowth : State K V S H → State K V S H → Type 0
-  FreesGrowth old new = GivesBack (length old.pairs) (length new.pairs) old.table.marks new.table.marks
+  FreesGrowth old new = GivesBack (length old.pairs) (length new.pairs) old.table.states new.table.states
 
   -- all pairs moved into a table of `count` buckets, none of which is deleted
   pub record MovesTo (count : ℕ) (old new : State K V S H) : Type 0 where
@@ -163,7 +163,7 @@ module _ {K V S H : Type 0} where
     pub exact : length old.pairs + growth_left new ≡ full_capacity count
     pub state : new ≡ record old {
       table = new.table;
-      counts = record old.counts { placings = count_up old.counts.placings (length old.pairs) };
+      counts = record old.counts { insertions = count_up old.counts.insertions (length old.pairs) };
     }
 
   -- `new` is `old` with the contents `left`, after some pairs were evicted or removed. Bucket states and places may

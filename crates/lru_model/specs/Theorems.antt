@@ -14,9 +14,9 @@ use Rattle.lru_model.specs.Inserts.{replacement, with_new_value, MayGive}
 
 -- the count of insertions into the table rises by the entries moved and the entries stored, unless a count has stopped
 -- at its maximum
-abbrev pub CountsPlacings : Counts → Counts → Type 0
-CountsPlacings old new = new.placings < 2 ^ 64 - 1 → new.moved < 2 ^ 64 - 1 → new.placed < 2 ^ 64 - 1 →
-    new.placings + old.moved + old.placed ≡ old.placings + new.moved + new.placed
+abbrev pub CountsInsertions : Counts → Counts → Type 0
+CountsInsertions old new = new.insertions < 2 ^ 64 - 1 → new.moved < 2 ^ 64 - 1 → new.placed < 2 ^ 64 - 1 →
+    new.insertions + old.moved + old.placed ≡ old.insertions + new.moved + new.placed
 
 module _ {K V S H : Type 0} where
   -- `moved` and the potential together rise by at most 2 for each entry stored, unless the count of stored entries has

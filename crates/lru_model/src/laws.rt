@@ -20,7 +20,7 @@ ghost use Rattle.lru_model.specs.Callbacks.{InsertPasses};
 ghost use Rattle.lru_model.specs.Inserts.{Insert, replacement, IsOutOfMemory};
 ghost use Rattle.lru_model.specs.Exact.{Report, InsertsAsReported, InsertsGiven, InsertsInSmallTable, InsertsInList};
 ghost use Rattle.lru_model.specs.Exact.{IsDetermined, AlwaysGrants, HasTables};
-ghost use Rattle.lru_model.specs.Theorems.{PaysByStoring, CountsPlacings, Stores, KeepsValues, IsRefusedGrowth};
+ghost use Rattle.lru_model.specs.Theorems.{PaysByStoring, CountsInsertions, Stores, KeepsValues, IsRefusedGrowth};
 ghost use Rattle.lru_model.specs.Theorems.{EvictsOldest};
 ghost use Rattle.lru_model.specs.Kept.{AcceptsNew, IsAdded};
 
@@ -29,8 +29,8 @@ use std::hash::Hash;
 
 mod bytes;
 mod calls;
+mod insertions;
 mod kept;
-mod placings;
 mod runs;
 mod shrinks;
 
@@ -39,11 +39,11 @@ pub use calls::{
     calls_add_one_pair, calls_evict_the_oldest, calls_keep_maps, calls_keep_sums,
     calls_keep_the_budget, calls_keep_the_length, calls_keep_the_memory_usage,
 };
+pub use insertions::try_inserts_pay_for_moves;
 pub use kept::{
     inserts_leave_the_newest, inserts_with_room_are_exact, maps_keep_to_their_length,
     nothing_is_lost,
 };
-pub use placings::try_inserts_pay_for_moves;
 pub use runs::{
     each_insert_of_a_run_evicts_the_oldest, runs_begin_with_maps, runs_evict_the_oldest,
     runs_keep_maps, runs_keep_sums, runs_keep_the_budget, runs_keep_the_length,
@@ -166,7 +166,7 @@ pub fn deleted_buckets_serve<
 >()
     ensures served { (pair : K × V) (old : State K V L S) (outcome : Outcome) (new : State K V L S) →
         HasPairsButNoGrowth old →
-        FirstFreeIs deleted (S.hash_of old.hasher pair.0) old.table.marks →
+        FirstFreeIs deleted (S.hash_of old.hasher pair.0) old.table.states →
         Place L.rules S.hash_of pair old outcome new →
         (outcome ≡ placed) × IsPlaced pair (buckets old) 0 0 old new ×
         FillsBucket (S.hash_of old.hasher pair.0) old.table new.table }
@@ -174,11 +174,11 @@ pub fn deleted_buckets_serve<
         HasPairsButNoGrowth old → IsSized old →
         Place L.rules S.hash_of pair old placed new →
         IsPlaced pair (buckets old) 0 0 old new →
-        FirstFreeIs deleted (S.hash_of old.hasher pair.0) old.table.marks }
+        FirstFreeIs deleted (S.hash_of old.hasher pair.0) old.table.states }
     ensures added { (key : I) (value : V) (pair : K × V) (old : State K V L S) (result : Result Bool AllocError)
         (new : State K V L S) →
         HasPairsButNoGrowth old → lookup_entry (I.names key) old.pairs ≡ None →
-        FirstFreeIs deleted (S.hash_of old.hasher pair.0) old.table.marks →
+        FirstFreeIs deleted (S.hash_of old.hasher pair.0) old.table.states →
         AcceptsNew L.rules L.offers I.names key value (contents old) pair →
         Insert L.rules L.offers I.names S.hash_of key value old result new →
         IsAdded L.rules L.offers I.names key value pair old result new }
@@ -205,7 +205,7 @@ pub fn inserts_pay_for_moves<
     ensures counted { (key : I) (value : V) (old : State K V L S) (result : Result Bool AllocError)
         (new : State K V L S) →
         Insert L.rules L.offers I.names S.hash_of key value old result new →
-        CountsPlacings old.counts new.counts }
+        CountsInsertions old.counts new.counts }
 {}
 
 /// If a full table cannot grow, because the limiter refuses or there is no larger table, the map keeps at least half of

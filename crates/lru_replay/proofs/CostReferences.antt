@@ -172,7 +172,7 @@ module _ {K V H : Type 0} {eq : K → K → Bool} (laws : IsEquivalence eq) (wei
             does = leaves old (written (eq key) left (promoted (eq key) old)) keeps key p.0 left first priced
                 (is ∙ ap (holding weight old.limiter.limit) (sym (affords_all (worth weight) old.limiter.limit
                 ((p.0, left) ∷ others) (omega (arith, all, spent_few old keeps)))))
-                (subst (λ m. IsSound m old.entry_bytes old.max old.table.marks old.counts)
+                (subst (λ m. IsSound m old.entry_bytes old.max old.table.states old.counts)
                 (sym (length-set_value (eq key) (after (lookup_entry (eq key) old.pairs) others) left))
                 (promoted_sized old (eq key) keeps.sized)) refl refl;
             stored = λ _. rw (there (eq key) old.pairs p at) (same_count old.counts.placed keeps.sized.placed);

@@ -3,7 +3,7 @@ use Rattle.std.specs.Prelude.{◌≡◌, ◌≢◌, ℕ, ◌+◌, List, [], ◌�
 use Rattle.std.specs.Prelude.{Option, Some, None, if◌then◌else◌}
 use Rattle.std.specs.Prelude.{option_to_list, unwrap_or, Contains, AllPairs}
 use Rattle.lru_model.specs.Lists.{first}
-use Rattle.group_table.specs.Bucket.{Slot, IsFull, entry_at, entry_count, bucket_at, refilled, marks_of, growth_left}
+use Rattle.group_table.specs.Bucket.{Slot, IsFull, entry_at, entry_count, bucket_at, refilled, bucket_states, growth_left}
 use Rattle.group_table.specs.Bucket.{growth_left_at}
 use Rattle.group_table.specs.Probe.{filled, IsFirstFree}
 use Rattle.group_table.specs.Change.{MayFill, one_placed, Removes}
@@ -62,12 +62,12 @@ module _ {K V : Type 0} where
 
   -- the pair filled the first free bucket that a search for its hash finds, as the newest
   pub record Lands (old new : OrderedTable K V) (hash : ℕ) (pair : K × V) (b : ℕ) : Type 0 where
-    pub first : IsFirstFree (marks_of old.slots) hash b
-    pub may : MayFill (marks_of old.slots) b
+    pub first : IsFirstFree (bucket_states old.slots) hash b
+    pub may : MayFill (bucket_states old.slots) b
     pub slots : new.slots ≡ slice_set old.slots b (filled hash pair)
     pub order : new.order ≡ b ∷ old.order
     pub insertions : new.insertions ≡ one_placed old.insertions
-    pub growth_left : growth_left (marks_of new.slots) + growth_left_at (marks_of old.slots) b ≡ growth_left (marks_of old.slots)
+    pub growth_left : growth_left (bucket_states new.slots) + growth_left_at (bucket_states old.slots) b ≡ growth_left (bucket_states old.slots)
 
   -- the pair was taken out of its bucket, and the others keep their order
   pub record Takes (old new : OrderedTable K V) (b : ℕ) (taken : K × V) : Type 0 where
@@ -75,11 +75,11 @@ module _ {K V : Type 0} where
     pub removed : Removes old.slots new.slots b
     pub order : new.order ≡ without_bucket b old.order
     pub insertions : new.insertions ≡ old.insertions
-    pub growth_left : growth_left (marks_of new.slots) ≡ growth_left (marks_of old.slots) + growth_left_at (marks_of new.slots) b
+    pub growth_left : growth_left (bucket_states new.slots) ≡ growth_left (bucket_states old.slots) + growth_left_at (bucket_states new.slots) b
 
   -- what holds of every table whose buckets are linked
   pub record IsLinked (t : OrderedTable K V) : Type 0 where
-    pub table : IsTable (marks_of t.slots)
+    pub table : IsTable (bucket_states t.slots)
     -- each full bucket is in the order once, and no other bucket is
     pub distinct : AllPairs ◌≢◌ t.order
     pub all : (b : ℕ) → IsFull t.slots b → Contains t.order b

@@ -3,7 +3,7 @@
 ghost use Rattle.std.specs.Prelude.{◌≡◌, ℕ, ◌+◌, ◌<◌, false, [], ◌∷◌, ◌++◌, length, Some, IfSome};
 ghost use Rattle.std.specs.Prelude.{IfNone, IsTrue, replicate};
 ghost use Rattle.std.specs.Borrow.{sem};
-ghost use Rattle.group_table.specs.Bucket.{empty, marks_of, IsFull, entry_at, growth_left, growth_left_at};
+ghost use Rattle.group_table.specs.Bucket.{empty, bucket_states, IsFull, entry_at, growth_left, growth_left_at};
 ghost use Rattle.group_table.specs.Change.{Removes, no_insertions};
 ghost use Rattle.ordered_table.specs.OrderedTable.{IsLinked, KeysFit, without_bucket, with_pair};
 ghost use Rattle.ordered_table.specs.EntrySize.{entry_size};
@@ -109,7 +109,7 @@ impl<K, V, N: LinkType> LinkedTable<K, V, N> {
 
     #[inline]
     pub(crate) fn growth_left(&self) -> usize
-        ensures growth_left { result ≡ growth_left (marks_of self.now.slots) }
+        ensures growth_left { result ≡ growth_left (bucket_states self.now.slots) }
         ensures linked { IsLinked self.now }
     {
         self.chain.table.growth_left()
@@ -231,8 +231,8 @@ impl<K, V, N: LinkType> LinkedTable<K, V, N> {
         ensures removed { Removes self.old.slots self.new.slots b }
         ensures order { self.new.order ≡ without_bucket b self.old.order }
         ensures insertions { self.new.insertions ≡ self.old.insertions }
-        ensures growth_left { growth_left (marks_of self.new.slots) ≡ growth_left (marks_of self.old.slots)
-            + growth_left_at (marks_of self.new.slots) b }
+        ensures growth_left { growth_left (bucket_states self.new.slots) ≡ growth_left (bucket_states self.old.slots)
+            + growth_left_at (bucket_states self.new.slots) b }
         ensures fits { (hash_of : K → ℕ) → KeysFit hash_of self.old.slots → KeysFit hash_of self.new.slots }
         ensures linked { IsLinked self.new }
     {

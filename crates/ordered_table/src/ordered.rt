@@ -1,7 +1,7 @@
 //! `OrderedTable`: a table whose entries are in an order.
 ghost use Rattle.std.specs.Prelude.{◌≡◌, ℕ, ◌+◌, ◌<◌, false, [], length, Some, IfSome, IfNone, IsTrue};
 ghost use Rattle.std.specs.Borrow.{sem};
-ghost use Rattle.group_table.specs.Bucket.{marks_of, IsFull, entry_at, growth_left};
+ghost use Rattle.group_table.specs.Bucket.{bucket_states, IsFull, entry_at, growth_left};
 ghost use Rattle.group_table.specs.Change.{no_insertions};
 ghost use Rattle.ordered_table.specs.OrderedTable.{IsLinked, KeysFit, with_pair};
 ghost use Rattle.ordered_table.specs.EntrySize.{entry_size};
@@ -120,7 +120,7 @@ impl<K, V, N: LinkType> OrderedTable<K, V, N> {
     /// Returns how many empty buckets may still be filled.
     #[inline]
     pub fn growth_left(&self) -> usize
-        ensures growth_left { result ≡ growth_left (marks_of self.now.slots) }
+        ensures growth_left { result ≡ growth_left (bucket_states self.now.slots) }
         ensures linked { IsLinked self.now }
     {
         self.linked.growth_left()

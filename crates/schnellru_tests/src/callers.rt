@@ -124,7 +124,7 @@ fn count_all(alloc: Global, texts: &[String]) -> Result<MoveReport, AllocError>
 /// Puts a number under each new text into a new map, and evicts nothing. The table makes at most three insertions for
 /// each text, including those that move entries.
 fn keep_all(alloc: Global, texts: &[String]) -> Result<LruMap<String, u64>, AllocError>
-    ensures { IfOk result (λ map. map.counts.placings ≤ 3 * length texts.now) }
+    ensures { IfOk result (λ map. map.counts.insertions ≤ 3 * length texts.now) }
 {
     laws::runs_begin_with_maps::<String, u64, ByLength, RandomState>();
     laws::try_inserts_pay_for_moves::<String, u64, ByLength, RandomState>();
@@ -237,7 +237,7 @@ fn put_into_deleted(
     requires within { length map.old.pairs < map.old.limiter }
     requires full { HasPairsButNoGrowth map.old }
     requires first { FirstFreeIs deleted (⟦<RandomState as KeyHasher<String>>⟧.hash_of map.old.hasher key)
-        map.old.table.marks }
+        map.old.table.states }
     ensures added { (result ≡ Ok true) × (map.new.pairs ≡ (key, value) ∷ map.old.pairs) }
     ensures table { buckets map.new ≡ buckets map.old }
 {

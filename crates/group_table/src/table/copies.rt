@@ -1,6 +1,6 @@
 ghost use Rattle.std.specs.Prelude.{◌≡◌, ℕ, ◌<◌, length, IfOk, IsOk};
 ghost use Rattle.std.specs.List.{AllZip};
-ghost use Rattle.group_table.specs.Bucket.{marks_of};
+ghost use Rattle.group_table.specs.Bucket.{bucket_states};
 ghost use Rattle.group_table.specs.Layout.{IsLaidOut};
 ghost use Rattle.group_table.specs.Table.{IsTable};
 ghost use Rattle.group_table.specs.Fits.{Fits};
@@ -27,10 +27,10 @@ impl<T: Drop> Table<T> {
     pub fn clone_with<F: Fn(&T) -> Result<T, AllocError>>(&self, f: F) -> Result<Self, AllocError>
         requires callable { F.IsAlwaysCallable f }
         ensures copies { IfOk result (λ t. Copies F.Fn f self.now.slots t.slots) }
-        ensures marks { IfOk result (λ t. marks_of t.slots ≡ marks_of self.now.slots) }
+        ensures states { IfOk result (λ t. bucket_states t.slots ≡ bucket_states self.now.slots) }
         ensures insertions { IfOk result (λ t. t.insertions ≡ self.now.insertions) }
         ensures fits { IfOk result (λ t. (hash_of : ℕ → ℕ) → Fits self.now.slots hash_of → Fits t.slots hash_of) }
-        ensures table { IfOk result (λ t. IsTable (marks_of t.slots)) }
+        ensures table { IfOk result (λ t. IsTable (bucket_states t.slots)) }
         ensures succeeds { length self.now.slots ≡ 0 → IsOk result }
     {
         let alloc = self.entries.allocator();

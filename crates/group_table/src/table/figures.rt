@@ -2,9 +2,9 @@
 ghost use Rattle.std.specs.Prelude.{◌≡◌, ◌↔◌, ◌<◌, nat_lt, length, IsTrue};
 ghost use Rattle.std.specs.Mem.{type_size};
 ghost use prog.Memory.{capped};
-ghost use Rattle.group_table.specs.Bucket.{marks_of, IsFull, entry_count, growth_left};
+ghost use Rattle.group_table.specs.Bucket.{bucket_states, IsFull, entry_count, growth_left};
 ghost use Rattle.group_table.specs.Table.{IsTable};
-ghost use Rattle.group_table.specs.Change.{placings};
+ghost use Rattle.group_table.specs.Change.{insertion_count};
 
 use super::Table;
 use crate::cells::bytes_of;
@@ -15,7 +15,7 @@ impl<T> Table<T> {
     #[inline]
     pub fn buckets(&self) -> usize
         ensures value { result ≡ length self.now.slots }
-        ensures table { IsTable (marks_of self.now.slots) }
+        ensures table { IsTable (bucket_states self.now.slots) }
     {
         self.control.buckets()
     }
@@ -30,7 +30,7 @@ impl<T> Table<T> {
     pub fn has_bucket(&self, b: usize) -> bool
         requires { 0 < length self.now.slots }
         ensures value { result ≡ nat_lt b (length self.now.slots) }
-        ensures table { IsTable (marks_of self.now.slots) }
+        ensures table { IsTable (bucket_states self.now.slots) }
     {
         self.control.has_bucket(b)
     }
@@ -39,7 +39,7 @@ impl<T> Table<T> {
     #[inline]
     pub fn len(&self) -> usize
         ensures value { result ≡ entry_count self.now.slots }
-        ensures table { IsTable (marks_of self.now.slots) }
+        ensures table { IsTable (bucket_states self.now.slots) }
     {
         self.len
     }
@@ -47,8 +47,8 @@ impl<T> Table<T> {
     /// Returns the growth left: how many more entries find an empty bucket for sure.
     #[inline]
     pub fn growth_left(&self) -> usize
-        ensures value { result ≡ growth_left (marks_of self.now.slots) }
-        ensures table { IsTable (marks_of self.now.slots) }
+        ensures value { result ≡ growth_left (bucket_states self.now.slots) }
+        ensures table { IsTable (bucket_states self.now.slots) }
     {
         self.growth_left
     }
@@ -56,9 +56,9 @@ impl<T> Table<T> {
     /// Returns how many insertions the table has made. A moved entry counts as one insertion. A count that reaches
     /// `u64::MAX` stays there.
     #[inline]
-    pub fn placings(&self) -> u64
-        ensures value { result ≡ placings self.now.insertions }
-        ensures table { IsTable (marks_of self.now.slots) }
+    pub fn insertion_count(&self) -> u64
+        ensures value { result ≡ insertion_count self.now.insertions }
+        ensures table { IsTable (bucket_states self.now.slots) }
     {
         self.placed.saturating_add(self.moved)
     }
@@ -69,12 +69,12 @@ impl<T> Table<T> {
     /// ```
     /// let mut table = Table::with_buckets(alloc, 8)?;
     /// let _ = table.try_place(7, "a");
-    /// assert_eq!(rt; (table.placed(), table.placings()), (1, 1));
+    /// assert_eq!(rt; (table.placed(), table.insertion_count()), (1, 1));
     /// ```
     #[inline]
     pub fn placed(&self) -> u64
         ensures value { result ≡ self.now.insertions.placed }
-        ensures table { IsTable (marks_of self.now.slots) }
+        ensures table { IsTable (bucket_states self.now.slots) }
     {
         self.placed
     }
@@ -90,7 +90,7 @@ impl<T> Table<T> {
     #[inline]
     pub fn is_full(&self, b: usize) -> bool
         ensures full { IsTrue result ↔ IsFull self.now.slots b }
-        ensures table { IsTable (marks_of self.now.slots) }
+        ensures table { IsTable (bucket_states self.now.slots) }
     {
         b < self.buckets() && self.control.byte(b) < DELETED
     }

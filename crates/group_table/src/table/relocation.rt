@@ -2,7 +2,7 @@
 //! table does not compile.
 ghost use Rattle.std.specs.Prelude.{◌≡◌, ℕ, ◌+◌, ◌^◌, ◌<◌, ◌≤◌, [], length, count_by, IfOk, OnErr, OnOk, IsOk};
 ghost use Rattle.group_table.specs.Sizes.{IsBucketCount, full_capacity};
-ghost use Rattle.group_table.specs.Bucket.{marks_of, entry_at, entry_count, is_deleted, growth_left};
+ghost use Rattle.group_table.specs.Bucket.{bucket_states, entry_at, entry_count, is_deleted, growth_left};
 ghost use Rattle.group_table.specs.Table.{IsTable};
 ghost use Rattle.group_table.specs.Change.{some_moved};
 ghost use Rattle.group_table.specs.Relocation.{Renumbers, KeepsHashes, GivesHashes};
@@ -46,14 +46,14 @@ impl<T> Table<T> {
         ensures no_links { IfOk result (λ links. entry_count self.old.slots ≡ 0 → links.items ≡ []) }
         ensures entries { OnOk result (entry_count self.new.slots ≡ entry_count self.old.slots) }
         ensures growth_left { OnOk result (
-            growth_left (marks_of self.new.slots) + entry_count self.old.slots ≡ full_capacity (length self.new.slots)) }
+            growth_left (bucket_states self.new.slots) + entry_count self.old.slots ≡ full_capacity (length self.new.slots)) }
         ensures none_deleted { OnOk result (count_by is_deleted self.new.slots ≡ 0) }
         ensures insertions { OnOk result (
             self.new.insertions ≡ some_moved self.old.insertions (entry_count self.old.slots)) }
         ensures hashes { IfOk result (λ links. (hash_at : ℕ → ℕ) →
             GivesHashes H.Fn hash_of (entry_at self.old.slots) hash_at →
             KeepsHashes N.number N.MAX (entry_at self.old.slots) self.new.slots links.items hash_at) }
-        ensures table { IsTable (marks_of self.new.slots) }
+        ensures table { IsTable (bucket_states self.new.slots) }
         ensures unchanged { OnErr result (self.new ≡ self.old) }
         ensures succeeds { buckets ≡ 0 → IsOk result }
     {
@@ -102,14 +102,14 @@ impl<T> Table<T> {
         ensures no_links { IfOk result (λ links. entry_count self.old.slots ≡ 0 → links.items ≡ []) }
         ensures entries { OnOk result (entry_count self.new.slots ≡ entry_count self.old.slots) }
         ensures growth_left { OnOk result (
-            growth_left (marks_of self.new.slots) + entry_count self.old.slots ≡ full_capacity (length self.new.slots)) }
+            growth_left (bucket_states self.new.slots) + entry_count self.old.slots ≡ full_capacity (length self.new.slots)) }
         ensures none_deleted { OnOk result (count_by is_deleted self.new.slots ≡ 0) }
         ensures insertions { OnOk result (
             self.new.insertions ≡ some_moved self.old.insertions (entry_count self.old.slots)) }
         ensures hashes { IfOk result (λ links. (hash_at : ℕ → ℕ) →
             GivesHashes H.Fn hash_of (entry_at self.old.slots) hash_at →
             KeepsHashes N.number N.MAX (entry_at self.old.slots) self.new.slots links.items hash_at) }
-        ensures table { IsTable (marks_of self.new.slots) }
+        ensures table { IsTable (bucket_states self.new.slots) }
         ensures unchanged { OnErr result (self.new ≡ self.old) }
         ensures succeeds { entry_count self.old.slots ≡ 0 → IsOk result }
     {

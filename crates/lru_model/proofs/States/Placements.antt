@@ -6,7 +6,7 @@ use Rattle.std.specs.declared.alloc.AllocError.{AllocError}
 use native.Mathlib.Decide.{dec_lt}
 use Rattle.std.proofs.lemmas.List.{nil_from_length}
 use Rattle.group_table.specs.Sizes.{IsPowerFromFour, full_capacity}
-use Rattle.group_table.specs.Bucket.{Mark}
+use Rattle.group_table.specs.Bucket.{BucketState}
 use Rattle.group_table.specs.Change.{HasNoPlace}
 use Rattle.lru_limits.specs.Rules.{Rules}
 use Rattle.lru_model.specs.Sizes.{no_table, new_table}
@@ -15,7 +15,7 @@ use Rattle.lru_model.specs.Place.{Place, rehashed, grown, not_grown, HasNoBucket
 use Rattle.lru_model.specs.Place.{no_target, denied, Evicts, nothing_to_evict, finds_bucket, rehashes, OldestEvicted}
 use Rattle.lru_model.specs.Place.{Outcome, outcome_of, placed, no_memory, IsPlaced, IsPlacedIfMemory}
 use Rattle.lru_model.specs.Place.{HasPairsButNoGrowth, NoBucketTakes, FillsBucket, table_for}
-use Rattle.lru_model.proofs.TableSizes.SizedMarks.{fits, exact}
+use Rattle.lru_model.proofs.TableSizes.SizedStates.{fits, exact}
 use Rattle.lru_model.proofs.TableSizes.Growth.{full_capacity-at_most, full_capacity-even}
 use Rattle.lru_model.proofs.Theorems.OutOfMemory.{no_growth_left}
 use Rattle.lru_model.proofs.States.Outcomes.{placed-not_no_memory, refused-not_no_memory}
@@ -115,22 +115,22 @@ module _ {K V S H : Type 0} (st : State K V S H) (ok : IsSized st) (hash : ℕ) 
     | inr d ↦ omega (arith, (deleted_first_large ok hash (fills.bucket, fills.first, d.0)).1)
   ]
 
-  pub no_place_bucket : HasNoPlace st.table.marks hash → HasNoBucket hash st
+  pub no_place_bucket : HasNoPlace st.table.states hash → HasNoBucket hash st
   no_place_bucket (inl none) = record {
-    no_growth_left = no_growth_left st.table.marks none;
+    no_growth_left = no_growth_left st.table.states none;
     first_empty = λ some. absurd (omega (arith, ap length (none_without_buckets st ok none), some));
   }
   no_place_bucket (inr (none, b, first, is)) = record { no_growth_left = none; first_empty = λ some. (b, first, is) }
 
 -- no bucket of a table with these states takes a pair of this hash, and it holds at least half of what it may
-pub record IsStuck (hash least : ℕ) (marks : List Mark) (pairs : ℕ) : Type 0 where
+pub record IsStuck (hash least : ℕ) (states : List BucketState) (pairs : ℕ) : Type 0 where
   pub some : 0 < pairs
   pub half : least ≤ pairs
-  pub no_bucket : NoBucketTakes hash pairs marks
+  pub no_bucket : NoBucketTakes hash pairs states
 
 module _ {K V S H : Type 0} (rules : Rules K V S) (hash : ℕ) (pair : K × V) (old before left : State K V S H)
     (ok : IsSized old) (is_full : HasPairsButNoGrowth old) (n : ℕ) (gone : OldestEvicted rules hash n old before)
-    (stuck : IsStuck hash (full_capacity (buckets old) / 2) before.table.marks (length before.pairs))
+    (stuck : IsStuck hash (full_capacity (buckets old) / 2) before.table.states (length before.pairs))
     (step : Leaves before (pop rules (contents before)) left) where
   pub one_more : OldestEvicted rules hash (suc n) old left
   one_more = (before, gone, stuck.no_bucket, step)

@@ -21,7 +21,7 @@ module _ {K V S H : Type 0} (st : State K V S H) where
   sized_with : (pairs : List (K × V)) → length pairs ≡ length st.pairs → IsSized st
       → IsSized (record st { pairs = pairs })
   sized_with pairs same ok =
-      subst (λ n. IsSound n st.entry_bytes st.max st.table.marks st.counts) (sym same) ok
+      subst (λ n. IsSound n st.entry_bytes st.max st.table.states st.counts) (sym same) ok
 
   pub promoted_sized : (names : K → Bool) → IsSized st → IsSized (promoted names st)
   promoted_sized names ok = sized_with _ (length-front_pairs names st.pairs) ok

@@ -6,12 +6,12 @@ use Rattle.std.proofs.lemmas.Bool.{false≢true}
 use Rattle.std.proofs.lemmas.List.{nil_from_length}
 use native.Mathlib.Decide.{dec_lt}
 use Rattle.group_table.specs.Sizes.{full_capacity, IsBucketCount, IsPowerFromFour}
-use Rattle.group_table.specs.Bucket.{Mark, empty, deleted, full, bucket_at, is_full, is_used, is_deleted, growth_left_at}
+use Rattle.group_table.specs.Bucket.{BucketState, empty, deleted, full, bucket_at, is_full, is_used, is_deleted, growth_left_at}
 use Rattle.group_table.specs.Bucket.{growth_left as growth_left_of}
 use Rattle.group_table.specs.Probe.{IsFirstFree}
 use Rattle.group_table.specs.Change.{MayFill, count_up}
 use Rattle.group_table.proofs.BucketLemmas.{room_is, used_count-split, count_by-set}
-use Rattle.group_table.proofs.CountedMarks.{facts}
+use Rattle.group_table.proofs.CountedStates.{facts}
 use Rattle.lru_limits.specs.Rules.{Rules}
 use Rattle.lru_model.specs.Sizes.{Target, no_table, same_table, new_table, usage}
 use Rattle.lru_model.specs.State.{State, Contents, buckets, growth_left, contents, IsSound, IsSized, Leaves, FirstFreeIs}
@@ -24,7 +24,7 @@ use Rattle.lru_model.proofs.TableSizes.Growth.{full_capacity-at_most, full_capac
 use Rattle.lru_model.proofs.States.LeavingPairs.{length-pops}
 use Rattle.lru_model.proofs.States.Outcomes.{placed-not_no_memory}
 use Rattle.lru_model.proofs.TableSizes.FilledBuckets.{deleted_large, fills_free}
-use Rattle.lru_model.proofs.TableSizes.SomeMarks.{marked, length-marked, growth_left-marked, sized-marked}
+use Rattle.lru_model.proofs.TableSizes.SomeStates.{some_states, length-some_states, growth_left-some_states, sized-some_states}
 
 counted : (n more : ℕ) → count_up n more < 2 ^ 64
 counted n more = omega arith
@@ -46,35 +46,35 @@ module _ {K V S H : Type 0} where
           untouched = λ _. refl;
         };
       },
-      subst (λ n. IsSound n old.entry_bytes old.max old.table.marks old.counts) (sym same) ok,
+      subst (λ n. IsSound n old.entry_bytes old.max old.table.states old.counts) (sym same) ok,
       omega (arith, same),
     )
     | yes q ↦
-        let deletions = count_by is_deleted old.table.marks in
-        let split = used_count-split old.table.marks in
+        let deletions = count_by is_deleted old.table.states in
+        let split = used_count-split old.table.states in
         let within : length c.pairs + deletions ≤ full_capacity (buckets old) = omega
         (arith, split, ok.taken, ok.table.used_within, q) in
         let new : State K V S H =
         record old {
           pairs = c.pairs;
           limiter = c.limiter;
-          table = record old.table { marks = marked old ok c.pairs deletions within };
+          table = record old.table { states = some_states old ok c.pairs deletions within };
         } in
-        let left = growth_left-marked old ok c.pairs deletions within in
+        let left = growth_left-some_states old ok c.pairs deletions within in
         let freed : length c.pairs + growth_left new ≡ length old.pairs
-        + growth_left old = omega (arith, left, room_is old.table.marks, split, ok.taken, ok.table.used_within, q) in (
+        + growth_left old = omega (arith, left, room_is old.table.states, split, ok.taken, ok.table.used_within, q) in (
           new,
           record {
             is = refl;
             growth_left = record {
-              table = length-marked old ok c.pairs deletions within;
+              table = length-some_states old ok c.pairs deletions within;
               keeps = omega (arith, freed, q);
               at_most = omega (arith, freed);
               exact = λ _. freed;
               untouched = λ same. absurd (omega (arith, same, q));
             };
           },
-          sized-marked old ok c.pairs deletions within ok.table.none_deleted old.counts ok.moved ok.placed refl,
+          sized-some_states old ok c.pairs deletions within ok.table.none_deleted old.counts ok.moved ok.placed refl,
           freed,
         )
   ]
@@ -90,62 +90,62 @@ module _ {K V S H : Type 0} where
         let fit : length pairs + deletions ≤ full_capacity (buckets old) = omega (arith, within) in
         let new : State K V S H = record old {
           pairs = pairs;
-          table = record old.table { marks = marked old ok pairs deletions fit };
+          table = record old.table { states = some_states old ok pairs deletions fit };
           counts = count_insert 0 old.counts;
         } in (
           new,
           record {
-            table = length-marked old ok pairs deletions fit;
-            room_left = omega (arith, growth_left-marked old ok pairs deletions fit);
+            table = length-some_states old ok pairs deletions fit;
+            room_left = omega (arith, growth_left-some_states old ok pairs deletions fit);
             state = refl;
           },
-          sized-marked old ok pairs deletions fit none_deleted new.counts (counted old.counts.moved 0)
+          sized-some_states old ok pairs deletions fit none_deleted new.counts (counted old.counts.moved 0)
               (counted old.counts.placed 1) refl,
         )
 
-    fill_first : (hash b : ℕ) → b < buckets old → IsFirstFree old.table.marks hash b → MayFill old.table.marks b
+    fill_first : (hash b : ℕ) → b < buckets old → IsFirstFree old.table.states hash b → MayFill old.table.states b
         → (new : State K V S H) × IsPlaced pair (buckets old) (growth_left new) 0 old new
         × FillsBucket hash old.table new.table × IsSized new
     fill_first hash b within first may =
         (new, placed, fills_free old.table new.table ok hash b within first spends refl refl, sized)
       where
-        marks : List Mark
-        marks = slice_set old.table.marks b (full tt)
+        states : List BucketState
+        states = slice_set old.table.states b (full tt)
 
         new : State K V S H
         new = record old {
           pairs = pair ∷ old.pairs;
-          table = record { marks = marks; places = b ∷ old.table.places };
+          table = record { states = states; places = b ∷ old.table.places };
           counts = count_insert 0 old.counts;
         }
 
-        counts : (p : Mark → Bool) → count_by p marks + cond (p (bucket_at old.table.marks b)) 1 0
-            ≡ count_by p old.table.marks + cond (p (full tt)) 1 0
-        counts p = count_by-set p old.table.marks b (full tt) within
+        counts : (p : BucketState → Bool) → count_by p states + cond (p (bucket_at old.table.states b)) 1 0
+            ≡ count_by p old.table.states + cond (p (full tt)) 1 0
+        counts p = count_by-set p old.table.states b (full tt) within
 
-        same : length marks ≡ buckets old
-        same = length-set old.table.marks b (full tt)
+        same : length states ≡ buckets old
+        same = length-set old.table.states b (full tt)
 
-        one : (m : Mark) → ◌≡◌ {A = ℕ} (cond (is_used m) 1 0 + (if is_used m then 0 else 1)) 1
+        one : (m : BucketState) → ◌≡◌ {A = ℕ} (cond (is_used m) 1 0 + (if is_used m then 0 else 1)) 1
         one empty = refl
         one deleted = refl
         one (full held) = refl
 
-        used : count_by is_used marks ≤ full_capacity (buckets old)
+        used : count_by is_used states ≤ full_capacity (buckets old)
         used = elim may [
-          | inl some ↦ omega (arith, counts is_used, room_is old.table.marks, some)
+          | inl some ↦ omega (arith, counts is_used, room_is old.table.states, some)
           | inr there ↦ omega
               (arith, counts is_used, ap (λ m. cond {A = ℕ} (is_used m) 1 0) there, ok.table.used_within)
         ]
 
-        spends : growth_left_of marks + growth_left_at old.table.marks b ≡ growth_left_of old.table.marks
+        spends : growth_left_of states + growth_left_at old.table.states b ≡ growth_left_of old.table.states
         spends = omega (
           arith,
-          room_is marks,
-          room_is old.table.marks,
+          room_is states,
+          room_is old.table.states,
           ap full_capacity same,
           counts is_used,
-          one (bucket_at old.table.marks b),
+          one (bucket_at old.table.states b),
           used,
         )
 
@@ -177,7 +177,7 @@ module _ {K V S H : Type 0} where
         × FillsBucket hash old.table new.table × IsSized new
     some_filled hash r =
         let (b, within, first) =
-        (facts ok.table).some_free (omega (arith, room_is old.table.marks, r, full_capacity-at_most (buckets old))) hash in
+        (facts ok.table).some_free (omega (arith, room_is old.table.states, r, full_capacity-at_most (buckets old))) hash in
         fill_first hash b within first (inl r)
 
 module _ {K V S H : Type 0} (rules : Rules K V S) (hash_of : H → K → ℕ) (pair : K × V) (old : State K V S H)
@@ -189,23 +189,23 @@ module _ {K V S H : Type 0} (rules : Rules K V S) (hash_of : H → K → ℕ) (p
   half = full_capacity (buckets old) / 2
 
   abbrev pub deletions : ℕ
-  deletions = count_by is_deleted old.table.marks
+  deletions = count_by is_deleted old.table.states
 
   abbrev hash : ℕ
   hash = hash_of old.hasher pair.0
 
   spent : growth_left old ≡ full_capacity (buckets old) - (length old.pairs + deletions)
-  spent = omega (arith, room_is old.table.marks, used_count-split old.table.marks, ok.taken)
+  spent = omega (arith, room_is old.table.states, used_count-split old.table.states, ok.taken)
 
   spent_within : length old.pairs + deletions ≤ full_capacity (buckets old)
-  spent_within = omega (arith, used_count-split old.table.marks, ok.taken, ok.table.used_within)
+  spent_within = omega (arith, used_count-split old.table.states, ok.taken, ok.table.used_within)
 
   roomy_ends : 0 < growth_left old → Ends
   roomy_ends r =
       let (new, is, fills, sized) = some_filled pair old ok hash r in
       (placed, new, in_bucket (omega (arith, r, spent)) (inl r) fills refl is, sized)
 
-  deleted_ends : 0 < length old.pairs → growth_left old ≡ 0 → (free : FirstFreeIs deleted hash old.table.marks)
+  deleted_ends : 0 < length old.pairs → growth_left old ≡ 0 → (free : FirstFreeIs deleted hash old.table.states)
       → free.0 < buckets old → Ends
   deleted_ends l none free below =
       let (large, spare) = deleted_large ok free.0 below free.2 in
@@ -302,13 +302,13 @@ module _ {K V S H : Type 0} (rules : Rules K V S) (hash_of : H → K → ℕ) (p
   ]
 
   full_ends : 0 < length old.pairs → growth_left old ≡ 0 → Ends
-  full_ends some none = go (bucket_at old.table.marks free.0) refl
+  full_ends some none = go (bucket_at old.table.states free.0) refl
     where
-      free : (b : ℕ) × (b < buckets old) × IsFirstFree old.table.marks hash b
+      free : (b : ℕ) × (b < buckets old) × IsFirstFree old.table.states hash b
       free = (facts ok.table).some_free (omega (arith, none, spent, spent_within, some, full_capacity-at_most (buckets old)))
           hash
 
-      go : (m : Mark) → bucket_at old.table.marks free.0 ≡ m → Ends
+      go : (m : BucketState) → bucket_at old.table.states free.0 ≡ m → Ends
       go empty e = pairs_end some (record { no_growth_left = none; first_empty = λ _. (free.0, free.2, e) })
       go deleted e = deleted_ends some none (free.0, free.2, e) free.1
       go (full held) e = absurd (false≢true (sym free.2.free_there ∙ ap is_full e))

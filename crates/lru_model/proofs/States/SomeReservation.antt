@@ -17,15 +17,15 @@ use Rattle.lru_model.specs.Reservations.{no_such_table}
 use Rattle.lru_model.specs.Sizes.{Target, no_table, same_table, new_table}
 use Rattle.lru_model.specs.declared.results.ReserveError.{ReserveError}
 use Rattle.lru_model.specs.declared.results.ReserveError.TheVariants.{TooLarge, Refused, Memory}
-use Rattle.lru_model.proofs.TableSizes.SomeMarks.{marked, length-marked, growth_left-marked, sized-marked}
+use Rattle.lru_model.proofs.TableSizes.SomeStates.{some_states, length-some_states, growth_left-some_states, sized-some_states}
 
 pub cleared_sized : {K V S H : Type 0} (rules : Rules K V S) (old : State K V S H) → IsSized old
     → IsSized (cleared rules old)
 cleared_sized {K = K} {V = V} rules old ok =
     let none : List (K × V) = [] in
-    let marked_empty = sized-marked old ok none 0 (omega arith) (λ _. refl) old.counts ok.moved ok.placed refl in
+    let sized_empty = sized-some_states old ok none 0 (omega arith) (λ _. refl) old.counts ok.moved ok.placed refl in
     let as_many : buckets old - 0 - 0 ≡ buckets old = omega arith in
-    subst (λ n. IsSound 0 old.entry_bytes old.max (replicate n empty) old.counts) as_many marked_empty
+    subst (λ n. IsSound 0 old.entry_bytes old.max (replicate n empty) old.counts) as_many sized_empty
 
 module _ {K V S H : Type 0} (rules : Rules K V S) (n : ℕ) (old : State K V S H) (ok : IsSized old) where
   abbrev pub CanReserve : Type 0
@@ -35,20 +35,20 @@ module _ {K V S H : Type 0} (rules : Rules K V S) (n : ℕ) (old : State K V S H
   some_remade : NeedsGrowthFor n old → table_for n old ≡ same_table → CanReserve
   some_remade needs_growth is =
       let within : length old.pairs + 0 ≤ full_capacity (buckets old) = omega
-      (arith, used_count-split old.table.marks, ok.taken, ok.table.used_within) in
+      (arith, used_count-split old.table.states, ok.taken, ok.table.used_within) in
       let new : State K V S H = record old {
-        table = record old.table { marks = marked old ok old.pairs 0 within };
-        counts = record old.counts { placings = count_up old.counts.placings (length old.pairs) };
+        table = record old.table { states = some_states old ok old.pairs 0 within };
+        counts = record old.counts { insertions = count_up old.counts.insertions (length old.pairs) };
       } in (
         Ok tt,
         new,
         rehashed needs_growth is refl
             (record {
-              table = length-marked old ok old.pairs 0 within;
-              exact = omega (arith, growth_left-marked old ok old.pairs 0 within, within);
+              table = length-some_states old ok old.pairs 0 within;
+              exact = omega (arith, growth_left-some_states old ok old.pairs 0 within, within);
               state = refl;
             }),
-        sized-marked old ok old.pairs 0 within (λ _. refl) new.counts ok.moved ok.placed refl,
+        sized-some_states old ok old.pairs 0 within (λ _. refl) new.counts ok.moved ok.placed refl,
       )
 
   some_asked : NeedsGrowthFor n old → (count bytes : ℕ) → table_for n old ≡ new_table count bytes → (allowed : Bool)

@@ -31,7 +31,7 @@ module _ {K V S H : Type 0} (old : State K V S H) (ok : IsSized old) where
       let gone : count ≡ 0 = none_needed old.max count needs in
       let new : State K V S H = record old {
         table = empty_table;
-        counts = record (shrink_counted old).counts { placings = count_up old.counts.placings (length old.pairs) };
+        counts = record (shrink_counted old).counts { insertions = count_up old.counts.insertions (length old.pairs) };
       } in
       let bare = empty_is_sound old.entry_bytes old.max in (
         Ok true,

@@ -6,7 +6,7 @@ use Rattle.group_table.specs.Sizes.{IsPowerFromFour, IsBucketCount, full_capacit
 use Rattle.lru_model.specs.Sizes.{usage, same_table, new_table, larger}
 use Rattle.lru_model.specs.State.{State, buckets, IsSized}
 use Rattle.lru_model.specs.Place.{table_for}
-use Rattle.lru_model.proofs.TableSizes.SizedMarks.{fits}
+use Rattle.lru_model.proofs.TableSizes.SizedStates.{fits}
 use Rattle.lru_model.proofs.TableSizes.Growth.{target_new, target_usage, target_doubles, full_capacity-at_most}
 use Rattle.lru_model.proofs.TableSizes.Growth.{full_capacity-double}
 use Rattle.lru_model.proofs.TableSizes.Doubling.{target_keeps}

@@ -6,7 +6,7 @@ use Rattle.std.proofs.lemmas.Bool.Decides.{nat_tests}
 use Rattle.std.proofs.lemmas.Bool.{true≢false}
 use Rattle.std.proofs.lemmas.List.{length-replicate}
 use Rattle.std.specs.declared.alloc.AllocError.{AllocError}
-use Rattle.group_table.specs.Bucket.{Mark, empty}
+use Rattle.group_table.specs.Bucket.{BucketState, empty}
 use Rattle.group_table.specs.Sizes.{IsBucketCount}
 use Rattle.lru_limits.specs.Rules.{Offers}
 use Rattle.lru_limits.specs.Stores.{ReturnsPairIf, given-adds}
@@ -198,7 +198,7 @@ module _ {K V H : Type 0} (bytes_of : K → V → ℕ) (most : ℕ) where
     cleared_calm : (mid : State K V Bytes H) → Calm bytes_of most mid (cleared (rules bytes_of) mid)
     cleared_calm mid = record {
       entry_bytes = refl;
-      table = length-replicate {A = Mark} (buckets mid) empty;
+      table = length-replicate {A = BucketState} (buckets mid) empty;
       limiter = record { limit = refl; table = refl; owned = omega arith };
     }
 

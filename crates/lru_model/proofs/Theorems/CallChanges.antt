@@ -7,7 +7,7 @@ use Rattle.std.proofs.lemmas.List.{length-replicate}
 use Rattle.std.proofs.lemmas.Map.{length-set_value}
 use Rattle.std.specs.declared.alloc.AllocError.{AllocError}
 use Rattle.group_table.specs.Sizes.{full_capacity, IsBucketCount}
-use Rattle.group_table.specs.Bucket.{Mark, empty, is_used, growth_left as growth_left_of}
+use Rattle.group_table.specs.Bucket.{BucketState, empty, is_used, growth_left as growth_left_of}
 use Rattle.lru_limits.specs.Rules.{Rules, Offers}
 use Rattle.lru_model.specs.State.{State, buckets, Contents, contents, MovesTo, Leaves, Trims}
 use Rattle.lru_model.specs.Calls.{promoted, demoted, written, pop_first, Remove, PopOldest, PopNewest, cleared}
@@ -42,15 +42,15 @@ module _ {K V S : Type 0} {rules : Rules K V S} {R : Contents K V S → Contents
 
 pub room_cleared : (n : ℕ) → growth_left_of (replicate n empty) ≡ full_capacity n
 unfolding growth_left_of
-room_cleared n = omega (arith, none_used n, ap full_capacity (length-replicate {A = Mark} n empty))
+room_cleared n = omega (arith, none_used n, ap full_capacity (length-replicate {A = BucketState} n empty))
   where
     none_used : (n : ℕ) → count_by (is_used {A = Unit {0}}) (replicate n empty) ≡ 0
     none_used zero = refl
     none_used (suc n) = none_used n
 
-room_within : (marks : List Mark) → growth_left_of marks ≤ full_capacity (length marks)
+room_within : (states : List BucketState) → growth_left_of states ≤ full_capacity (length states)
 unfolding growth_left_of
-room_within marks = omega arith
+room_within states = omega arith
 
 module _ {K V S H : Type 0} (rules : Rules K V S) (old : State K V S H) where
   pub pairs_calm : (pairs : List (K × V)) (places : List ℕ) → length pairs ≡ length old.pairs
@@ -72,8 +72,8 @@ module _ {K V S H : Type 0} (rules : Rules K V S) (old : State K V S H) where
     max = refl;
     entry_bytes = refl;
     counts = refl;
-    table = length-replicate {A = Mark} (buckets old) empty;
-    keeps = omega (arith, room_cleared (buckets old), room_within old.table.marks);
+    table = length-replicate {A = BucketState} (buckets old) empty;
+    keeps = omega (arith, room_cleared (buckets old), room_within old.table.states);
     few = omega arith;
     fits = λ f. omega (arith, room_cleared (buckets old));
   }
@@ -153,7 +153,7 @@ module _ {K V S H : Type 0} {rules : Rules K V S} {R : Contents K V S → Conten
       count = rw m.table next;
       moved = λ bound. omega (arith, ap (λ x. x.counts.moved) m.state, bound);
       pays = λ ok. pays_calm old new ok.shrunk
-          (ap (λ x. record x.counts { placings = old.counts.placings }) m.state)
+          (ap (λ x. record x.counts { insertions = old.counts.insertions }) m.state)
           (omega (arith, ap full_capacity m.table, m.exact, large ok, ok.fits));
       little = λ ok h. omega arith;
     };

@@ -2,7 +2,7 @@
 use Rattle.std.proofs.Common.{◌≡◌, ℕ, ◌+◌, ◌<◌, inl, inr, length, sym, ap, ◌∙◌, subst, arith}
 use Rattle.group_table.specs.Sizes.{IsBucketCount}
 use Rattle.group_table.proofs.SizeLemmas.{power_pos}
-use Rattle.group_table.specs.Bucket.{Mark, empty, deleted, bucket_at}
+use Rattle.group_table.specs.Bucket.{BucketState, empty, deleted, bucket_at}
 use Rattle.group_table.proofs.FirstFree.{IsFirstFree-unique}
 use Rattle.lru_limits.specs.Rules.{Rules}
 use Rattle.lru_model.specs.State.{State, buckets, growth_left, FirstFreeIs}
@@ -17,21 +17,21 @@ module _ {K V S H : Type 0} (rules : Rules K V S) (hash_of : H → K → ℕ) (p
   abbrev hash : ℕ
   hash = hash_of old.hasher pair.0
 
-  not_both : FirstFreeIs deleted hash old.table.marks → FirstFreeIs empty hash old.table.marks → ⊥
-  not_both p q = let marks = old.table.marks in
-      no (sym p.2 ∙ ap (bucket_at marks) (IsFirstFree-unique marks _ p.0 q.0 p.1 q.1) ∙ q.2)
+  not_both : FirstFreeIs deleted hash old.table.states → FirstFreeIs empty hash old.table.states → ⊥
+  not_both p q = let states = old.table.states in
+      no (sym p.2 ∙ ap (bucket_at states) (IsFirstFree-unique states _ p.0 q.0 p.1 q.1) ∙ q.2)
     where
-      no : ◌≡◌ {A = Mark} deleted empty → ⊥
+      no : ◌≡◌ {A = BucketState} deleted empty → ⊥
       no h = grind arith
 
-  of_deleted : FirstFreeIs deleted hash old.table.marks → (new : State K V S H)
+  of_deleted : FirstFreeIs deleted hash old.table.states → (new : State K V S H)
       → FillsBucket hash old.table new.table → growth_left new ≡ 0
   of_deleted p new f = elim f.spends [
     | inl e ↦ absurd (not_both p (f.bucket, f.first, e.0))
     | inr d ↦ omega (arith, d.2, no_growth_left)
   ]
 
-  pub deleted_serves : FirstFreeIs deleted hash old.table.marks → (outcome : Outcome) (new : State K V S H)
+  pub deleted_serves : FirstFreeIs deleted hash old.table.states → (outcome : Outcome) (new : State K V S H)
       → Place rules hash_of pair old outcome new
       → (outcome ≡ placed) × IsPlaced pair (buckets old) 0 0 old new × FillsBucket hash old.table new.table
   deleted_serves p outcome new (in_bucket l f s o n) =
@@ -42,7 +42,7 @@ module _ {K V S H : Type 0} (rules : Rules K V S) (hash_of : H → K → ℕ) (p
 
   pub only_deleted : IsBounded old → (outcome : Outcome) (new : State K V S H) → outcome ≡ placed
       → Place rules hash_of pair old outcome new → IsPlaced pair (buckets old) 0 0 old new
-      → FirstFreeIs deleted hash old.table.marks
+      → FirstFreeIs deleted hash old.table.states
   only_deleted ok outcome new q (in_bucket l f s o n) p = elim s.spends [
     | inl e ↦ absurd (omega (arith, e.1, no_growth_left))
     | inr d ↦ (s.bucket, s.first, d.0)

@@ -3,7 +3,7 @@ use Rattle.std.proofs.Common.{◌≡◌, ℕ, ◌<◌, ◌⊎◌, inl, inr, Bool
 use Rattle.std.proofs.Common.{subst, arith}
 use Rattle.std.specs.Prelude.{IsErr, OnErr}
 use Rattle.std.specs.declared.alloc.AllocError.{AllocError}
-use Rattle.group_table.specs.Bucket.{Mark, growth_left as growth_left_of}
+use Rattle.group_table.specs.Bucket.{BucketState, growth_left as growth_left_of}
 use Rattle.lru_limits.specs.Rules.{Rules, Offers}
 use Rattle.lru_model.specs.State.{State, buckets, growth_left}
 use Rattle.lru_model.specs.Place.{Place, in_bucket, rehashed, grown, not_grown}
@@ -19,9 +19,9 @@ use Rattle.lru_model.proofs.Theorems.InsertAnswers.{place_comes}
 use Rattle.lru_model.proofs.States.Outcomes.{placed-not_no_memory, refused-not_no_memory, ok-not_err}
 use Rattle.lru_model.proofs.TableSizes.Growth.{full_capacity-at_most}
 
-pub no_growth_left : (marks : List Mark) → length marks ≡ 0 → growth_left_of marks ≡ 0
+pub no_growth_left : (states : List BucketState) → length states ≡ 0 → growth_left_of states ≡ 0
 unfolding growth_left_of
-no_growth_left marks e = omega (arith, full_capacity-at_most (length marks))
+no_growth_left states e = omega (arith, full_capacity-at_most (length states))
 
 module _ {K V S H : Type 0} (rules : Rules K V S) (hash_of : H → K → ℕ) (pair : K × V) (old : State K V S H) where
   -- there is no room, and no table or a pair

@@ -4,7 +4,7 @@ use Rattle.group_table.specs.Change.{count_up}
 use Rattle.group_table.specs.Sizes.{full_capacity, IsBucketCount}
 use Rattle.lru_model.specs.State.{State, buckets, growth_left, potential, IsSized, count_insert}
 use Rattle.lru_model.specs.Theorems.{PaysByStoring, PaysForMoves}
-use Rattle.lru_model.proofs.TableSizes.SizedMarks.{fits}
+use Rattle.lru_model.proofs.TableSizes.SizedStates.{fits}
 use Rattle.lru_model.proofs.TableSizes.Growth.{full_capacity-at_most}
 
 module _ {K V S H : Type 0} where
@@ -56,7 +56,7 @@ module _ {K V S H : Type 0} where
   }
 
   pub pays_calm : (old new : State K V S H) → old.counts.shrunk < 2 ^ 64
-      → record new.counts { placings = old.counts.placings } ≡ old.counts
+      → record new.counts { insertions = old.counts.insertions } ≡ old.counts
       → potential new ≤ potential old → Pays 0 old new
   pays_calm old new bound e f =
       let p = ap (λ c. c.placed) e in let m = ap (λ c. c.moved) e in let s = ap (λ c. c.shrunk) e in record {
@@ -65,9 +65,9 @@ module _ {K V S H : Type 0} where
         moved = λ _. omega arith;
       }
 
-  pub pays_placing : (old new : State K V S H) (moves : ℕ) → old.counts.placed < 2 ^ 64 → old.counts.shrunk < 2 ^ 64
+  pub pays_insertion : (old new : State K V S H) (moves : ℕ) → old.counts.placed < 2 ^ 64 → old.counts.shrunk < 2 ^ 64
       → new.counts ≡ count_insert moves old.counts → moves + potential new ≤ potential old + 2 → Pays 0 old new
-  pays_placing old new moves bound few e f =
+  pays_insertion old new moves bound few e f =
       let m = ap (λ c. c.moved) e in let p = ap (λ c. c.placed) e in let s = ap (λ c. c.shrunk) e in record {
         placed = omega arith;
         shrunk = omega (arith, few, s);

@@ -25,7 +25,7 @@ module _ {K V S H I : Type 0} (rules : Rules K V S) (offers : Offers K V S I) (n
   where
     abbrev Fits : Type 0
     Fits = (ready : State K V S H) → (ready.pairs ≡ old.pairs) × (ready.hasher ≡ old.hasher)
-        → ready.table.marks ≡ old.table.marks → (outcome : Outcome) (landed : State K V S H)
+        → ready.table.states ≡ old.table.states → (outcome : Outcome) (landed : State K V S H)
         → Place rules hash_of pair ready outcome landed
         → (outcome ≡ placed) × IsPlaced pair (buckets ready) (growth_left landed) 0 ready landed × (growth_left ready ≤ growth_left landed + 1)
 
@@ -41,8 +41,8 @@ module _ {K V S H I : Type 0} (rules : Rules K V S) (offers : Offers K V S I) (n
         let c : Contents K V S = record { pairs = old.pairs; limiter = s } in
         let way : make_room rules c ≡ c = rw g.1 refl in
         let stay : contents ready ≡ c = left_are _ _ ready l ∙ way in
-        let marks : ready.table.marks ≡ old.table.marks = l.growth_left.untouched (ap (λ d. length d.pairs) stay) in
-        let is = fits ready (ap (λ d. d.pairs) stay, ap (λ st. st.hasher) l.is) marks outcome landed
+        let states : ready.table.states ≡ old.table.states = l.growth_left.untouched (ap (λ d. length d.pairs) stay) in
+        let is = fits ready (ap (λ d. d.pairs) stay, ap (λ st. st.hasher) l.is) states outcome landed
         (subst (λ g. Place rules hash_of g ready outcome landed) same p) in
         let end : Settles rules placed landed result new = subst (λ o. Settles rules o landed result new) is.0 t in
         let landed_is : contents landed ≡ behind pair c = ap contents is.1.state ∙ ap (behind pair) stay in
@@ -58,22 +58,22 @@ module _ {K V S H I : Type 0} (rules : Rules K V S) (offers : Offers K V S I) (n
           limiter = rw (ap (λ d. d.limiter) left)
               (subst (λ o. offers.on_insert old.limiter (length old.pairs) i v s o) g.0 n);
           table = end.1.growth_left.table ∙ is.1.table ∙ l.growth_left.table;
-          growth_left = omega (arith, ap growth_left_of marks, is.2, end.1.growth_left.keeps);
+          growth_left = omega (arith, ap growth_left_of states, is.2, end.1.growth_left.keeps);
         }
 
     pub is_added : AcceptsNew rules offers names i v (contents old) pair → lookup_entry (names i) old.pairs ≡ None
         → 0 < growth_left old → Insert rules offers names hash_of i v old result new
         → IsAdded rules offers names i v pair old result new
-    is_added w absent some = added_if_fits (λ ready same marks outcome landed.
-        place_with_room rules pair ready hash_of (omega (arith, ap growth_left_of marks, some)) outcome landed) w absent
+    is_added w absent some = added_if_fits (λ ready same states outcome landed.
+        place_with_room rules pair ready hash_of (omega (arith, ap growth_left_of states, some)) outcome landed) w absent
 
     pub deleted_adds : AcceptsNew rules offers names i v (contents old) pair → lookup_entry (names i) old.pairs ≡ None
-        → HasPairsButNoGrowth old → FirstFreeIs deleted (hash_of old.hasher pair.0) old.table.marks
+        → HasPairsButNoGrowth old → FirstFreeIs deleted (hash_of old.hasher pair.0) old.table.states
         → Insert rules offers names hash_of i v old result new → IsAdded rules offers names i v pair old result new
-    deleted_adds w absent full first = added_if_fits (λ ready same marks outcome landed p.
-        let no_growth_left : growth_left ready ≡ 0 = ap growth_left_of marks ∙ full.1 in
+    deleted_adds w absent full first = added_if_fits (λ ready same states outcome landed p.
+        let no_growth_left : growth_left ready ≡ 0 = ap growth_left_of states ∙ full.1 in
         let is = deleted_serves rules hash_of pair ready (omega (arith, ap length same.0, full.0)) no_growth_left
-        (rw (same.1, marks) first) outcome landed p in (
+        (rw (same.1, states) first) outcome landed p in (
           is.0,
           subst (λ spare. IsPlaced pair (buckets ready) spare 0 ready landed) (sym is.1.room_left) is.1,
           omega (arith, no_growth_left),

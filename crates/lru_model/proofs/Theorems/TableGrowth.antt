@@ -73,7 +73,7 @@ module _ {K V S H : Type 0} where
 
   pub calm_pays : (old new : State K V S H) → old.counts.shrunk < 2 ^ 64 → Calm old new → Pays 0 old new
   calm_pays old new bound f = pays_calm old new bound
-      (ap {A = Counts} (λ c. record c { placings = old.counts.placings }) f.counts)
+      (ap {A = Counts} (λ c. record c { insertions = old.counts.insertions }) f.counts)
       (omega (arith, f.keeps, ap full_capacity f.table))
 
   pub calm_bounded : (old new : State K V S H) → Calm old new → IsBounded old → IsBounded new

@@ -21,7 +21,7 @@ use Rattle.lru_model.proofs.TableSizes.Growth.{full_capacity-4, full_capacity-at
 use Rattle.lru_model.proofs.TableSizes.Growth.{target_doubles}
 use Rattle.lru_model.proofs.TableSizes.Growth.{target_usage, first_target-count}
 use Rattle.lru_model.proofs.TableSizes.Doubling.{target_small}
-use Rattle.lru_model.proofs.Theorems.Potential.{IsBounded, pays_placing}
+use Rattle.lru_model.proofs.Theorems.Potential.{IsBounded, pays_insertion}
 use Rattle.lru_model.proofs.Theorems.Moves.{KeepsWay, Keeps, KeepsOffers, behind, exchange, rewrite, leaves_keep}
 use Rattle.lru_model.proofs.Theorems.Moves.{pops_keep}
 use Rattle.lru_model.proofs.Theorems.Moves.{trim_keeps, make_room_keeps, settles_keep, way_behind}
@@ -63,7 +63,7 @@ module _ {K V S H : Type 0} (rules : Rules K V S) (P : S → Type 0) (pair : K �
     entry_bytes = ap (λ x. x.entry_bytes) l.is.state ∙ f.entry_bytes;
     count = rw l.is.table l.next;
     moved = λ bound. omega (arith, ap (λ x. x.counts.moved) l.is.state);
-    pays = λ ok. pays_placing old new l.moves ok.placed ok.shrunk
+    pays = λ ok. pays_insertion old new l.moves ok.placed ok.shrunk
         (ap (λ x. x.counts) l.is.state ∙ ap (count_insert l.moves) f.counts)
         (rw (l.is.table, l.is.room_left) (l.paid ok));
     little = λ ok h. rw l.is.table (l.little ok (omega (arith, l.is.table, h)));

@@ -6,12 +6,12 @@ use Rattle.std.proofs.lemmas.Bool.{cases_eq, false≢true}
 use Rattle.std.proofs.lemmas.Option.{same_Some}
 use Rattle.std.proofs.lemmas.List.Sums.{count_by-le-length}
 use Rattle.group_table.specs.Link.{IsLinkType}
-use Rattle.group_table.specs.Bucket.{Slot, bucket_at, is_full, IsFull, entry_at, entry_of, entry_count, marks_of}
+use Rattle.group_table.specs.Bucket.{Slot, bucket_at, is_full, IsFull, entry_at, entry_of, entry_count, bucket_states}
 use Rattle.group_table.specs.Bucket.{refilled}
 use Rattle.group_table.specs.Table.{Insertions, Table, IsTable}
 use Rattle.group_table.specs.Change.{Places, Removes}
-use Rattle.group_table.proofs.BucketLemmas.{bucket_at-past, is_full-marks_of, entry_count-marks_of}
-use Rattle.group_table.proofs.RefillLemmas.{entry_at-refilled, entry_at-refilled_other, marks_of-refilled}
+use Rattle.group_table.proofs.BucketLemmas.{bucket_at-past, is_full-bucket_states, entry_count-bucket_states}
+use Rattle.group_table.proofs.RefillLemmas.{entry_at-refilled, entry_at-refilled_other, bucket_states-refilled}
 use Rattle.group_table.proofs.SearchLemmas.{full_by_entry}
 use Rattle.group_table.proofs.ChangeLemmas.{entry_count-places, bucket_at-placed_other}
 use Rattle.group_table.proofs.ChangeLemmas.{entry_at-removed, bucket_at-removed_other, entry_count-removes}
@@ -26,7 +26,7 @@ use Rattle.lru_model.proofs.PairLists.Members.{Contains-here, Contains-later}
 use Rattle.ordered_table.proofs.Chains.Orders.{other_than, distinct_head, distinct_tail}
 use Rattle.ordered_table.proofs.Chains.Orders.{in_without, length-without}
 use Rattle.ordered_table.proofs.Chains.Neighbours.{after-later}
-use Rattle.ordered_table.proofs.Tables.PairSlots.{same_count, same_full, marks_of-pair_slots, is_full-pair_slots}
+use Rattle.ordered_table.proofs.Tables.PairSlots.{same_count, same_full, bucket_states-pair_slots, is_full-pair_slots}
 use Rattle.ordered_table.proofs.Tables.PairSlots.{entry_count-pair_slots, pair_slots-rewritten}
 use Rattle.ordered_table.proofs.Chains.LinkWrites.{chained_below}
 use Rattle.ordered_table.proofs.Tables.KeyHashes.{not_full}
@@ -78,10 +78,10 @@ module _ {N : Type 0} {number : N → ℕ} {link : ℕ → N} {none : N}
 
   pub IsLinked-view : {insertions : Insertions} {slots : List (Slot (Entry K V N))} {newest oldest : N} {order : List ℕ}
       → IsWhole number link none slots newest oldest order
-      → IsTable (marks_of slots)
+      → IsTable (bucket_states slots)
       → IsLinked {K = K} {V = V} (record { slots = pair_slots slots; order = order; insertions = insertions })
   IsLinked-view {slots = slots} whole table = record {
-    table = rw (marks_of-pair_slots slots) table;
+    table = rw (bucket_states-pair_slots slots) table;
     distinct = whole.chain.distinct;
     all = λ b there. whole.all b (sym (is_full-pair_slots slots b) ∙ there);
     only = λ b there. is_full-pair_slots slots b ∙ whole.chain.only b there;
@@ -151,7 +151,7 @@ module _ {N : Type 0} {number : N → ℕ} {link : ℕ → N} {none : N}
       (whole : IsWhole number link none old.slots newest oldest order)
       {hash b : ℕ} {entry : Entry K V N} (places : Places old new hash entry b) (within : b < length old.slots) where
     pub placed_absent : Contains order b → ⊥
-    placed_absent w = false≢true (sym (sym (is_full-marks_of old.slots b) ∙ places.first.free_there)
+    placed_absent w = false≢true (sym (sym (is_full-bucket_states old.slots b) ∙ places.first.free_there)
         ∙ whole.chain.only b w)
 
     pub IsChain-placed : IsChain number link none new.slots newest oldest order
@@ -188,8 +188,8 @@ module _ {N : Type 0} {number : N → ℕ} {link : ℕ → N} {none : N}
     after = set slots b (refilled (bucket_at slots b) next)
 
     still_full : (x : ℕ) → is_full (bucket_at after x) ≡ is_full (bucket_at slots x)
-    still_full x = sym (is_full-marks_of after x) ∙ ap (λ marks. is_full (bucket_at marks x))
-        (marks_of-refilled slots b next) ∙ is_full-marks_of slots x
+    still_full x = sym (is_full-bucket_states after x) ∙ ap (λ states. is_full (bucket_at states x))
+        (bucket_states-refilled slots b next) ∙ is_full-bucket_states slots x
 
     kept_link : {A : Type 0} (f : Entry K V N → A) → f next ≡ f entry → (x : ℕ) → option_map f (entry_at after x)
         ≡ option_map f (entry_at slots x)
@@ -213,8 +213,8 @@ module _ {N : Type 0} {number : N → ℕ} {link : ℕ → N} {none : N}
         older = λ x w. kept_link (λ e. e.older) refl x ∙ whole.chain.older x w;
       };
       all = λ x full. whole.all x (sym (still_full x) ∙ full);
-      count = sym (entry_count-marks_of after) ∙ ap entry_count (marks_of-refilled slots b next)
-          ∙ entry_count-marks_of slots ∙ whole.count;
+      count = sym (entry_count-bucket_states after) ∙ ap entry_count (bucket_states-refilled slots b next)
+          ∙ entry_count-bucket_states slots ∙ whole.count;
     }
 
     pub view-refilled : (insertions : Insertions) → ◌≡◌ {A = OrderedTable K V}
@@ -226,9 +226,9 @@ module _ {N : Type 0} {number : N → ℕ} {link : ℕ → N} {none : N}
         let stays = whole_order IsWhole-refilled in
         cc
 
-    pub IsLinked-refilled : {insertions : Insertions} → IsTable (marks_of slots)
+    pub IsLinked-refilled : {insertions : Insertions} → IsTable (bucket_states slots)
         → IsLinked (with_pair (record { slots = pair_slots slots; order = order; insertions = insertions }) b
         (pair.key, pair.value))
     IsLinked-refilled {insertions} table =
         rw (← pair_slots-rewritten slots b next)
-        (IsLinked-view IsWhole-refilled (rw (marks_of-refilled slots b next) table))
+        (IsLinked-view IsWhole-refilled (rw (bucket_states-refilled slots b next) table))

@@ -12,7 +12,7 @@ use Rattle.ordered_table.specs.Chain.{pair_slot, pair_slots}
 use Rattle.lru_model.specs.ByHash.{Asks}
 use Rattle.ordered_table.specs.Searches.{AnswersPair, FindsPair, FindsNoPair}
 use Rattle.ordered_table.proofs.Tables.PairSlots.{pair_of, length-pair_slots, bucket_at-pair_slots}
-use Rattle.ordered_table.proofs.Tables.PairSlots.{marks_of-pair_slots, entry_at-pair_slots, is_full-pair_slots}
+use Rattle.ordered_table.proofs.Tables.PairSlots.{bucket_states-pair_slots, entry_at-pair_slots, is_full-pair_slots}
 use Rattle.ordered_table.proofs.Tables.PairSlots.{Fits-entries}
 
 module _ {K V N : Type 0} (slots : List (Slot (Entry K V N))) (hash : ℕ) where
@@ -32,7 +32,7 @@ module _ {K V N : Type 0} (slots : List (Slot (Entry K V N))) (hash : ℕ) where
   search_pairs asked s = record {
     steps = s.steps;
     within = omega (arith, s.within, length-pair_slots slots);
-    reached = rw (marks_of-pair_slots slots) s.reached;
+    reached = rw (bucket_states-pair_slots slots) s.reached;
     in_order = s.in_order ∙ same_candidates _
         ∙ ap (λ n. filter (λ b. has_tag (hash_tag hash) (bucket_at (pair_slots slots) b))
         (map (probed n hash) (range_with_len 0 s.steps))) (sym (length-pair_slots slots));

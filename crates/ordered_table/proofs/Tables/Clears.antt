@@ -2,7 +2,7 @@
 use Rattle.std.proofs.Common.{◌≡◌, ℕ, zero, suc, ◌<◌, List, [], ◌∷◌, replicate, refl, sym, ap, ◌∙◌, arith}
 use Rattle.std.proofs.lemmas.List.{length-replicate}
 use Rattle.std.proofs.lemmas.Bool.{false≢true}
-use Rattle.group_table.specs.Bucket.{Slot, empty, is_full, IsFull, marks_of}
+use Rattle.group_table.specs.Bucket.{Slot, empty, is_full, IsFull, bucket_states}
 use Rattle.group_table.proofs.CopyLemmas.{copy_at}
 use Rattle.group_table.proofs.FreshLemmas.{entry_count-none}
 use Rattle.lru_model.proofs.PairLists.Members.{Contains-nil}
@@ -20,9 +20,9 @@ pub pair_slots-cleared : {K V N : Type 0} (slots : List (Slot (Entry K V N))) (n
     → pair_slots slots ≡ replicate n empty
 pair_slots-cleared {K} {V} {N} slots n is = ap pair_slots is ∙ pair_slots-empty K V N n
 
-pub marks_of-cleared : (T : Type 0) (n : ℕ) → marks_of {A = T} (replicate n empty) ≡ replicate n empty
-marks_of-cleared T zero = refl
-marks_of-cleared T (suc n) = ap (λ marks. empty ∷ marks) (marks_of-cleared T n)
+pub bucket_states-cleared : (T : Type 0) (n : ℕ) → bucket_states {A = T} (replicate n empty) ≡ replicate n empty
+bucket_states-cleared T zero = refl
+bucket_states-cleared T (suc n) = ap (λ states. empty ∷ states) (bucket_states-cleared T n)
 
 pub IsWhole-cleared : {K V N : Type 0} {number : N → ℕ} {link : ℕ → N} {none : N} (slots : List (Slot (Entry K V N)))
     (n : ℕ) → slots ≡ replicate n empty → n < number none

@@ -7,10 +7,10 @@ use Rattle.std.specs.Borrow.{Bor}
 use Rattle.std.specs.Fn.{Shared, FnReturnsAt}
 use Rattle.std.specs.declared.alloc.AllocError.{AllocError}
 use Rattle.group_table.specs.Bucket.{Slot, empty, deleted, full, bucket_at, entry_at, entry_of, entry_count, is_full}
-use Rattle.group_table.specs.Bucket.{marks_of}
+use Rattle.group_table.specs.Bucket.{bucket_states}
 use Rattle.group_table.specs.Copies.{IsCopyOf, Copies}
 use Rattle.group_table.specs.Fits.{Fits}
-use Rattle.group_table.proofs.BucketLemmas.{entry_count-marks_of, length-marks_of}
+use Rattle.group_table.proofs.BucketLemmas.{entry_count-bucket_states, length-bucket_states}
 use Rattle.group_table.proofs.FitsLemmas.{Fits-agree}
 use Rattle.ordered_table.specs.declared.linked.Entry.{Entry}
 use Rattle.lru_model.specs.Clones.{IsPairClone}
@@ -78,19 +78,19 @@ module _ {K V N F : Type 0} (same_key : K → K → Type 0) (same_value : V → 
         go (Some x) p h on = rw h.1 (ap (λ l. number from ∷ along number n new l) h.2.older
             ∙ ap (λ bs. number from ∷ bs) (on x.older))
 
-    module _ (marks : marks_of new ≡ marks_of old) where
+    module _ (states : bucket_states new ≡ bucket_states old) where
       length_same : length new ≡ length old
-      length_same = sym (length-marks_of new) ∙ ap length marks ∙ length-marks_of old
+      length_same = sym (length-bucket_states new) ∙ ap length states ∙ length-bucket_states old
 
       pub order_same : (newest : N) → along number (length new) new newest ≡ along number (length old) old newest
       order_same newest = ap (λ n. along number n new newest) length_same ∙ along_same (length old) newest
 
-    module _ (link : ℕ → N) (last newest oldest : N) (marks : marks_of new ≡ marks_of old) (order : List ℕ) where
+    module _ (link : ℕ → N) (last newest oldest : N) (states : bucket_states new ≡ bucket_states old) (order : List ℕ) where
       pub whole_same : IsWhole number link last old newest oldest order
           → IsWhole number link last new newest oldest order
       whole_same whole = record {
         chain = record {
-          reached = rw (length_same marks) whole.chain.reached;
+          reached = rw (length_same states) whole.chain.reached;
           distinct = whole.chain.distinct;
           only = λ b w. full_same b ∙ whole.chain.only b w;
           newest_first = whole.chain.newest_first;
@@ -99,7 +99,7 @@ module _ {K V N F : Type 0} (same_key : K → K → Type 0) (same_value : V → 
           older = λ b w. older_same b ∙ whole.chain.older b w;
         };
         all = λ b there. whole.all b (sym (full_same b) ∙ there);
-        count = sym (entry_count-marks_of new) ∙ ap entry_count marks ∙ entry_count-marks_of old ∙ whole.count;
+        count = sym (entry_count-bucket_states new) ∙ ap entry_count states ∙ entry_count-bucket_states old ∙ whole.count;
       }
 
   pub pairs_same : (order : List ℕ) → AllZip (IsPairClone same_key same_value) (entries_in (pair_slots old) order)

@@ -6,11 +6,11 @@ use Rattle.std.proofs.lemmas.List.{map-set, length-map}
 use Rattle.std.proofs.Math.ListN.{get_or-map}
 use Rattle.std.proofs.Math.Seq.{map-set_same}
 use Rattle.group_table.specs.Bucket.{Slot, Tagged, empty, deleted, full, bucket_at, is_full, entry_at, entry_of}
-use Rattle.group_table.specs.Bucket.{entry_count, mark_of, marks_of, refilled}
+use Rattle.group_table.specs.Bucket.{entry_count, bucket_state, bucket_states, refilled}
 use Rattle.group_table.specs.Fits.{Fits}
 use Rattle.group_table.specs.Probe.{Reaches}
 use Rattle.group_table.specs.Change.{Removes}
-use Rattle.group_table.proofs.BucketLemmas.{entry_count-marks_of}
+use Rattle.group_table.proofs.BucketLemmas.{entry_count-bucket_states}
 use Rattle.ordered_table.specs.declared.linked.Entry.{Entry}
 use Rattle.ordered_table.specs.declared.ordered.Pair.{Pair}
 use Rattle.ordered_table.specs.Chain.{pair_slot, pair_slots}
@@ -19,10 +19,10 @@ module _ {K V N : Type 0} where
   abbrev pub pair_of : Entry K V N → K × V
   pair_of entry = (entry.pair.key, entry.pair.value)
 
-  mark_of-pair_slot : (s : Slot (Entry K V N)) → mark_of (pair_slot s) ≡ mark_of s
-  mark_of-pair_slot empty = refl
-  mark_of-pair_slot deleted = refl
-  mark_of-pair_slot (full held) = refl
+  bucket_state-pair_slot : (s : Slot (Entry K V N)) → bucket_state (pair_slot s) ≡ bucket_state s
+  bucket_state-pair_slot empty = refl
+  bucket_state-pair_slot deleted = refl
+  bucket_state-pair_slot (full held) = refl
 
   is_full-pair_slot : (s : Slot (Entry K V N)) → is_full (pair_slot s) ≡ is_full s
   is_full-pair_slot empty = refl
@@ -41,14 +41,14 @@ module _ {K V N : Type 0} where
       ≡ pair_slot (bucket_at slots b)
   bucket_at-pair_slots slots b = get_or-map pair_slot slots b empty
 
-  pub marks_of-pair_slots : (slots : List (Slot (Entry K V N))) → marks_of (pair_slots slots) ≡ marks_of slots
-  marks_of-pair_slots [] = refl
-  marks_of-pair_slots (s ∷ slots) = ap (λ m. m ∷ marks_of (pair_slots slots)) (mark_of-pair_slot s)
-      ∙ ap (λ ms. mark_of s ∷ ms) (marks_of-pair_slots slots)
+  pub bucket_states-pair_slots : (slots : List (Slot (Entry K V N))) → bucket_states (pair_slots slots) ≡ bucket_states slots
+  bucket_states-pair_slots [] = refl
+  bucket_states-pair_slots (s ∷ slots) = ap (λ m. m ∷ bucket_states (pair_slots slots)) (bucket_state-pair_slot s)
+      ∙ ap (λ ms. bucket_state s ∷ ms) (bucket_states-pair_slots slots)
 
   pub entry_count-pair_slots : (slots : List (Slot (Entry K V N))) → entry_count (pair_slots slots) ≡ entry_count slots
-  entry_count-pair_slots slots = sym (entry_count-marks_of (pair_slots slots))
-      ∙ ap entry_count (marks_of-pair_slots slots) ∙ entry_count-marks_of slots
+  entry_count-pair_slots slots = sym (entry_count-bucket_states (pair_slots slots))
+      ∙ ap entry_count (bucket_states-pair_slots slots) ∙ entry_count-bucket_states slots
 
   pub is_full-pair_slots : (slots : List (Slot (Entry K V N))) (b : ℕ) → is_full (bucket_at (pair_slots slots) b)
       ≡ is_full (bucket_at slots b)
@@ -79,8 +79,8 @@ module _ {K V N : Type 0} where
     pub same_count : entry_count new ≡ entry_count old
     same_count = sym (entry_count-pair_slots new) ∙ ap entry_count same ∙ entry_count-pair_slots old
 
-    pub same_marks : marks_of new ≡ marks_of old
-    same_marks = sym (marks_of-pair_slots new) ∙ ap marks_of same ∙ marks_of-pair_slots old
+    pub same_states : bucket_states new ≡ bucket_states old
+    same_states = sym (bucket_states-pair_slots new) ∙ ap bucket_states same ∙ bucket_states-pair_slots old
 
     pub same_full : (b : ℕ) → is_full (bucket_at new b) ≡ is_full (bucket_at old b)
     same_full b = sym (is_full-pair_slots new b) ∙ ap (λ slots. is_full (bucket_at slots b)) same
@@ -98,7 +98,7 @@ module _ {K V N : Type 0} where
   Fits-pair_slots slots hash_of fits = record {
     tags = λ b held e. let w = held_pair (bucket_at slots b) held (sym (bucket_at-pair_slots slots b) ∙ e) in sym w.2
         ∙ fits.tags b w.0 w.1;
-    reached = λ b there. rw (marks_of-pair_slots slots) (fits.reached b (sym (is_full-pair_slots slots b) ∙ there));
+    reached = λ b there. rw (bucket_states-pair_slots slots) (fits.reached b (sym (is_full-pair_slots slots b) ∙ there));
   }
 
   pub Fits-entries : (slots : List (Slot (Entry K V N))) (hash_of : ℕ → ℕ) → Fits (pair_slots slots) hash_of
@@ -106,19 +106,19 @@ module _ {K V N : Type 0} where
   Fits-entries slots hash_of fits = record {
     tags = λ b held e. fits.tags b (record { tag = held.tag; entry = pair_of held.entry })
         (bucket_at-pair_slots slots b ∙ ap pair_slot e);
-    reached = λ b there. subst (λ marks. Reaches marks (hash_of b) b) (marks_of-pair_slots slots)
+    reached = λ b there. subst (λ states. Reaches states (hash_of b) b) (bucket_states-pair_slots slots)
         (fits.reached b (is_full-pair_slots slots b ∙ there));
   }
 
   pub Removes-pair_slots : (old new : List (Slot (Entry K V N))) (b : ℕ) → Removes old new b
       → Removes (pair_slots old) (pair_slots new) b
   Removes-pair_slots old new b (inl w) = inl (
-    rw (marks_of-pair_slots old) w.0,
+    rw (bucket_states-pair_slots old) w.0,
     ap pair_slots w.1
         ∙ pair_slots-set old b empty,
   )
   Removes-pair_slots old new b (inr w) = inr (
-    rw (marks_of-pair_slots old) w.0,
+    rw (bucket_states-pair_slots old) w.0,
     ap pair_slots w.1
         ∙ pair_slots-set old b deleted,
   )

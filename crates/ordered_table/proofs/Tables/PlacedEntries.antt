@@ -3,7 +3,7 @@ use Rattle.std.proofs.Common.{◌≡◌, ℕ, ◌+◌, ◌<◌, List, ◌∷◌,
 use Rattle.std.proofs.lemmas.List.{get_or-set_same}
 use Rattle.std.specs.Prelude.{Contains, option_map}
 use Rattle.group_table.specs.Link.{IsLinkType}
-use Rattle.group_table.specs.Bucket.{Slot, empty, entry_of, entry_at, marks_of, growth_left, growth_left_at}
+use Rattle.group_table.specs.Bucket.{Slot, empty, entry_of, entry_at, bucket_states, growth_left, growth_left_at}
 use Rattle.group_table.specs.Probe.{filled}
 use Rattle.group_table.specs.Table.{Table, IsTable}
 use Rattle.group_table.specs.Change.{Places, MayFill}
@@ -15,19 +15,19 @@ use Rattle.ordered_table.specs.Chain.{pair_slots, newer_at, older_at, along, IsC
 use Rattle.ordered_table.proofs.Chains.WholeChains.{whole_order, IsWhole-shown, IsLinked-view, placed_absent}
 use Rattle.ordered_table.proofs.Chains.WholeChains.{IsChain-placed, IsWhole-placed}
 use Rattle.ordered_table.proofs.Tables.KeyHashes.{KeysFit-placed}
-use Rattle.ordered_table.proofs.Tables.PairSlots.{pair_of, marks_of-pair_slots, length-pair_slots, pair_slots-set}
-use Rattle.ordered_table.proofs.Tables.PairSlots.{same_marks}
+use Rattle.ordered_table.proofs.Tables.PairSlots.{pair_of, bucket_states-pair_slots, length-pair_slots, pair_slots-set}
+use Rattle.ordered_table.proofs.Tables.PairSlots.{same_states}
 use Rattle.ordered_table.proofs.Tables.PairSlots.{Fits-pair_slots, Fits-entries}
 
-pub linked_room : {K V N : Type 0} (slots : List (Slot (Entry K V N))) → 0 < growth_left (marks_of (pair_slots slots))
-    → 0 < growth_left (marks_of slots)
-linked_room slots some = rw (← marks_of-pair_slots slots) some
+pub linked_room : {K V N : Type 0} (slots : List (Slot (Entry K V N))) → 0 < growth_left (bucket_states (pair_slots slots))
+    → 0 < growth_left (bucket_states slots)
+linked_room slots some = rw (← bucket_states-pair_slots slots) some
 
 module _ {N : Type 0} {number : N → ℕ} {link : ℕ → N} {none : N}
     (laws : IsLinkType number link none) {K V : Type 0} {old new : Table (Entry K V N)} {newest oldest : N}
     {order : List ℕ} (whole : IsWhole number link none old.slots newest oldest order)
     {hash b : ℕ} {entry : Entry K V N} {pair : K × V} (is : pair_of entry ≡ pair)
-    (places : Places old new hash entry b) (may : MayFill (marks_of old.slots) b) where
+    (places : Places old new hash entry b) (may : MayFill (bucket_states old.slots) b) where
   within : b < length old.slots
   within = fills_within old.slots hash b places.first may
 
@@ -73,27 +73,27 @@ module _ {N : Type 0} {number : N → ℕ} {link : ℕ → N} {none : N}
 
     -- what is known of the table then
     pub record Placed : Type 0 where
-      pub lands : growth_left (marks_of new.slots) + growth_left_at (marks_of old.slots) b ≡ growth_left (marks_of old.slots)
+      pub lands : growth_left (bucket_states new.slots) + growth_left_at (bucket_states old.slots) b ≡ growth_left (bucket_states old.slots)
           → Lands before after hash pair b
       pub fits : (hash_of : K → ℕ)
           → ((hashes : ℕ → ℕ) → Fits old.slots hashes → Fits new.slots (with_hash hashes b hash))
           → KeysFit hash_of (pair_slots old.slots) → hash_of pair.0 ≡ hash → KeysFit hash_of (pair_slots linked.slots)
-      pub is_linked : IsTable (marks_of new.slots) → IsLinked after
+      pub is_linked : IsTable (bucket_states new.slots) → IsLinked after
 
     pub placed : Placed
     placed = record {
       lands = λ spends. record {
-        first = rw (marks_of-pair_slots old.slots) places.first;
-        may = rw (marks_of-pair_slots old.slots) may;
+        first = rw (bucket_states-pair_slots old.slots) places.first;
+        may = rw (bucket_states-pair_slots old.slots) may;
         slots = pairs ∙ pairs_set;
         order = whole_order laws linked_whole;
         insertions = insertions ∙ places.insertions;
-        growth_left = rw (pairs, marks_of-pair_slots new.slots, marks_of-pair_slots old.slots) spends;
+        growth_left = rw (pairs, bucket_states-pair_slots new.slots, bucket_states-pair_slots old.slots) spends;
       };
       fits = λ hash_of fits was same.
           let now = rw pairs_set at (Fits-pair_slots new.slots _ (fits _ (Fits-entries old.slots _ was))) in
           rw (pairs, pairs_set)
           (KeysFit-placed hash_of (pair_slots old.slots) b hash pair (rw (length-pair_slots old.slots) within) same
           now);
-      is_linked = λ table. IsLinked-view laws shown_whole (rw (same_marks new.slots linked.slots pairs) table);
+      is_linked = λ table. IsLinked-view laws shown_whole (rw (same_states new.slots linked.slots pairs) table);
     }

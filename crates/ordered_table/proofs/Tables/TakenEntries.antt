@@ -1,13 +1,13 @@
 -- An entry was taken out of the table, and its bucket out of the chain: what is left, seen as pairs.
 use Rattle.std.proofs.Common.{◌≡◌, ℕ, ◌+◌, List, length, ◌∙◌}
 use Rattle.group_table.specs.Link.{IsLinkType}
-use Rattle.group_table.specs.Bucket.{Slot, IsFull, marks_of, growth_left, growth_left_at}
+use Rattle.group_table.specs.Bucket.{Slot, IsFull, bucket_states, growth_left, growth_left_at}
 use Rattle.group_table.specs.Change.{Removes}
 use Rattle.group_table.specs.Fits.{Fits}
 use Rattle.ordered_table.specs.declared.linked.Entry.{Entry}
 use Rattle.ordered_table.specs.OrderedTable.{KeysFit, without_bucket}
 use Rattle.ordered_table.specs.Chain.{pair_slots, along, IsChain, IsWhole}
-use Rattle.ordered_table.proofs.Tables.PairSlots.{marks_of-pair_slots, is_full-pair_slots, Removes-pair_slots}
+use Rattle.ordered_table.proofs.Tables.PairSlots.{bucket_states-pair_slots, is_full-pair_slots, Removes-pair_slots}
 use Rattle.ordered_table.proofs.Tables.PairSlots.{Fits-pair_slots, Fits-entries}
 use Rattle.ordered_table.proofs.Tables.KeyHashes.{KeysFit-removed}
 use Rattle.ordered_table.proofs.Chains.WholeChains.{whole_order, IsWhole-shown, IsWhole-taken}
@@ -17,9 +17,9 @@ module _ {K V N : Type 0} (s0 s1 s2 : List (Slot (Entry K V N))) (b : ℕ) (remo
   pub taken_removes : Removes (pair_slots s0) (pair_slots s2) b
   taken_removes = rw same (Removes-pair_slots s0 s1 b removes)
 
-  pub taken_room : growth_left (marks_of s1) ≡ growth_left (marks_of s0) + growth_left_at (marks_of s1) b
-      → growth_left (marks_of (pair_slots s2)) ≡ growth_left (marks_of (pair_slots s0)) + growth_left_at (marks_of (pair_slots s2)) b
-  taken_room frees = rw (same, marks_of-pair_slots s1, marks_of-pair_slots s0) frees
+  pub taken_room : growth_left (bucket_states s1) ≡ growth_left (bucket_states s0) + growth_left_at (bucket_states s1) b
+      → growth_left (bucket_states (pair_slots s2)) ≡ growth_left (bucket_states (pair_slots s0)) + growth_left_at (bucket_states (pair_slots s2)) b
+  taken_room frees = rw (same, bucket_states-pair_slots s1, bucket_states-pair_slots s0) frees
 
   pub taken_fits : IsFull s0 b → ((hash_at : ℕ → ℕ) → Fits s0 hash_at → Fits s1 hash_at) → (hash_of : K → ℕ)
       → KeysFit hash_of (pair_slots s0) → KeysFit hash_of (pair_slots s2)

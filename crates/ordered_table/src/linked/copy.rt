@@ -1,6 +1,6 @@
 ghost use Rattle.std.specs.Prelude.{◌≡◌, ℕ, List, length, IfOk, IsOk};
 ghost use Rattle.std.specs.List.{AllZip};
-ghost use Rattle.group_table.specs.Bucket.{marks_of};
+ghost use Rattle.group_table.specs.Bucket.{bucket_states};
 ghost use Rattle.lru_model.specs.Clones.{IsPairClone};
 ghost use Rattle.ordered_table.specs.Copies.{IsEntryCopy};
 ghost use Rattle.ordered_table.specs.OrderedTable.{IsLinked, KeysFit, entries_in};
@@ -19,7 +19,7 @@ impl<K: Drop, V: Drop, N: LinkType> LinkedTable<K, V, N> {
         ensures pairs { IfOk result (λ t. (order : List ℕ) → AllZip (IsPairClone K.is_clone V.is_clone)
             (entries_in self.now.slots order) (entries_in t.slots order)) }
         ensures order { IfOk result (λ t. t.order ≡ self.now.order) }
-        ensures marks { IfOk result (λ t. marks_of t.slots ≡ marks_of self.now.slots) }
+        ensures states { IfOk result (λ t. bucket_states t.slots ≡ bucket_states self.now.slots) }
         ensures insertions { IfOk result (λ t. t.insertions ≡ self.now.insertions) }
         ensures fits { IfOk result (λ t. (hash_of other : K → ℕ)
             → ((key copy : K) → K.is_clone key copy → other copy ≡ hash_of key) →

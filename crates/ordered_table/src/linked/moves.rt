@@ -2,7 +2,7 @@
 ghost use Rattle.std.specs.Prelude.{◌≡◌, ◌+◌, ◌^◌, ◌<◌, ◌≤◌, length};
 ghost use Rattle.std.specs.Prelude.{IfOk, OnOk, OnErr, IsOk};
 ghost use Rattle.group_table.specs.Sizes.{IsBucketCount, full_capacity};
-ghost use Rattle.group_table.specs.Bucket.{marks_of, entry_at, entry_count, growth_left};
+ghost use Rattle.group_table.specs.Bucket.{bucket_states, entry_at, entry_count, growth_left};
 ghost use Rattle.group_table.specs.Change.{some_moved};
 ghost use Rattle.group_table.specs.Relocation.{Renumbers, KeepsHashes};
 ghost use Rattle.group_table.specs.Table.{IsTable};
@@ -28,7 +28,7 @@ impl<K: Eq + Hash, V, N: LinkType> LinkedTable<K, V, N> {
         requires within { entry_count self.old.slots ≤ full_capacity buckets }
         ensures buckets { OnOk result (length self.new.slots ≡ buckets) }
         ensures pairs { pairs_of self.new ≡ pairs_of self.old }
-        ensures growth_left { OnOk result (growth_left (marks_of self.new.slots) + length self.old.order ≡ full_capacity buckets) }
+        ensures growth_left { OnOk result (growth_left (bucket_states self.new.slots) + length self.old.order ≡ full_capacity buckets) }
         ensures insertions { OnOk result (
             self.new.insertions ≡ some_moved self.old.insertions (length self.old.order)) }
         ensures fits { OnOk result (KeysFit (S.hash_of hasher.now) self.new.slots) }
@@ -55,13 +55,13 @@ fn renumber_entries<K: Eq + Hash, V, N: LinkType, S: BuildHasher>(
     ensures buckets { OnOk result (length table.new.slots ≡ buckets) }
     ensures renumbered { IfOk result (λ links. Renumbers N.number N.MAX table.old.slots table.new.slots links.items) }
     ensures entries { OnOk result (entry_count table.new.slots ≡ entry_count table.old.slots) }
-    ensures growth_left { OnOk result (growth_left (marks_of table.new.slots) + entry_count table.old.slots ≡ full_capacity buckets) }
+    ensures growth_left { OnOk result (growth_left (bucket_states table.new.slots) + entry_count table.old.slots ≡ full_capacity buckets) }
     ensures insertions { OnOk result (
         table.new.insertions ≡ some_moved table.old.insertions (entry_count table.old.slots)) }
     ensures hashes { IfOk result (λ links.
         KeepsHashes N.number N.MAX (entry_at table.old.slots) table.new.slots links.items
         (hash_in (hash_by K.hash_input S.BuildHasher S.Hasher.Hasher hasher.now) (pair_slots table.old.slots))) }
-    ensures table { IsTable (marks_of table.new.slots) }
+    ensures table { IsTable (bucket_states table.new.slots) }
     ensures unchanged { OnErr result (table.new ≡ table.old) }
     ensures succeeds { entry_count table.old.slots ≡ 0 → length table.old.slots ≡ buckets → IsOk result }
     ensures gives_back { buckets ≡ 0 → IsOk result }

@@ -1,5 +1,5 @@
 ghost use Rattle.std.specs.Prelude.{◌≡◌, ℕ, ◌<◌, OnOk, OnErr, IfErr};
-ghost use Rattle.group_table.specs.Bucket.{marks_of, growth_left};
+ghost use Rattle.group_table.specs.Bucket.{bucket_states, growth_left};
 ghost use Rattle.group_table.specs.Change.{HasNoPlace};
 ghost use Rattle.ordered_table.specs.OrderedTable.{IsLinked, KeysFit, Lands};
 
@@ -10,7 +10,7 @@ use group_table::LinkType;
 impl<K, V, N: LinkType> LinkedTable<K, V, N> {
     #[inline(always)]
     pub(crate) fn place(&mut self, hash: u64, pair: (K, V))
-        requires { 0 < growth_left (marks_of self.old.slots) }
+        requires { 0 < growth_left (bucket_states self.old.slots) }
         ensures placed { (b : ℕ) × Lands self.old self.new hash pair b }
         ensures fits { (hash_of : K → ℕ) → KeysFit hash_of self.old.slots → hash_of pair.0 ≡ hash
             → KeysFit hash_of self.new.slots }
@@ -29,7 +29,7 @@ impl<K, V, N: LinkType> LinkedTable<K, V, N> {
         ensures linked { IsLinked self.new }
         ensures returned { IfErr result (λ back. back ≡ pair) }
         ensures unchanged { OnErr result (self.new ≡ self.old) }
-        ensures no_place { OnErr result (HasNoPlace (marks_of self.old.slots) hash) }
+        ensures no_place { OnErr result (HasNoPlace (bucket_states self.old.slots) hash) }
     {
         let first = self.chain.newest;
         match self.chain.table.try_place(hash, newest_entry(pair, first)) {

@@ -4,7 +4,7 @@ ghost use Rattle.std.specs.Prelude.{◌≡◌, ℕ, ◌+◌, ◌^◌, ◌<◌, �
 ghost use Rattle.std.specs.Prelude.{IfOk, IfErr, OnOk, OnErr, IsOk};
 ghost use Rattle.std.specs.List.{AllZip};
 ghost use Rattle.group_table.specs.Sizes.{IsBucketCount, full_capacity};
-ghost use Rattle.group_table.specs.Bucket.{empty, marks_of, IsFull, entry_count, growth_left};
+ghost use Rattle.group_table.specs.Bucket.{empty, bucket_states, IsFull, entry_count, growth_left};
 ghost use Rattle.group_table.specs.Change.{HasNoPlace, some_moved};
 ghost use Rattle.lru_model.specs.Clones.{IsPairClone};
 ghost use Rattle.lru_model.specs.Lists.{last as last_bucket};
@@ -32,7 +32,7 @@ impl<K, V, N: LinkType> OrderedTable<K, V, N> {
     /// Cost: `O(1)` expected.
     #[inline(always)]
     pub fn place(&mut self, hash: u64, pair: (K, V))
-        requires { 0 < growth_left (marks_of self.old.slots) }
+        requires { 0 < growth_left (bucket_states self.old.slots) }
         ensures placed { (b : ℕ) × Lands self.old self.new hash pair b }
         ensures fits { (hash_of : K → ℕ) → KeysFit hash_of self.old.slots → hash_of pair.0 ≡ hash
             → KeysFit hash_of self.new.slots }
@@ -54,7 +54,7 @@ impl<K, V, N: LinkType> OrderedTable<K, V, N> {
         ensures linked { IsLinked self.new }
         ensures returned { IfErr result (λ back. back ≡ pair) }
         ensures unchanged { OnErr result (self.new ≡ self.old) }
-        ensures no_place { OnErr result (HasNoPlace (marks_of self.old.slots) hash) }
+        ensures no_place { OnErr result (HasNoPlace (bucket_states self.old.slots) hash) }
     {
         settle(&mut self.linked, &mut self.promoted);
         self.linked.try_place(hash, pair)
@@ -160,7 +160,7 @@ impl<K: Eq + Hash, V, N: LinkType> OrderedTable<K, V, N> {
         requires within { entry_count self.old.slots ≤ full_capacity buckets }
         ensures buckets { OnOk result (length self.new.slots ≡ buckets) }
         ensures pairs { pairs_of self.new ≡ pairs_of self.old }
-        ensures growth_left { OnOk result (growth_left (marks_of self.new.slots) + length self.old.order ≡ full_capacity buckets) }
+        ensures growth_left { OnOk result (growth_left (bucket_states self.new.slots) + length self.old.order ≡ full_capacity buckets) }
         ensures insertions { OnOk result (
             self.new.insertions ≡ some_moved self.old.insertions (length self.old.order)) }
         ensures fits { OnOk result (KeysFit (S.hash_of hasher.now) self.new.slots) }
@@ -188,7 +188,7 @@ impl<K: Drop, V: Drop, N: LinkType> OrderedTable<K, V, N> {
         V: Clone,
         ensures pairs { IfOk result (λ t. AllZip (IsPairClone K.is_clone V.is_clone) (pairs_of self.now) (pairs_of t)) }
         ensures order { IfOk result (λ t. t.order ≡ self.now.order) }
-        ensures marks { IfOk result (λ t. marks_of t.slots ≡ marks_of self.now.slots) }
+        ensures states { IfOk result (λ t. bucket_states t.slots ≡ bucket_states self.now.slots) }
         ensures insertions { IfOk result (λ t. t.insertions ≡ self.now.insertions) }
         ensures fits { IfOk result (λ t. (hash_of other : K → ℕ)
             → ((key copy : K) → K.is_clone key copy → other copy ≡ hash_of key) →

@@ -2,15 +2,15 @@
 use Rattle.std.proofs.Common.{◌≡◌, ℕ, Bool, [], length, replicate, sym, ap, ◌∙◌, subst, arith}
 use Rattle.std.proofs.lemmas.List.{length-replicate}
 use Rattle.group_table.specs.Sizes.{full_capacity}
-use Rattle.group_table.specs.Bucket.{Mark, empty, marks_of, growth_left}
-use Rattle.group_table.proofs.BucketLemmas.{length-marks_of}
+use Rattle.group_table.specs.Bucket.{BucketState, empty, bucket_states, growth_left}
+use Rattle.group_table.proofs.BucketLemmas.{length-bucket_states}
 use Rattle.lru_limits.specs.Rules.{Rules}
 use Rattle.ordered_table.specs.OrderedTable.{OrderedTable, IsLinked, KeysFit, pairs_of, entries_in}
 use Rattle.lru_model.specs.State.{buckets}
 use Rattle.lru_model.specs.Calls.{cleared}
 use Rattle.schnellru.specs.Inside.Fields.{Fields}
 use Rattle.schnellru.specs.Inside.Holds.{counts_of, state_of, Holds}
-use Rattle.ordered_table.proofs.Tables.Clears.{marks_of-cleared}
+use Rattle.ordered_table.proofs.Tables.Clears.{bucket_states-cleared}
 use Rattle.lru_model.proofs.PairLists.DistinctKeys.{none_distinct, AreDistinct}
 use Rattle.schnellru.proofs.Maps.HeldMaps.{sized_same}
 use Rattle.lru_model.proofs.Theorems.CallChanges.{room_cleared}
@@ -19,9 +19,9 @@ module _ {K V S H : Type 0} (rules : Rules K V S) (t u : OrderedTable K V)
     (slots : u.slots ≡ replicate (length t.slots) empty) (order : u.order ≡ [])
     (counted : u.insertions ≡ t.insertions) (fields : Fields S H) (notified : S)
     (is_notified : notified ≡ rules.on_cleared fields.limiter) where
-  marks : marks_of u.slots ≡ replicate (buckets (state_of t fields)) empty
-  marks = ap marks_of slots ∙ marks_of-cleared _ (length t.slots)
-      ∙ ap (λ n. replicate n empty) (sym (length-marks_of t.slots))
+  states : bucket_states u.slots ≡ replicate (buckets (state_of t fields)) empty
+  states = ap bucket_states slots ∙ bucket_states-cleared _ (length t.slots)
+      ∙ ap (λ n. replicate n empty) (sym (length-bucket_states t.slots))
 
   placed : u.insertions.placed ≡ t.insertions.placed
   placed = ap (λ c. c.placed) counted
@@ -32,7 +32,7 @@ module _ {K V S H : Type 0} (rules : Rules K V S) (t u : OrderedTable K V)
   pub cleared_is : state_of u (record fields { limiter = notified }) ≡ cleared rules (state_of t fields)
   cleared_is = λ i. record (state_of u (record fields { limiter = is_notified i })) {
     pairs = none_left i;
-    table = record { marks = marks i; places = order i };
+    table = record { states = states i; places = order i };
     counts = counts_of (counted i) fields;
   }
 
@@ -48,15 +48,15 @@ module _ {K V S H : Type 0} (rules : Rules K V S) (t u : OrderedTable K V)
           (ap length slots ∙ length-replicate (length t.slots) empty)
           (omega (arith, placed, holds.map.sized.placed));
       paid =
-          let as_many : length (marks_of u.slots) ≡ buckets (state_of t fields) = ap length marks
-          ∙ length-replicate {A = Mark} (buckets (state_of t fields)) empty in
+          let as_many : length (bucket_states u.slots) ≡ buckets (state_of t fields) = ap length states
+          ∙ length-replicate {A = BucketState} (buckets (state_of t fields)) empty in
           record {
             moved = omega (arith, placed, holds.map.paid.moved);
             ahead = λ below. omega (
               arith,
               placed,
               holds.map.paid.ahead below,
-              ap growth_left marks,
+              ap growth_left states,
               room_cleared (buckets (state_of t fields)),
               as_many,
               ap full_capacity as_many,

@@ -2,9 +2,9 @@
 use Rattle.std.proofs.Common.{◌≡◌, ℕ, suc, ◌+◌, ◌-◌, ◌*◌, ◌^◌, ◌<◌, ◌≤◌, ◌⊎◌, Bool, true, false, cond, List, length}
 use Rattle.std.proofs.Common.{Some, sym, ap, ◌∙◌, subst, arith}
 use Rattle.group_table.specs.Sizes.{full_capacity}
-use Rattle.group_table.specs.Bucket.{Mark, marks_of, growth_left, growth_left_at, is_used, bucket_at}
-use Rattle.group_table.proofs.BucketLemmas.{length-marks_of, entry_count-marks_of}
-use Rattle.group_table.proofs.CountedMarks.{facts}
+use Rattle.group_table.specs.Bucket.{BucketState, bucket_states, growth_left, growth_left_at, is_used, bucket_at}
+use Rattle.group_table.proofs.BucketLemmas.{length-bucket_states, entry_count-bucket_states}
+use Rattle.group_table.proofs.CountedStates.{facts}
 use Rattle.lru_model.specs.Sizes.{usage}
 use Rattle.lru_model.specs.State.{Contents, IsSized, GivesBack, Leaves}
 use Rattle.ordered_table.specs.OrderedTable.{OrderedTable, IsLinked, KeysFit, pairs_of}
@@ -20,17 +20,17 @@ module _ {K V S H : Type 0} (fields : Fields S H) where
       → t.insertions.placed < 2 ^ 64 → fields.shrunk < 2 ^ 64 → IsSized (state_of t fields)
   sized_by t linked reached usable m p s = record {
     table = linked.table;
-    taken = entry_count-marks_of t.slots ∙ linked.count ∙ sym (pairs-length t linked);
-    reachable = subst (λ n. (n ≡ 0) ⊎ (n < fields.max)) (sym (length-marks_of t.slots)) reached;
+    taken = entry_count-bucket_states t.slots ∙ linked.count ∙ sym (pairs-length t linked);
+    reachable = subst (λ n. (n ≡ 0) ⊎ (n < fields.max)) (sym (length-bucket_states t.slots)) reached;
     usable = subst (λ n. (bytes : ℕ) × (usage fields.entry_bytes n ≡ Some bytes))
-        (sym (length-marks_of t.slots)) usable;
+        (sym (length-bucket_states t.slots)) usable;
     moved = m;
     placed = p;
     shrunk = s;
   }
 
-pub growth_left_at-most : (marks : List Mark) (b : ℕ) → growth_left_at marks b ≤ 1
-growth_left_at-most marks b = go (is_used (bucket_at marks b))
+pub growth_left_at-most : (states : List BucketState) (b : ℕ) → growth_left_at states b ≤ 1
+growth_left_at-most states b = go (is_used (bucket_at states b))
   where
     go : (y : Bool) → cond y 0 1 ≤ 1
     go true = omega arith
@@ -38,12 +38,12 @@ growth_left_at-most marks b = go (is_used (bucket_at marks b))
 
 module _ {K V : Type 0} (old new : OrderedTable K V) (b : ℕ) (first : IsLinked old) (last : IsLinked new)
     (table : length new.slots ≡ length old.slots) (one : suc (length new.order) ≡ length old.order)
-    (freed : growth_left (marks_of new.slots) ≡ growth_left (marks_of old.slots) + growth_left_at (marks_of new.slots) b) where
-  pub frees_room : GivesBack (length (pairs_of old)) (length (pairs_of new)) (marks_of old.slots) (marks_of new.slots)
+    (freed : growth_left (bucket_states new.slots) ≡ growth_left (bucket_states old.slots) + growth_left_at (bucket_states new.slots) b) where
+  pub frees_room : GivesBack (length (pairs_of old)) (length (pairs_of new)) (bucket_states old.slots) (bucket_states new.slots)
   frees_room = record {
     table = same;
     keeps = omega (arith, freed);
-    at_most = omega (arith, freed, news, olds, one, growth_left_at-most (marks_of new.slots) b);
+    at_most = omega (arith, freed, news, olds, one, growth_left_at-most (bucket_states new.slots) b);
     exact = λ small. omega (
       arith,
       news,
@@ -51,8 +51,8 @@ module _ {K V : Type 0} (old new : OrderedTable K V) (b : ℕ) (first : IsLinked
       one,
       (facts first.table).exact small,
       (facts last.table).exact (omega (arith, same, small)),
-      entry_count-marks_of old.slots,
-      entry_count-marks_of new.slots,
+      entry_count-bucket_states old.slots,
+      entry_count-bucket_states new.slots,
       ap full_capacity same,
       first.count,
       last.count,
@@ -60,8 +60,8 @@ module _ {K V : Type 0} (old new : OrderedTable K V) (b : ℕ) (first : IsLinked
     untouched = λ e. absurd (omega (arith, e, news, olds, one));
   }
     where
-      same : length (marks_of new.slots) ≡ length (marks_of old.slots)
-      same = length-marks_of new.slots ∙ table ∙ sym (length-marks_of old.slots)
+      same : length (bucket_states new.slots) ≡ length (bucket_states old.slots)
+      same = length-bucket_states new.slots ∙ table ∙ sym (length-bucket_states old.slots)
 
       news : length (pairs_of new) ≡ length new.order
       news = pairs-length new last
@@ -74,7 +74,7 @@ module _ {K V S H : Type 0} (fields : Fields S H) where
       ≡ length t.slots
       → u.insertions.placed < 2 ^ 64 → IsSized (state_of u (record fields { limiter = l }))
   sized_same t u l sized linked same placed =
-      let e : length (marks_of t.slots) ≡ length u.slots = length-marks_of t.slots ∙ sym same in
+      let e : length (bucket_states t.slots) ≡ length u.slots = length-bucket_states t.slots ∙ sym same in
       sized_by (record fields { limiter = l }) u linked (subst (λ n. (n ≡ 0) ⊎ (n < fields.max)) e sized.reachable)
       (subst (λ n. (bytes : ℕ) × (usage fields.entry_bytes n ≡ Some bytes)) e sized.usable) sized.moved placed
       sized.shrunk
@@ -99,10 +99,10 @@ module _ {K V S H : Type 0} (eq : K → K → Bool) (hash_of : H → K → ℕ) 
     (counted : u.insertions ≡ t.insertions) where
   pub copied_holds : (limiter : S) (hasher : H) → Holds eq hash_of t fields → IsLinked u
       → KeysFit (hash_of hasher) u.slots
-      → marks_of u.slots ≡ marks_of t.slots → AreDistinct eq (pairs_of u)
+      → bucket_states u.slots ≡ bucket_states t.slots → AreDistinct eq (pairs_of u)
       → Holds eq hash_of u (record fields { limiter = limiter; hasher = hasher })
-  copied_holds limiter hasher holds linked fits marks distinct =
-      let same : length (marks_of t.slots) ≡ length u.slots = sym (ap length marks) ∙ length-marks_of u.slots in
+  copied_holds limiter hasher holds linked fits states distinct =
+      let same : length (bucket_states t.slots) ≡ length u.slots = sym (ap length states) ∙ length-bucket_states u.slots in
       let sized = holds.map.sized in
       let placed = ap (λ c. c.placed) counted in
       record {
@@ -120,7 +120,7 @@ module _ {K V S H : Type 0} (eq : K → K → Bool) (hash_of : H → K → ℕ) 
               arith,
               placed,
               holds.map.paid.ahead below,
-              ap (λ m. full_capacity (length m) - 2 * growth_left m) marks,
+              ap (λ m. full_capacity (length m) - 2 * growth_left m) states,
             );
           };
         };
@@ -129,6 +129,6 @@ module _ {K V S H : Type 0} (eq : K → K → Bool) (hash_of : H → K → ℕ) 
 pub alike_holds : {K V S H : Type 0} (fields : Fields S H) (eq : K → K → Bool) (hash_of : H → K → ℕ)
     (t u : OrderedTable K V) → u.insertions ≡ t.insertions
     → Holds eq hash_of t fields → IsLinked u → KeysFit (hash_of fields.hasher) u.slots
-    → marks_of u.slots ≡ marks_of t.slots → AreDistinct eq (pairs_of u) → Holds eq hash_of u fields
+    → bucket_states u.slots ≡ bucket_states t.slots → AreDistinct eq (pairs_of u) → Holds eq hash_of u fields
 alike_holds fields eq hash_of t u counted =
     copied_holds eq hash_of fields t u counted fields.limiter fields.hasher

@@ -4,14 +4,14 @@ use Rattle.std.proofs.Common.{slice_set, subst, Bool, None}
 use Rattle.std.specs.Prelude.{option_to_list}
 use Rattle.std.proofs.lemmas.List.{length-set, get_or-set_same}
 use Rattle.group_table.specs.Sizes.{full_capacity}
-use Rattle.group_table.specs.Bucket.{empty, full, entry_of, marks_of, growth_left}
+use Rattle.group_table.specs.Bucket.{empty, full, entry_of, bucket_states, growth_left}
 use Rattle.group_table.specs.Bucket.{IsFull}
 use Rattle.group_table.specs.Probe.{hash_tag, filled}
-use Rattle.group_table.specs.Change.{count_up, placings}
-use Rattle.group_table.proofs.ChangeLemmas.{placings-placed}
+use Rattle.group_table.specs.Change.{count_up, insertion_count}
+use Rattle.group_table.proofs.ChangeLemmas.{insertion_count-placed}
 use Rattle.std.proofs.lemmas.Bool.{false≢true}
 use Rattle.group_table.proofs.FirstFree.{fills_within}
-use Rattle.group_table.proofs.BucketLemmas.{length-marks_of, is_full-marks_of, marks_of-set}
+use Rattle.group_table.proofs.BucketLemmas.{length-bucket_states, is_full-bucket_states, bucket_states-set}
 use Rattle.lru_model.specs.State.{Counts, buckets, potential, count_insert, IsSound, IsSized, IsPaid}
 use Rattle.lru_model.specs.Place.{IsPlaced, FillsBucket}
 use Rattle.lru_model.specs.Lists.{lookup_entry}
@@ -24,7 +24,7 @@ use Rattle.ordered_table.proofs.Tables.OrderCuts.{entries-apart}
 use Rattle.ordered_table.proofs.Chains.Orders.{Lacks, lacks_unless}
 use Rattle.lru_model.proofs.TableSizes.FilledBuckets.{fills_free}
 use Rattle.schnellru.proofs.Maps.HeldMaps.{sized_same, growth_left_at-most}
-use Rattle.lru_model.proofs.Theorems.Potential.{pays_placing}
+use Rattle.lru_model.proofs.Theorems.Potential.{pays_insertion}
 use Rattle.lru_model.proofs.Theorems.PaidMoves.{paid_after}
 
 pub count_up-none : (n : ℕ) → n < 2 ^ 64 → n ≡ count_up n 0
@@ -40,7 +40,7 @@ module _ {K V : Type 0} (t u : OrderedTable K V) (hash : ℕ) (pair : K × V) (b
 
   apart : Lacks b t.order
   apart = lacks_unless b t.order (λ k. let f : IsFull t.slots b = linked.only b k in
-      false≢true (sym lands.first.free_there ∙ is_full-marks_of t.slots b ∙ f))
+      false≢true (sym lands.first.free_there ∙ is_full-bucket_states t.slots b ∙ f))
 
   pub lands_pairs : pairs_of u ≡ pair ∷ pairs_of t
   lands_pairs = ap (entries_in u.slots) lands.order
@@ -50,11 +50,11 @@ module _ {K V : Type 0} (t u : OrderedTable K V) (hash : ℕ) (pair : K × V) (b
       (get_or-set_same t.slots b (full (record { tag = hash_tag hash; entry = pair })) empty lands_within)
       ∙ ap (λ l. pair ∷ l) (entries-apart t.slots b _ t.order apart)
 
-  pub lands_fills : {n entry_bytes max : ℕ} {counts : Counts} → IsSound n entry_bytes max (marks_of t.slots) counts
+  pub lands_fills : {n entry_bytes max : ℕ} {counts : Counts} → IsSound n entry_bytes max (bucket_states t.slots) counts
       → FillsBucket hash (table_state t) (table_state u)
   lands_fills sound = fills_free (table_state t) (table_state u) sound hash b
-      (subst (λ n. b < n) (sym (length-marks_of t.slots)) lands_within) lands.first lands.growth_left
-      (ap marks_of lands.slots ∙ marks_of-set t.slots b (filled hash pair)) lands.order
+      (subst (λ n. b < n) (sym (length-bucket_states t.slots)) lands_within) lands.first lands.growth_left
+      (ap bucket_states lands.slots ∙ bucket_states-set t.slots b (filled hash pair)) lands.order
 
   placed : u.insertions.placed ≡ count_up t.insertions.placed 1
   placed = ap (λ c. c.placed) lands.insertions
@@ -62,15 +62,15 @@ module _ {K V : Type 0} (t u : OrderedTable K V) (hash : ℕ) (pair : K × V) (b
   module _ {S H : Type 0} (fields : Fields S H) (sized : IsSized (state_of t fields)) where
     counts_insert : (state_of u fields).counts ≡ count_insert 0 (state_of t fields).counts
     counts_insert = λ i. record (state_of u fields).counts {
-      placings = (ap placings lands.insertions ∙ placings-placed t.insertions) i;
+      insertions = (ap insertion_count lands.insertions ∙ insertion_count-placed t.insertions) i;
       moved = count_up-none fields.moved sized.moved i;
       placed = placed i;
     }
 
-    pub lands_placed : IsPlaced pair (buckets (state_of t fields)) (growth_left (marks_of u.slots)) 0 (state_of t fields)
+    pub lands_placed : IsPlaced pair (buckets (state_of t fields)) (growth_left (bucket_states u.slots)) 0 (state_of t fields)
         (state_of u fields)
     lands_placed = record {
-      table = length-marks_of u.slots ∙ lands_length ∙ sym (length-marks_of t.slots);
+      table = length-bucket_states u.slots ∙ lands_length ∙ sym (length-bucket_states t.slots);
       room_left = refl;
       state = λ i. record (state_of u fields) { pairs = lands_pairs i; counts = counts_insert i };
     }
@@ -81,8 +81,8 @@ module _ {K V : Type 0} (t u : OrderedTable K V) (hash : ℕ) (pair : K × V) (b
     pub lands_paid : IsPaid (potential (state_of t fields)) (state_of t fields).counts
         → IsPaid (potential (state_of u fields)) (state_of u fields).counts
     lands_paid paid = paid_after (state_of t fields) (state_of u fields)
-        (pays_placing (state_of t fields) (state_of u fields) 0 sized.placed sized.shrunk counts_insert
-        (omega (arith, lands.growth_left, growth_left_at-most (marks_of t.slots) b, ap full_capacity lands_placed.table)))
+        (pays_insertion (state_of t fields) (state_of u fields) 0 sized.placed sized.shrunk counts_insert
+        (omega (arith, lands.growth_left, growth_left_at-most (bucket_states t.slots) b, ap full_capacity lands_placed.table)))
         sized.moved (omega (arith, sized.table.addressable, lands_placed.table)) paid
 
     pub lands_holds : {eq : K → K → Bool} (hash_of : H → K → ℕ) → Holds eq hash_of t fields → IsLinked u

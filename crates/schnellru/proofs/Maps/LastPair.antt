@@ -2,7 +2,7 @@
 use Rattle.std.proofs.Common.{◌≡◌, ℕ, Bool, true, [], ◌∷◌, ◌++◌, Some, sym, ap, ◌∙◌, subst}
 use Rattle.std.specs.Prelude.{option_to_list}
 use Rattle.std.specs.Cmp.{IsEquivalence}
-use Rattle.group_table.specs.Bucket.{entry_at, marks_of}
+use Rattle.group_table.specs.Bucket.{entry_at, bucket_states}
 use Rattle.lru_model.specs.Lists.{without, back, back_places}
 use Rattle.ordered_table.specs.OrderedTable.{OrderedTable, IsLinked, KeysFit, pairs_of, entries_in, without_bucket}
 use Rattle.schnellru.specs.Inside.Fields.{Fields}
@@ -37,12 +37,12 @@ module _ {K V : Type 0} (t v : OrderedTable K V) (linked : IsLinked t) (b : ℕ)
     pub demoted_state : state_of v fields ≡ demoted names (state_of t fields)
     demoted_state = λ i. record (state_of v fields) {
       pairs = demoted_pairs i;
-      table = record { marks = marks_of (slots i); places = (order ∙ sym last_places) i };
+      table = record { states = bucket_states (slots i); places = (order ∙ sym last_places) i };
       counts = counts_of (counted i) fields;
     }
 
     pub demoted_holds : (hash_of : H → K → ℕ) → Holds eq hash_of t fields → IsLinked v → Holds eq hash_of v fields
     demoted_holds hash_of holds next = alike_holds fields eq hash_of t v counted holds next
         (subst (KeysFit (hash_of fields.hasher)) (sym slots) holds.fits)
-        (ap marks_of slots) (subst (AreDistinct eq) (sym demoted_pairs)
+        (ap bucket_states slots) (subst (AreDistinct eq) (sym demoted_pairs)
         (distinct_last eq names laws (pairs_of t) distinct))

@@ -1,10 +1,10 @@
 -- A map keeps its pairs and their order when all of them move into another table.
 use Rattle.std.proofs.Common.{◌≡◌, ℕ, ◌+◌, ◌*◌, ◌<◌, ◌≤◌, inr, Bool, length, Some, sym, ap, ◌∙◌, subst, arith}
 use Rattle.group_table.specs.Sizes.{full_capacity}
-use Rattle.group_table.specs.Bucket.{marks_of, growth_left}
-use Rattle.group_table.specs.Change.{count_up, some_moved, placings}
-use Rattle.group_table.proofs.BucketLemmas.{length-marks_of}
-use Rattle.group_table.proofs.ChangeLemmas.{placings-moved}
+use Rattle.group_table.specs.Bucket.{bucket_states, growth_left}
+use Rattle.group_table.specs.Change.{count_up, some_moved, insertion_count}
+use Rattle.group_table.proofs.BucketLemmas.{length-bucket_states}
+use Rattle.group_table.proofs.ChangeLemmas.{insertion_count-moved}
 use Rattle.lru_model.specs.Sizes.{usage}
 use Rattle.lru_model.specs.State.{MovesTo}
 use Rattle.ordered_table.specs.OrderedTable.{OrderedTable, IsLinked, KeysFit, pairs_of}
@@ -16,20 +16,20 @@ use Rattle.schnellru.proofs.Maps.HeldMaps.{sized_by}
 
 module _ {K V S H : Type 0} (t u : OrderedTable K V) (count : ℕ) (linked : IsLinked t) (next : IsLinked u)
     (table : length u.slots ≡ count)
-    (pairs : pairs_of u ≡ pairs_of t) (left : growth_left (marks_of u.slots) + length t.order ≡ full_capacity count)
+    (pairs : pairs_of u ≡ pairs_of t) (left : growth_left (bucket_states u.slots) + length t.order ≡ full_capacity count)
     (counted : u.insertions ≡ some_moved t.insertions (length t.order)) (fields : Fields S H) where
   pub placed : u.insertions.placed ≡ t.insertions.placed
   placed = ap (λ c. c.placed) counted
 
   pub moves_to : MovesTo count (state_of t fields) (state_of u fields)
   moves_to = record {
-    table = length-marks_of u.slots ∙ table;
+    table = length-bucket_states u.slots ∙ table;
     exact = omega (arith, left, pairs-length t linked);
     state = λ i. record (state_of u fields) {
       pairs = pairs i;
       counts = record (counts_of u.insertions fields) {
-        placings = (ap placings counted ∙ placings-moved t.insertions (length t.order)
-            ∙ ap (count_up (placings t.insertions)) (sym (pairs-length t linked))) i;
+        insertions = (ap insertion_count counted ∙ insertion_count-moved t.insertions (length t.order)
+            ∙ ap (count_up (insertion_count t.insertions)) (sym (pairs-length t linked))) i;
         placed = placed i;
       };
     };

@@ -2,8 +2,8 @@
 use Rattle.std.proofs.Common.{◌≡◌, ℕ, Bool, true, List, [], ◌∷◌, ◌++◌, Some, None, refl, sym, ap, ◌∙◌, subst}
 use Rattle.std.specs.Prelude.{option_to_list}
 use Rattle.std.specs.Cmp.{IsEquivalence}
-use Rattle.group_table.specs.Bucket.{bucket_at, entry_at, marks_of}
-use Rattle.group_table.proofs.RefillLemmas.{marks_of-refilled}
+use Rattle.group_table.specs.Bucket.{bucket_at, entry_at, bucket_states}
+use Rattle.group_table.proofs.RefillLemmas.{bucket_states-refilled}
 use Rattle.group_table.proofs.SearchLemmas.{full_by_entry}
 use Rattle.lru_model.specs.Lists.{is_empty, first as first_pair, without, front, after}
 use Rattle.lru_model.specs.Lists.{newest_value, set_newest}
@@ -49,7 +49,7 @@ module _ {K V : Type 0} (t v : OrderedTable K V) (linked : IsLinked t) (b : ℕ)
     promoted_state = λ i. record (state_of v fields) {
       pairs = promoted_pairs i;
       table = record {
-        marks = marks_of (slots i);
+        states = bucket_states (slots i);
         places = (order ∙ sym (places_are t linked b p there names laws one distinct named)) i;
       };
       counts = counts_of (counted i) fields;
@@ -58,7 +58,7 @@ module _ {K V : Type 0} (t v : OrderedTable K V) (linked : IsLinked t) (b : ℕ)
     pub promoted_holds : (hash_of : H → K → ℕ) → Holds eq hash_of t fields → IsLinked v → Holds eq hash_of v fields
     promoted_holds hash_of holds next = alike_holds fields eq hash_of t v counted holds next
         (subst (KeysFit (hash_of fields.hasher)) (sym slots) holds.fits)
-        (ap marks_of slots) (subst (AreDistinct eq) (sym promoted_pairs)
+        (ap bucket_states slots) (subst (AreDistinct eq) (sym promoted_pairs)
         (distinct_first eq names one (pairs_of t) distinct))
 
 module _ {K V : Type 0} (t : OrderedTable K V) (linked : IsLinked t) (b : ℕ) (p : K × V) (there : entry_at t.slots b
@@ -85,7 +85,7 @@ module _ {K V : Type 0} (t : OrderedTable K V) (linked : IsLinked t) (b : ℕ) (
           ≡ record (state_of t fields) { pairs = set_newest (pairs_of t) w }
       newest_state = λ i. record (state_of t fields) {
         pairs = newest_set i;
-        table = record { marks = marks_of-refilled t.slots b (p.0, w) i; places = t.order };
+        table = record { states = bucket_states-refilled t.slots b (p.0, w) i; places = t.order };
       }
 
       pub newest_holds : {eq : K → K → Bool} → IsEquivalence eq → (hash_of : H → K → ℕ) → Holds eq hash_of t fields

@@ -3,10 +3,10 @@ use Rattle.std.proofs.Common.{◌≡◌, ℕ, suc, ◌+◌, Bool, true, false, r
 use Rattle.std.specs.Cmp.{IsEquivalence}
 use Rattle.std.proofs.lemmas.List.{length-set}
 use Rattle.std.proofs.lemmas.Option.{same_Some}
-use Rattle.group_table.specs.Bucket.{bucket_at, entry_at, refilled, marks_of, growth_left, growth_left_at}
+use Rattle.group_table.specs.Bucket.{bucket_at, entry_at, refilled, bucket_states, growth_left, growth_left_at}
 use Rattle.group_table.specs.Change.{Removes}
 use Rattle.group_table.proofs.ChangeLemmas.{length-removed}
-use Rattle.group_table.proofs.RefillLemmas.{entry_at-refilled, marks_of-refilled}
+use Rattle.group_table.proofs.RefillLemmas.{entry_at-refilled, bucket_states-refilled}
 use Rattle.group_table.proofs.SearchLemmas.{full_by_entry}
 use Rattle.lru_limits.specs.Rules.{Rules, Replaced}
 use Rattle.lru_model.specs.Lists.{without, set_entry}
@@ -39,7 +39,7 @@ module _ {K V S : Type 0} (rules : Rules K V S) (by : Replaced K V S) (old new :
     slots = subst (λ p. Removes (with_pair old b p).slots new.slots b) pair_is out.takes.removed;
     order = out.takes.order;
     insertions = out.takes.insertions;
-    growth_left = out.takes.growth_left ∙ ap (λ m. growth_left m + growth_left_at (marks_of new.slots) b) (marks_of-refilled old.slots b (k, v));
+    growth_left = out.takes.growth_left ∙ ap (λ m. growth_left m + growth_left_at (bucket_states new.slots) b) (bucket_states-refilled old.slots b (k, v));
     notified = out.notified ∙ (λ i.
         (rules.on_removed (notified i) ((taken_is ∙ pair_is) i).0 ((taken_is ∙ pair_is) i).1).limiter);
   }
@@ -84,7 +84,7 @@ module _ {K V S H : Type 0} (by : Replaced K V S) (old new : OrderedTable K V) (
       limiter = by.limiter;
     }) after
     replaced_leaves =
-        let marks = ap marks_of step.slots ∙ marks_of-refilled old.slots b (by.key, by.new_value) in
+        let states = ap bucket_states step.slots ∙ bucket_states-refilled old.slots b (by.key, by.new_value) in
         let lengths : length (pairs_of new)
         ≡ length (pairs_of old) = omega
         (arith, pairs-length old first, pairs-length new next, ap length step.order) in record {
@@ -93,11 +93,11 @@ module _ {K V S H : Type 0} (by : Replaced K V S) (old new : OrderedTable K V) (
             counts = counts_of (step.insertions i) fields;
           };
           growth_left = record {
-            table = ap length marks;
-            keeps = omega (arith, ap growth_left marks);
-            at_most = omega (arith, ap growth_left marks, lengths);
-            exact = λ _. omega (arith, ap growth_left marks, lengths);
-            untouched = λ _. marks;
+            table = ap length states;
+            keeps = omega (arith, ap growth_left states);
+            at_most = omega (arith, ap growth_left states, lengths);
+            exact = λ _. omega (arith, ap growth_left states, lengths);
+            untouched = λ _. states;
           };
         }
 

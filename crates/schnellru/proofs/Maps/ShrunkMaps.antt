@@ -2,9 +2,9 @@
 use Rattle.std.proofs.Common.{◌≡◌, ℕ, ◌+◌, ◌<◌, ◌≤◌, ◌⊎◌, inl, inr, Bool, length, Option, Some, sym, ap, ◌∙◌}
 use Rattle.std.proofs.Common.{subst, arith}
 use Rattle.group_table.specs.Sizes.{full_capacity, buckets_for}
-use Rattle.group_table.specs.Bucket.{marks_of, growth_left}
+use Rattle.group_table.specs.Bucket.{bucket_states, growth_left}
 use Rattle.group_table.specs.Change.{count_up, some_moved}
-use Rattle.group_table.proofs.BucketLemmas.{length-marks_of}
+use Rattle.group_table.proofs.BucketLemmas.{length-bucket_states}
 use Rattle.lru_model.specs.Sizes.{usage}
 use Rattle.lru_model.specs.State.{MovesTo, IsSized, buckets}
 use Rattle.lru_model.specs.Shrinks.{shrink_counted}
@@ -28,7 +28,7 @@ module _ {K V S H : Type 0} (fields : Fields S H) (t : OrderedTable K V) (linked
 
 module _ {K V S H : Type 0} (t u : OrderedTable K V) (count : ℕ) (linked : IsLinked t) (next : IsLinked u)
     (table : length u.slots ≡ count)
-    (pairs : pairs_of u ≡ pairs_of t) (left : growth_left (marks_of u.slots) + length t.order ≡ full_capacity count)
+    (pairs : pairs_of u ≡ pairs_of t) (left : growth_left (bucket_states u.slots) + length t.order ≡ full_capacity count)
     (insertions : u.insertions ≡ some_moved t.insertions (length t.order)) (fields : Fields S H) where
   abbrev pub counted : Fields S H
   counted = record fields { shrunk = count_up fields.shrunk (length (pairs_of t)) }
@@ -56,7 +56,7 @@ module _ {K V S H : Type 0} (t u : OrderedTable K V) (count : ℕ) (linked : IsL
       sized = holds.map.sized
 
       few : count < buckets (state_of t fields)
-      few = omega (arith, fewer, length-marks_of t.slots)
+      few = omega (arith, fewer, length-bucket_states t.slots)
 
       usable : (less : ℕ) × (usage fields.entry_bytes count ≡ Some less) × (less ≤ sized.usable.0)
       usable = usage_fewer fields.entry_bytes count (buckets (state_of t fields)) sized.usable.0 (omega (arith, few))

@@ -8,7 +8,7 @@ use Rattle.std.specs.List.{IsDistinct}
 use Rattle.std.proofs.lemmas.Map.{keys-set_value}
 use Rattle.std.proofs.lemmas.Option.{none-some, same_Some}
 use Rattle.group_table.specs.Bucket.{IsFull, bucket_at, entry_at, refilled}
-use Rattle.group_table.proofs.RefillLemmas.{entry_at-refilled, marks_of-refilled}
+use Rattle.group_table.proofs.RefillLemmas.{entry_at-refilled, bucket_states-refilled}
 use Rattle.group_table.proofs.SearchLemmas.{full_by_entry}
 use Rattle.lru_model.specs.Lists.{keys_of, set_entry, place_of}
 use Rattle.ordered_table.specs.OrderedTable.{OrderedTable, IsLinked, KeysFit, pairs_of, entries_in, without_bucket}
@@ -108,7 +108,7 @@ module _ {K V : Type 0} (t : OrderedTable K V) (linked : IsLinked t) (b : ℕ) (
     pub kept_state : state_of (with_pair t b (p.0, w)) fields ≡ written names w (state_of t fields)
     kept_state = λ i. record (state_of (with_pair t b (p.0, w)) fields) {
       pairs = kept_pairs w i;
-      table = record { marks = marks_of-refilled t.slots b (p.0, w) i; places = t.order };
+      table = record { states = bucket_states-refilled t.slots b (p.0, w) i; places = t.order };
     }
 
     pub kept_holds : (hash_of : H → K → ℕ) → Holds eq hash_of t fields → IsLinked (with_pair t b (p.0, w))
@@ -116,7 +116,7 @@ module _ {K V : Type 0} (t : OrderedTable K V) (linked : IsLinked t) (b : ℕ) (
         → Holds eq hash_of (with_pair t b (p.0, w)) fields
     kept_holds hash_of holds next fits =
         alike_holds fields eq hash_of t (with_pair t b (p.0, w)) (λ i. t.insertions) holds next fits
-        (marks_of-refilled t.slots b (p.0, w))
+        (bucket_states-refilled t.slots b (p.0, w))
         (subst (IsDistinct eq) (sym (ap keys_of (kept_pairs w) ∙ keys-set_value names (pairs_of t) w)) distinct)
 
 pub same_follow : {N W M E : Type 0} (n : N) (f g : W → M) → ((w : W) → f w ≡ g w)

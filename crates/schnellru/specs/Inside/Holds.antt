@@ -1,7 +1,7 @@
 -- How the fields of an `LruMap` hold its state. No public clause cites this module.
 use Rattle.std.specs.Prelude.{ℕ, Bool}
-use Rattle.group_table.specs.Bucket.{marks_of}
-use Rattle.group_table.specs.Change.{placings}
+use Rattle.group_table.specs.Bucket.{bucket_states}
+use Rattle.group_table.specs.Change.{insertion_count}
 use Rattle.group_table.specs.Table.{Insertions}
 use Rattle.lru_model.specs.State.{State, TableState, Counts, IsMap}
 use Rattle.schnellru.specs.Inside.Fields.{Fields}
@@ -10,7 +10,7 @@ use Rattle.ordered_table.specs.OrderedTable.{OrderedTable, IsLinked, KeysFit, pa
 -- What a map counts: the table counts its insertions, and the fields contain the other counts.
 abbrev pub counts_of : {S H : Type 0} → Insertions → Fields S H → Counts
 counts_of insertions fields = record {
-  placings = placings insertions;
+  insertions = insertion_count insertions;
   moved = fields.moved;
   placed = insertions.placed;
   shrunk = fields.shrunk;
@@ -18,7 +18,7 @@ counts_of insertions fields = record {
 
 -- the bucket states and the places of these entries
 abbrev pub table_state : {K V : Type 0} → OrderedTable K V → TableState
-table_state entries = record { marks = marks_of entries.slots; places = entries.order }
+table_state entries = record { states = bucket_states entries.slots; places = entries.order }
 
 module _ {K V S H : Type 0} where
   -- a map of these entries

@@ -1,6 +1,6 @@
 -- What becomes of a pair in a bucket: its value is replaced, or it is removed. No public clause cites this module.
 use Rattle.std.specs.Prelude.{◌≡◌, ℕ, ◌+◌, Bool, true, false, Some}
-use Rattle.group_table.specs.Bucket.{marks_of, growth_left as growth_left_of, growth_left_at}
+use Rattle.group_table.specs.Bucket.{bucket_states, growth_left as growth_left_of, growth_left_at}
 use Rattle.group_table.specs.Change.{Removes}
 use Rattle.lru_limits.specs.Rules.{Rules, Offers, Replaced}
 use Rattle.lru_model.specs.Lists.{lookup_entry}
@@ -24,7 +24,7 @@ pub record IsRemoved {K V S : Type 0} (rules : Rules K V S) (by : Replaced K V S
   pub slots : Removes (with_pair old b (by.key, by.old_value)).slots new.slots b
   pub order : new.order ≡ without_bucket b old.order
   pub insertions : new.insertions ≡ old.insertions
-  pub growth_left : growth_left_of (marks_of new.slots) ≡ growth_left_of (marks_of old.slots) + growth_left_at (marks_of new.slots) b
+  pub growth_left : growth_left_of (bucket_states new.slots) ≡ growth_left_of (bucket_states old.slots) + growth_left_at (bucket_states new.slots) b
   pub notified : limiter ≡ (rules.on_removed by.limiter by.key by.old_value).limiter
 
 -- The pair in a bucket was evicted or removed. The limiter was notified, and the pair is returned with its changes.

@@ -51,7 +51,7 @@ use Rattle.group_table.specs.contracts.cells.Cells as cells
 use Rattle.group_table.specs.contracts.cells.Deed as deed
 use Rattle.group_table.specs.contracts.cells.allocate.{ended, clauses}
 use Rattle.group_table.specs.contracts.cells.allocate.Key.{name as #self}
-use Rattle.group_table.proofs.CellBlocks.{Mark, block_val, none_val, three_val, block_good, block_made, none_made}
+use Rattle.group_table.proofs.CellBlocks.{BucketState, block_val, none_val, three_val, block_good, block_made, none_made}
 use Rattle.group_table.proofs.CellBlocks.{three_made, block_ty, block_size, block_align, uncapped}
 use Rattle.group_table.proofs.CellRows.{of_room}
 use Rattle.group_table.proofs.cells.allocate.Statement.{statement}
@@ -138,14 +138,14 @@ allocate_spec 𝓤 𝓛 𝓜 𝓡 wired X W L LW g d drops met _ =
     refl (tt, good.1.0) $
     sets_last ! (agg ! (and_then ! (lit ! tt) (and_then ! (get ! refl) (no_more !)))) refl (tt, good) $
     exec ! 𝓣.C 𝓣.Λ Ev (after 3 fn.body) (at_ret Ev Post) $ sets ! (of_opd ! (get ! refl)) refl (tt, good) $
-    move ! (1 ∷ []) $ use0 𝓛 (‵ ((Mark Entry).own_val (tt, tt) (none_val ∷ []))) (none_made Entry 𝓛) $ fjoin ! $
+    move ! (1 ∷ []) $ use0 𝓛 (‵ ((BucketState Entry).own_val (tt, tt) (none_val ∷ []))) (none_made Entry 𝓛) $ fjoin ! $
     move ! (1 ∷ []) $
     use1 𝓛 (‵ (froom (ty_array (lone Entry.mir) n) b o)) (𝓛.laws.raw-room (ty_array (lone Entry.mir) n) b o) $
     use1 𝓛 (‵ (places Entry b o bare.places)) (of_room Entry 𝓛 b n o) $
     flt_i ! (length bare.places * size) (2 ^ 63)
     (subst (λ k. k * size < 2 ^ 63) (sym (length-replicate n None)) below) $
     fjoin ! $
-    use0 𝓛 (‵ ((Mark Entry).own_val (tt, tt) (none_val ∷ []))) (none_made Entry 𝓛) $ fjoin ! $
+    use0 𝓛 (‵ ((BucketState Entry).own_val (tt, tt) (none_val ∷ []))) (none_made Entry 𝓛) $ fjoin ! $
     use0 𝓛 (‵ (Start.own_val base (block_val begins ∷ []))) (block_made Entry 𝓛 begins) $
     use3 𝓛 (‵ (Three.own_val (base, bare, right) (made ∷ [])))
     (three_made 𝓛 Start Owner Right base bare right (block_val begins) none_val none_val) $

@@ -2,7 +2,7 @@ use Rattle.lru_model.proofs.Theorems.Moves.{keeps_nothing}
 use Rattle.lru_model.proofs.Theorems.Ways.{insert_changes}
 use Rattle.lru_model.proofs.Theorems.Potential.{pays_by_storing, bounded_of}
 use Rattle.lru_model.proofs.Theorems.PaidMoves.{stays_paid}
-use Rattle.lru_model.proofs.Theorems.CountedPlacings.{insert_counts}
+use Rattle.lru_model.proofs.Theorems.CountedInsertions.{insert_counts}
 use Rattle.lru_model.proofs.laws.inserts_pay_for_moves.Goals as goal
 
 pub returns-clause-rise : goal.returns-clause-rise

@@ -6,5 +6,5 @@ use Rattle.schnellru_tests.proofs.callers.keep_all.Given as goal
 abbrev pub invariant-loop-text : goal.invariant-loop-text
 invariant-loop-text l = record {
   sized : IsSized l.map;
-  placings : l.map.counts.placings + potential l.map ≤ 3 * l.text-index;
+  insertions : l.map.counts.insertions + potential l.map ≤ 3 * l.text-index;
 }

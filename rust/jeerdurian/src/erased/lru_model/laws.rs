@@ -11,8 +11,8 @@ use crate::rattle_std::hash::Hash;
 
 mod bytes;
 mod calls;
+mod insertions;
 mod kept;
-mod placings;
 mod runs;
 mod shrinks;
 
@@ -21,8 +21,8 @@ pub use calls::{
     calls_add_one_pair, calls_evict_the_oldest, calls_keep_maps, calls_keep_sums, calls_keep_the_budget,
     calls_keep_the_length, calls_keep_the_memory_usage,
 };
+pub use insertions::try_inserts_pay_for_moves;
 pub use kept::{inserts_leave_the_newest, inserts_with_room_are_exact, maps_keep_to_their_length, nothing_is_lost};
-pub use placings::try_inserts_pay_for_moves;
 pub use runs::{
     each_insert_of_a_run_evicts_the_oldest, runs_begin_with_maps, runs_evict_the_oldest, runs_keep_maps,
     runs_keep_sums, runs_keep_the_budget, runs_keep_the_length, runs_keep_the_memory_usage, runs_pay_for_moves,

@@ -52,7 +52,7 @@ fn of_table_figures_2() {
         let alloc = rt.alloc();
         let mut table = Table::with_buckets(alloc, 8)?;
         let _ = table.try_place(7, "a");
-        check!(rt; (table.placed(), table.placings()) == (1, 1));
+        check!(rt; (table.placed(), table.insertion_count()) == (1, 1));
         Ok(())
     };
     run(HostRuntime).passes();

@@ -3,7 +3,7 @@ use Rattle.std.proofs.lemmas.Bool.{eqb-false}
 use Rattle.group_table.proofs.ControlLemmas.{buckets_are}
 use Rattle.group_table.proofs.LayoutLemmas.{length-laid_out}
 use Rattle.group_table.proofs.TableLemmas.{IsTable-by}
-use Rattle.group_table.proofs.CloneLemmas.{Copies-places, marks_of-copies, Fits-copies, IsValid-copied}
+use Rattle.group_table.proofs.CloneLemmas.{Copies-places, bucket_states-copies, Fits-copies, IsValid-copied}
 use Rattle.group_table.proofs.CloneLemmas.{entry_count-copied}
 use Rattle.group_table.proofs.table.Table.clone_with.Goals as goal
 
@@ -21,8 +21,8 @@ returns-clause-copies g c =
     let copied = c.in_ok-entries.ensures in
     rw (← c.self.view_is, c.in_ok-control.ensures) (Copies-places g.F.Fn c.args.f _ _ _ copied)
 
-pub returns-clause-marks : goal.returns-clause-marks
-returns-clause-marks g c = marks_of-copies g.F.Fn c.args.f _ _ (returns-clause-copies g c)
+pub returns-clause-states : goal.returns-clause-states
+returns-clause-states g c = bucket_states-copies g.F.Fn c.args.f _ _ (returns-clause-copies g c)
 
 pub returns-clause-fits : goal.returns-clause-fits
 returns-clause-fits g c hash_of fits = Fits-copies g.F.Fn c.args.f _ _ hash_of (returns-clause-copies g c) fits

@@ -1,6 +1,6 @@
 use Rattle.std.proofs.Common.{sym, ◌∙◌, arith}
 use Rattle.std.proofs.lemmas.Bool.{eqb-true, eqb-false}
-use Rattle.group_table.proofs.LayoutLemmas.{length-laid_out, length-marks_by}
+use Rattle.group_table.proofs.LayoutLemmas.{length-laid_out, length-states_by}
 use Rattle.group_table.proofs.TableLemmas.{IsTable-by, empty_there}
 use Rattle.std.proofs.lemmas.Option.{IfSome_then}
 use Rattle.group_table.proofs.SearchLemmas.{full_by_entry}
@@ -22,7 +22,7 @@ find_bucket-requires-clause-some_empty g c =
     let valid = c.self.invariant.0 in
     let none_is_empty = eqb-false _ _ (sym c.is_empty_at.ensures ∙ c.if-is_empty_at.false) in
     let w = empty_there _ _ _ valid (omega (arith, none_is_empty)) in
-    (w.0, omega (arith, w.1, length-marks_by _ _ valid.laid_out), w.2)
+    (w.0, omega (arith, w.1, length-states_by _ _ valid.laid_out), w.2)
 
 pub returns-clause-full : goal.returns-clause-full
 returns-clause-full g c =

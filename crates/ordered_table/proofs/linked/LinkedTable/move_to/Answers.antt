@@ -2,7 +2,7 @@ use Rattle.std.proofs.Common.{ap, ◌∙◌, ◌≡◌, sym, subst}
 use Rattle.lru_limits.specs.Hashing.{hash_by}
 use Rattle.ordered_table.specs.OrderedTable.{entries_in, KeysFit}
 use Rattle.ordered_table.specs.Chain.{pair_slots}
-use Rattle.ordered_table.proofs.Tables.PairSlots.{marks_of-pair_slots, same_marks}
+use Rattle.ordered_table.proofs.Tables.PairSlots.{bucket_states-pair_slots, same_states}
 use Rattle.ordered_table.proofs.Chains.WholeChains.{whole_order, IsWhole-shown, IsLinked-view}
 use Rattle.ordered_table.proofs.Tables.Relocations.{IsWhole-moved, pairs-moved, KeysFit-moved}
 use Rattle.ordered_table.proofs.linked.LinkedTable.move_to.Goals as goal
@@ -37,8 +37,8 @@ returns-clause-pairs g c =
 
 pub returns-clause-growth_left : goal.returns-clause-growth_left
 returns-clause-growth_left g c =
-    let marks = same_marks c.renumber_entries.new.table.slots c.rewrite.new.self.table.slots c.rewrite.ensures.pairs in
-    rw (← c.self.view_is, marks_of-pair_slots c.rewrite.new.self.table.slots, marks, ← c.self.invariant.count)
+    let states = same_states c.renumber_entries.new.table.slots c.rewrite.new.self.table.slots c.rewrite.ensures.pairs in
+    rw (← c.self.view_is, bucket_states-pair_slots c.rewrite.new.self.table.slots, states, ← c.self.invariant.count)
     c.in_ok-links.ensures.growth_left
 
 pub returns-clause-fits : goal.returns-clause-fits
@@ -51,5 +51,5 @@ returns-clause-fits g c =
 
 pub returns-clause-linked : goal.returns-clause-linked
 returns-clause-linked g c =
-    let marks = same_marks c.renumber_entries.new.table.slots c.rewrite.new.self.table.slots c.rewrite.ensures.pairs in
-    IsLinked-view g.met.N.LinkType.laws (invariant_of-self-2 g c) (rw marks c.renumber_entries.ensures.table)
+    let states = same_states c.renumber_entries.new.table.slots c.rewrite.new.self.table.slots c.rewrite.ensures.pairs in
+    IsLinked-view g.met.N.LinkType.laws (invariant_of-self-2 g c) (rw states c.renumber_entries.ensures.table)

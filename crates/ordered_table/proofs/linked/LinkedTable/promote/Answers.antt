@@ -1,6 +1,6 @@
 use Rattle.std.proofs.Common.{refl, ◌∙◌}
 use Rattle.ordered_table.proofs.Chains.Orders.{without_in}
-use Rattle.ordered_table.proofs.Tables.PairSlots.{same_marks}
+use Rattle.ordered_table.proofs.Tables.PairSlots.{same_states}
 use Rattle.ordered_table.proofs.Chains.WholeChains.{whole_order, IsWhole-shown, IsLinked-view, IsWhole-promoted}
 use Rattle.ordered_table.proofs.Chains.LinkReads.{full_entry, inside}
 use Rattle.ordered_table.proofs.Chains.LinkReads.{newest_already, newest_left}
@@ -60,7 +60,7 @@ returns-clause-order g c =
 
 pub returns-clause-linked : goal.returns-clause-linked
 returns-clause-linked g c =
-    let marks = same_marks c.self.inside.chain.table.slots c.link_newest.new.self.table.slots
+    let states = same_states c.self.inside.chain.table.slots c.link_newest.new.self.table.slots
     (c.link_newest.ensures.pairs
     ∙ c.unlink.ensures.pairs) in
-    IsLinked-view g.met.N.LinkType.laws (invariant_of-self g c) (rw marks c.get.ensures.table)
+    IsLinked-view g.met.N.LinkType.laws (invariant_of-self g c) (rw states c.get.ensures.table)

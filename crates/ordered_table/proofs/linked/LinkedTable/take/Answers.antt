@@ -1,6 +1,6 @@
 use Rattle.std.proofs.Common.{ap, ◌∙◌}
 use Rattle.std.specs.Prelude.{option_map}
-use Rattle.ordered_table.proofs.Tables.PairSlots.{same_marks, pair_of, entry_at-pair_slots}
+use Rattle.ordered_table.proofs.Tables.PairSlots.{same_states, pair_of, entry_at-pair_slots}
 use Rattle.ordered_table.proofs.Tables.TakenEntries.{taken_removes, taken_room, taken_fits, taken_whole, taken_order}
 use Rattle.ordered_table.proofs.Chains.LinkWrites.{IsGap-taken}
 use Rattle.ordered_table.proofs.Chains.WholeChains.{IsLinked-view}
@@ -48,6 +48,6 @@ returns g c =
       growth_left = taken_room _ _ _ c.args.b removed same c.take-pair.ensures.growth_left;
       fits = taken_fits _ _ _ c.args.b removed same full c.take-pair.ensures.fits;
       linked = IsLinked-view laws (invariant_of-self g c)
-          (rw (same_marks c.take-pair.new.self.slots c.close_gap.new.self.table.slots same)
+          (rw (same_states c.take-pair.new.self.slots c.close_gap.new.self.table.slots same)
           c.take-pair.ensures.table);
     })

@@ -1,7 +1,7 @@
 use Rattle.ordered_table.proofs.Chains.WholeChains.{IsLinked-view}
 use Rattle.ordered_table.proofs.Tables.PlacedEntries.{others_chained, placed_newer, placed_older, shown_whole}
 use Rattle.ordered_table.proofs.Tables.PlacedEntries.{placed}
-use Rattle.ordered_table.proofs.Tables.PairSlots.{marks_of-pair_slots}
+use Rattle.ordered_table.proofs.Tables.PairSlots.{bucket_states-pair_slots}
 use Rattle.ordered_table.proofs.linked.LinkedTable.try_place.Goals as goal
 
 pub link_placed-requires-clause-chained : goal.link_placed-requires-clause-chained
@@ -47,4 +47,4 @@ returns-in-Err-clause-linked g c =
 
 pub returns-in-Err-clause-no_place : goal.returns-in-Err-clause-no_place
 returns-in-Err-clause-no_place g c = rw
-    (← c.self.view_is, marks_of-pair_slots c.self.inside.chain.table.slots) c.in-Err.ensures.no_place
+    (← c.self.view_is, bucket_states-pair_slots c.self.inside.chain.table.slots) c.in-Err.ensures.no_place

@@ -17,7 +17,7 @@ invariant_of-result g c =
     (λ key copy same. c.requires.hashers m.hasher c.in_ok-hasher.hasher c.in_ok-hasher.ensures.cases copy
     ∙ sym (g.met.S.KeyHasher.respects_eq m.hasher key copy
     (c.requires.keys key copy same))) holds.fits)
-    done.marks
+    done.states
     (distinct_same g.met.K.Eq.laws (IsPairClone g.K.Clone.is_clone g.V.Clone.is_clone)
     (λ p q r. c.requires.keys p.0 q.0 r.key)
     (pairs_of m.entries) (pairs_of c.in_ok-entries.entries) done.pairs holds.map.distinct)
@@ -34,7 +34,7 @@ returns-clause-clone g c =
       limiter = c.in_ok-limiter.ensures.cases;
       hasher = c.in_ok-hasher.ensures.cases;
       rest = λ i. record (state_of c.in_ok-entries.entries rest) {
-        table = record { marks = done.marks i; places = done.order i };
+        table = record { states = done.states i; places = done.order i };
         counts = counts_of (done.insertions i) rest;
       };
     })

@@ -1,6 +1,6 @@
 use Rattle.std.proofs.Common.{arith, length}
-use Rattle.group_table.specs.Bucket.{marks_of}
-use Rattle.group_table.proofs.CountedMarks.{facts}
+use Rattle.group_table.specs.Bucket.{bucket_states}
+use Rattle.group_table.proofs.CountedStates.{facts}
 use Rattle.lru_model.proofs.TableSizes.Growth.{full_capacity-at_most}
 use Rattle.ordered_table.proofs.Tables.BucketPairs.{pairs-length}
 use Rattle.schnellru.proofs.map.LruMap.guaranteed_capacity.Goals as goal
@@ -16,7 +16,7 @@ overflow_add-result g c =
       sized.taken,
       (facts sized.table).within,
       sized.table.addressable,
-      full_capacity-at_most (length (marks_of t.slots)),
+      full_capacity-at_most (length (bucket_states t.slots)),
     )
 
 pub returns : goal.returns

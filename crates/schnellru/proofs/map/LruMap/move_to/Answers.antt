@@ -1,6 +1,6 @@
 use Rattle.std.proofs.Common.{sym, ◌∙◌, ap, length, arith}
 use Rattle.std.proofs.lemmas.Bool.{false≢true}
-use Rattle.group_table.proofs.BucketLemmas.{length-marks_of}
+use Rattle.group_table.proofs.BucketLemmas.{length-bucket_states}
 use Rattle.lru_model.proofs.TableSizes.Growth.{usage_addressable}
 use Rattle.ordered_table.proofs.Tables.BucketPairs.{pairs-length}
 use Rattle.schnellru.proofs.Maps.MovedPairs.{moves_to, moves_holds}
@@ -18,7 +18,7 @@ pub returns-in_err-move_to-clause-succeeds : goal.returns-in_err-move_to-clause-
 returns-in_err-move_to-clause-succeeds g c = λ none same.
     let t = c.self.inside.entries in
     let no_pairs = sym (pairs-length t c.self.invariant.linked) ∙ ap length (rw (← c.self.view_is) at none) in
-    let as_many = sym (length-marks_of t.slots) ∙ sym (rw (← c.self.view_is) at same) in
+    let as_many = sym (length-bucket_states t.slots) ∙ sym (rw (← c.self.view_is) at same) in
     absurd (false≢true (c.in_err-move_to.ensures.succeeds no_pairs as_many))
 
 pub invariant_of-self-2 : goal.invariant_of-self-2

@@ -3,7 +3,7 @@ use Rattle.std.proofs.lemmas.Bool.{false≢true}
 use Rattle.std.specs.Prelude.{IfSome}
 use Rattle.group_table.specs.Sizes.{buckets_for}
 use Rattle.group_table.specs.Change.{count_up}
-use Rattle.group_table.proofs.BucketLemmas.{length-marks_of}
+use Rattle.group_table.proofs.BucketLemmas.{length-bucket_states}
 use Rattle.lru_model.specs.State.{buckets, MovesTo}
 use Rattle.lru_model.specs.Shrinks.{shrink_counted, kept, shrunk, no_memory_to_shrink}
 use Rattle.ordered_table.specs.OrderedTable.{pairs_of}
@@ -35,7 +35,7 @@ returns-then-buckets-count-clause-step g c =
     (c.into_usize.ensures ∙ ap g.L.LinkType.LinkType.number c.MAX.ensures) c.len-len.ensures.len
     c.in-Some.ensures.value in
     let few : buckets st ≤ c.in-Some.count = omega
-    (arith, c.if-buckets-count.true, c.buckets.ensures.buckets, length-marks_of m.entries.slots) in
+    (arith, c.if-buckets-count.true, c.buckets.ensures.buckets, length-bucket_states m.entries.slots) in
     rw (← c.self.view_is)
     (kept (subst (λ need. IfSome need (λ count. buckets st ≤ count)) (sym is) few) refl refl)
 
@@ -48,7 +48,7 @@ returns-in_err-move_to-clause-step g c =
     (c.into_usize.ensures ∙ ap g.L.LinkType.LinkType.number c.MAX.ensures) c.len-len.ensures.len
     c.in-Some.ensures.value in
     let fewer : c.in-Some.count < buckets st = omega
-    (arith, c.if-buckets-count.false, c.buckets.ensures.buckets, length-marks_of m.entries.slots) in
+    (arith, c.if-buckets-count.false, c.buckets.ensures.buckets, length-bucket_states m.entries.slots) in
     let some = some_there st.pairs
     (λ none. false≢true (c.in_err-move_to.ensures.gives_back
     (none_needed rest.max c.in-Some.count (ap (λ pairs. buckets_for rest.max (length pairs)) (sym none) ∙ is)))) in
@@ -77,7 +77,7 @@ returns-clause-step g c =
     let is = needs rest m.entries holds.linked (c.into_usize.ensures ∙ ap g.L.LinkType.LinkType.number c.MAX.ensures)
     c.len-len.ensures.len c.in-Some.ensures.value in
     let fewer : c.in-Some.count < buckets st = omega
-    (arith, c.if-buckets-count.false, c.buckets.ensures.buckets, length-marks_of m.entries.slots) in
+    (arith, c.if-buckets-count.false, c.buckets.ensures.buckets, length-bucket_states m.entries.slots) in
     let rises : c.saturating_add-self-inside.result ≡ count_up m.shrunk (length (pairs_of m.entries)) =
     c.saturating_add-self-inside.ensures ∙ ap (λ n. min (m.shrunk + n) (2 ^ 64 - 1))
     (c.len-len.ensures.len ∙ sym (pairs-length m.entries holds.linked)) in

@@ -18,7 +18,7 @@ invariant-evictions g l = record {
   passed : Passes g.F.FnMut l.fn.sink l.sink (λ before after.
       OldestEvicted (noting g.L.Limiter.rules) l.hash n (noted before l.fn.self) (noted after l.self));
   leaves : Leaves l.fn.self (pops g.L.Limiter.rules n (contents l.fn.self)) l.self;
-  stuck : IsStuck l.hash (full_capacity (buckets l.fn.self) / 2) l.self.table.marks (length l.self.pairs);
+  stuck : IsStuck l.hash (full_capacity (buckets l.fn.self) / 2) l.self.table.states (length l.self.pairs);
   same_pair : l.pair ≡ l.fn.pair;
 }
 

@@ -3,7 +3,7 @@ use Rattle.lru_model.specs.State.{IsSized}
 use Rattle.schnellru.specs.Inside.Holds.{state_of}
 use Rattle.lru_model.specs.Callbacks.{noting, noted}
 use Rattle.schnellru.specs.Inside.Fields.{fields_of}
-use Rattle.lru_model.proofs.TableSizes.SizedMarks.{fits}
+use Rattle.lru_model.proofs.TableSizes.SizedStates.{fits}
 use Rattle.lru_model.proofs.States.Placements.{grown_place, denied_place, no_target_place}
 use Rattle.lru_model.specs.MayTake.{MayTakeEach}
 use Rattle.schnellru.proofs.map.LruMap.store_after_growth.Goals as goal

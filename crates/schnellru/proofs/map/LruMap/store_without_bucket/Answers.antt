@@ -4,7 +4,7 @@ use Rattle.lru_model.specs.State.{buckets}
 use Rattle.lru_model.specs.Place.{HasNoBucket}
 use Rattle.lru_model.specs.Callbacks.{noting, noted}
 use Rattle.lru_model.proofs.TableSizes.Growth.{full_capacity-at_most, full_capacity-some}
-use Rattle.lru_model.proofs.TableSizes.SizedMarks.{own_count}
+use Rattle.lru_model.proofs.TableSizes.SizedStates.{own_count}
 use Rattle.lru_model.proofs.States.Placements.{rehash_place}
 use Rattle.schnellru.proofs.map.LruMap.store_without_bucket.Goals as goal
 

@@ -6,7 +6,7 @@ use Rattle.lru_model.specs.State.{buckets}
 use Rattle.lru_model.specs.Reservations.{NeedsGrowthFor, unchanged, rehashed, too_many, enough_room}
 use Rattle.lru_model.specs.Reservations.{no_memory_to_rehash}
 use Rattle.lru_model.proofs.TableSizes.NextTable.{stays}
-use Rattle.lru_model.proofs.TableSizes.SizedMarks.{own_count}
+use Rattle.lru_model.proofs.TableSizes.SizedStates.{own_count}
 use Rattle.lru_model.proofs.States.Reservations.{some_there}
 use Rattle.lru_model.proofs.Theorems.Reservations.{makes_room_if_ok}
 use Rattle.schnellru.proofs.map.LruMap.try_reserve.Goals as goal

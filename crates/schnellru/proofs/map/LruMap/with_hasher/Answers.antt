@@ -1,7 +1,7 @@
 use Rattle.std.proofs.Common.{ap, sym, subst, arith, inl, length, ◌+◌, ◌-◌, ◌*◌, ◌≤◌}
 use Rattle.std.specs.List.{IsDistinct}
 use Rattle.group_table.specs.Sizes.{full_capacity}
-use Rattle.group_table.specs.Bucket.{marks_of, growth_left}
+use Rattle.group_table.specs.Bucket.{bucket_states, growth_left}
 use Rattle.lru_model.specs.Sizes.{usage}
 use Rattle.ordered_table.specs.OrderedTable.{entries_in}
 use Rattle.lru_model.proofs.PairLists.DistinctKeys.{AreDistinct}
@@ -29,7 +29,7 @@ invariant_of-result g c =
             (omega (arith, ap (λ counts. counts.placed) c.new.ensures.insertions)) (omega arith);
         paid = record {
           moved = omega arith;
-          ahead = λ below. subst (λ s. 0 + (full_capacity (length (marks_of s)) - 2 * growth_left (marks_of s))
+          ahead = λ below. subst (λ s. 0 + (full_capacity (length (bucket_states s)) - 2 * growth_left (bucket_states s))
               ≤ 2 * c.new.result.insertions.placed + 0)
               (sym c.new.ensures.slots) (omega arith);
         };

@@ -41,7 +41,7 @@ impl<T> Table<T> {
     /// Returns how many insertions the table has made. A moved entry counts as one insertion. A count that reaches
     /// `u64::MAX` stays there.
     #[inline]
-    pub fn placings(&self) -> u64 {
+    pub fn insertion_count(&self) -> u64 {
         self.placed.saturating_add(self.moved)
     }
 
@@ -51,7 +51,7 @@ impl<T> Table<T> {
     /// ```text
     /// let mut table = Table::with_buckets(alloc, 8)?;
     /// let _ = table.try_place(7, "a");
-    /// assert_eq!(rt; (table.placed(), table.placings()), (1, 1));
+    /// assert_eq!(rt; (table.placed(), table.insertion_count()), (1, 1));
     /// ```
     #[inline]
     pub fn placed(&self) -> u64 {

@@ -1,5 +1,5 @@
-use Rattle.lru_model.proofs.Theorems.PaidPlacings.{try_insert_one, paid_run}
-use Rattle.lru_model.proofs.laws.placings.try_inserts_pay_for_moves.Goals as goal
+use Rattle.lru_model.proofs.Theorems.PaidInsertions.{try_insert_one, paid_run}
+use Rattle.lru_model.proofs.laws.insertions.try_inserts_pay_for_moves.Goals as goal
 
 pub returns-clause-rise : goal.returns-clause-rise
 returns-clause-rise g c = λ key value old result new ok step. (try_insert_one key value old new result ok step).rises

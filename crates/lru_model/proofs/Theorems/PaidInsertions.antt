@@ -17,8 +17,8 @@ use Rattle.lru_model.specs.TryInserts.{has_growth, reserved as got_growth, not_r
 use Rattle.lru_model.specs.Runs.{AnyStep, calls, writes, sets_limiter, Run, ends, goes_on}
 use Rattle.lru_model.specs.Runs.{inserts, makes_newest, updates, gets, demotes, removes, pops_oldest, pops_newest}
 use Rattle.lru_model.specs.Runs.{drains, clears, reserves, shrinks, trims, retains}
-use Rattle.lru_model.specs.PaidPlacings.{PaysForPlacings, ReservesIfFull, PaidStep, tries, others}
-use Rattle.lru_model.proofs.TableSizes.SizedMarks.{fits}
+use Rattle.lru_model.specs.PaidInsertions.{PaysForInsertions, ReservesIfFull, PaidStep, tries, others}
+use Rattle.lru_model.proofs.TableSizes.SizedStates.{fits}
 use Rattle.lru_model.proofs.TableSizes.NextTable.{larger_half}
 use Rattle.lru_model.proofs.TableSizes.Growth.{target-same}
 use Rattle.lru_model.proofs.States.Promotions.{length-front_pairs, length-back_pairs}
@@ -32,12 +32,12 @@ use Rattle.lru_model.proofs.Theorems.Ways.{Lands, place_lands}
 module _ {K V S H : Type 0} where
   -- insertions into the table and the potential together rise by at most n
   abbrev pub RisesBy : ℕ → State K V S H → State K V S H → Type 0
-  RisesBy n old new = new.counts.placings + potential new ≤ old.counts.placings + potential old + n
+  RisesBy n old new = new.counts.insertions + potential new ≤ old.counts.insertions + potential old + n
 
   -- they rise by at most 3, and are paid for
   pub record StoresOne (old new : State K V S H) : Type 0 where
     pub rises : RisesBy 3 old new
-    pub pays : PaysForPlacings old new
+    pub pays : PaysForInsertions old new
 
   -- they do not rise, and nothing else is counted
   pub record StoresNone (old new : State K V S H) : Type 0 where
@@ -45,31 +45,31 @@ module _ {K V S H : Type 0} where
     pub placed : new.counts.placed ≡ old.counts.placed
     pub shrunk : new.counts.shrunk ≡ old.counts.shrunk
 
-  paid_self : (st : State K V S H) → PaysForPlacings st st
-  paid_self st = record { placed = omega arith; shrunk = omega arith; placings = λ p s. omega arith }
+  paid_self : (st : State K V S H) → PaysForInsertions st st
+  paid_self st = record { placed = omega arith; shrunk = omega arith; insertions = λ p s. omega arith }
 
-  paid_trans : {old mid new : State K V S H} → PaysForPlacings old mid → PaysForPlacings mid new
-      → PaysForPlacings old new
+  paid_trans : {old mid new : State K V S H} → PaysForInsertions old mid → PaysForInsertions mid new
+      → PaysForInsertions old new
   paid_trans p q = record {
     placed = omega (arith, p.placed, q.placed);
     shrunk = omega (arith, p.shrunk, q.shrunk);
-    placings = λ h below. omega (
+    insertions = λ h below. omega (
       arith,
-      p.placings (omega (arith, q.placed, h)) (omega (arith, q.shrunk, below)),
-      q.placings h below,
+      p.insertions (omega (arith, q.placed, h)) (omega (arith, q.shrunk, below)),
+      q.insertions h below,
     );
   }
 
-  none_paid : {old new : State K V S H} → StoresNone old new → PaysForPlacings old new
+  none_paid : {old new : State K V S H} → StoresNone old new → PaysForInsertions old new
   none_paid n = record {
     placed = omega (arith, n.placed);
     shrunk = omega (arith, n.shrunk);
-    placings = λ h below. omega (arith, n.rises, n.placed, n.shrunk);
+    insertions = λ h below. omega (arith, n.rises, n.placed, n.shrunk);
   }
 
   calm_none : (old new : State K V S H) → Calm old new → StoresNone old new
   calm_none old new f = record {
-    rises = omega (arith, ap (λ c. c.placings) f.counts, ap full_capacity f.table, f.keeps);
+    rises = omega (arith, ap (λ c. c.insertions) f.counts, ap full_capacity f.table, f.keeps);
     placed = ap (λ c. c.placed) f.counts;
     shrunk = ap (λ c. c.shrunk) f.counts;
   }
@@ -98,18 +98,18 @@ module _ {K V S H : Type 0} (rules : Rules K V S) (hash_of : H → K → ℕ) (p
       land placed mid f l =
           let counts = ap (λ st. st.counts) l.is.state in
           let paid : l.moves + potential new ≤ potential old + 2 = rw (l.is.table, l.is.room_left) (l.paid ok) in
-          let insertions = ap (λ c. c.placings) counts in
+          let inserted = ap (λ c. c.insertions) counts in
           let stored = ap (λ c. c.placed) counts in
           let rehashed = ap (λ c. c.shrunk) counts in
-          let before = ap (λ c. c.placings) f.counts in
+          let before = ap (λ c. c.insertions) f.counts in
           let was = ap (λ c. c.placed) f.counts in
           let kept = ap (λ c. c.shrunk) f.counts in
           record {
-            rises = omega (arith, paid, insertions, before);
+            rises = omega (arith, paid, inserted, before);
             pays = record {
               placed = omega (arith, stored, was, ok.placed);
               shrunk = omega (arith, rehashed, kept);
-              placings = λ h below. omega (arith, paid, insertions, before, stored, was, rehashed, kept, h);
+              insertions = λ h below. omega (arith, paid, inserted, before, stored, was, rehashed, kept, h);
             };
           }
       land refused mid f l = away mid f l.1
@@ -141,7 +141,7 @@ module _ {K V S H : Type 0} (rules : Rules K V S) (n : ℕ) (old : State K V S H
       fits ok,
       m.exact,
       ap full_capacity m.table,
-      ap (λ st. st.counts.placings) m.state,
+      ap (λ st. st.counts.insertions) m.state,
       target-same old.max old.entry_bytes (buckets old) (length old.pairs + n) t,
     );
     placed = ap (λ st. st.counts.placed) m.state;
@@ -154,7 +154,7 @@ module _ {K V S H : Type 0} (rules : Rules K V S) (n : ℕ) (old : State K V S H
       fits ok,
       m.exact,
       ap full_capacity m.table,
-      ap (λ st. st.counts.placings) m.state,
+      ap (λ st. st.counts.insertions) m.state,
       larger_half n old ok (omega (arith, l.0)) count bytes t,
     );
     placed = ap (λ st. st.counts.placed) m.state;
@@ -164,16 +164,16 @@ module _ {K V S H : Type 0} (rules : Rules K V S) (n : ℕ) (old : State K V S H
 
 module _ {K V S H : Type 0} where
   shrink_paid : (old new : State K V S H) (result : Result Bool AllocError) → IsSized old → Shrink old result new
-      → PaysForPlacings old new
+      → PaysForInsertions old new
   shrink_paid old new result ok (kept t r e) = rw e (paid_self old)
   shrink_paid old new result ok (shrunk count l r m) = record {
     placed = omega (arith, ap (λ st. st.counts.placed) m.state);
     shrunk = omega (arith, ok.shrunk, ap (λ st. st.counts.shrunk) m.state);
-    placings = λ h below. omega (
+    insertions = λ h below. omega (
       arith,
       m.exact,
       ap full_capacity m.table,
-      ap (λ st. st.counts.placings) m.state,
+      ap (λ st. st.counts.insertions) m.state,
       ap (λ st. st.counts.placed) m.state,
       ap (λ st. st.counts.shrunk) m.state,
       below,
@@ -183,7 +183,7 @@ module _ {K V S H : Type 0} where
 
 module _ {K V S H : Type 0} {terms : Terms K V S} {rules : Rules K V S} {eq : K → K → Bool} {hash_of : H → K → ℕ} where
   any_paid : (old new : State K V S H) → IsSized old → (step : AnyStep rules (offers_of terms) eq hash_of old new)
-      → ReservesIfFull terms rules eq hash_of old new step → PaysForPlacings old new
+      → ReservesIfFull terms rules eq hash_of old new step → PaysForInsertions old new
   any_paid old new ok (calls (inserts key value result h)) full = (insert_one (bounded_of old ok) h).pays
   any_paid old new ok (calls (makes_newest value key result (got w f r e))) full =
       none_paid (calm_none old new (rw e (pairs_calm rules old _ _ (length-front_pairs (eq key) old.pairs))))
@@ -225,11 +225,11 @@ module _ {K V S H : Type 0} {terms : Terms K V S} {rules : Rules K V S} {eq : K 
       none_then (reserve_none rules 1 old ok full _ ready h) (insert_one (bounded_of ready sized) step)
 
   paid_step : (old new : State K V S H) → IsSized old → PaidStep terms rules eq hash_of old new
-      → PaysForPlacings old new
+      → PaysForInsertions old new
   paid_step old new ok (tries key value result h) = (try_insert_one key value old new result ok h).pays
   paid_step old new ok (others step full) = any_paid old new ok step full
 
   pub paid_run : (new old : State K V S H) → Run (PaidStep terms rules eq hash_of) new old → IsSized old
-      → PaysForPlacings old new
+      → PaysForInsertions old new
   paid_run new old ends ok = paid_self new
   paid_run new old (goes_on mid step sized run) ok = paid_trans (paid_step old mid ok step) (paid_run new mid run sized)

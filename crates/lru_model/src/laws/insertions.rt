@@ -4,7 +4,7 @@ ghost use Rattle.std.specs.Prelude.{ℕ, ◌+◌, ◌≤◌, Result};
 ghost use Rattle.lru_model.specs.State.{State, IsSized, potential};
 ghost use Rattle.lru_model.specs.TryInserts.{TryInsert};
 ghost use Rattle.lru_model.specs.Runs.{Run};
-ghost use Rattle.lru_model.specs.PaidPlacings.{PaysForPlacings, PaidStep};
+ghost use Rattle.lru_model.specs.PaidInsertions.{PaysForInsertions, PaidStep};
 
 use lru_limits::{Admission, KeyHasher};
 use std::hash::Hash;
@@ -21,12 +21,12 @@ pub fn try_inserts_pay_for_moves<K: Eq + Hash, V, L: Admission<K, V>, S: KeyHash
         (new : State K V L S) →
         IsSized old →
         TryInsert L.terms L.rules key value old K.eq S.hash_of result new →
-        new.counts.placings + potential new ≤ old.counts.placings + potential old + 3 }
+        new.counts.insertions + potential new ≤ old.counts.insertions + potential old + 3 }
     ensures stored { (key : K) (value : V) (old : State K V L S) (result : Result (Unit {0}) (K × V))
         (new : State K V L S) →
         IsSized old →
-        TryInsert L.terms L.rules key value old K.eq S.hash_of result new → PaysForPlacings old new }
+        TryInsert L.terms L.rules key value old K.eq S.hash_of result new → PaysForInsertions old new }
     ensures runs { (old new : State K V L S) →
         Run (PaidStep L.terms L.rules K.eq S.hash_of) new old →
-        IsSized old → PaysForPlacings old new }
+        IsSized old → PaysForInsertions old new }
 {}

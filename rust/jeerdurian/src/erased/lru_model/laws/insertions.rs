@@ -1,4 +1,4 @@
-// Erased from crates/lru_model/src/laws/placings.rt: do not edit.
+// Erased from crates/lru_model/src/laws/insertions.rt: do not edit.
 //! What is proved of all insertions into the table, those of `try_insert` included.
 
 #[allow(unused_imports)]

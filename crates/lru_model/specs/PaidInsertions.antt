@@ -11,12 +11,12 @@ use Rattle.lru_model.specs.Runs.{AnyStep, calls, reserves}
 
 -- Insertions into the table and the potential together rise by at most 3 for each entry stored, and by 2 for each entry
 -- that shrinks rehashed, unless one of the counts of these has stopped at its maximum.
-pub record PaysForPlacings {K V S H : Type 0} (old new : State K V S H) : Type 0 where
+pub record PaysForInsertions {K V S H : Type 0} (old new : State K V S H) : Type 0 where
   pub placed : old.counts.placed ≤ new.counts.placed
   pub shrunk : old.counts.shrunk ≤ new.counts.shrunk
-  pub placings : new.counts.placed < 2 ^ 64 - 1 → new.counts.shrunk < 2 ^ 64 - 1 →
-      new.counts.placings + potential new + 3 * old.counts.placed + 2 * old.counts.shrunk
-      ≤ old.counts.placings + potential old + 3 * new.counts.placed + 2 * new.counts.shrunk
+  pub insertions : new.counts.placed < 2 ^ 64 - 1 → new.counts.shrunk < 2 ^ 64 - 1 →
+      new.counts.insertions + potential new + 3 * old.counts.placed + 2 * old.counts.shrunk
+      ≤ old.counts.insertions + potential old + 3 * new.counts.placed + 2 * new.counts.shrunk
 
 module _ {K V S H : Type 0} (terms : Terms K V S) (rules : Rules K V S) (eq : K → K → Bool)
     (hash_of : H → K → ℕ) where
