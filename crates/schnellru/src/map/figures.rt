@@ -132,9 +132,9 @@ impl<K: Eq + Hash, V, L: Limiter<K, V>, S: KeyHasher<K>> LruMap<K, V, L, S> {
         &self.hasher
     }
 
-    /// Lends the limiter for writing. A lower limit of length or cost takes effect at the next `trim`, and at the next
-    /// insert or update that stores an entry or replaces a value; one of bytes at the next growth. A call whose entry
-    /// or value the limiter rejects evicts nothing.
+    /// Lends the limiter for writing. A lower limit takes effect at the next `trim`, and at the next insert or update
+    /// that stores an entry or replaces a value; that of `ByMemoryUsage` at the next growth. A call whose entry or
+    /// value the limiter rejects evicts nothing.
     ///
     /// Do not write a limiter with another running total: `*map.limiter_mut() = ByCost::new(n)` would count the entries
     /// that are there as 0. Call `set_limiter` with `map.limiter().with_limit(n)`.

@@ -138,8 +138,8 @@ impl<K: Eq + Hash + Drop, V: Drop, L: Limiter<K, V>, S: KeyHasher<K>> LruMap<K, 
     /// returns.
     ///
     /// If the key is there, the closure is not called, and its entry becomes the newest. `None` says that the new entry
-    /// is not in the map, as `false` says it of `insert`. The prover carries no contract on this type of result into a
-    /// caller's proof; write `ensure_newest` and `newest_mut` there.
+    /// is not in the map, as `false` says it of `insert`. The clause `writes_back` does not reach a caller's proof;
+    /// write `ensure_newest` and `newest_mut` there.
     ///
     /// ```
     /// assert_eq!(rt; map.get_or_insert(1, || 10)?.copied(), Some(10));

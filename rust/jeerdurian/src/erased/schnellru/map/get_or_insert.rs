@@ -102,8 +102,8 @@ impl<K: Eq + Hash, V, L: Limiter<K, V>, S: KeyHasher<K>> LruMap<K, V, L, S> {
     /// returns.
     ///
     /// If the key is there, the closure is not called, and its entry becomes the newest. `None` says that the new entry
-    /// is not in the map, as `false` says it of `insert`. The prover carries no contract on this type of result into a
-    /// caller's proof; write `ensure_newest` and `newest_mut` there.
+    /// is not in the map, as `false` says it of `insert`. The clause `writes_back` does not reach a caller's proof;
+    /// write `ensure_newest` and `newest_mut` there.
     ///
     /// ```text
     /// assert_eq!(rt; map.get_or_insert(1, || 10)?.copied(), Some(10));

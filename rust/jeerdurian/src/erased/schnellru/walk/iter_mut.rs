@@ -40,7 +40,7 @@ impl<'a, K: Eq + Hash, V, L: Limiter<K, V>, S: KeyHasher<K>> IterMut<'a, K, V, L
     /// Lends the newest entry that is left until the next call, with its value for writing. `None` says that none is
     /// left.
     ///
-    /// The prover carries no contract on this type of result into a caller's proof; write `len` and `lend_next` there.
+    /// The clause `writes_back` does not reach a caller's proof; write `len` and `lend_next` there.
     ///
     /// ```text
     /// if let Some((_, value)) = walk.next() {
