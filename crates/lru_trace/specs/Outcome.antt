@@ -1,6 +1,7 @@
 -- How a trace ends: what was read and written then.
 use Rattle.std.specs.Prelude.{◌≡◌, ℕ, ◌≤◌, List, [], ◌∷◌, ◌++◌, length, Bool, Option, OnSome, Some, None, is_some, Result, Ok, Err}
 use Rattle.std.specs.Io.KnownBytes.{Consumes, IsAtEnd, Appends, Keeps}
+use Rattle.lru_trace.specs.declared.options.Options.{Options}
 use Rattle.lru_trace.specs.declared.outcome.TraceEnd.{TraceEnd}
 use Rattle.lru_trace.specs.declared.outcome.TraceEnd.TheVariants as ends
 use Rattle.lru_trace.specs.declared.outcome.TraceError.{TraceError}
@@ -33,12 +34,12 @@ pub record TraceRead (from to : Option (List ℕ)) (best : Bool) (sizes : List �
   pub keeps : is_some curve.kept ≡ best
   pub count : malformed ≡ malformed_in others
 
--- One line was read, or none, and it names no sizes.
-pub record NoSizesRead (from to : Option (List ℕ)) (best : Bool) : Type 0 where
+-- One line was read, or none, and it names no sizes, so nothing is determined in any form.
+pub record NoSizesRead (from to : Option (List ℕ)) : Type 0 where
   pub input : List ℕ
   pub reads : Consumes from to input
   pub one : length (lines_of input) ≤ 1
-  pub none : output best (lines_of input) ≡ None
+  pub none : (options : Options) → output options (lines_of input) ≡ None
 
 -- some bytes were read
 abbrev pub SomeRead : Option (List ℕ) → Option (List ℕ) → Type 0
@@ -50,22 +51,22 @@ Begins old new text = (begun rest : List ℕ) × (text ≡ begun ++ rest) × App
 
 -- All was read, and of the text that the lines determine was written what `IsWritten` says. If a reader does not say what
 -- it has left, this says of `input` only that there is one.
-pub record Reported (from to : Option (List ℕ)) (best : Bool) (IsWritten : List ℕ → Type 0) : Type 0 where
+pub record Reported (from to : Option (List ℕ)) (options : Options) (IsWritten : List ℕ → Type 0) : Type 0 where
   pub input : List ℕ
   pub text : List ℕ
   pub reads : Consumes from to input
   pub at_end : OnSome from (IsAtEnd to)
-  pub determined : output best (lines_of input) ≡ Some text
+  pub determined : output options (lines_of input) ≡ Some text
   pub written : IsWritten text
 
 -- what a trace read and wrote, by how it ended
-abbrev pub Ends : Bool → Option (List ℕ) → Option (List ℕ) → Option (List ℕ) → Option (List ℕ)
+abbrev pub Ends : Options → Option (List ℕ) → Option (List ℕ) → Option (List ℕ) → Option (List ℕ)
     → Result TraceEnd TraceError → Type 0
-Ends best from to old new (Ok ends.Done) = Reported from to best (Appends old new)
-Ends best from to old new (Ok ends.NoSizes) = NoSizesRead from to best × Keeps old new
-Ends best from to old new (Err errors.Read) = SomeRead from to × Keeps old new
-Ends best from to old new (Err errors.Memory) = SomeRead from to × Keeps old new
-Ends best from to old new (Err errors.Write) = Reported from to best (Begins old new)
+Ends options from to old new (Ok ends.Done) = Reported from to options (Appends old new)
+Ends options from to old new (Ok ends.NoSizes) = NoSizesRead from to × Keeps old new
+Ends options from to old new (Err errors.Read) = SomeRead from to × Keeps old new
+Ends options from to old new (Err errors.Memory) = SomeRead from to × Keeps old new
+Ends options from to old new (Err errors.Write) = Reported from to options (Begins old new)
 
 -- the exit status of each end
 abbrev pub status_of : Result TraceEnd TraceError → ℕ

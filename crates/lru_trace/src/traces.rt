@@ -5,6 +5,7 @@ ghost use Rattle.lru_trace.specs.Outcome.{Ends, TraceRead, NoSizesRead, SomeRead
 
 use crate::curve::Curve;
 use crate::lines::{Ending, read_keys, read_line};
+use crate::options::Options;
 use crate::outcome::{TraceEnd, TraceError};
 use crate::output::write_bytes;
 use crate::progress::Progress;
@@ -37,7 +38,7 @@ fn read_trace<R: BufRead, P: Write>(
     progress: &mut Progress<P>,
 ) -> Result<Option<Lines>, TraceError>
     ensures ok { IfOk result (λ read.
-        MatchOption read (NoSizesRead (R.remaining reader.old) (R.remaining reader.new) best)
+        MatchOption read (NoSizesRead (R.remaining reader.old) (R.remaining reader.new))
         (λ t. TraceRead (R.remaining reader.old) (R.remaining reader.new) best t.sizes.items t.curve t.malformed)) }
     ensures err { OnErr result (SomeRead (R.remaining reader.old) (R.remaining reader.new)) }
     ensures kind { IfErr result (λ e. e ≢ TraceError.Write) }
@@ -80,18 +81,18 @@ fn read_trace<R: BufRead, P: Write>(
 /// failed; a beginning of the report was written.
 pub fn trace<R: BufRead, W: Write, P: Write>(
     alloc: Global,
-    best: bool,
+    options: Options,
     reader: &mut R,
     writer: &mut W,
     progress: &mut Progress<P>,
 ) -> Result<TraceEnd, TraceError>
-    ensures { Ends best (R.remaining reader.old) (R.remaining reader.new) (W.contents writer.old) (W.contents writer.new)
+    ensures { Ends options (R.remaining reader.old) (R.remaining reader.new) (W.contents writer.old) (W.contents writer.new)
         result }
 {
-    let Some(read) = read_trace(alloc, best, reader, progress)? else {
+    let Some(read) = read_trace(alloc, options.best, reader, progress)? else {
         return Ok(TraceEnd::NoSizes);
     };
-    let report = report_of(alloc, &read.curve, read.malformed, &read.sizes)?;
+    let report = report_of(alloc, options, &read.curve, read.malformed, &read.sizes)?;
     if !write_bytes(writer, &report) {
         return Err(TraceError::Write);
     }

@@ -6,6 +6,7 @@ use crate::rattle_std::prelude::*;
 
 use crate::erased::lru_trace::curve::Curve;
 use crate::erased::lru_trace::lines::{Ending, read_keys, read_line};
+use crate::erased::lru_trace::options::Options;
 use crate::erased::lru_trace::outcome::{TraceEnd, TraceError};
 use crate::erased::lru_trace::output::write_bytes;
 use crate::erased::lru_trace::progress::Progress;
@@ -63,15 +64,15 @@ fn read_trace<R: BufRead, P: Write>(
 /// failed; a beginning of the report was written.
 pub fn trace<R: BufRead, W: Write, P: Write>(
     alloc: Global,
-    best: bool,
+    options: Options,
     reader: &mut R,
     writer: &mut W,
     progress: &mut Progress<P>,
 ) -> Result<TraceEnd, TraceError> {
-    let Some(read) = read_trace(alloc, best, reader, progress)? else {
+    let Some(read) = read_trace(alloc, options.best, reader, progress)? else {
         return Ok(TraceEnd::NoSizes);
     };
-    let report = report_of(alloc, &read.curve, read.malformed, &read.sizes)?;
+    let report = report_of(alloc, options, &read.curve, read.malformed, &read.sizes)?;
     if !write_bytes(writer, &report) {
         return Err(TraceError::Write);
     }

@@ -5,7 +5,7 @@
 #[allow(unused_imports)]
 use crate::rattle_std::prelude::*;
 
-use crate::erased::lru_trace::{Progress, status, trace};
+use crate::erased::lru_trace::{Form, Options, Progress, status, trace};
 use crate::rattle_std::env;
 use crate::rattle_std::io::{self, BufReader, BufWriter, IsTerminal};
 use crate::rattle_std::process::ExitCode;
@@ -15,7 +15,7 @@ const NO_BUFFER: u8 = 3;
 const UNKNOWN: u8 = 4;
 
 const HELP: &str = "\
-trace [--best] < KEYS
+trace [--best] [--csv | --svg] < KEYS
     Prints how often an LRU cache of each size misses the keys that were referenced.
 
 The first line has sizes with a space between each two, such as 1 10 100 1000. Each other line is a key, of 1 to 64
@@ -25,6 +25,8 @@ The output is a line for each named size, and then a bar for each power of two: 
 
 --best adds to each line how often the best possible policies miss: min stores each key, bypass may leave a key out. It
 takes 16 to 32 bytes more for each reference.
+--csv prints a record for each named size and each power of two, below a header.
+--svg prints a picture of the curves. Of --csv and --svg the last one counts.
 
 Exit status: 0 after the report, 1 if the first line has no sizes, 2 if a read or a write failed, 3 without memory,
 4 if an argument is unknown or cannot be read.
@@ -34,12 +36,14 @@ pub(crate) fn main(rt: HostRuntime) -> ExitCode {
     let Ok(arguments) = env::args(&rt) else {
         return ExitCode::from(UNKNOWN);
     };
-    let mut best = false;
+    let mut options = Options { form: Form::Text, best: false };
     for argument in arguments.skip(1) {
-        if argument.as_str() != "--best" {
-            return answer(&rt, argument.as_str());
+        match argument.as_str() {
+            "--best" => options.best = true,
+            "--csv" => options.form = Form::Csv,
+            "--svg" => options.form = Form::Svg,
+            other => return answer(&rt, other),
         }
-        best = true;
     }
     let Ok(mut reader) = BufReader::new(rt.alloc(), rt.reader()) else {
         return ExitCode::from(NO_BUFFER);
@@ -50,7 +54,7 @@ pub(crate) fn main(rt: HostRuntime) -> ExitCode {
     let errors = rt.stderr();
     let waiting = if errors.is_terminal() { Some(errors) } else { None };
     let mut progress = Progress::new(rt.alloc(), waiting);
-    let end = trace(rt.alloc(), best, &mut reader, &mut writer, &mut progress);
+    let end = trace(rt.alloc(), options, &mut reader, &mut writer, &mut progress);
     // After a failed write the buffer still contains bytes. Its drop would write them again.
     let (_output, _unwritten) = writer.into_parts();
     ExitCode::from(status(&end))
