@@ -23,6 +23,8 @@ CASES = {
     "long_lines": b"1\n" + b"x" * 64 + b"\n" + b"x" * 65 + b"\n" + b"x" * 64,
     "no_text": b"1 2\n\xff\xfe\n\xd0\xba\n\xd0\n\xd0\xba\n",
     "empty_lines": b"1\n\n\na\n\n",
+    "columns": b"1 2 3\n" + b"".join(b"%d,k%d,%d\r\n" % (i, i * i % 5, i % 3) for i in range(20))
+    + b"alone\n,,\n0,,1\n0,k0\n0," + b"x" * 65 + b",2\n0,k1,2,3\n",
     "steps": b"1 2 4 8\n" + b"".join(b"%d\n" % (i * i % 17) for i in range(200)),
 }
 
@@ -30,7 +32,7 @@ BEST = ["one_key_often", "all_different", "cycle", "limits", "no_text", "steps"]
 FORMS = ["no_sizes", "sizes_alone", "one_key", "all_different", "cycle", "limits", "carriage_returns", "steps"]
 
 FRAME = """\
-<svg xmlns='http://www.w3.org/2000/svg' viewBox='0 0 7600 4600' width='760' height='460'
+<svg xmlns='http://www.w3.org/2000/svg' viewBox='0 0 7800 4600' width='780' height='460'
 font-family='sans-serif' font-size='140'>
 <style>
 path{fill:none;stroke-width:28;stroke-linejoin:round;stroke-linecap:round}
@@ -38,7 +40,7 @@ path{fill:none;stroke-width:28;stroke-linejoin:round;stroke-linecap:round}
 .lru{stroke:#0b5394}.min{stroke:#cc4125;stroke-dasharray:90 60}.bypass{stroke:#38761d;stroke-dasharray:1 60}
 .tick{text-anchor:middle}.part{text-anchor:end}
 </style>
-<rect width='7600' height='4600' fill='#fff'/>
+<rect width='7800' height='4600' fill='#fff'/>
 <path class='grid' d='M900 700h6400M900 1340h6400M900 1980h6400M900 2620h6400M900 3260h6400'/>
 <path class='frame' d='M900 700v3200h6400'/>
 <text class='part' x='820' y='750'>100 %</text>
@@ -96,7 +98,7 @@ def best_misses(keys, places, bypass):
 class Read:
     """What a trace says, or that its first line names no sizes."""
 
-    def __init__(self, trace):
+    def __init__(self, trace, column=0, separator=b""):
         lines = trace.split(b"\n")
         if lines[-1] == b"":
             lines.pop()
@@ -104,7 +106,11 @@ class Read:
         self.sizes = None
         if all(word.isdigit() and int(word) < 2**64 for word in words):
             self.sizes = [int(word) for word in words]
-        self.keys = [line for line in lines[1:] if text(line)]
+        texts = lines[1:]
+        if column:
+            texts = [line.split(separator)[column - 1:][:1] for line in texts]
+            texts = [cells[0] if cells else b"" for cells in texts]
+        self.keys = [line for line in texts if text(line)]
         self.malformed = len(lines) - 1 - len(self.keys)
         self.different = len(set(self.keys))
         self.powers = [1]
@@ -180,9 +186,11 @@ def svg(read, best):
     return out + "</svg>\n"
 
 
-def write(name, trace, words, form=report):
-    """Writes a case with these arguments."""
-    read = Read(trace)
+def write(name, trace, words, form=report, column=0, separator=b","):
+    """Writes a case with these arguments, of which `words` does not name the column."""
+    read = Read(trace, column, separator)
+    words = words + (["--column", column] if column else [])
+    words += ["--separator", separator.decode()] if separator != b"," else []
     (FOLDER / name).write_bytes(trace)
     if words:
         (FOLDER / f"{name}.args").write_text("".join(f"{word}\n" for word in words))
@@ -199,4 +207,8 @@ for name in FORMS:
 for name in ["cycle", "limits", "steps"]:
     write(f"{name}_best_csv", CASES[name], ["--best", "--csv"], csv)
     write(f"{name}_best_svg", CASES[name], ["--svg", "--best"], svg)
+for column in 1, 2, 3, 9:
+    write(f"columns_{column}", CASES["columns"], ["--csv"], csv, column)
+write("columns_of_k", CASES["columns"], ["--best"], report, 2, b"k")
+write("columns_of_semicolons", CASES["steps"], [], report, 2**64 - 1, b";")
 (HERE / "stdout").write_text(report(Read((HERE / "stdin").read_bytes()), True))

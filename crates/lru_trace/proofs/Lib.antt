@@ -4,6 +4,7 @@ pub mod Numbered
 pub mod CurveSteps
 pub mod ReadLines
 pub mod Powers
+pub mod Cells
 pub mod Points
 pub mod Levels
 pub mod Ended

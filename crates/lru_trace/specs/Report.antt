@@ -8,7 +8,7 @@ use Rattle.lru_trace.specs.declared.options.Form.TheVariants as forms
 use Rattle.lru_trace.specs.declared.rows.BestMisses.{BestMisses}
 use Rattle.lru_trace.specs.declared.rows.Counts.{Counts}
 use Rattle.lru_trace.specs.declared.rows.Row.{Row}
-use Rattle.lru_trace.specs.Lines.{trace_of, malformed_in}
+use Rattle.lru_trace.specs.Lines.{texts_of, trace_of, malformed_in}
 use Rattle.lru_trace.specs.Rows.{keys, row_of, powers_in, points}
 use Rattle.lru_trace.specs.Sizes.{sizes_from}
 use Rattle.lru_trace.specs.Svg.{part, svg_text}
@@ -82,5 +82,6 @@ module _ (trace : List (List ℕ)) (sizes : List ℕ) (malformed : ℕ) where
 abbrev pub output : Options → List (List ℕ) → Option (List ℕ)
 output options [] = None
 output options (first ∷ lines) =
-    option_map (λ sizes. written (trace_of lines) sizes (malformed_in lines) options.form options.best)
+    let texts : List (List ℕ) = texts_of options.column lines in
+    option_map (λ sizes. written (trace_of texts) sizes (malformed_in texts) options.form options.best)
     (sizes_from [] None first)

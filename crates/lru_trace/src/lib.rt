@@ -5,6 +5,7 @@
 #![tactic(auto)]
 
 mod best;
+mod columns;
 mod curve;
 mod distances;
 mod lines;
@@ -23,7 +24,7 @@ pub use best::Best;
 pub use curve::Curve;
 pub use distances::Distances;
 pub use lines::read_keys;
-pub use options::{Form, Options};
+pub use options::{Column, Form, Options};
 pub use outcome::{TraceEnd, TraceError, status};
 pub use progress::Progress;
 pub use traces::trace;

@@ -5,6 +5,7 @@ use std::test::Fail;
 use test_helpers::check;
 
 const TEXT: Options = Options {
+    column: None,
     form: Form::Text,
     best: false,
 };

@@ -27,12 +27,22 @@ use std::io::{BufRead, Sink, Write};
 /// ```
 pub use crate::erased::lru_trace::Form;
 
-/// What is written of a trace.
+/// A column of a line of separated text.
+///
+/// ```
+/// use jeerdurian::trace::Column;
+///
+/// let third = Column { index: 2, separator: b',' };
+/// assert_eq!(third.index, 2);
+/// ```
+pub use crate::erased::lru_trace::Column;
+
+/// What a trace reads and writes.
 ///
 /// ```
 /// use jeerdurian::trace::{Form, Options};
 ///
-/// let options = Options { form: Form::Svg, best: true };
+/// let options = Options { column: None, form: Form::Svg, best: true };
 /// assert!(options.best);
 /// ```
 pub use crate::erased::lru_trace::Options;
@@ -197,7 +207,7 @@ impl Curve {
     /// ```
     pub fn from_lines(mut reader: impl BufRead) -> Result<(Self, u64), TraceError> {
         let mut curve = proved::Curve::new(Global)?;
-        let malformed = proved::read_keys(&mut reader, &mut Vec::new(Global), &mut curve, &mut no_progress())?;
+        let malformed = proved::read_keys(&mut reader, &mut Vec::new(Global), None, &mut curve, &mut no_progress())?;
         Ok((Curve(curve), malformed))
     }
 
@@ -276,7 +286,7 @@ impl Curve {
 /// assert!(text.starts_with(b"references 3 keys 2 malformed 0\nplaces 2 hits 1 misses 2 ratio 0.6666\n"));
 /// ```
 pub fn report(mut reader: impl BufRead, mut writer: impl Write) -> Result<TraceEnd, TraceError> {
-    let options = Options { form: Form::Text, best: false };
+    let options = Options { column: None, form: Form::Text, best: false };
     proved::trace(Global, options, &mut reader, &mut writer, &mut no_progress())
 }
 
@@ -295,22 +305,23 @@ pub fn report(mut reader: impl BufRead, mut writer: impl Write) -> Result<TraceE
 /// assert!(text.starts_with(b"references 4 keys 3 malformed 0\nplaces 2 hits 0 misses 4 ratio 1.0000 min 3 bypass 3\n"));
 /// ```
 pub fn report_with_best(mut reader: impl BufRead, mut writer: impl Write) -> Result<TraceEnd, TraceError> {
-    let options = Options { form: Form::Text, best: true };
+    let options = Options { column: None, form: Form::Text, best: true };
     proved::trace(Global, options, &mut reader, &mut writer, &mut no_progress())
 }
 
-/// As `report`, in the form of the options: text, csv or a picture in svg.
+/// As `report`, of a column of the lines, and in the form of the options: text, csv or a picture in svg.
 ///
 /// # Errors
 ///
 /// As `report`.
 ///
 /// ```
-/// use jeerdurian::trace::{Form, Options, TraceEnd, report_as};
+/// use jeerdurian::trace::{Column, Form, Options, TraceEnd, report_as};
 ///
-/// let options = Options { form: Form::Csv, best: true };
+/// let column = Some(Column { index: 1, separator: b',' });
+/// let options = Options { column, form: Form::Csv, best: true };
 /// let mut csv = Vec::new();
-/// assert_eq!(report_as(options, b"2\na\nb\nc\na\n".as_slice(), &mut csv), Ok(TraceEnd::Done));
+/// assert_eq!(report_as(options, b"2\n1,a\n2,b\n3,c\n4,a\n".as_slice(), &mut csv), Ok(TraceEnd::Done));
 /// assert!(csv.starts_with(b"size,hits,misses,ratio,min,bypass\n1,0,4,1.0000,4,3\n2,0,4,1.0000,3,3\n"));
 /// ```
 pub fn report_as(options: Options, mut reader: impl BufRead, mut writer: impl Write) -> Result<TraceEnd, TraceError> {

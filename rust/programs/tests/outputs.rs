@@ -57,8 +57,20 @@ fn arguments() {
         assert_eq!((unknown.status.code(), unknown.stdout.as_slice()), (Some(4), &b""[..]));
         assert!(String::from_utf8_lossy(&unknown.stderr).contains("unknown argument -x"));
     }
-    let second = Command::new(env!("CARGO_BIN_EXE_trace")).args(["--best", "-x"]).output().unwrap();
-    assert_eq!((second.status.code(), second.stdout.as_slice()), (Some(4), &b""[..]));
+    for arguments in [
+        ["--best", "-x"],
+        ["--column", "0"],
+        ["--column", "-1"],
+        ["--column", "18446744073709551616"],
+        ["--separator", ""],
+        ["--separator", ",;"],
+        ["--best", "--column"],
+        ["--csv", "--separator"],
+    ] {
+        let run = Command::new(env!("CARGO_BIN_EXE_trace")).args(arguments).stdin(Stdio::null()).output().unwrap();
+        assert_eq!((run.status.code(), run.stdout.as_slice()), (Some(4), &b""[..]), "{arguments:?}");
+        assert!(String::from_utf8_lossy(&run.stderr).ends_with("; try --help\n"), "{arguments:?}");
+    }
 }
 
 /// How often MIN and MIN with bypass miss, by the definition: the key that comes last again is evicted.

@@ -8,6 +8,7 @@
 use crate::rattle_std::prelude::*;
 
 mod best;
+mod columns;
 mod curve;
 mod distances;
 mod lines;
@@ -26,7 +27,7 @@ pub use best::Best;
 pub use curve::Curve;
 pub use distances::Distances;
 pub use lines::read_keys;
-pub use options::{Form, Options};
+pub use options::{Column, Form, Options};
 pub use outcome::{TraceEnd, TraceError, status};
 pub use progress::Progress;
 pub use traces::trace;

@@ -18,7 +18,7 @@ const BOTTOM: u128 = 3900;
 const HEIGHT: u128 = 3200;
 
 const START: &str = "\
-<svg xmlns='http://www.w3.org/2000/svg' viewBox='0 0 7600 4600' width='760' height='460'
+<svg xmlns='http://www.w3.org/2000/svg' viewBox='0 0 7800 4600' width='780' height='460'
 font-family='sans-serif' font-size='140'>
 <style>
 path{fill:none;stroke-width:28;stroke-linejoin:round;stroke-linecap:round}
@@ -26,7 +26,7 @@ path{fill:none;stroke-width:28;stroke-linejoin:round;stroke-linecap:round}
 .lru{stroke:#0b5394}.min{stroke:#cc4125;stroke-dasharray:90 60}.bypass{stroke:#38761d;stroke-dasharray:1 60}
 .tick{text-anchor:middle}.part{text-anchor:end}
 </style>
-<rect width='7600' height='4600' fill='#fff'/>
+<rect width='7800' height='4600' fill='#fff'/>
 <path class='grid' d='M900 700h6400M900 1340h6400M900 1980h6400M900 2620h6400M900 3260h6400'/>
 <path class='frame' d='M900 700v3200h6400'/>
 <text class='part' x='820' y='750'>100 %</text>
@@ -80,10 +80,11 @@ fn x_of(octaves: u128, size: usize) -> u128 {
 }
 
 fn missed_by(policy: Policy, row: Row) -> u64 {
-    match policy {
-        Policy::Lru => row.misses,
-        Policy::Min => row.best.map_or(0, |best| best.min as u64),
-        Policy::Bypass => row.best.map_or(0, |best| best.bypass as u64),
+    match (policy, row.best) {
+        (Policy::Lru, _) => row.misses,
+        (Policy::Min, Some(best)) => best.min as u64,
+        (Policy::Bypass, Some(best)) => best.bypass as u64,
+        (Policy::Min | Policy::Bypass, None) => 0,
     }
 }
 

@@ -8,7 +8,7 @@ use crate::programs::test_helpers::check;
 use crate::rattle_std::io::{self, ErrorKind, Write};
 use crate::rattle_std::test::Fail;
 
-const TEXT: Options = Options { form: Form::Text, best: false };
+const TEXT: Options = Options { column: None, form: Form::Text, best: false };
 
 struct Output {
     bytes: Vec<u8>,

@@ -53,8 +53,7 @@ fn references_give_their_memory_back() {
 
 /// Returns whether a trace writes nothing with too little memory, and ends with the status 3.
 fn fails_without_memory(alloc: Global, form: Form) -> Result<bool, TraceError> {
-    let best = false;
-    let options = Options { form, best };
+    let options = Options { column: None, form, best: false };
     let mut report = Vec::with_capacity(alloc, 9999)?;
     let mut progress = Progress::new(alloc, None::<Vec<u8>>);
     let mut failed = true;
@@ -100,7 +99,7 @@ fn looking_ahead_without_memory() {
             let ahead = looks_ahead(rt.alloc());
             drop(hog);
             if let Ok(ahead) = ahead {
-                check!(rt; ahead & (refused > 3));
+                check!(rt; ahead & (refused > 0));
                 return Ok(());
             }
             refused = refused.saturating_add(1);
