@@ -1,6 +1,7 @@
-"""Writes `stdout` and the files of `cases`: traces, and the reports that `trace` must print, counted by a plain list for each size.
+"""Writes `stdout` and the files of `cases`: traces, and what `trace` must print, counted by a plain list for each size.
 
-NAME.args has the argument of a case. `rt try --cases cases` and the tests of rust/programs run them."""
+NAME.args has the arguments of a case. `rt try --cases cases` and the tests of rust/programs run them."""
+import math
 import pathlib
 
 HERE = pathlib.Path(__file__).resolve().parent
@@ -22,10 +23,36 @@ CASES = {
     "long_lines": b"1\n" + b"x" * 64 + b"\n" + b"x" * 65 + b"\n" + b"x" * 64,
     "no_text": b"1 2\n\xff\xfe\n\xd0\xba\n\xd0\n\xd0\xba\n",
     "empty_lines": b"1\n\n\na\n\n",
+    "columns": b"1 2 3\n" + b"".join(b"%d,k%d,%d\r\n" % (i, i * i % 5, i % 3) for i in range(20))
+    + b"alone\n,,\n0,,1\n0,k0\n0," + b"x" * 65 + b",2\n0,k1,2,3\n",
     "steps": b"1 2 4 8\n" + b"".join(b"%d\n" % (i * i % 17) for i in range(200)),
 }
 
 BEST = ["one_key_often", "all_different", "cycle", "limits", "no_text", "steps"]
+FORMS = ["no_sizes", "sizes_alone", "one_key", "all_different", "cycle", "limits", "carriage_returns", "steps"]
+
+FRAME = """\
+<svg xmlns='http://www.w3.org/2000/svg' viewBox='0 0 7800 4600' width='780' height='460'
+font-family='sans-serif' font-size='140'>
+<style>
+path{fill:none;stroke-width:28;stroke-linejoin:round;stroke-linecap:round}
+.grid{stroke:#ccc;stroke-width:8}.frame{stroke:#444;stroke-width:12}
+.lru{stroke:#0b5394}.min{stroke:#cc4125;stroke-dasharray:90 60}.bypass{stroke:#38761d;stroke-dasharray:1 60}
+.tick{text-anchor:middle}.part{text-anchor:end}
+</style>
+<rect width='7800' height='4600' fill='#fff'/>
+<path class='grid' d='M900 700h6400M900 1340h6400M900 1980h6400M900 2620h6400M900 3260h6400'/>
+<path class='frame' d='M900 700v3200h6400'/>
+<text class='part' x='820' y='750'>100 %</text>
+<text class='part' x='820' y='1390'>80 %</text>
+<text class='part' x='820' y='2030'>60 %</text>
+<text class='part' x='820' y='2670'>40 %</text>
+<text class='part' x='820' y='3310'>20 %</text>
+<text class='part' x='820' y='3950'>0 %</text>
+<text class='tick' x='4100' y='4400'>size of the cache, in entries</text>
+<text class='tick' transform='translate(250 2300) rotate(-90)'>references that miss</text>
+"""
+LEGEND = {"lru": (900, "LRU"), "min": (2300, "MIN"), "bypass": (3700, "MIN with bypass")}
 
 
 def text(line):
@@ -68,38 +95,120 @@ def best_misses(keys, places, bypass):
     return count
 
 
-def report(trace, best=False):
-    """Returns the report, or nothing if the first line names no sizes."""
-    lines = trace.split(b"\n")
-    if lines[-1] == b"":
-        lines.pop()
-    words = lines[0].split(b" ") if lines else [b""]
-    if not all(word.isdigit() and int(word) < 2**64 for word in words):
-        return b""
-    keys = [line for line in lines[1:] if text(line)]
-    n, different = len(keys), len(set(keys))
-    out = f"references {n} keys {different} malformed {len(lines) - 1 - n}\n"
-    for places in map(int, words):
-        missed = misses(keys, places)
-        ratio = missed * 10000 // n if n else 0
-        out += f"places {places} hits {n - missed} misses {missed} ratio {ratio // 10000}.{ratio % 10000:04}"
+class Read:
+    """What a trace says, or that its first line names no sizes."""
+
+    def __init__(self, trace, column=0, separator=b""):
+        lines = trace.split(b"\n")
+        if lines[-1] == b"":
+            lines.pop()
+        words = lines[0].split(b" ") if lines else [b""]
+        self.sizes = None
+        if all(word.isdigit() and int(word) < 2**64 for word in words):
+            self.sizes = [int(word) for word in words]
+        texts = lines[1:]
+        if column:
+            texts = [line.split(separator)[column - 1:][:1] for line in texts]
+            texts = [cells[0] if cells else b"" for cells in texts]
+        self.keys = [line for line in texts if text(line)]
+        self.malformed = len(lines) - 1 - len(self.keys)
+        self.different = len(set(self.keys))
+        self.powers = [1]
+        while self.powers[-1] < self.different:
+            self.powers.append(2 * self.powers[-1])
+
+    def part(self, missed, scale):
+        return missed * scale // len(self.keys) if self.keys else 0
+
+    def ratio(self, missed):
+        ratio = self.part(missed, 10000)
+        return f"{ratio // 10000}.{ratio % 10000:04}"
+
+    def best(self, places):
+        return best_misses(self.keys, places, False), best_misses(self.keys, places, True)
+
+    def points(self):
+        return sorted(set(self.sizes + self.powers))
+
+
+def report(read, best):
+    """Returns the report for people."""
+    n = len(read.keys)
+    out = f"references {n} keys {read.different} malformed {read.malformed}\n"
+    for places in read.sizes:
+        missed = misses(read.keys, places)
+        out += f"places {places} hits {n - missed} misses {missed} ratio {read.ratio(missed)}"
         if best:
-            out += f" min {best_misses(keys, places, False)} bypass {best_misses(keys, places, True)}"
+            out += " min %d bypass %d" % read.best(places)
         out += "\n"
-    places = 1
-    while True:
-        missed = misses(keys, places)
-        out += f"{places:>12} |" + "#" * (missed * 50 // n if n else 0) + "\n"
-        if places >= different:
-            return out.encode()
-        places *= 2
+    for places in read.powers:
+        out += f"{places:>12} |" + "#" * read.part(misses(read.keys, places), 50) + "\n"
+    return out
+
+
+def csv(read, best):
+    """Returns the records for programs."""
+    out = "size,hits,misses,ratio" + (",min,bypass" if best else "") + "\n"
+    for places in read.points():
+        missed = misses(read.keys, places)
+        out += f"{places},{len(read.keys) - missed},{missed},{read.ratio(missed)}"
+        out += (",%d,%d" % read.best(places) if best else "") + "\n"
+    return out
+
+
+def svg(read, best):
+    """Returns the picture."""
+    octaves = max(1, len(read.powers) - 1)
+
+    def across(size):
+        level = size.bit_length() - 1
+        behind = (size - 2**level) * 1000 // 2**level
+        log = 1000 * level + behind + behind * (1000 - behind) * 345 // 1000000
+        assert abs(log - 1000 * math.log2(size)) < 10
+        return 900 + log * 6400 // (1000 * octaves)
+
+    out = FRAME + f"<text x='900' y='290'>{len(read.keys)} references to {read.different} keys, "
+    out += f"{read.malformed} malformed lines</text>\n"
+    for level, size in enumerate(read.powers):
+        if level % (1 + octaves // 9) == 0:
+            out += f"<path class='grid' d='M{across(size)} 700v3200'/>"
+            out += f"<text class='tick' x='{across(size)}' y='4080'>{size}</text>\n"
+    shown = [size for size in read.points() if size and across(size) <= 7300]
+    curves = {"lru": [misses(read.keys, size) for size in shown]}
+    if best:
+        curves["min"], curves["bypass"] = zip(*map(read.best, shown))
+    for policy, counts in curves.items():
+        left, name = LEGEND[policy]
+        out += f"<path class='{policy}' d='M{left} 500h500'/><text x='{left + 580}' y='550'>{name}</text>\n"
+        out += f"<path class='{policy}' d='M"
+        out += "".join(f"{across(it)} {3900 - read.part(missed, 3200)} " for it, missed in zip(shown, counts))
+        out += "h0'/>\n"
+    return out + "</svg>\n"
+
+
+def write(name, trace, words, form=report, column=0, separator=b","):
+    """Writes a case with these arguments, of which `words` does not name the column."""
+    read = Read(trace, column, separator)
+    words = words + (["--column", column] if column else [])
+    words += ["--separator", separator.decode()] if separator != b"," else []
+    (FOLDER / name).write_bytes(trace)
+    if words:
+        (FOLDER / f"{name}.args").write_text("".join(f"{word}\n" for word in words))
+    (FOLDER / f"{name}.stdout").write_text("" if read.sizes is None else form(read, "--best" in words))
 
 
 for name, trace in CASES.items():
-    (FOLDER / name).write_bytes(trace)
-    (FOLDER / f"{name}.stdout").write_bytes(report(trace))
+    write(name, trace, [])
 for name in BEST:
-    (FOLDER / f"{name}_best").write_bytes(CASES[name])
-    (FOLDER / f"{name}_best.args").write_text("--best\n")
-    (FOLDER / f"{name}_best.stdout").write_bytes(report(CASES[name], True))
-(HERE / "stdout").write_bytes(report((HERE / "stdin").read_bytes(), True))
+    write(f"{name}_best", CASES[name], ["--best"])
+for name in FORMS:
+    write(f"{name}_csv", CASES[name], ["--csv"], csv)
+    write(f"{name}_svg", CASES[name], ["--svg"], svg)
+for name in ["cycle", "limits", "steps"]:
+    write(f"{name}_best_csv", CASES[name], ["--best", "--csv"], csv)
+    write(f"{name}_best_svg", CASES[name], ["--svg", "--best"], svg)
+for column in 1, 2, 3, 9:
+    write(f"columns_{column}", CASES["columns"], ["--csv"], csv, column)
+write("columns_of_k", CASES["columns"], ["--best"], report, 2, b"k")
+write("columns_of_semicolons", CASES["steps"], [], report, 2**64 - 1, b";")
+(HERE / "stdout").write_text(report(Read((HERE / "stdin").read_bytes()), True))

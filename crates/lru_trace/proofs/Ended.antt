@@ -1,5 +1,5 @@
 -- The first line and the others together, and what is written then.
-use Rattle.std.proofs.Common.{◌≡◌, ℕ, List, [], ◌∷◌, ◌++◌, Bool, Option, Some, None, refl, sym, ap, ◌∙◌}
+use Rattle.std.proofs.Common.{◌≡◌, ℕ, List, [], ◌∷◌, ◌++◌, Option, Some, None, refl, sym, ap, ◌∙◌}
 use Rattle.std.specs.Prelude.{is_some}
 use Rattle.std.proofs.Common.{subst, arith}
 use Rattle.std.specs.Io.KnownBytes.{Consumes, Appends, Keeps}
@@ -7,35 +7,39 @@ use Rattle.std.proofs.KnownBytes.{Consumes-trans, Appends-kept}
 use Rattle.std.specs.Option.{option_map}
 use Rattle.std.proofs.lemmas.List.{append-nil}
 use Rattle.lru_trace.specs.Counted.{Counted, IsOf}
-use Rattle.lru_trace.specs.Lines.{lines_of, fed, TakesLine, trace_of, malformed_in}
+use Rattle.lru_trace.specs.Lines.{lines_of, fed, TakesLine, texts_of, trace_of, malformed_in}
 use Rattle.lru_trace.specs.Sizes.{sizes_from}
-use Rattle.lru_trace.specs.Report.{output, report_text}
+use Rattle.lru_trace.specs.Report.{output, written}
+use Rattle.lru_trace.specs.declared.options.Options.{Options}
 use Rattle.lru_trace.specs.Outcome.{KeysRead, TraceRead, NoSizesRead, Reported, Begins}
 use Rattle.lru_trace.specs.declared.lines.Ending.{Ending}
 use Rattle.lru_trace.specs.declared.lines.Ending.TheVariants as endings
 use Rattle.lru_trace.proofs.ReadLines.{lines_of-fed, lines_of-last, ended_before}
 
-output_of : (best : Bool) (lines : List (List ℕ)) (first : List ℕ) (others : List (List ℕ)) (named : Option (List ℕ))
+output_of : (options : Options) (lines : List (List ℕ)) (first : List ℕ) (others : List (List ℕ)) (named : Option (List ℕ))
     → lines ≡ first ∷ others → sizes_from [] None first ≡ named
-    → output best lines ≡ option_map (λ sizes. report_text (trace_of others) best sizes (malformed_in others)) named
-output_of best lines first others named is are =
-    ap (output best) is ∙ ap (option_map (λ sizes. report_text (trace_of others) best sizes (malformed_in others))) are
+    → output options lines
+    ≡ option_map (λ sizes. written (trace_of (texts_of options.column others)) sizes
+    (malformed_in (texts_of options.column others)) options.form options.best) named
+output_of options lines first others named is are = ap (output options) is
+    ∙ ap (option_map (λ sizes. written (trace_of (texts_of options.column others)) sizes
+    (malformed_in (texts_of options.column others)) options.form options.best)) are
 
-module _ (from mid : Option (List ℕ)) (best : Bool) (first : List ℕ) where
+module _ (from mid : Option (List ℕ)) (first : List ℕ) where
   fed_alone : TakesLine from mid endings.Feed first → lines_of (fed first) ≡ first ∷ []
   fed_alone taken = ap lines_of (sym (append-nil (fed first))) ∙ lines_of-fed first [] taken.0
 
   none_named : (input : List ℕ) → Consumes from mid input → lines_of input ≡ first ∷ [] → None ≡ sizes_from [] None first
-      → NoSizesRead from mid best
+      → NoSizesRead from mid
   none_named input reads is none = record {
     input = input;
     reads = reads;
     one = rw is (omega arith);
-    none = output_of best (lines_of input) first [] None is (sym none);
+    none = λ options. output_of options (lines_of input) first [] None is (sym none);
   }
 
   pub no_sizes : (ending : Ending) → TakesLine from mid ending first → None ≡ sizes_from [] None first
-      → NoSizesRead from mid best
+      → NoSizesRead from mid
   no_sizes endings.Feed taken none = none_named (fed first) taken.1 (fed_alone taken) none
   no_sizes endings.InputEnd (taken, some) none =
       none_named first taken.1 (lines_of-last first taken.0 some) none
@@ -43,16 +47,16 @@ module _ (from mid : Option (List ℕ)) (best : Bool) (first : List ℕ) where
     input = [];
     reads = subst (Consumes from mid) nothing taken.1;
     one = omega arith;
-    none = refl;
+    none = λ options. refl;
   }
 
-  pub only_sizes : (ending : Ending) (sizes : List ℕ) (curve : Counted) → (ending ≡ endings.Feed → ⊥)
+  pub only_sizes : (options : Options) (ending : Ending) (sizes : List ℕ) (curve : Counted) → (ending ≡ endings.Feed → ⊥)
       → TakesLine from mid ending first → Some sizes ≡ sizes_from [] None first → IsOf [] curve
-      → is_some curve.kept ≡ best → TraceRead from mid best sizes curve 0
-  only_sizes endings.Feed sizes curve other taken named of keeps = absurd (other refl)
-  only_sizes endings.Nothing sizes curve other (taken, nothing) named of keeps =
+      → is_some curve.kept ≡ options.best → TraceRead from mid options sizes curve 0
+  only_sizes options endings.Feed sizes curve other taken named of keeps = absurd (other refl)
+  only_sizes options endings.Nothing sizes curve other (taken, nothing) named of keeps =
       let e : Some sizes ≡ None = named ∙ ap (sizes_from [] None) nothing in absurd cc
-  only_sizes endings.InputEnd sizes curve other (taken, some) named of keeps = record {
+  only_sizes options endings.InputEnd sizes curve other (taken, some) named of keeps = record {
     input = first;
     first = first;
     others = [];
@@ -65,10 +69,11 @@ module _ (from mid : Option (List ℕ)) (best : Bool) (first : List ℕ) where
     count = refl;
   }
 
-  pub with_keys : (to : Option (List ℕ)) (sizes : List ℕ) (curve : Counted) (malformed : ℕ)
+  pub with_keys : (to : Option (List ℕ)) (options : Options) (sizes : List ℕ) (curve : Counted) (malformed : ℕ)
       → TakesLine from mid endings.Feed first → Some sizes ≡ sizes_from [] None first
-      → KeysRead mid to curve malformed → is_some curve.kept ≡ best → TraceRead from to best sizes curve malformed
-  with_keys to sizes curve malformed taken named keys keeps = record {
+      → KeysRead mid to options.column curve malformed → is_some curve.kept ≡ options.best
+      → TraceRead from to options sizes curve malformed
+  with_keys to options sizes curve malformed taken named keys keeps = record {
     input = fed first ++ keys.input;
     first = first;
     others = lines_of keys.input;
@@ -81,24 +86,23 @@ module _ (from mid : Option (List ℕ)) (best : Bool) (first : List ℕ) where
     count = keys.others;
   }
 
-module _ {from to : Option (List ℕ)} {best : Bool} {sizes : List ℕ} {curve : Counted} {malformed : ℕ}
-    (read : TraceRead from to best sizes curve malformed) (report : List ℕ)
-    (is : (trace : List (List ℕ)) → IsOf trace curve
-    → report ≡ report_text trace (is_some curve.kept) sizes malformed) where
-  pub reported : (IsWritten : List ℕ → Type 0) → IsWritten report → Reported from to best IsWritten
-  reported IsWritten written = record {
-    input = read.input;
-    text = report;
-    reads = read.reads;
-    at_end = read.at_end;
-    determined = output_of best (lines_of read.input) read.first read.others (Some sizes) read.lines read.named
-        ∙ ap Some (ap (report_text (trace_of read.others) best sizes) (sym read.count)
-        ∙ ap (λ b. report_text (trace_of read.others) b sizes malformed) (sym read.keeps)
-        ∙ sym (is (trace_of read.others) read.curve_of));
-    written = written;
-  }
+module _ {from to : Option (List ℕ)} (options : Options) {sizes : List ℕ} {curve : Counted} {malformed : ℕ}
+    (read : TraceRead from to options sizes curve malformed) (report : List ℕ)
+    (is : (trace : List (List ℕ)) → IsOf trace curve → report ≡ written trace sizes malformed options.form options.best)
+  where
+    pub reported : (IsWritten : List ℕ → Type 0) → IsWritten report → Reported from to options IsWritten
+    reported IsWritten put = record {
+      input = read.input;
+      text = report;
+      reads = read.reads;
+      at_end = read.at_end;
+      determined = output_of options (lines_of read.input) read.first read.others (Some sizes) read.lines read.named
+          ∙ ap Some (ap (λ n. written (trace_of (texts_of options.column read.others)) sizes n options.form options.best) (sym read.count)
+          ∙ sym (is (trace_of (texts_of options.column read.others)) read.curve_of));
+      written = put;
+    }
 
-  pub all_begun : (old mid new : Option (List ℕ)) → Appends old mid report → Keeps mid new
-      → Reported from to best (Begins old new)
-  all_begun old mid new written kept =
-      reported (Begins old new) (report, [], sym (append-nil report), Appends-kept old mid new report written kept)
+    pub all_begun : (old mid new : Option (List ℕ)) → Appends old mid report → Keeps mid new
+        → Reported from to options (Begins old new)
+    all_begun old mid new put kept =
+        reported (Begins old new) (report, [], sym (append-nil report), Appends-kept old mid new report put kept)

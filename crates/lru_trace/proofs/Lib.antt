@@ -3,7 +3,10 @@ pub mod NodeSums
 pub mod Numbered
 pub mod CurveSteps
 pub mod ReadLines
-pub mod Bars
+pub mod Powers
+pub mod Cells
+pub mod Points
+pub mod Levels
 pub mod Ended
 pub mod Written
 pub mod Times

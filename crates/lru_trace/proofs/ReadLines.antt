@@ -11,12 +11,13 @@ use Rattle.std.proofs.lemmas.Bool.{ne_eqb, eqb-true, le-leb}
 use Rattle.std.proofs.lemmas.Bool.{lt-ltb}
 use Rattle.std.proofs.lemmas.Str.{IsUtf8-from_is_utf8, is_utf8-from_IsUtf8}
 use Rattle.std.specs.Str.{IsUtf8, is_utf8}
-use Rattle.std.proofs.lemmas.List.{append-nil, length-append, take-append-le, take_all, take_more}
+use Rattle.std.proofs.lemmas.List.{append-nil, map-append, length-append, take-append-le, take_all, take_more}
 use Rattle.std.proofs.lemmas.List.Elements.{recursion_from_All}
 use Rattle.std.proofs.lemmas.List.Elements.{filter-append}
 use Rattle.lru_trace.specs.Counted.{Counted, IsOf}
 use Rattle.lru_trace.specs.Lines.{lines_of, onto_first, fed, LacksFeed, EndsSo, TakesRest, TakesLine, is_key}
-use Rattle.lru_trace.specs.Lines.{trace_of, malformed_in}
+use Rattle.lru_trace.specs.Lines.{text_in, texts_of, trace_of, malformed_in}
+use Rattle.lru_trace.specs.declared.options.Column.{Column}
 use Rattle.lru_trace.specs.declared.lines.Ending.{Ending}
 use Rattle.lru_trace.specs.declared.lines.Ending.TheVariants as endings
 use Rattle.lru_trace.specs.Outcome.{KeysRead}
@@ -111,16 +112,17 @@ pub some_part : {A E : Type 0} (r : Result A E) (a b c : Option (List ℕ)) (byt
 some_part (Ok x) a b c bytes more p q = tt
 some_part (Err e) a b c bytes more p q = (bytes ++ more, Consumes-trans a b c bytes more p q)
 
--- Whole lines were read. The curve counts the keys that they spell, and `malformed` of them spell none.
-pub record ReadSoFar (from to : Option (List ℕ)) (curve : Counted) (malformed : ℕ) : Type 0 where
+-- Whole lines were read. The curve counts the keys that they spell in this column, and `malformed` of them spell none.
+pub record ReadSoFar (from to : Option (List ℕ)) (column : Option Column) (curve : Counted) (malformed : ℕ) : Type 0 where
   pub bytes : List ℕ
   pub whole : (rest : List ℕ) → lines_of (bytes ++ rest) ≡ lines_of bytes ++ lines_of rest
   pub reads : Consumes from to bytes
-  pub curve_of : IsOf (trace_of (lines_of bytes)) curve
-  pub others : malformed ≡ malformed_in (lines_of bytes)
+  pub curve_of : IsOf (trace_of (texts_of column (lines_of bytes))) curve
+  pub others : malformed ≡ malformed_in (texts_of column (lines_of bytes))
 
-pub none_read : (from : Option (List ℕ)) (curve : Counted) → IsOf [] curve → ReadSoFar from from curve 0
-none_read from curve is =
+pub none_read : (from : Option (List ℕ)) (column : Option Column) (curve : Counted) → IsOf [] curve
+    → ReadSoFar from from column curve 0
+none_read from column curve is =
     record { bytes = []; whole = λ rest. refl; reads = Consumes-nil from; curve_of = is; others = refl }
 
 malformed_more : (lines : List (List ℕ)) (line : List ℕ)
@@ -133,36 +135,43 @@ malformed_more lines line = ap length (filter-append (λ l. not (is_key l)) line
     go true = refl
     go false = refl
 
-module _ {from mid : Option (List ℕ)} {old : Counted} {malformed : ℕ} (so_far : ReadSoFar from mid old malformed)
+module _ {from mid : Option (List ℕ)} {column : Option Column} {old : Counted} {malformed : ℕ}
+    (so_far : ReadSoFar from mid column old malformed)
     (to : Option (List ℕ)) (line : List ℕ) where
-  pub all_read : TakesRest mid to line → line ≡ [] → KeysRead from to old malformed
+  pub all_read : TakesRest mid to line → line ≡ [] → KeysRead from to column old malformed
   all_read taken none = record {
     input = so_far.bytes ++ line;
     reads = Consumes-trans from mid to so_far.bytes line so_far.reads taken.1;
     at_end = ended_before from mid to so_far.bytes so_far.reads taken.2;
-    curve_of = subst (λ ls. IsOf (trace_of ls) old) same so_far.curve_of;
-    others = so_far.others ∙ ap malformed_in same;
+    curve_of = subst (λ ls. IsOf (trace_of (texts_of column ls)) old) same so_far.curve_of;
+    others = so_far.others ∙ ap (λ ls. malformed_in (texts_of column ls)) same;
   }
     where
       same : lines_of so_far.bytes ≡ lines_of (so_far.bytes ++ line)
       same = ap lines_of (sym (append-nil so_far.bytes) ∙ ap (λ l. so_far.bytes ++ l) (sym none))
 
-  module _ (new : Counted) (follows : (trace : List (List ℕ)) → IsOf trace old → IsOf (trace ++ trace_of (line ∷ [])) new)
+  abbrev text : List ℕ
+  text = text_in column line
+
+  module _ (new : Counted) (follows : (trace : List (List ℕ)) → IsOf trace old → IsOf (trace ++ trace_of (text ∷ [])) new)
     where
       abbrev more : ℕ
-      more = malformed + cond (not (is_key line)) 1 0
+      more = malformed + cond (not (is_key text)) 1 0
 
       counted : (bytes : List ℕ) → lines_of bytes ≡ lines_of so_far.bytes ++ line ∷ []
-          → IsOf (trace_of (lines_of bytes)) new × (more ≡ malformed_in (lines_of bytes))
-      counted bytes is = (
-        subst (λ ks. IsOf ks new)
-            (sym (filter-append is_key (lines_of so_far.bytes) (line ∷ [])) ∙ ap trace_of (sym is))
-            (follows (trace_of (lines_of so_far.bytes)) so_far.curve_of),
-        ap (λ n. n + cond (not (is_key line)) 1 0) so_far.others ∙ sym (malformed_more (lines_of so_far.bytes) line)
-            ∙ ap malformed_in (sym is),
-      )
+          → IsOf (trace_of (texts_of column (lines_of bytes))) new
+          × (more ≡ malformed_in (texts_of column (lines_of bytes)))
+      counted bytes is =
+          let texts = texts_of column (lines_of so_far.bytes) in
+          let are : texts ++ text ∷ [] ≡ texts_of column (lines_of bytes) =
+          sym (ap (texts_of column) is ∙ map-append (text_in column) (lines_of so_far.bytes) (line ∷ [])) in (
+            subst (λ ks. IsOf ks new) (sym (filter-append is_key texts (text ∷ [])) ∙ ap trace_of are)
+                (follows (trace_of texts) so_far.curve_of),
+            ap (λ n. n + cond (not (is_key text)) 1 0) so_far.others ∙ sym (malformed_more texts text)
+                ∙ ap malformed_in are,
+          )
 
-      pub line_read : TakesLine mid to endings.Feed line → ReadSoFar from to new more
+      pub line_read : TakesLine mid to endings.Feed line → ReadSoFar from to column new more
       line_read taken =
           let one : (rest : List ℕ) → lines_of (so_far.bytes ++ (fed line ++ rest))
           ≡ lines_of so_far.bytes ++ (line ∷ lines_of rest) = λ rest. so_far.whole (fed line ++ rest)
@@ -180,7 +189,7 @@ module _ {from mid : Option (List ℕ)} {old : Counted} {malformed : ℕ} (so_fa
             others = count.1;
           }
 
-      pub last_read : TakesRest mid to line → 0 < length line → KeysRead from to new more
+      pub last_read : TakesRest mid to line → 0 < length line → KeysRead from to column new more
       last_read taken some =
           let is : lines_of (so_far.bytes ++ line) ≡ lines_of so_far.bytes ++ line ∷ []
           = so_far.whole line ∙ ap (λ ls. lines_of so_far.bytes ++ ls) (lines_of-last line taken.0 some) in

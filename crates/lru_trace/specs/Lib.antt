@@ -4,6 +4,8 @@ pub mod Slots
 pub mod Counted
 pub mod Lines
 pub mod Sizes
+pub mod Rows
+pub mod Svg
 pub mod Report
 pub mod Outcome
 pub mod Times

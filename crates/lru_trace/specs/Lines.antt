@@ -1,9 +1,10 @@
 -- The lines of a trace: each spells a key, or none.
 use Rattle.std.specs.Prelude.{◌≡◌, ◌≢◌, ℕ, ◌<◌, Bool, not, ◌&&◌, nat_lt, nat_le, List, [], ◌∷◌, ◌++◌, length, ◌==◌}
-use Rattle.std.specs.Prelude.{if◌then◌else◌, Option, OnSome}
+use Rattle.std.specs.Prelude.{if◌then◌else◌, zero, suc, map, Option, OnSome, Some, None}
 use Rattle.std.specs.List.{filter, AllByRecursion}
 use Rattle.std.specs.Io.KnownBytes.{Consumes, IsAtEnd}
 use Rattle.std.specs.Str.{is_utf8}
+use Rattle.lru_trace.specs.declared.options.Column.{Column}
 use Rattle.lru_trace.specs.declared.lines.Ending.{Ending}
 use Rattle.lru_trace.specs.declared.lines.Ending.TheVariants as endings
 
@@ -43,14 +44,37 @@ module _ (from to : Option (List ℕ)) where
   TakesLine endings.InputEnd line = TakesRest line × (0 < length line)
   TakesLine endings.Nothing line = TakesRest line × (line ≡ [])
 
+-- what stands before the first separator, and behind it
+abbrev pub before : ℕ → List ℕ → List ℕ
+before separator [] = []
+before separator (b ∷ line) = if b == separator then [] else b ∷ before separator line
+
+abbrev pub behind : ℕ → List ℕ → List ℕ
+behind separator [] = []
+behind separator (b ∷ line) = if b == separator then line else behind separator line
+
+-- the column behind n separators, which is empty if the line has fewer
+abbrev pub cell : ℕ → ℕ → List ℕ → List ℕ
+cell separator zero line = before separator line
+cell separator (suc n) line = cell separator n (behind separator line)
+
+-- what of a line is to spell the key
+abbrev pub text_in : Option Column → List ℕ → List ℕ
+text_in None line = line
+text_in (Some column) line = cell column.separator column.index line
+
+-- these texts of the lines
+abbrev pub texts_of : Option Column → List (List ℕ) → List (List ℕ)
+texts_of column lines = map (text_in column) lines
+
 -- a key is text of 1 to 64 bytes
 abbrev pub is_key : List ℕ → Bool
-is_key line = nat_lt 0 (length line) && (nat_le (length line) 64 && is_utf8 line)
+is_key text = nat_lt 0 (length text) && (nat_le (length text) 64 && is_utf8 text)
 
--- the trace that the lines spell
+-- the trace that the texts spell
 abbrev pub trace_of : List (List ℕ) → List (List ℕ)
-trace_of lines = filter is_key lines
+trace_of texts = filter is_key texts
 
--- how many of the lines spell no key
+-- how many of the texts spell no key
 abbrev pub malformed_in : List (List ℕ) → ℕ
-malformed_in lines = length (filter (λ line. not (is_key line)) lines)
+malformed_in texts = length (filter (λ text. not (is_key text)) texts)

@@ -1,26 +1,28 @@
 -- How a trace ends: what was read and written then.
-use Rattle.std.specs.Prelude.{◌≡◌, ℕ, ◌≤◌, List, [], ◌∷◌, ◌++◌, length, Bool, Option, OnSome, Some, None, is_some, Result, Ok, Err}
+use Rattle.std.specs.Prelude.{◌≡◌, ℕ, ◌≤◌, List, [], ◌∷◌, ◌++◌, length, Option, OnSome, Some, None, is_some, Result, Ok, Err}
 use Rattle.std.specs.Io.KnownBytes.{Consumes, IsAtEnd, Appends, Keeps}
+use Rattle.lru_trace.specs.declared.options.Column.{Column}
+use Rattle.lru_trace.specs.declared.options.Options.{Options}
 use Rattle.lru_trace.specs.declared.outcome.TraceEnd.{TraceEnd}
 use Rattle.lru_trace.specs.declared.outcome.TraceEnd.TheVariants as ends
 use Rattle.lru_trace.specs.declared.outcome.TraceError.{TraceError}
 use Rattle.lru_trace.specs.declared.outcome.TraceError.TheVariants as errors
 use Rattle.lru_trace.specs.Counted.{Counted, IsOf}
-use Rattle.lru_trace.specs.Lines.{lines_of, trace_of, malformed_in}
+use Rattle.lru_trace.specs.Lines.{lines_of, texts_of, trace_of, malformed_in}
 use Rattle.lru_trace.specs.Report.{output}
 use Rattle.lru_trace.specs.Sizes.{sizes_from}
 
 -- A reader had the bytes `from` left, if they are known, and has `to` left now. All that was left was read, and this is
--- the curve of the keys that its lines spell.
-pub record KeysRead (from to : Option (List ℕ)) (curve : Counted) (malformed : ℕ) : Type 0 where
+-- the curve of the keys that this column of its lines spells.
+pub record KeysRead (from to : Option (List ℕ)) (column : Option Column) (curve : Counted) (malformed : ℕ) : Type 0 where
   pub input : List ℕ
   pub reads : Consumes from to input
   pub at_end : OnSome from (IsAtEnd to)
-  pub curve_of : IsOf (trace_of (lines_of input)) curve
-  pub others : malformed ≡ malformed_in (lines_of input)
+  pub curve_of : IsOf (trace_of (texts_of column (lines_of input))) curve
+  pub others : malformed ≡ malformed_in (texts_of column (lines_of input))
 
 -- All that was left was read. The first line names the sizes, and this is the curve of the keys that the others spell.
-pub record TraceRead (from to : Option (List ℕ)) (best : Bool) (sizes : List ℕ) (curve : Counted) (malformed : ℕ)
+pub record TraceRead (from to : Option (List ℕ)) (options : Options) (sizes : List ℕ) (curve : Counted) (malformed : ℕ)
     : Type 0 where
   pub input : List ℕ
   pub first : List ℕ
@@ -29,16 +31,16 @@ pub record TraceRead (from to : Option (List ℕ)) (best : Bool) (sizes : List �
   pub at_end : OnSome from (IsAtEnd to)
   pub lines : lines_of input ≡ first ∷ others
   pub named : sizes_from [] None first ≡ Some sizes
-  pub curve_of : IsOf (trace_of others) curve
-  pub keeps : is_some curve.kept ≡ best
-  pub count : malformed ≡ malformed_in others
+  pub curve_of : IsOf (trace_of (texts_of options.column others)) curve
+  pub keeps : is_some curve.kept ≡ options.best
+  pub count : malformed ≡ malformed_in (texts_of options.column others)
 
--- One line was read, or none, and it names no sizes.
-pub record NoSizesRead (from to : Option (List ℕ)) (best : Bool) : Type 0 where
+-- One line was read, or none, and it names no sizes, so nothing is determined in any form.
+pub record NoSizesRead (from to : Option (List ℕ)) : Type 0 where
   pub input : List ℕ
   pub reads : Consumes from to input
   pub one : length (lines_of input) ≤ 1
-  pub none : output best (lines_of input) ≡ None
+  pub none : (options : Options) → output options (lines_of input) ≡ None
 
 -- some bytes were read
 abbrev pub SomeRead : Option (List ℕ) → Option (List ℕ) → Type 0
@@ -50,22 +52,22 @@ Begins old new text = (begun rest : List ℕ) × (text ≡ begun ++ rest) × App
 
 -- All was read, and of the text that the lines determine was written what `IsWritten` says. If a reader does not say what
 -- it has left, this says of `input` only that there is one.
-pub record Reported (from to : Option (List ℕ)) (best : Bool) (IsWritten : List ℕ → Type 0) : Type 0 where
+pub record Reported (from to : Option (List ℕ)) (options : Options) (IsWritten : List ℕ → Type 0) : Type 0 where
   pub input : List ℕ
   pub text : List ℕ
   pub reads : Consumes from to input
   pub at_end : OnSome from (IsAtEnd to)
-  pub determined : output best (lines_of input) ≡ Some text
+  pub determined : output options (lines_of input) ≡ Some text
   pub written : IsWritten text
 
 -- what a trace read and wrote, by how it ended
-abbrev pub Ends : Bool → Option (List ℕ) → Option (List ℕ) → Option (List ℕ) → Option (List ℕ)
+abbrev pub Ends : Options → Option (List ℕ) → Option (List ℕ) → Option (List ℕ) → Option (List ℕ)
     → Result TraceEnd TraceError → Type 0
-Ends best from to old new (Ok ends.Done) = Reported from to best (Appends old new)
-Ends best from to old new (Ok ends.NoSizes) = NoSizesRead from to best × Keeps old new
-Ends best from to old new (Err errors.Read) = SomeRead from to × Keeps old new
-Ends best from to old new (Err errors.Memory) = SomeRead from to × Keeps old new
-Ends best from to old new (Err errors.Write) = Reported from to best (Begins old new)
+Ends options from to old new (Ok ends.Done) = Reported from to options (Appends old new)
+Ends options from to old new (Ok ends.NoSizes) = NoSizesRead from to × Keeps old new
+Ends options from to old new (Err errors.Read) = SomeRead from to × Keeps old new
+Ends options from to old new (Err errors.Memory) = SomeRead from to × Keeps old new
+Ends options from to old new (Err errors.Write) = Reported from to options (Begins old new)
 
 -- the exit status of each end
 abbrev pub status_of : Result TraceEnd TraceError → ℕ

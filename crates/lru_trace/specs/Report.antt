@@ -1,66 +1,87 @@
--- The report on a trace.
-use Rattle.std.specs.Prelude.{ℕ, zero, suc, ◌-◌, ◌*◌, ◌/◌, ◌%◌, ◌^◌, nat_le, ◌==◌, if◌then◌else◌, List, [], ◌∷◌, ◌++◌, length}
-use Rattle.std.specs.Prelude.{flat_map, replicate, decimal, codes, Bool, true, false, Option, None}
+-- What is written of a trace, in each form.
+use Rattle.std.specs.Prelude.{ℕ, ◌+◌, ◌-◌, ◌/◌, ◌%◌, if◌then◌else◌, List, [], ◌∷◌, ◌++◌, length, map}
+use Rattle.std.specs.Prelude.{flat_map, replicate, decimal, codes, Bool, false, Option, Some, None}
 use Rattle.std.specs.Option.{option_map}
-use Rattle.std.specs.Str.{bytes_eq}
-use Rattle.lru_theory.specs.Best.{min_misses, bypass_misses}
-use Rattle.lru_theory.specs.Traces.{misses, recency, past_after}
-use Rattle.lru_trace.specs.Lines.{trace_of, malformed_in}
+use Rattle.lru_trace.specs.declared.options.Options.{Options}
+use Rattle.lru_trace.specs.declared.options.Form.{Form}
+use Rattle.lru_trace.specs.declared.options.Form.TheVariants as forms
+use Rattle.lru_trace.specs.declared.rows.BestMisses.{BestMisses}
+use Rattle.lru_trace.specs.declared.rows.Counts.{Counts}
+use Rattle.lru_trace.specs.declared.rows.Row.{Row}
+use Rattle.lru_trace.specs.Lines.{texts_of, trace_of, malformed_in}
+use Rattle.lru_trace.specs.Rows.{keys, row_of, powers_in, points}
 use Rattle.lru_trace.specs.Sizes.{sizes_from}
+use Rattle.lru_trace.specs.Svg.{part, svg_text}
 
 -- the part of the references that miss, in units of 1 / scale, rounded down
-abbrev pub part : ℕ → ℕ → ℕ → ℕ
-part missed references scale = if references == 0 then 0 else missed * scale / references
+abbrev pub missed_part : Row → ℕ → ℕ
+missed_part row scale = part row.misses (row.hits + row.misses) scale
 
 -- a number of ten-thousandths, such as `0.8113`
 abbrev pub ratio_text : ℕ → List ℕ
 ratio_text n = decimal (n / 10000) ++ (codes "." ++ (decimal (n / 1000 % 10) ++ (decimal (n / 100 % 10)
     ++ (decimal (n / 10 % 10) ++ decimal (n % 10)))))
 
--- `best`: whether the report says how often the best possible policies miss, too.
-module _ (trace : List (List ℕ)) where
-  -- how many references miss in n places
-  abbrev pub missed : ℕ → ℕ
-  missed n = misses bytes_eq n [] trace
+-- how often MIN misses, and MIN with bypass, if that is asked
+abbrev pub best_text : Option BestMisses → List ℕ
+best_text None = []
+best_text (Some best) = codes " min " ++ (decimal best.min ++ (codes " bypass " ++ decimal best.bypass))
 
-  -- how many keys there are
-  abbrev pub keys : ℕ
-  keys = length (recency bytes_eq (past_after [] trace))
+-- the line of a named size
+abbrev pub size_text : Row → List ℕ
+size_text row = codes "places " ++ (decimal row.size ++ (codes " hits " ++ (decimal row.hits
+    ++ (codes " misses " ++ (decimal row.misses ++ (codes " ratio "
+    ++ (ratio_text (missed_part row 10000) ++ (best_text row.best ++ codes "\n"))))))))
 
-  -- how often MIN misses in n places, and MIN with bypass
-  abbrev pub best_text : Bool → ℕ → List ℕ
-  best_text false n = []
-  best_text true n = codes " min " ++ (decimal (min_misses bytes_eq n trace)
-      ++ (codes " bypass " ++ decimal (bypass_misses bytes_eq n trace)))
+-- the bar of a size
+abbrev pub bar_text : Row → List ℕ
+bar_text row = replicate (12 - length (decimal row.size)) 32 ++ (decimal row.size ++ (codes " |"
+    ++ (replicate (missed_part row 50) 35 ++ codes "\n")))
 
-  -- the line of a size
-  abbrev pub size_text : Bool → ℕ → List ℕ
-  size_text best n = codes "places " ++ (decimal n ++ (codes " hits " ++ (decimal (length trace - missed n)
-      ++ (codes " misses " ++ (decimal (missed n) ++ (codes " ratio "
-      ++ (ratio_text (part (missed n) (length trace) 10000) ++ (best_text best n ++ codes "\n"))))))))
+-- the first line
+abbrev pub head_text : Counts → List ℕ
+head_text counts = codes "references " ++ (decimal counts.references ++ (codes " keys " ++ (decimal counts.keys
+    ++ (codes " malformed " ++ (decimal counts.malformed ++ codes "\n")))))
 
-  -- the bar of a size
-  abbrev pub bar_text : ℕ → List ℕ
-  bar_text n = replicate (12 - length (decimal n)) 32 ++ (decimal n ++ (codes " |"
-      ++ (replicate (part (missed n) (length trace) 50) 35 ++ codes "\n")))
+-- the text for people: a line for each named size, and a bar for each power of two
+abbrev pub text_of : Counts → List Row → List Row → List ℕ
+text_of counts named bars = head_text counts ++ (flat_map size_text named ++ flat_map bar_text bars)
 
-  -- the bars of the powers of two from 2 ^ level on, up to the first that is at least the number of keys, at most `count`
-  unfoldable pub bars_text : ℕ → ℕ → List ℕ
-  bars_text zero level = []
-  bars_text (suc count) level =
-      bar_text (2 ^ level) ++ (if nat_le keys (2 ^ level) then [] else bars_text count (suc level))
+-- a record of csv
+abbrev pub csv_best : Option BestMisses → List ℕ
+csv_best None = []
+csv_best (Some best) = codes "," ++ (decimal best.min ++ (codes "," ++ decimal best.bypass))
 
-  -- the first line, if `malformed` lines spell no key
-  abbrev pub head_text : ℕ → List ℕ
-  head_text malformed = codes "references " ++ (decimal (length trace) ++ (codes " keys " ++ (decimal keys
-      ++ (codes " malformed " ++ (decimal malformed ++ codes "\n")))))
+abbrev pub csv_line : Row → List ℕ
+csv_line row = decimal row.size ++ (codes "," ++ (decimal row.hits ++ (codes "," ++ (decimal row.misses ++ (codes ","
+    ++ (ratio_text (missed_part row 10000) ++ (csv_best row.best ++ codes "\n")))))))
 
-  -- the report
-  abbrev pub report_text : Bool → List ℕ → ℕ → List ℕ
-  report_text best sizes malformed = head_text malformed ++ (flat_map (size_text best) sizes ++ bars_text 64 0)
+-- the text for programs: a header, and a record for each size
+abbrev pub csv_head : Bool → List ℕ
+csv_head best = if best then codes "size,hits,misses,ratio,min,bypass\n" else codes "size,hits,misses,ratio\n"
+
+abbrev pub csv_of : Bool → List Row → List ℕ
+csv_of best rows = csv_head best ++ flat_map csv_line rows
+
+module _ (trace : List (List ℕ)) (sizes : List ℕ) (malformed : ℕ) where
+  -- how many references, keys and malformed lines there are
+  abbrev pub counts_of : Counts
+  counts_of = record { references = length trace; keys = keys trace; malformed = malformed }
+
+  -- the rows of the named sizes and of the powers of two, with the misses of the best possible policies, if they are asked
+  abbrev pub point_rows : Bool → List Row
+  point_rows best = map (row_of trace best) (points sizes (powers_in trace))
+
+  -- what is written in each form
+  abbrev pub written : Form → Bool → List ℕ
+  written forms.Text best = text_of counts_of (map (row_of trace best) sizes) (map (row_of trace false) (powers_in trace))
+  written forms.Csv best = csv_of best (point_rows best)
+  written forms.Svg best = svg_text counts_of best (powers_in trace) (point_rows best)
 
 -- What is written of these lines: nothing unless the first names sizes.
-abbrev pub output : Bool → List (List ℕ) → Option (List ℕ)
-output best [] = None
-output best (first ∷ lines) =
-    option_map (λ sizes. report_text (trace_of lines) best sizes (malformed_in lines)) (sizes_from [] None first)
+abbrev pub output : Options → List (List ℕ) → Option (List ℕ)
+output options [] = None
+output options (first ∷ lines) =
+    let texts : List (List ℕ) = texts_of options.column lines in
+    option_map (λ sizes. written (trace_of texts) sizes (malformed_in texts) options.form options.best)
+    (sizes_from [] None first)

@@ -5,7 +5,7 @@ ghost use Rattle.std.specs.Option.{option_map};
 ghost use Rattle.std.specs.Str.{bytes_eq};
 ghost use Rattle.lru_theory.specs.Traces.{misses};
 ghost use Rattle.lru_trace.specs.Counted.{Counted, IsOf, number_in};
-ghost use Rattle.lru_trace.specs.Report.{keys};
+ghost use Rattle.lru_trace.specs.Rows.{keys};
 ghost use Rattle.lru_trace.specs.Times.{KnowsRest};
 
 use crate::best::Best;

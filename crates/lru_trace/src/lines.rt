@@ -2,10 +2,12 @@
 ghost use Rattle.std.specs.Prelude.{◌≡◌, ◌≢◌, ℕ, ◌+◌, ◌-◌, ◌^◌, ◌<◌, ◌≤◌, List, [], ◌∷◌, ◌++◌, true, false, is_some};
 ghost use Rattle.std.specs.Prelude.{IfOk, OnOk, OnErr, IfErr, MatchOption};
 ghost use Rattle.lru_trace.specs.Counted.{IsOf};
-ghost use Rattle.lru_trace.specs.Lines.{is_key, fed, trace_of, EndsSo, TakesLine};
+ghost use Rattle.lru_trace.specs.Lines.{text_in, is_key, fed, trace_of, EndsSo, TakesLine};
 ghost use Rattle.lru_trace.specs.Outcome.{KeysRead, SomeRead};
 
+use crate::columns::text_in;
 use crate::curve::Curve;
+use crate::options::Column;
 use crate::outcome::TraceError;
 use crate::progress::Progress;
 use std::alloc::AllocError;
@@ -62,16 +64,16 @@ fn key_of(line: &[u8]) -> Option<&str>
     }
 }
 
-/// References the key that the line spells, if it spells one, and returns whether it does.
-fn refer_line(curve: &mut Curve, line: &[u8]) -> Result<bool, AllocError>
+/// References the key that the line spells in this column, if it spells one, and returns whether it does.
+fn refer_line(curve: &mut Curve, column: Option<Column>, line: &[u8]) -> Result<bool, AllocError>
     requires { curve.old.references < 2 ^ 64 - 1 }
-    ensures key { IfOk result (λ is. is ≡ is_key line.now) }
+    ensures key { IfOk result (λ is. is ≡ is_key (text_in column line.now)) }
     ensures ok { OnOk result ((trace : List (List ℕ)) → IsOf trace curve.old →
-        IsOf (trace ++ trace_of (line.now ∷ [])) curve.new) }
+        IsOf (trace ++ trace_of (text_in column line.now ∷ [])) curve.new) }
     ensures references { curve.new.references ≤ curve.old.references + 1 }
     ensures keeps { is_some curve.new.kept ≡ is_some curve.old.kept }
 {
-    let Some(key) = key_of(line) else {
+    let Some(key) = key_of(text_in(line, column)) else {
         return Ok(false);
     };
     curve.refer(key)?;
@@ -79,7 +81,7 @@ fn refer_line(curve: &mut Curve, line: &[u8]) -> Result<bool, AllocError>
 }
 
 /// References the key of each line that is left, and returns how many lines spell no key. A key is text of 1 to 64
-/// bytes. The number of lines is written to `progress` after each million.
+/// bytes: the line, or this column of it. The number of lines is written to `progress` after each million.
 ///
 /// # Errors
 ///
@@ -87,12 +89,13 @@ fn refer_line(curve: &mut Curve, line: &[u8]) -> Result<bool, AllocError>
 pub fn read_keys<R: BufRead, P: Write>(
     reader: &mut R,
     line: &mut Vec<u8>,
+    column: Option<Column>,
     curve: &mut Curve,
     progress: &mut Progress<P>,
 ) -> Result<u64, TraceError>
     requires { IsOf [] curve.old }
     ensures ok { IfOk result (λ malformed.
-        KeysRead (R.remaining reader.old) (R.remaining reader.new) curve.new malformed) }
+        KeysRead (R.remaining reader.old) (R.remaining reader.new) column curve.new malformed) }
     ensures err { OnErr result (SomeRead (R.remaining reader.old) (R.remaining reader.new)) }
     ensures keeps { is_some curve.new.kept ≡ is_some curve.old.kept }
     ensures kind { IfErr result (λ e. e ≢ TraceError.Write) }
@@ -101,8 +104,8 @@ pub fn read_keys<R: BufRead, P: Write>(
     for lines in 0..u64::MAX - 1 {
         progress.note(lines);
         match read_line(reader, line)? {
-            Ending::Feed => malformed += u64::from(!refer_line(curve, line)?),
-            Ending::InputEnd => return Ok(malformed + u64::from(!refer_line(curve, line)?)),
+            Ending::Feed => malformed += u64::from(!refer_line(curve, column, line)?),
+            Ending::InputEnd => return Ok(malformed + u64::from(!refer_line(curve, column, line)?)),
             Ending::Nothing => return Ok(malformed),
         }
     }

@@ -1,24 +1,29 @@
-//! The report: the misses for each size that was asked, and a chart of the whole curve.
-ghost use Rattle.std.specs.Prelude.{◌≡◌, ◌≤◌, ◌+◌, ◌^◌, ◌<◌, ◌++◌, ℕ, List, OnOk, IfOk, is_some, replicate, flat_map};
+//! What is written of a curve: text for people, csv for programs, or a picture.
+ghost use Rattle.std.specs.Prelude.{◌≡◌, ◌≤◌, ◌+◌, ◌^◌, ◌<◌, ◌++◌, ℕ, List, OnOk, IfOk, is_some, replicate, flat_map, map, false};
 ghost use Rattle.std.specs.String.{string_bytes};
 ghost use Rattle.lru_trace.specs.Counted.{IsOf};
+ghost use Rattle.lru_trace.specs.Report.{missed_part, ratio_text, best_text, size_text, bar_text, text_of};
+ghost use Rattle.lru_trace.specs.Rows.{row_of, points};
 ghost use Rattle.lru_trace.specs.Times.{KnowsRest};
-ghost use Rattle.lru_trace.specs.Report.{part, ratio_text, best_text, size_text, bar_text, bars_text, report_text};
+ghost use Rattle.lru_trace.specs.Report.{csv_best, csv_line, csv_head, csv_of, written};
 
 use crate::best::Best;
 use crate::curve::Curve;
+use crate::options::{Form, Options};
+use crate::rows::{BestMisses, Counts, Row, points, powers, rows_of};
+use crate::svg::svg_of;
 use std::alloc::{AllocError, Global};
 
 const WIDTH: u64 = 50;
 
-fn part(misses: u64, references: u64, scale: u64) -> u64
-    requires { misses ≤ references }
-    ensures { result ≡ part misses references scale }
+fn missed_part(row: Row, scale: u64) -> u64
+    ensures { result ≡ missed_part row scale }
 {
+    let references = u128::from(row.hits) + u128::from(row.misses);
     if references == 0 {
         return 0;
     }
-    let whole = u128::from(misses) * u128::from(scale) / u128::from(references);
+    let whole = u128::from(row.misses) * u128::from(scale) / references;
     whole as u64
 }
 
@@ -44,111 +49,188 @@ fn ratio(alloc: Global, n: u64) -> Result<String, AllocError>
     format!(in alloc; "{whole}.{first}{second}{third}{fourth}")
 }
 
-fn add_best(
-    alloc: Global,
-    report: &mut Vec<u8>,
-    best: &Option<Best>,
-    places: usize,
-) -> Result<(), AllocError>
-    ensures { OnOk result ((trace : List (List ℕ)) → KnowsRest trace best.now →
-        report.new.items ≡ report.old.items ++ best_text trace (is_some best.now) places) }
+fn add_best(alloc: Global, report: &mut Vec<u8>, best: Option<BestMisses>) -> Result<(), AllocError>
+    ensures { OnOk result (report.new.items ≡ report.old.items ++ best_text best) }
 {
-    let Some(best) = best else {
-        return Ok(());
-    };
-    let (min, bypass) = (best.min_misses(places)?, best.bypass_misses(places)?);
-    let text = format!(in alloc; " min {min} bypass {bypass}")?;
-    report.extend_from_slice(text.as_bytes())?;
+    if let Some(best) = best {
+        let (min, bypass) = (best.min, best.bypass);
+        let text = format!(in alloc; " min {min} bypass {bypass}")?;
+        report.extend_from_slice(text.as_bytes())?;
+    }
     Ok(())
 }
 
-fn add_size(
-    alloc: Global,
-    report: &mut Vec<u8>,
-    curve: &Curve,
-    best: &Option<Best>,
-    places: usize,
-) -> Result<(), AllocError>
-    ensures { OnOk result ((trace : List (List ℕ)) → IsOf trace curve.now → KnowsRest trace best.now →
-        report.new.items ≡ report.old.items ++ size_text trace (is_some best.now) places) }
+fn add_size(alloc: Global, report: &mut Vec<u8>, row: Row) -> Result<(), AllocError>
+    ensures { OnOk result (report.new.items ≡ report.old.items ++ size_text row) }
 {
-    let references = curve.references();
-    let misses = curve.misses(places);
-    let hits = references - misses;
-    let ratio = ratio(alloc, part(misses, references, 10_000))?;
-    let text = format!(in alloc; "places {places} hits {hits} misses {misses} ratio {ratio}")?;
+    let ratio = ratio(alloc, missed_part(row, 10_000))?;
+    let (size, hits, misses) = (row.size, row.hits, row.misses);
+    let text = format!(in alloc; "places {size} hits {hits} misses {misses} ratio {ratio}")?;
     report.extend_from_slice(text.as_bytes())?;
-    add_best(alloc, report, best, places)?;
+    add_best(alloc, report, row.best)?;
     report.push(b'\n')?;
     Ok(())
 }
 
-fn add_bar(
-    alloc: Global,
-    report: &mut Vec<u8>,
-    curve: &Curve,
-    places: usize,
-) -> Result<(), AllocError>
-    ensures { OnOk result ((trace : List (List ℕ)) → IsOf trace curve.now →
-        report.new.items ≡ report.old.items ++ bar_text trace places) }
+fn add_bar(alloc: Global, report: &mut Vec<u8>, row: Row) -> Result<(), AllocError>
+    ensures { OnOk result (report.new.items ≡ report.old.items ++ bar_text row) }
 {
-    let number = format!(in alloc; "{places}")?;
+    let size = row.size;
+    let number = format!(in alloc; "{size}")?;
     add_copies(report, b' ', 12_usize.saturating_sub(number.len()) as u64)?;
     report.extend_from_slice(number.as_bytes())?;
     report.extend_from_slice(b" |")?;
-    add_copies(
-        report,
-        b'#',
-        part(curve.misses(places), curve.references(), WIDTH),
-    )?;
+    add_copies(report, b'#', missed_part(row, WIDTH))?;
     report.push(b'\n')?;
     Ok(())
 }
 
-fn add_sizes(
-    alloc: Global,
-    report: &mut Vec<u8>,
-    curve: &Curve,
-    best: &Option<Best>,
-    sizes: &[usize],
-) -> Result<(), AllocError>
-    ensures { OnOk result ((trace : List (List ℕ)) → IsOf trace curve.now → KnowsRest trace best.now →
-        report.new.items ≡ report.old.items ++ flat_map (size_text trace (is_some best.now)) sizes.now) }
+fn add_sizes(alloc: Global, report: &mut Vec<u8>, rows: &[Row]) -> Result<(), AllocError>
+    ensures { OnOk result (report.new.items ≡ report.old.items ++ flat_map size_text rows.now) }
 {
-    for places in sizes {
-        add_size(alloc, report, curve, best, *places)?;
+    for row in rows {
+        add_size(alloc, report, *row)?;
     }
     Ok(())
 }
 
-fn add_chart(alloc: Global, report: &mut Vec<u8>, curve: &Curve) -> Result<(), AllocError>
-    ensures { OnOk result ((trace : List (List ℕ)) → IsOf trace curve.now →
-        report.new.items ≡ report.old.items ++ bars_text trace 64 0) }
+fn add_bars(alloc: Global, report: &mut Vec<u8>, rows: &[Row]) -> Result<(), AllocError>
+    ensures { OnOk result (report.new.items ≡ report.old.items ++ flat_map bar_text rows.now) }
 {
-    for level in 0..usize::BITS {
-        let places = 1_usize << level;
-        add_bar(alloc, report, curve, places)?;
-        if curve.keys() <= places {
-            break;
-        }
+    for row in rows {
+        add_bar(alloc, report, *row)?;
     }
     Ok(())
+}
+
+fn text_of(
+    alloc: Global,
+    counts: Counts,
+    named: &[Row],
+    bars: &[Row],
+) -> Result<Vec<u8>, AllocError>
+    ensures { IfOk result (λ report. report.items ≡ text_of counts named.now bars.now) }
+{
+    let (references, keys, malformed) = (counts.references, counts.keys, counts.malformed);
+    let head = format!(in alloc; "references {references} keys {keys} malformed {malformed}\n")?;
+    let mut report = Vec::from_slice(alloc, head.as_bytes())?;
+    add_sizes(alloc, &mut report, named)?;
+    add_bars(alloc, &mut report, bars)?;
+    Ok(report)
+}
+
+fn add_csv_best(
+    alloc: Global,
+    csv: &mut Vec<u8>,
+    best: Option<BestMisses>,
+) -> Result<(), AllocError>
+    ensures { OnOk result (csv.new.items ≡ csv.old.items ++ csv_best best) }
+{
+    if let Some(best) = best {
+        let (min, bypass) = (best.min, best.bypass);
+        let text = format!(in alloc; ",{min},{bypass}")?;
+        csv.extend_from_slice(text.as_bytes())?;
+    }
+    Ok(())
+}
+
+fn add_csv_line(alloc: Global, csv: &mut Vec<u8>, row: Row) -> Result<(), AllocError>
+    ensures { OnOk result (csv.new.items ≡ csv.old.items ++ csv_line row) }
+{
+    let ratio = ratio(alloc, missed_part(row, 10_000))?;
+    let (size, hits, misses) = (row.size, row.hits, row.misses);
+    let text = format!(in alloc; "{size},{hits},{misses},{ratio}")?;
+    csv.extend_from_slice(text.as_bytes())?;
+    add_csv_best(alloc, csv, row.best)?;
+    csv.push(b'\n')?;
+    Ok(())
+}
+
+fn csv_head(best: bool) -> &'static str
+    ensures { result.now ≡ csv_head best }
+{
+    if best {
+        return "size,hits,misses,ratio,min,bypass\n";
+    }
+    "size,hits,misses,ratio\n"
+}
+
+fn csv_of(alloc: Global, best: bool, rows: &[Row]) -> Result<Vec<u8>, AllocError>
+    ensures { IfOk result (λ csv. csv.items ≡ csv_of best rows.now) }
+{
+    let mut csv = Vec::from_slice(alloc, csv_head(best).as_bytes())?;
+    for row in rows {
+        add_csv_line(alloc, &mut csv, *row)?;
+    }
+    Ok(csv)
+}
+
+fn text_rows(
+    alloc: Global,
+    curve: &Curve,
+    counts: Counts,
+    best: &Option<Best>,
+    sizes: &[usize],
+    powers: &[usize],
+) -> Result<Vec<u8>, AllocError>
+    ensures { IfOk result (λ text. (trace : List (List ℕ)) → IsOf trace curve.now → KnowsRest trace best.now →
+        text.items ≡ text_of counts (map (row_of trace (is_some best.now)) sizes.now)
+        (map (row_of trace false) powers.now)) }
+{
+    let rows = rows_of(alloc, curve, best, sizes)?;
+    let bars = rows_of(alloc, curve, &None, powers)?;
+    let text = text_of(alloc, counts, &rows, &bars)?;
+    Ok(text)
+}
+
+fn point_rows(
+    alloc: Global,
+    curve: &Curve,
+    best: &Option<Best>,
+    sizes: &[usize],
+    powers: &[usize],
+) -> Result<Vec<Row>, AllocError>
+    ensures { IfOk result (λ rows. (trace : List (List ℕ)) → IsOf trace curve.now → KnowsRest trace best.now →
+        rows.items ≡ map (row_of trace (is_some best.now)) (points sizes.now powers.now)) }
+{
+    let points = points(alloc, sizes, powers)?;
+    let rows = rows_of(alloc, curve, best, &points)?;
+    Ok(rows)
 }
 
 pub fn report_of(
     alloc: Global,
+    options: Options,
     curve: &Curve,
     malformed: u64,
     sizes: &[usize],
 ) -> Result<Vec<u8>, AllocError>
+    requires { is_some curve.now.kept ≡ options.best }
     ensures { IfOk result (λ report. (trace : List (List ℕ)) → IsOf trace curve.now →
-        report.items ≡ report_text trace (is_some curve.now.kept) sizes.now malformed) }
+        report.items ≡ written trace sizes.now malformed options.form options.best) }
 {
-    let best = curve.best()?;
     let (references, keys) = (curve.references(), curve.keys());
-    let head = format!(in alloc; "references {references} keys {keys} malformed {malformed}\n")?;
-    let mut report = Vec::from_slice(alloc, head.as_bytes())?;
-    add_sizes(alloc, &mut report, curve, &best, sizes)?;
-    add_chart(alloc, &mut report, curve)?;
-    Ok(report)
+    let counts = Counts {
+        references,
+        keys,
+        malformed,
+    };
+    let powers = powers(alloc, keys)?;
+    let best = curve.best()?;
+    match options.form {
+        Form::Text => {
+            let text = text_rows(alloc, curve, counts, &best, sizes, &powers)?;
+            Ok(text)
+        }
+        Form::Csv => {
+            let rows = point_rows(alloc, curve, &best, sizes, &powers)?;
+            let csv = csv_of(alloc, options.best, &rows)?;
+            Ok(csv)
+        }
+        Form::Svg => {
+            let rows = point_rows(alloc, curve, &best, sizes, &powers)?;
+            let svg = svg_of(alloc, counts, options.best, &powers, &rows)?;
+            Ok(svg)
+        }
+    }
 }

@@ -1,8 +1,14 @@
 //! Traces of lines: the progress, and a flush that fails.
-use lru_trace::{Progress, TraceEnd, TraceError, trace};
+use lru_trace::{Form, Options, Progress, TraceEnd, TraceError, trace};
 use std::io::{self, ErrorKind, Write};
 use std::test::Fail;
 use test_helpers::check;
+
+const TEXT: Options = Options {
+    column: None,
+    form: Form::Text,
+    best: false,
+};
 
 #[derive(Drop)]
 struct Output {
@@ -27,7 +33,7 @@ fn of_a_flush_that_fails(rt: HostRuntime) {
     let mut progress = Progress::new(rt.alloc(), None::<Vec<u8>>);
     let end = trace(
         rt.alloc(),
-        false,
+        TEXT,
         &mut b"1\na\n".as_slice(),
         &mut output,
         &mut progress,
@@ -46,7 +52,7 @@ fn of_the_progress(rt: HostRuntime) -> Result<(), Fail> {
     let mut progress = Progress::new(alloc, Some(&mut shown));
     let end = trace(
         alloc,
-        false,
+        TEXT,
         &mut input.as_slice(),
         &mut report,
         &mut progress,

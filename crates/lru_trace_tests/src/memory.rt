@@ -1,5 +1,5 @@
 //! Curves of many keys, and the memory that references give back.
-use lru_trace::{Curve, Progress, TraceError, status, trace};
+use lru_trace::{Curve, Form, Options, Progress, TraceError, status, trace};
 use std::alloc::Global;
 use std::test::Fail;
 use test_helpers::{Hog, check};
@@ -41,22 +41,58 @@ fn references_give_their_memory_back(rt: HostRuntime) -> Result<(), Fail> {
     Ok(())
 }
 
-/// With too little memory a trace writes nothing, and ends with the status 3.
-#[test]
-fn a_trace_without_memory(rt: HostRuntime) -> Result<(), Fail> {
-    let mut report = Vec::with_capacity(rt.alloc(), 999)?;
-    let mut progress = Progress::new(rt.alloc(), None::<Vec<u8>>);
+/// Returns whether a trace writes nothing with too little memory, and ends with the status 3.
+fn fails_without_memory(alloc: Global, form: Form) -> Result<bool, TraceError> {
+    let options = Options {
+        column: None,
+        form,
+        best: false,
+    };
+    let mut report = Vec::with_capacity(alloc, 9999)?;
+    let mut progress = Progress::new(alloc, None::<Vec<u8>>);
     let mut failed = true;
     for blocks in 0..99 {
         let mut lines = b"1\na\nb\na\n".as_slice();
-        let hog = Hog::but(rt.alloc(), blocks)?;
-        let end = trace(rt.alloc(), true, &mut lines, &mut report, &mut progress);
+        let hog = Hog::but(alloc, blocks)?;
+        let end = trace(alloc, options, &mut lines, &mut report, &mut progress);
         drop(hog);
         if end.is_ok() {
-            check!(rt; blocks > 0 && failed && !report.is_empty());
-            return Ok(());
+            return Ok(blocks > 0 && failed && !report.is_empty());
         }
         failed = failed && status(&end) == 3 && report.is_empty();
+    }
+    Ok(false)
+}
+
+#[test]
+fn a_trace_without_memory(rt: HostRuntime) -> Result<(), Fail> {
+    for form in [Form::Text, Form::Csv, Form::Svg] {
+        check!(rt; fails_without_memory(rt.alloc(), form)?);
+    }
+    Ok(())
+}
+
+fn looks_ahead(alloc: Global) -> Result<bool, TraceError> {
+    let mut curve = Curve::keeping_references(alloc)?;
+    for n in 0..3u64 {
+        refer(alloc, &mut curve, n % 2)?;
+    }
+    Ok(curve.best()?.is_some())
+}
+
+/// With too little memory a curve does not look ahead.
+#[test]
+fn looking_ahead_without_memory(rt: HostRuntime) -> Result<(), Fail> {
+    let mut refused = 0u64;
+    for blocks in 0..99 {
+        let hog = Hog::but(rt.alloc(), blocks)?;
+        let ahead = looks_ahead(rt.alloc());
+        drop(hog);
+        if let Ok(ahead) = ahead {
+            check!(rt; ahead & (refused > 0));
+            return Ok(());
+        }
+        refused = refused.saturating_add(1);
     }
     check!(rt; false);
     Ok(())

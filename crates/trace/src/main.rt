@@ -2,7 +2,7 @@
 //! terminal, it shows the progress there.
 #![tactic(auto)]
 
-use lru_trace::{Progress, status, trace};
+use lru_trace::{Column, Form, Options, Progress, status, trace};
 use std::env;
 use std::io::{self, BufReader, BufWriter, IsTerminal};
 use std::process::ExitCode;
@@ -12,7 +12,7 @@ const NO_BUFFER: u8 = 3;
 const UNKNOWN: u8 = 4;
 
 const HELP: &str = "\
-trace [--best] < KEYS
+trace [--best] [--csv | --svg] [--column N [--separator C]] < LINES
     Prints how often an LRU cache of each size misses the keys that were referenced.
 
 The first line has sizes with a space between each two, such as 1 10 100 1000. Each other line is a key, of 1 to 64
@@ -20,28 +20,103 @@ bytes; an empty or longer line is only counted.
 
 The output is a line for each named size, and then a bar for each power of two: the part of the references that miss.
 
---best adds to each line how often the best possible policies miss: min stores each key, bypass may leave a key out. It
-takes 16 to 32 bytes more for each reference.
+--best         adds to each line how often the best possible policies miss: min stores each key, bypass may leave a key
+               out. It takes 16 to 32 bytes more for each reference.
+--csv          prints a record for each named size and each power of two, below a header.
+--svg          prints a picture of the curves. Of --csv and --svg the last one counts.
+--column N     takes the Nth column of each line as its key. The first line still has sizes.
+--separator C  says which byte stands between two columns. Without it, that is a comma.
 
-Exit status: 0 after the report, 1 if the first line has no sizes, 2 if a read or a write failed, 3 without memory,
-4 if an argument is unknown or cannot be read.
+Exit status: 0 after the output, 1 if the first line has no sizes, 2 if a read or a write failed, 3 without memory,
+4 if an argument is unknown, lacks its value or cannot be read.
 ";
+
+/// What the next argument is.
+#[derive(Clone, Copy, PartialEq, Eq)]
+enum Next {
+    Word,
+    Number,
+    Separator,
+}
+
+/// What the arguments up to here ask for.
+#[derive(Clone, Copy)]
+struct Asked {
+    best: bool,
+    form: Form,
+    column: Option<usize>,
+    separator: u8,
+    next: Next,
+}
+
+impl Asked {
+    /// Returns whether the argument is known.
+    fn take(&mut self, argument: &str) -> bool {
+        match self.next {
+            Next::Word => return self.take_word(argument),
+            Next::Number => match argument.parse::<usize>() {
+                Ok(number) if number > 0 => self.column = Some(number - 1),
+                _ => return false,
+            },
+            Next::Separator => match argument.as_bytes() {
+                [byte] => self.separator = *byte,
+                _ => return false,
+            },
+        }
+        self.next = Next::Word;
+        true
+    }
+
+    fn take_word(&mut self, argument: &str) -> bool {
+        match argument {
+            "--best" => self.best = true,
+            "--csv" => self.form = Form::Csv,
+            "--svg" => self.form = Form::Svg,
+            "--column" => self.next = Next::Number,
+            "--separator" => self.next = Next::Separator,
+            _ => return false,
+        }
+        true
+    }
+
+    fn options(&self) -> Options {
+        let separator = self.separator;
+        Options {
+            column: self.column.map(|index| Column { index, separator }),
+            form: self.form,
+            best: self.best,
+        }
+    }
+}
 
 fn main(rt: HostRuntime) -> ExitCode {
     let Ok(arguments) = env::args(&rt) else {
         return ExitCode::from(UNKNOWN);
     };
-    let mut best = false;
+    let mut asked = Asked {
+        best: false,
+        form: Form::Text,
+        column: None,
+        separator: b',',
+        next: Next::Word,
+    };
     for argument in arguments.skip(1) {
-        if argument.as_str() != "--best" {
+        if !asked.take(argument.as_str()) {
             return answer(&rt, argument.as_str());
         }
-        best = true;
     }
+    if asked.next != Next::Word {
+        let _ = eprintln!(rt; "trace: the last argument lacks its value; try --help");
+        return ExitCode::from(UNKNOWN);
+    }
+    run(&rt, asked.options())
+}
+
+fn run(rt: &HostRuntime, options: Options) -> ExitCode {
     let Ok(mut reader) = BufReader::new(rt.alloc(), rt.reader()) else {
         return ExitCode::from(NO_BUFFER);
     };
-    let Ok(mut writer) = BufWriter::new(rt.alloc(), io::writer(&rt)) else {
+    let Ok(mut writer) = BufWriter::new(rt.alloc(), io::writer(rt)) else {
         return ExitCode::from(NO_BUFFER);
     };
     let errors = rt.stderr();
@@ -51,7 +126,7 @@ fn main(rt: HostRuntime) -> ExitCode {
         None
     };
     let mut progress = Progress::new(rt.alloc(), waiting);
-    let end = trace(rt.alloc(), best, &mut reader, &mut writer, &mut progress);
+    let end = trace(rt.alloc(), options, &mut reader, &mut writer, &mut progress);
     // After a failed write the buffer still contains bytes. Its drop would write them again.
     let (_output, _unwritten) = writer.into_parts();
     ExitCode::from(status(&end))

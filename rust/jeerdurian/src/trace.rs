@@ -18,6 +18,35 @@ use crate::rattle_std::alloc::{AllocError, Global};
 use crate::rattle_std::vec::Vec;
 use std::io::{BufRead, Sink, Write};
 
+/// The form of what is written of a trace.
+///
+/// ```
+/// use jeerdurian::trace::Form;
+///
+/// assert_ne!(Form::Csv, Form::Svg);
+/// ```
+pub use crate::erased::lru_trace::Form;
+
+/// A column of a line of separated text.
+///
+/// ```
+/// use jeerdurian::trace::Column;
+///
+/// let third = Column { index: 2, separator: b',' };
+/// assert_eq!(third.index, 2);
+/// ```
+pub use crate::erased::lru_trace::Column;
+
+/// What a trace reads and writes.
+///
+/// ```
+/// use jeerdurian::trace::{Form, Options};
+///
+/// let options = Options { column: None, form: Form::Svg, best: true };
+/// assert!(options.best);
+/// ```
+pub use crate::erased::lru_trace::Options;
+
 /// How a trace ended if no read and no write failed.
 ///
 /// ```
@@ -178,7 +207,7 @@ impl Curve {
     /// ```
     pub fn from_lines(mut reader: impl BufRead) -> Result<(Self, u64), TraceError> {
         let mut curve = proved::Curve::new(Global)?;
-        let malformed = proved::read_keys(&mut reader, &mut Vec::new(Global), &mut curve, &mut no_progress())?;
+        let malformed = proved::read_keys(&mut reader, &mut Vec::new(Global), None, &mut curve, &mut no_progress())?;
         Ok((Curve(curve), malformed))
     }
 
@@ -257,7 +286,8 @@ impl Curve {
 /// assert!(text.starts_with(b"references 3 keys 2 malformed 0\nplaces 2 hits 1 misses 2 ratio 0.6666\n"));
 /// ```
 pub fn report(mut reader: impl BufRead, mut writer: impl Write) -> Result<TraceEnd, TraceError> {
-    proved::trace(Global, false, &mut reader, &mut writer, &mut no_progress())
+    let options = Options { column: None, form: Form::Text, best: false };
+    proved::trace(Global, options, &mut reader, &mut writer, &mut no_progress())
 }
 
 /// As `report`, and says for each named size how often the best possible policies miss, too. It takes 16 to 32 bytes for
@@ -275,7 +305,27 @@ pub fn report(mut reader: impl BufRead, mut writer: impl Write) -> Result<TraceE
 /// assert!(text.starts_with(b"references 4 keys 3 malformed 0\nplaces 2 hits 0 misses 4 ratio 1.0000 min 3 bypass 3\n"));
 /// ```
 pub fn report_with_best(mut reader: impl BufRead, mut writer: impl Write) -> Result<TraceEnd, TraceError> {
-    proved::trace(Global, true, &mut reader, &mut writer, &mut no_progress())
+    let options = Options { column: None, form: Form::Text, best: true };
+    proved::trace(Global, options, &mut reader, &mut writer, &mut no_progress())
+}
+
+/// As `report`, of a column of the lines, and in the form of the options: text, csv or a picture in svg.
+///
+/// # Errors
+///
+/// As `report`.
+///
+/// ```
+/// use jeerdurian::trace::{Column, Form, Options, TraceEnd, report_as};
+///
+/// let column = Some(Column { index: 1, separator: b',' });
+/// let options = Options { column, form: Form::Csv, best: true };
+/// let mut csv = Vec::new();
+/// assert_eq!(report_as(options, b"2\n1,a\n2,b\n3,c\n4,a\n".as_slice(), &mut csv), Ok(TraceEnd::Done));
+/// assert!(csv.starts_with(b"size,hits,misses,ratio,min,bypass\n1,0,4,1.0000,4,3\n2,0,4,1.0000,3,3\n"));
+/// ```
+pub fn report_as(options: Options, mut reader: impl BufRead, mut writer: impl Write) -> Result<TraceEnd, TraceError> {
+    proved::trace(Global, options, &mut reader, &mut writer, &mut no_progress())
 }
 
 fn no_progress() -> proved::Progress<Sink> {

@@ -57,8 +57,20 @@ fn arguments() {
         assert_eq!((unknown.status.code(), unknown.stdout.as_slice()), (Some(4), &b""[..]));
         assert!(String::from_utf8_lossy(&unknown.stderr).contains("unknown argument -x"));
     }
-    let second = Command::new(env!("CARGO_BIN_EXE_trace")).args(["--best", "-x"]).output().unwrap();
-    assert_eq!((second.status.code(), second.stdout.as_slice()), (Some(4), &b""[..]));
+    for arguments in [
+        ["--best", "-x"],
+        ["--column", "0"],
+        ["--column", "-1"],
+        ["--column", "18446744073709551616"],
+        ["--separator", ""],
+        ["--separator", ",;"],
+        ["--best", "--column"],
+        ["--csv", "--separator"],
+    ] {
+        let run = Command::new(env!("CARGO_BIN_EXE_trace")).args(arguments).stdin(Stdio::null()).output().unwrap();
+        assert_eq!((run.status.code(), run.stdout.as_slice()), (Some(4), &b""[..]), "{arguments:?}");
+        assert!(String::from_utf8_lossy(&run.stderr).ends_with("; try --help\n"), "{arguments:?}");
+    }
 }
 
 /// How often MIN and MIN with bypass miss, by the definition: the key that comes last again is evicted.
@@ -136,7 +148,8 @@ fn status_of_trace(input: &Path, output: &str) -> Option<i32> {
     run.stdin(File::open(input).unwrap()).stdout(output).status().unwrap().code()
 }
 
-/// The statuses of `trace`. A directory cannot be read, and a full device cannot be written.
+/// The statuses of `trace`, but for that of an unknown argument. A directory cannot be read, a full device cannot be
+/// written, and 400,000 keys do not fit in 30 megabytes.
 #[cfg(target_os = "linux")]
 #[test]
 fn statuses_of_trace() {
@@ -145,4 +158,12 @@ fn statuses_of_trace() {
     assert_eq!(status_of_trace(&cases.join("no_sizes"), "/dev/null"), Some(1));
     assert_eq!(status_of_trace(&cases, "/dev/null"), Some(2));
     assert_eq!(status_of_trace(&cases.join("cycle"), "/dev/full"), Some(2));
+    let many = Path::new(env!("CARGO_TARGET_TMPDIR")).join("many_keys");
+    fs::write(&many, (0..400_000).map(|key| format!("{key}\n")).collect::<String>()).unwrap();
+    for form in ["--best", "--csv", "--svg"] {
+        let mut limited = Command::new("sh");
+        limited.args(["-c", "ulimit -v 30000; exec \"$0\" \"$1\"", env!("CARGO_BIN_EXE_trace"), form]);
+        let run = limited.stdin(File::open(&many).unwrap()).output().unwrap();
+        assert_eq!((run.status.code(), run.stdout.as_slice()), (Some(3), &b""[..]));
+    }
 }

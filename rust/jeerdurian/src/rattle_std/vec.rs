@@ -45,6 +45,13 @@ impl<T> Vec<T> {
         Ok(())
     }
 
+    /// Adds an item in front of the item `at`.
+    pub fn insert(&mut self, at: usize, item: T) -> Result<(), AllocError> {
+        self.0.try_reserve(1).map_err(|_| AllocError)?;
+        self.0.insert(at, item);
+        Ok(())
+    }
+
     /// Adds copies of the items.
     pub fn extend_from_slice(&mut self, items: &[T]) -> Result<(), AllocError>
     where

@@ -21,12 +21,6 @@ impl<T> Vec<T> {
         made
     }
 
-    pub fn insert(&mut self, at: usize, item: T) -> Result<(), AllocError> {
-        self.as_std_mut().try_reserve(1).map_err(|_| AllocError)?;
-        self.as_std_mut().insert(at, item);
-        Ok(())
-    }
-
     pub fn remove(&mut self, at: usize) -> T {
         self.as_std_mut().remove(at)
     }

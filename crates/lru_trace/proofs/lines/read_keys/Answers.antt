@@ -2,7 +2,7 @@ use Rattle.std.proofs.Common.{◌≡◌, ℕ, ◌+◌, ◌≤◌, Bool, true, fa
 use Rattle.std.specs.Prelude.{not}
 use Rattle.std.specs.Int.{from_bool}
 use Rattle.lru_trace.specs.Counted.{IsOf}
-use Rattle.lru_trace.specs.Lines.{fed, is_key, trace_of}
+use Rattle.lru_trace.specs.Lines.{fed, text_in, is_key, trace_of}
 use Rattle.lru_trace.specs.Outcome.{KeysRead}
 use Rattle.lru_trace.proofs.ReadLines.{ReadSoFar, none_read, line_read, last_read, some_part}
 use Rattle.lru_trace.proofs.lines.read_keys.Goals as goal
@@ -12,7 +12,7 @@ bit true = refl
 bit false = refl
 
 pub loop-lines-init : goal.loop-lines-init
-loop-lines-init g c = (omega arith, omega (arith, c.requires.all), refl, none_read _ _ c.requires)
+loop-lines-init g c = (omega arith, omega (arith, c.requires.all), refl, none_read _ _ _ c.requires)
 
 pub returns-in_err-read_line-clause-err : goal.returns-in_err-read_line-clause-err
 returns-in_err-read_line-clause-err g c =
@@ -35,21 +35,23 @@ returns-in_err-refer_line-in-InputEnd-clause-err g c =
 pub returns-in-InputEnd-clause-ok : goal.returns-in-InputEnd-clause-ok
 returns-in-InputEnd-clause-ok g c =
     let line = c.read_line.new.line.items in
+    let column = c.args.column in
     let from = g.R.Read.remaining c.args.reader.now in
     let to = g.R.Read.remaining c.read_line.new.reader in
     let taken = rw c.in-InputEnd.is at c.in_ok-read_line.ensures.ok in
     let is = c.in_ok-refer_line-in-InputEnd.ensures in
     let same = c.deref-in-InputEnd.ensures.value in
     let follows = subst (λ l. (trace : List (List ℕ)) → IsOf trace c.loop-lines.curve
-    → IsOf (trace ++ trace_of (l ∷ [])) c.refer_line-in-InputEnd.new.curve) same is.ok in
+    → IsOf (trace ++ trace_of (text_in column l ∷ [])) c.refer_line-in-InputEnd.new.curve) same is.ok in
     let count = c.from-in-InputEnd.ensures ∙ bit _ ∙ ap (λ b. cond (not b) 1 0) is.key
-    ∙ ap (λ l. cond (not (is_key l)) 1 0) same in
-    subst (λ n. KeysRead from to c.refer_line-in-InputEnd.new.curve (c.loop-lines.malformed + n)) (sym count)
+    ∙ ap (λ l. cond (not (is_key (text_in column l))) 1 0) same in
+    subst (λ n. KeysRead from to column c.refer_line-in-InputEnd.new.curve (c.loop-lines.malformed + n)) (sym count)
     (last_read c.loop-lines.invariant.3 to line c.refer_line-in-InputEnd.new.curve follows taken.0 taken.1)
 
 pub loop-lines-preserved : goal.loop-lines-preserved
 loop-lines-preserved g c =
     let line = c.read_line.new.line.items in
+    let column = c.args.column in
     let from = g.R.Read.remaining c.args.reader.now in
     let to = g.R.Read.remaining c.read_line.new.reader in
     let inv = c.loop-lines.invariant in
@@ -57,14 +59,14 @@ loop-lines-preserved g c =
     let is = c.in_ok-refer_line-in-Feed.ensures in
     let same = c.deref.ensures.value in
     let follows = subst (λ l. (trace : List (List ℕ)) → IsOf trace c.loop-lines.curve
-    → IsOf (trace ++ trace_of (l ∷ [])) c.refer_line.new.curve) same is.ok in
+    → IsOf (trace ++ trace_of (text_in column l ∷ [])) c.refer_line.new.curve) same is.ok in
     let count = c.from.ensures ∙ bit _ ∙ ap (λ b. cond (not b) 1 0) is.key
-    ∙ ap (λ l. cond (not (is_key l)) 1 0) same in
-    let few = few_more (is_key line) in (
+    ∙ ap (λ l. cond (not (is_key (text_in column l))) 1 0) same in
+    let few = few_more (is_key (text_in column line)) in (
       omega (arith, inv.0, count, few),
       omega (arith, inv.1, is.references),
       is.keeps ∙ inv.2,
-      subst (λ n. ReadSoFar from to c.refer_line.new.curve (c.loop-lines.malformed + n)) (sym count)
+      subst (λ n. ReadSoFar from to column c.refer_line.new.curve (c.loop-lines.malformed + n)) (sym count)
           (line_read inv.3 to line c.refer_line.new.curve follows taken),
     )
   where

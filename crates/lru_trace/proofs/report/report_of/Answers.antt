@@ -1,18 +1,24 @@
-use Rattle.std.proofs.Common.{◌≡◌, ◌++◌, ap, ◌∙◌, append_assoc, flat_map}
+use Rattle.std.proofs.Common.{◌≡◌, map, ap, sym, ◌∙◌}
 use Rattle.std.specs.Prelude.{is_some}
-use Rattle.std.specs.String.{string_bytes}
-use Rattle.lru_trace.specs.Report.{size_text, bars_text, head_text}
+use Rattle.lru_trace.specs.Rows.{row_of, powers, powers_in, points}
+use Rattle.lru_trace.specs.Svg.{svg_text}
+use Rattle.lru_trace.specs.Report.{counts_of, point_rows, written}
 use Rattle.lru_trace.proofs.report.report_of.Goals as goal
 
 pub returns : goal.returns
 returns c = λ trace of.
-    let kept = is_some c.args.curve.now.kept in
-    let sizes = flat_map (size_text trace kept) c.args.sizes.now in
-    let bars = bars_text trace 64 0 in
-    let first = c.in_ok-report.report.items in
-    let head : string_bytes c.in_ok-head.head ≡ head_text trace c.args.malformed
-    = rw (← c.references-references.ensures.all trace of, ← c.keys-keys.ensures.all trace of) c.in_ok-head.ensures.ok in
-    c.in_ok-add_chart.ensures trace of ∙ ap (λ l. l ++ bars) (c.in_ok-add_sizes.ensures trace of (c.in_ok-best.ensures.all trace of)
-    ∙ ap (λ b. first ++ flat_map (size_text trace b) c.args.sizes.now) c.in_ok-best.ensures.some)
-    ∙ append_assoc first sizes bars
-    ∙ ap (λ l. l ++ (sizes ++ bars)) (c.in_ok-report.ensures.items ∙ c.as_bytes.ensures.value ∙ head)
+    let sizes = c.args.sizes.now in
+    let best = c.args.options.best in
+    let references = c.references-references.ensures.all trace of in
+    let keys = c.keys-keys.ensures.all trace of in
+    let counts = counts_of trace sizes c.args.malformed in
+    let are : c.in_ok-powers.powers.items ≡ powers_in trace =
+    c.in_ok-powers.ensures.all ∙ ap (λ n. powers n 64 0) keys in
+    let asked : is_some c.in_ok-best.best ≡ best = c.in_ok-best.ensures.some ∙ c.requires in
+    let rows : c.in_ok-rows-in-Svg.rows.items ≡ point_rows trace sizes c.args.malformed best =
+    c.in_ok-rows-in-Svg.ensures trace of (c.in_ok-best.ensures.all trace of)
+    ∙ (λ i. map (row_of trace (asked i)) (points sizes ((c.deref-in-Svg.ensures.value ∙ are) i))) in
+    c.in_ok-svg-in-Svg.ensures
+    ∙ (λ i. svg_text (record { references = references i; keys = keys i; malformed = c.args.malformed }) best
+    ((c.deref-in-Svg-2.ensures.value ∙ are) i) ((c.deref-in-Svg-3.ensures.value ∙ rows) i))
+    ∙ ap (λ form. written trace sizes c.args.malformed form best) (sym c.in-Svg.is)

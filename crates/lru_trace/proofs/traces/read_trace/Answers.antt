@@ -8,14 +8,14 @@ use Rattle.lru_trace.proofs.traces.read_trace.Goals as goal
 pub returns-in_default-clause-ok : goal.returns-in_default-clause-ok
 returns-in_default-clause-ok g c =
     let named = rw c.in_default.is at c.in_ok-sizes.ensures in
-    no_sizes _ _ c.args.best c.read_line.new.line.items c.in_ok-ending.ending c.in_ok-ending.ensures.ok
+    no_sizes _ _ c.read_line.new.line.items c.in_ok-ending.ending c.in_ok-ending.ensures.ok
     (named ∙ ap (sizes_from [] None) c.deref.ensures.value)
 
 pub returns-in_default-ending : goal.returns-in_default-ending
 returns-in_default-ending g c =
     let named = rw c.in-Some.is at c.in_ok-sizes.ensures in
     record {
-      ok = only_sizes _ _ c.args.best c.read_line.new.line.items c.in_ok-ending.ending c.in-Some.sizes.items c.in_ok-curve.curve
+      ok = only_sizes _ _ c.read_line.new.line.items c.args.options c.in_ok-ending.ending c.in-Some.sizes.items c.in_ok-curve.curve
           c.in_default-ending.not-Feed c.in_ok-ending.ensures.ok
           (named ∙ ap (sizes_from [] None) c.deref.ensures.value) c.in_ok-curve.ensures.of c.in_ok-curve.ensures.keeps;
       err = tt;
@@ -32,6 +32,6 @@ pub returns-clause-ok : goal.returns-clause-ok
 returns-clause-ok g c =
     let taken = rw c.in-Feed.is at c.in_ok-ending.ensures.ok in
     let named = rw c.in-Some.is at c.in_ok-sizes.ensures in
-    with_keys _ _ c.args.best c.read_line.new.line.items _ c.in-Some.sizes.items c.read_keys.new.curve c.in_ok-malformed.malformed
+    with_keys _ _ c.read_line.new.line.items _ c.args.options c.in-Some.sizes.items c.read_keys.new.curve c.in_ok-malformed.malformed
     taken (named ∙ ap (sizes_from [] None) c.deref.ensures.value) c.in_ok-malformed.ensures.ok
     (c.read_keys.ensures.keeps ∙ c.in_ok-curve.ensures.keeps)

@@ -1,8 +1,7 @@
 use Rattle.std.proofs.Common.{ap, ◌∙◌, subst}
 use Rattle.std.proofs.KnownBytes.{Appends-kept}
 use Rattle.std.specs.Io.KnownBytes.{Appends}
-use Rattle.std.specs.Prelude.{is_some}
-use Rattle.lru_trace.specs.Report.{report_text}
+use Rattle.lru_trace.specs.Report.{written}
 use Rattle.lru_trace.specs.Outcome.{Begins}
 use Rattle.lru_trace.proofs.Ended.{reported, all_begun}
 use Rattle.lru_trace.proofs.traces.trace.Goals as goal
@@ -12,8 +11,8 @@ returns-then-not-write_bytes g c =
     let read = rw c.in-Some.is at c.in_ok-read.ensures.ok in
     let old = g.W.Write.contents c.args.writer.now in
     let new = g.W.Write.contents c.write_bytes.new.writer in
-    reported read (c.in_ok-report.report.items)
-    (λ trace of. c.in_ok-report.ensures trace of ∙ ap (λ ns. report_text trace (is_some c.in-Some.read.curve.kept) ns c.in-Some.read.malformed) c.deref.ensures.value)
+    reported c.args.options read (c.in_ok-report.report.items)
+    (λ trace of. c.in_ok-report.ensures trace of ∙ ap (λ ns. written trace ns c.in-Some.read.malformed c.args.options.form c.args.options.best) c.deref.ensures.value)
     (Begins old new) (subst (Begins old new) c.deref-2.ensures.value c.if-not-write_bytes.ensures)
 
 pub returns-in-Ok : goal.returns-in-Ok
@@ -23,8 +22,8 @@ returns-in-Ok g c =
     let mid = g.W.Write.contents c.write_bytes.new.writer in
     let new = g.W.Write.contents c.flush.new.self in
     let report = c.in_ok-report.report.items in
-    reported read report
-    (λ trace of. c.in_ok-report.ensures trace of ∙ ap (λ ns. report_text trace (is_some c.in-Some.read.curve.kept) ns c.in-Some.read.malformed) c.deref.ensures.value)
+    reported c.args.options read report
+    (λ trace of. c.in_ok-report.ensures trace of ∙ ap (λ ns. written trace ns c.in-Some.read.malformed c.args.options.form c.args.options.best) c.deref.ensures.value)
     (Appends old new) (Appends-kept old mid new report
     (subst (Appends old mid) c.deref-2.ensures.value c.if-not-write_bytes.ensures) c.flush.ensures.bytes)
 
@@ -33,7 +32,7 @@ returns g c =
     let read = rw c.in-Some.is at c.in_ok-read.ensures.ok in
     let old = g.W.Write.contents c.args.writer.now in
     let mid = g.W.Write.contents c.write_bytes.new.writer in
-    all_begun read (c.in_ok-report.report.items)
-    (λ trace of. c.in_ok-report.ensures trace of ∙ ap (λ ns. report_text trace (is_some c.in-Some.read.curve.kept) ns c.in-Some.read.malformed) c.deref.ensures.value)
+    all_begun c.args.options read (c.in_ok-report.report.items)
+    (λ trace of. c.in_ok-report.ensures trace of ∙ ap (λ ns. written trace ns c.in-Some.read.malformed c.args.options.form c.args.options.best) c.deref.ensures.value)
     old mid (g.W.Write.contents c.flush.new.self)
     (subst (Appends old mid) c.deref-2.ensures.value c.if-not-write_bytes.ensures) c.flush.ensures.bytes

@@ -4,7 +4,9 @@
 #[allow(unused_imports)]
 use crate::rattle_std::prelude::*;
 
+use crate::erased::lru_trace::columns::text_in;
 use crate::erased::lru_trace::curve::Curve;
+use crate::erased::lru_trace::options::Column;
 use crate::erased::lru_trace::outcome::TraceError;
 use crate::erased::lru_trace::progress::Progress;
 use crate::rattle_std::alloc::AllocError;
@@ -52,9 +54,9 @@ fn key_of(line: &[u8]) -> Option<&str> {
     }
 }
 
-/// References the key that the line spells, if it spells one, and returns whether it does.
-fn refer_line(curve: &mut Curve, line: &[u8]) -> Result<bool, AllocError> {
-    let Some(key) = key_of(line) else {
+/// References the key that the line spells in this column, if it spells one, and returns whether it does.
+fn refer_line(curve: &mut Curve, column: Option<Column>, line: &[u8]) -> Result<bool, AllocError> {
+    let Some(key) = key_of(text_in(line, column)) else {
         return Ok(false);
     };
     curve.refer(key)?;
@@ -62,7 +64,7 @@ fn refer_line(curve: &mut Curve, line: &[u8]) -> Result<bool, AllocError> {
 }
 
 /// References the key of each line that is left, and returns how many lines spell no key. A key is text of 1 to 64
-/// bytes. The number of lines is written to `progress` after each million.
+/// bytes: the line, or this column of it. The number of lines is written to `progress` after each million.
 ///
 /// # Errors
 ///
@@ -70,6 +72,7 @@ fn refer_line(curve: &mut Curve, line: &[u8]) -> Result<bool, AllocError> {
 pub fn read_keys<R: BufRead, P: Write>(
     reader: &mut R,
     line: &mut Vec<u8>,
+    column: Option<Column>,
     curve: &mut Curve,
     progress: &mut Progress<P>,
 ) -> Result<u64, TraceError> {
@@ -77,8 +80,8 @@ pub fn read_keys<R: BufRead, P: Write>(
     for lines in 0..u64::MAX - 1 {
         progress.note(lines);
         match read_line(reader, line)? {
-            Ending::Feed => malformed += u64::from(!refer_line(curve, line)?),
-            Ending::InputEnd => return Ok(malformed + u64::from(!refer_line(curve, line)?)),
+            Ending::Feed => malformed += u64::from(!refer_line(curve, column, line)?),
+            Ending::InputEnd => return Ok(malformed + u64::from(!refer_line(curve, column, line)?)),
             Ending::Nothing => return Ok(malformed),
         }
     }

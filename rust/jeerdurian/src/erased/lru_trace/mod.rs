@@ -8,14 +8,18 @@
 use crate::rattle_std::prelude::*;
 
 mod best;
+mod columns;
 mod curve;
 mod distances;
 mod lines;
+mod options;
 mod outcome;
 mod output;
 mod progress;
 mod report;
+mod rows;
 mod sizes;
+mod svg;
 mod traces;
 mod tree;
 
@@ -23,6 +27,7 @@ pub use best::Best;
 pub use curve::Curve;
 pub use distances::Distances;
 pub use lines::read_keys;
+pub use options::{Column, Form, Options};
 pub use outcome::{TraceEnd, TraceError, status};
 pub use progress::Progress;
 pub use traces::trace;

@@ -1,20 +1,24 @@
 // Erased from crates/lru_trace/src/report.rt: do not edit.
-//! The report: the misses for each size that was asked, and a chart of the whole curve.
+//! What is written of a curve: text for people, csv for programs, or a picture.
 
 #[allow(unused_imports)]
 use crate::rattle_std::prelude::*;
 
 use crate::erased::lru_trace::best::Best;
 use crate::erased::lru_trace::curve::Curve;
+use crate::erased::lru_trace::options::{Form, Options};
+use crate::erased::lru_trace::rows::{BestMisses, Counts, Row, points, powers, rows_of};
+use crate::erased::lru_trace::svg::svg_of;
 use crate::rattle_std::alloc::{AllocError, Global};
 
 const WIDTH: u64 = 50;
 
-fn part(misses: u64, references: u64, scale: u64) -> u64 {
+fn missed_part(row: Row, scale: u64) -> u64 {
+    let references = u128::from(row.hits) + u128::from(row.misses);
     if references == 0 {
         return 0;
     }
-    let whole = u128::from(misses) * u128::from(scale) / u128::from(references);
+    let whole = u128::from(row.misses) * u128::from(scale) / references;
     whole as u64
 }
 
@@ -30,74 +34,144 @@ fn ratio(alloc: Global, n: u64) -> Result<String, AllocError> {
     format!(in alloc; "{whole}.{first}{second}{third}{fourth}")
 }
 
-fn add_best(alloc: Global, report: &mut Vec<u8>, best: &Option<Best>, places: usize) -> Result<(), AllocError> {
-    let Some(best) = best else {
-        return Ok(());
-    };
-    let (min, bypass) = (best.min_misses(places)?, best.bypass_misses(places)?);
-    let text = format!(in alloc; " min {min} bypass {bypass}")?;
-    report.extend_from_slice(text.as_bytes())?;
+fn add_best(alloc: Global, report: &mut Vec<u8>, best: Option<BestMisses>) -> Result<(), AllocError> {
+    if let Some(best) = best {
+        let (min, bypass) = (best.min, best.bypass);
+        let text = format!(in alloc; " min {min} bypass {bypass}")?;
+        report.extend_from_slice(text.as_bytes())?;
+    }
     Ok(())
 }
 
-fn add_size(
-    alloc: Global,
-    report: &mut Vec<u8>,
-    curve: &Curve,
-    best: &Option<Best>,
-    places: usize,
-) -> Result<(), AllocError> {
-    let references = curve.references();
-    let misses = curve.misses(places);
-    let hits = references - misses;
-    let ratio = ratio(alloc, part(misses, references, 10_000))?;
-    let text = format!(in alloc; "places {places} hits {hits} misses {misses} ratio {ratio}")?;
+fn add_size(alloc: Global, report: &mut Vec<u8>, row: Row) -> Result<(), AllocError> {
+    let ratio = ratio(alloc, missed_part(row, 10_000))?;
+    let (size, hits, misses) = (row.size, row.hits, row.misses);
+    let text = format!(in alloc; "places {size} hits {hits} misses {misses} ratio {ratio}")?;
     report.extend_from_slice(text.as_bytes())?;
-    add_best(alloc, report, best, places)?;
+    add_best(alloc, report, row.best)?;
     report.push(b'\n')?;
     Ok(())
 }
 
-fn add_bar(alloc: Global, report: &mut Vec<u8>, curve: &Curve, places: usize) -> Result<(), AllocError> {
-    let number = format!(in alloc; "{places}")?;
+fn add_bar(alloc: Global, report: &mut Vec<u8>, row: Row) -> Result<(), AllocError> {
+    let size = row.size;
+    let number = format!(in alloc; "{size}")?;
     add_copies(report, b' ', 12_usize.saturating_sub(number.len()) as u64)?;
     report.extend_from_slice(number.as_bytes())?;
     report.extend_from_slice(b" |")?;
-    add_copies(report, b'#', part(curve.misses(places), curve.references(), WIDTH))?;
+    add_copies(report, b'#', missed_part(row, WIDTH))?;
     report.push(b'\n')?;
     Ok(())
 }
 
-fn add_sizes(
+fn add_sizes(alloc: Global, report: &mut Vec<u8>, rows: &[Row]) -> Result<(), AllocError> {
+    for row in rows {
+        add_size(alloc, report, *row)?;
+    }
+    Ok(())
+}
+
+fn add_bars(alloc: Global, report: &mut Vec<u8>, rows: &[Row]) -> Result<(), AllocError> {
+    for row in rows {
+        add_bar(alloc, report, *row)?;
+    }
+    Ok(())
+}
+
+fn text_of(alloc: Global, counts: Counts, named: &[Row], bars: &[Row]) -> Result<Vec<u8>, AllocError> {
+    let (references, keys, malformed) = (counts.references, counts.keys, counts.malformed);
+    let head = format!(in alloc; "references {references} keys {keys} malformed {malformed}\n")?;
+    let mut report = Vec::from_slice(alloc, head.as_bytes())?;
+    add_sizes(alloc, &mut report, named)?;
+    add_bars(alloc, &mut report, bars)?;
+    Ok(report)
+}
+
+fn add_csv_best(alloc: Global, csv: &mut Vec<u8>, best: Option<BestMisses>) -> Result<(), AllocError> {
+    if let Some(best) = best {
+        let (min, bypass) = (best.min, best.bypass);
+        let text = format!(in alloc; ",{min},{bypass}")?;
+        csv.extend_from_slice(text.as_bytes())?;
+    }
+    Ok(())
+}
+
+fn add_csv_line(alloc: Global, csv: &mut Vec<u8>, row: Row) -> Result<(), AllocError> {
+    let ratio = ratio(alloc, missed_part(row, 10_000))?;
+    let (size, hits, misses) = (row.size, row.hits, row.misses);
+    let text = format!(in alloc; "{size},{hits},{misses},{ratio}")?;
+    csv.extend_from_slice(text.as_bytes())?;
+    add_csv_best(alloc, csv, row.best)?;
+    csv.push(b'\n')?;
+    Ok(())
+}
+
+fn csv_head(best: bool) -> &'static str {
+    if best {
+        return "size,hits,misses,ratio,min,bypass\n";
+    }
+    "size,hits,misses,ratio\n"
+}
+
+fn csv_of(alloc: Global, best: bool, rows: &[Row]) -> Result<Vec<u8>, AllocError> {
+    let mut csv = Vec::from_slice(alloc, csv_head(best).as_bytes())?;
+    for row in rows {
+        add_csv_line(alloc, &mut csv, *row)?;
+    }
+    Ok(csv)
+}
+
+fn text_rows(
     alloc: Global,
-    report: &mut Vec<u8>,
+    curve: &Curve,
+    counts: Counts,
+    best: &Option<Best>,
+    sizes: &[usize],
+    powers: &[usize],
+) -> Result<Vec<u8>, AllocError> {
+    let rows = rows_of(alloc, curve, best, sizes)?;
+    let bars = rows_of(alloc, curve, &None, powers)?;
+    let text = text_of(alloc, counts, &rows, &bars)?;
+    Ok(text)
+}
+
+fn point_rows(
+    alloc: Global,
     curve: &Curve,
     best: &Option<Best>,
     sizes: &[usize],
-) -> Result<(), AllocError> {
-    for places in sizes {
-        add_size(alloc, report, curve, best, *places)?;
-    }
-    Ok(())
+    powers: &[usize],
+) -> Result<Vec<Row>, AllocError> {
+    let points = points(alloc, sizes, powers)?;
+    let rows = rows_of(alloc, curve, best, &points)?;
+    Ok(rows)
 }
 
-fn add_chart(alloc: Global, report: &mut Vec<u8>, curve: &Curve) -> Result<(), AllocError> {
-    for level in 0..usize::BITS {
-        let places = 1_usize << level;
-        add_bar(alloc, report, curve, places)?;
-        if curve.keys() <= places {
-            break;
+pub fn report_of(
+    alloc: Global,
+    options: Options,
+    curve: &Curve,
+    malformed: u64,
+    sizes: &[usize],
+) -> Result<Vec<u8>, AllocError> {
+    let (references, keys) = (curve.references(), curve.keys());
+    let counts = Counts { references, keys, malformed };
+    let powers = powers(alloc, keys)?;
+    let best = curve.best()?;
+    match options.form {
+        Form::Text => {
+            let text = text_rows(alloc, curve, counts, &best, sizes, &powers)?;
+            Ok(text)
+        }
+        Form::Csv => {
+            let rows = point_rows(alloc, curve, &best, sizes, &powers)?;
+            let csv = csv_of(alloc, options.best, &rows)?;
+            Ok(csv)
+        }
+        Form::Svg => {
+            let rows = point_rows(alloc, curve, &best, sizes, &powers)?;
+            let svg = svg_of(alloc, counts, options.best, &powers, &rows)?;
+            Ok(svg)
         }
     }
-    Ok(())
-}
-
-pub fn report_of(alloc: Global, curve: &Curve, malformed: u64, sizes: &[usize]) -> Result<Vec<u8>, AllocError> {
-    let best = curve.best()?;
-    let (references, keys) = (curve.references(), curve.keys());
-    let head = format!(in alloc; "references {references} keys {keys} malformed {malformed}\n")?;
-    let mut report = Vec::from_slice(alloc, head.as_bytes())?;
-    add_sizes(alloc, &mut report, curve, &best, sizes)?;
-    add_chart(alloc, &mut report, curve)?;
-    Ok(report)
 }

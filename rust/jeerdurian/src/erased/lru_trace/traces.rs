@@ -6,6 +6,7 @@ use crate::rattle_std::prelude::*;
 
 use crate::erased::lru_trace::curve::Curve;
 use crate::erased::lru_trace::lines::{Ending, read_keys, read_line};
+use crate::erased::lru_trace::options::Options;
 use crate::erased::lru_trace::outcome::{TraceEnd, TraceError};
 use crate::erased::lru_trace::output::write_bytes;
 use crate::erased::lru_trace::progress::Progress;
@@ -29,7 +30,7 @@ fn empty_curve(alloc: Global, best: bool) -> Result<Curve, AllocError> {
 
 fn read_trace<R: BufRead, P: Write>(
     alloc: Global,
-    best: bool,
+    options: Options,
     reader: &mut R,
     progress: &mut Progress<P>,
 ) -> Result<Option<Lines>, TraceError> {
@@ -38,21 +39,21 @@ fn read_trace<R: BufRead, P: Write>(
     let Some(sizes) = sizes_of(alloc, &line)? else {
         return Ok(None);
     };
-    let mut curve = empty_curve(alloc, best)?;
+    let mut curve = empty_curve(alloc, options.best)?;
     let Ending::Feed = ending else {
         let malformed = 0;
         return Ok(Some(Lines { sizes, curve, malformed }));
     };
-    let malformed = read_keys(reader, &mut line, &mut curve, progress)?;
+    let malformed = read_keys(reader, &mut line, options.column, &mut curve, progress)?;
     Ok(Some(Lines { sizes, curve, malformed }))
 }
 
 /// Reads a trace, and writes how often LRU caches of each size miss at it. What is written is a function of the bytes
 /// that were read: `docs/TRACE.md` shows it.
 ///
-/// The first line names sizes, and each other line is a key that is referenced: text of 1 to 64 bytes. Other lines are
-/// counted as malformed. If `best` is true, the report says for each named size how often the best possible policies
-/// miss, too.
+/// The first line names sizes, and each other line, or a column of it, is a key that is referenced: text of 1 to 64
+/// bytes. Other lines are counted as malformed. If `best` is true, the misses of the best possible policies are
+/// written, too: in text for each named size, and in the other forms also for each power of two.
 ///
 /// Cost: `O(log n)` expected for each line and n keys. The memory is in proportion to the number of keys and the
 /// longest line. With `best` it is in proportion to the number of lines, and each size costs `O(log n)` for each line.
@@ -63,15 +64,15 @@ fn read_trace<R: BufRead, P: Write>(
 /// failed; a beginning of the report was written.
 pub fn trace<R: BufRead, W: Write, P: Write>(
     alloc: Global,
-    best: bool,
+    options: Options,
     reader: &mut R,
     writer: &mut W,
     progress: &mut Progress<P>,
 ) -> Result<TraceEnd, TraceError> {
-    let Some(read) = read_trace(alloc, best, reader, progress)? else {
+    let Some(read) = read_trace(alloc, options, reader, progress)? else {
         return Ok(TraceEnd::NoSizes);
     };
-    let report = report_of(alloc, &read.curve, read.malformed, &read.sizes)?;
+    let report = report_of(alloc, options, &read.curve, read.malformed, &read.sizes)?;
     if !write_bytes(writer, &report) {
         return Err(TraceError::Write);
     }

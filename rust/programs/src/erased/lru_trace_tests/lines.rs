@@ -3,10 +3,12 @@
 #[allow(unused_imports)]
 use crate::rattle_std::prelude::*;
 
-use crate::erased::lru_trace::{Progress, TraceEnd, TraceError, trace};
+use crate::erased::lru_trace::{Form, Options, Progress, TraceEnd, TraceError, trace};
 use crate::programs::test_helpers::check;
 use crate::rattle_std::io::{self, ErrorKind, Write};
 use crate::rattle_std::test::Fail;
+
+const TEXT: Options = Options { column: None, form: Form::Text, best: false };
 
 struct Output {
     bytes: Vec<u8>,
@@ -27,7 +29,7 @@ fn of_a_flush_that_fails() {
     let run = |rt: HostRuntime| -> () {
         let mut output = Output { bytes: Vec::new(rt.alloc()) };
         let mut progress = Progress::new(rt.alloc(), None::<Vec<u8>>);
-        let end = trace(rt.alloc(), false, &mut b"1\na\n".as_slice(), &mut output, &mut progress);
+        let end = trace(rt.alloc(), TEXT, &mut b"1\na\n".as_slice(), &mut output, &mut progress);
         check!(rt; end == Err(TraceError::Write));
     };
     run(HostRuntime).passes();
@@ -43,7 +45,7 @@ fn of_the_progress() {
         let mut report = Vec::new(alloc);
         let mut shown = Vec::new(alloc);
         let mut progress = Progress::new(alloc, Some(&mut shown));
-        let end = trace(alloc, false, &mut input.as_slice(), &mut report, &mut progress);
+        let end = trace(alloc, TEXT, &mut input.as_slice(), &mut report, &mut progress);
         check!(rt; end == Ok(TraceEnd::Done));
         drop(progress);
         check!(rt; shown.as_slice() == b"1000000 lines\n2000000 lines\n".as_slice());

@@ -1,0 +1,6 @@
+use Rattle.std.proofs.Common.{◌≡◌, ◌++◌, take, flat_map}
+use Rattle.lru_trace.specs.Report.{bar_text}
+use Rattle.lru_trace.proofs.report.add_bars.Given as goal
+
+abbrev pub invariant-loop-row : goal.invariant-loop-row
+invariant-loop-row l = l.report.items ≡ l.initial.report.items ++ flat_map bar_text (take l.row-index l.rows)

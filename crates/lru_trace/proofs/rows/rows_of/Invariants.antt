@@ -1,0 +1,10 @@
+use Rattle.std.proofs.Common.{◌≡◌, ℕ, List, take, map}
+use Rattle.std.specs.Prelude.{is_some}
+use Rattle.lru_trace.specs.Counted.{IsOf}
+use Rattle.lru_trace.specs.Rows.{row_of}
+use Rattle.lru_trace.specs.Times.{KnowsRest}
+use Rattle.lru_trace.proofs.rows.rows_of.Given as goal
+
+abbrev pub invariant-loop-size : goal.invariant-loop-size
+invariant-loop-size l = (trace : List (List ℕ)) → IsOf trace l.curve → KnowsRest trace l.best
+    → l.rows.items ≡ map (row_of trace (is_some l.best)) (take l.size-index l.sizes)

@@ -1,0 +1,86 @@
+-- The picture of the curves, in tenths of a pixel: the sizes 1 to 2 ^ octaves stand from 900 to 7300, and the parts of
+-- the references from 3900, for none, up to 700, for all.
+use Rattle.std.specs.Prelude.{ℕ, zero, suc, ◌+◌, ◌-◌, ◌*◌, ◌/◌, ◌%◌, ◌^◌, max, nat_le, ◌==◌, if◌then◌else◌}
+use Rattle.std.specs.Prelude.{List, [], ◌++◌, length, flat_map, decimal, codes, Bool, Option, Some, None}
+use Rattle.lru_trace.specs.declared.svg.TheConstants.{START, LRU, MIN, BYPASS}
+use Rattle.lru_trace.specs.declared.rows.BestMisses.{BestMisses}
+use Rattle.lru_trace.specs.declared.rows.Counts.{Counts}
+use Rattle.lru_trace.specs.declared.rows.Row.{Row}
+use Rattle.lru_trace.specs.declared.svg.Policy.{Policy}
+use Rattle.lru_trace.specs.declared.svg.Policy.TheVariants as policies
+
+-- a part of the references, in units of 1 / scale, rounded down
+abbrev pub part : ℕ → ℕ → ℕ → ℕ
+part missed references scale = if references == 0 then 0 else missed * scale / references
+
+-- the last level up to `most` with 2 ^ level ≤ n, or 0
+unfoldable pub level_of : ℕ → ℕ → ℕ
+level_of zero n = 0
+level_of (suc most) n = if nat_le (2 ^ suc most) n then suc most else level_of most n
+
+-- a thousand logarithms of n to the base 2, within 10: exact at a power of two, and a parabola between two
+abbrev pub log_of : ℕ → ℕ
+log_of n =
+    let level : ℕ = level_of 63 n in
+    let behind : ℕ = part (n - 2 ^ level) (2 ^ level) 1000 in
+    1000 * level + (behind + behind * (1000 - behind) * 345 / 1000000)
+
+-- where a size stands
+abbrev pub x_of : ℕ → ℕ → ℕ
+x_of octaves size = 900 + log_of size * 6400 / (1000 * octaves)
+
+abbrev pub of_best : (BestMisses → ℕ) → Option BestMisses → ℕ
+of_best f None = 0
+of_best f (Some best) = f best
+
+-- how often a policy misses
+abbrev pub missed_by : Policy → Row → ℕ
+missed_by policies.Lru row = row.misses
+missed_by policies.Min row = of_best (λ best. best.min) row.best
+missed_by policies.Bypass row = of_best (λ best. best.bypass) row.best
+
+-- where the misses of a policy stand
+abbrev pub y_of : Policy → Row → ℕ
+y_of policy row = 3900 - part (missed_by policy row) (row.hits + row.misses) 3200
+
+-- the point of a row, if its size is on the axis
+abbrev pub point_text : ℕ → Policy → Row → List ℕ
+point_text octaves policy row = if row.size == 0 then [] else if nat_le (x_of octaves row.size) 7300
+    then decimal (x_of octaves row.size) ++ (codes " " ++ (decimal (y_of policy row) ++ codes " ")) else []
+
+-- the line of a policy in the legend, and the beginning of its curve
+abbrev pub legend : Policy → List ℕ
+legend policies.Lru = LRU.now
+legend policies.Min = MIN.now
+legend policies.Bypass = BYPASS.now
+
+abbrev pub curve_text : ℕ → List Row → Policy → List ℕ
+curve_text octaves rows policy = legend policy ++ (flat_map (point_text octaves policy) rows ++ codes "h0'/>\n")
+
+-- a size on the axis, and its line
+abbrev pub grid_text : ℕ → ℕ → List ℕ
+grid_text x size = codes "<path class='grid' d='M" ++ (decimal x ++ (codes " 700v3200'/><text class='tick' x='"
+    ++ (decimal x ++ (codes "' y='4080'>" ++ (decimal size ++ codes "</text>\n")))))
+
+-- a power of two on the axis, unless there are more than ten
+abbrev pub tick_text : ℕ → ℕ → List ℕ
+tick_text octaves power =
+    if level_of 63 power % (1 + octaves / 9) == 0 then grid_text (x_of octaves power) power else []
+
+abbrev pub title_text : Counts → List ℕ
+title_text counts = codes "<text x='900' y='290'>" ++ (decimal counts.references ++ (codes " references to "
+    ++ (decimal counts.keys ++ (codes " keys, " ++ (decimal counts.malformed ++ codes " malformed lines</text>\n")))))
+
+-- how many octaves the axis has
+abbrev pub octaves_of : List ℕ → ℕ
+octaves_of powers = max (length powers - 1) 1
+
+-- the curves: of LRU, and of the best possible policies, if they are asked
+abbrev pub curves_text : Bool → ℕ → List Row → List ℕ
+curves_text best octaves rows = curve_text octaves rows policies.Lru
+    ++ (if best then curve_text octaves rows policies.Min ++ curve_text octaves rows policies.Bypass else [])
+
+-- the picture
+abbrev pub svg_text : Counts → Bool → List ℕ → List Row → List ℕ
+svg_text counts best powers rows = START.now ++ (title_text counts
+    ++ (flat_map (tick_text (octaves_of powers)) powers ++ (curves_text best (octaves_of powers) rows ++ codes "</svg>\n")))

@@ -1,0 +1,127 @@
+//! The numbers that are written of each size.
+ghost use Rattle.std.specs.Prelude.{◌≡◌, ◌<◌, ℕ, List, IfOk, OnOk, is_some, map};
+ghost use Rattle.std.specs.List.{All, fold};
+ghost use Rattle.lru_trace.specs.Counted.{IsOf};
+ghost use Rattle.lru_trace.specs.Rows.{best_in, row_of, powers, points, with_size};
+ghost use Rattle.lru_trace.specs.Times.{KnowsRest};
+
+use crate::best::Best;
+use crate::curve::Curve;
+use std::alloc::{AllocError, Global};
+
+/// What the head of a report says of a trace.
+#[derive(Clone, Copy)]
+pub struct Counts {
+    pub references: u64,
+    pub keys: usize,
+    pub malformed: u64,
+}
+
+/// The misses of MIN, and of MIN with bypass.
+#[derive(Clone, Copy)]
+pub struct BestMisses {
+    pub min: usize,
+    pub bypass: usize,
+}
+
+/// How often the references of a trace hit and miss in a cache of this size.
+#[derive(Clone, Copy)]
+pub struct Row {
+    pub size: usize,
+    pub hits: u64,
+    pub misses: u64,
+    pub best: Option<BestMisses>,
+}
+
+fn best_in(best: &Option<Best>, size: usize) -> Result<Option<BestMisses>, AllocError>
+    ensures { IfOk result (λ misses. (trace : List (List ℕ)) → KnowsRest trace best.now →
+        misses ≡ best_in trace (is_some best.now) size) }
+{
+    let Some(best) = best else {
+        return Ok(None);
+    };
+    let (min, bypass) = (best.min_misses(size)?, best.bypass_misses(size)?);
+    Ok(Some(BestMisses { min, bypass }))
+}
+
+fn row_of(curve: &Curve, best: &Option<Best>, size: usize) -> Result<Row, AllocError>
+    ensures { IfOk result (λ row. (trace : List (List ℕ)) → IsOf trace curve.now → KnowsRest trace best.now →
+        row ≡ row_of trace (is_some best.now) size) }
+{
+    let misses = curve.misses(size);
+    let hits = curve.references() - misses;
+    let best = best_in(best, size)?;
+    Ok(Row {
+        size,
+        hits,
+        misses,
+        best,
+    })
+}
+
+pub fn rows_of(
+    alloc: Global,
+    curve: &Curve,
+    best: &Option<Best>,
+    sizes: &[usize],
+) -> Result<Vec<Row>, AllocError>
+    ensures { IfOk result (λ rows. (trace : List (List ℕ)) → IsOf trace curve.now → KnowsRest trace best.now →
+        rows.items ≡ map (row_of trace (is_some best.now)) sizes.now) }
+{
+    let mut rows = Vec::new(alloc);
+    for size in sizes {
+        rows.push(row_of(curve, best, *size)?)?;
+    }
+    Ok(rows)
+}
+
+pub fn powers(alloc: Global, keys: usize) -> Result<Vec<usize>, AllocError>
+    ensures all { IfOk result (λ all. all.items ≡ powers keys 64 0) }
+    ensures some { IfOk result (λ all. All (λ power. 0 < power) all.items) }
+{
+    let mut powers = Vec::new(alloc);
+    for level in 0..usize::BITS {
+        let power = 1_usize << level;
+        powers.push(power)?;
+        if keys <= power {
+            return Ok(powers);
+        }
+    }
+    Ok(powers)
+}
+
+fn add_point(points: &mut Vec<usize>, size: usize) -> Result<(), AllocError>
+    ensures { OnOk result (points.new.items ≡ with_size points.old.items size) }
+{
+    for at in 0..points.len() {
+        if points[at] == size {
+            return Ok(());
+        }
+        if points[at] > size {
+            let Ok(_) = points.insert(at, size) else {
+                return Err(AllocError);
+            };
+            return Ok(());
+        }
+    }
+    points.push(size)?;
+    Ok(())
+}
+
+fn add_points(points: &mut Vec<usize>, sizes: &[usize]) -> Result<(), AllocError>
+    ensures { OnOk result (points.new.items ≡ fold with_size points.old.items sizes.now) }
+{
+    for size in sizes {
+        add_point(points, *size)?;
+    }
+    Ok(())
+}
+
+pub fn points(alloc: Global, sizes: &[usize], powers: &[usize]) -> Result<Vec<usize>, AllocError>
+    ensures { IfOk result (λ all. all.items ≡ points sizes.now powers.now) }
+{
+    let mut points = Vec::new(alloc);
+    add_points(&mut points, powers)?;
+    add_points(&mut points, sizes)?;
+    Ok(points)
+}

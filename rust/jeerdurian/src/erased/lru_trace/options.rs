@@ -1,0 +1,34 @@
+// Erased from crates/lru_trace/src/options.rt: do not edit.
+//! What a trace is asked to read and to write.
+
+#[allow(unused_imports)]
+use crate::rattle_std::prelude::*;
+
+/// The form of what is written.
+#[derive(Clone, Copy, Debug, PartialEq, Eq)]
+pub enum Form {
+    /// For people: a line for each named size, and bars.
+    Text,
+    /// For programs: a header line, and a record for each size.
+    Csv,
+    /// A picture of the curves.
+    Svg,
+}
+
+/// A column of a line of separated text: the bytes behind this number of separators, up to the next one.
+#[derive(Clone, Copy, Debug, PartialEq, Eq)]
+pub struct Column {
+    pub index: usize,
+    pub separator: u8,
+}
+
+/// What a trace reads and writes.
+#[derive(Clone, Copy, Debug, PartialEq, Eq)]
+pub struct Options {
+    /// The column that is the key. Without one the whole line is.
+    pub column: Option<Column>,
+    /// The form of what is written.
+    pub form: Form,
+    /// Whether the misses of the best possible policies are written, too.
+    pub best: bool,
+}

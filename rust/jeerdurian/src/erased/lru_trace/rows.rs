@@ -1,0 +1,98 @@
+// Erased from crates/lru_trace/src/rows.rt: do not edit.
+//! The numbers that are written of each size.
+
+#[allow(unused_imports)]
+use crate::rattle_std::prelude::*;
+
+use crate::erased::lru_trace::best::Best;
+use crate::erased::lru_trace::curve::Curve;
+use crate::rattle_std::alloc::{AllocError, Global};
+
+/// What the head of a report says of a trace.
+#[derive(Clone, Copy)]
+pub struct Counts {
+    pub references: u64,
+    pub keys: usize,
+    pub malformed: u64,
+}
+
+/// The misses of MIN, and of MIN with bypass.
+#[derive(Clone, Copy)]
+pub struct BestMisses {
+    pub min: usize,
+    pub bypass: usize,
+}
+
+/// How often the references of a trace hit and miss in a cache of this size.
+#[derive(Clone, Copy)]
+pub struct Row {
+    pub size: usize,
+    pub hits: u64,
+    pub misses: u64,
+    pub best: Option<BestMisses>,
+}
+
+fn best_in(best: &Option<Best>, size: usize) -> Result<Option<BestMisses>, AllocError> {
+    let Some(best) = best else {
+        return Ok(None);
+    };
+    let (min, bypass) = (best.min_misses(size)?, best.bypass_misses(size)?);
+    Ok(Some(BestMisses { min, bypass }))
+}
+
+fn row_of(curve: &Curve, best: &Option<Best>, size: usize) -> Result<Row, AllocError> {
+    let misses = curve.misses(size);
+    let hits = curve.references() - misses;
+    let best = best_in(best, size)?;
+    Ok(Row { size, hits, misses, best })
+}
+
+pub fn rows_of(alloc: Global, curve: &Curve, best: &Option<Best>, sizes: &[usize]) -> Result<Vec<Row>, AllocError> {
+    let mut rows = Vec::new(alloc);
+    for size in sizes {
+        rows.push(row_of(curve, best, *size)?)?;
+    }
+    Ok(rows)
+}
+
+pub fn powers(alloc: Global, keys: usize) -> Result<Vec<usize>, AllocError> {
+    let mut powers = Vec::new(alloc);
+    for level in 0..usize::BITS {
+        let power = 1_usize << level;
+        powers.push(power)?;
+        if keys <= power {
+            return Ok(powers);
+        }
+    }
+    Ok(powers)
+}
+
+fn add_point(points: &mut Vec<usize>, size: usize) -> Result<(), AllocError> {
+    for at in 0..points.len() {
+        if (*at!(points, at)) == size {
+            return Ok(());
+        }
+        if (*at!(points, at)) > size {
+            let Ok(_) = points.insert(at, size) else {
+                return Err(AllocError);
+            };
+            return Ok(());
+        }
+    }
+    points.push(size)?;
+    Ok(())
+}
+
+fn add_points(points: &mut Vec<usize>, sizes: &[usize]) -> Result<(), AllocError> {
+    for size in sizes {
+        add_point(points, *size)?;
+    }
+    Ok(())
+}
+
+pub fn points(alloc: Global, sizes: &[usize], powers: &[usize]) -> Result<Vec<usize>, AllocError> {
+    let mut points = Vec::new(alloc);
+    add_points(&mut points, powers)?;
+    add_points(&mut points, sizes)?;
+    Ok(points)
+}
