@@ -3,7 +3,7 @@
 use Rattle.std.specs.Prelude.{◌≡◌, ◌≢◌, ◌⊎◌, ℕ, Bool, false, List, [], ◌∷◌, ◌++◌, map, take, nat_eq, Option, Some, None}
 use Rattle.std.specs.Prelude.{is_some, IsTrue, filter, IsPermutation}
 use Rattle.std.specs.List.Sorted.{IsStrictlyIncreasing}
-use Rattle.std.specs.Map.{lookup, keys_of}
+use Rattle.std.specs.Map.{lookup, keys_of, set_value}
 use Rattle.lru_model.specs.Lists.{without}
 use Rattle.lru_caches.specs.declared.device.BlockDevice as device
 use Rattle.lru_caches.specs.declared.page_cache.pages.Page.{Page}
@@ -27,6 +27,15 @@ module _ {B : Type 0} where
   -- the same pages, all of them clean
   abbrev pub cleaned : List (ℕ × Page B) → List (ℕ × Page B)
   cleaned pages = map (λ p. (p.0, record { block = p.1.block; is_dirty = false })) pages
+
+  -- the same pages, and this page n, if there is one, is clean
+  abbrev pub with_clean : ℕ → Option (Page B) → List (ℕ × Page B) → List (ℕ × Page B)
+  with_clean n None pages = pages
+  with_clean n (Some page) pages = set_value (nat_eq n) pages (record { block = page.block; is_dirty = false })
+
+  -- the same pages, and page n is clean, if there is one
+  abbrev pub cleaned_at : ℕ → List (ℕ × Page B) → List (ℕ × Page B)
+  cleaned_at n pages = with_clean n (lookup (nat_eq n) pages) pages
 
   -- the numbers of the dirty pages
   abbrev pub dirty_numbers : List (ℕ × Page B) → List ℕ

@@ -4,13 +4,13 @@ ghost use Rattle.std.specs.Prelude.{◌++◌, List, All, vec_capacity, IsPermuta
 ghost use Rattle.std.specs.List.{IsDistinct};
 ghost use Rattle.std.specs.List.Sorted.{IsStrictlyIncreasing};
 ghost use Rattle.std.specs.Map.{lookup, keys_of};
-ghost use Rattle.lru_caches.specs.Pages.{block_at, cleaned, dirty_numbers, is_dirty};
+ghost use Rattle.lru_caches.specs.Pages.{block_at, cleaned, cleaned_at, dirty, dirty_numbers, is_dirty};
 ghost use Rattle.lru_caches.specs.Pages.{AreClean, AreThere, AreWritten, CrashAdds, IsFault, Serves};
-ghost use Rattle.lru_caches.specs.Pages.{IsFlush, IsCutOff};
+ghost use Rattle.lru_caches.specs.Pages.{IsFlush, IsCutOff, IsFlushCause, ShowsTheSame};
 
 use crate::device::BlockDevice;
-use crate::page_cache::PageError;
 use crate::page_cache::pages::{Page, Pages};
+use crate::page_cache::{PageCache, PageError};
 use schnellru::KeyHasher;
 
 /// Takes memory for the number of one page more, so that a flush needs none.
@@ -167,4 +167,75 @@ pub(super) fn make_clean<B: Copy, S: KeyHasher<u64>>(map: &mut Pages<B, S>)
     ensures { map.new.pairs ≡ cleaned map.old.pairs }
 {
     map.for_each_mut(|_, page| page.is_dirty = false);
+}
+
+fn clean_page<B: Copy, S: KeyHasher<u64>>(map: &mut Pages<B, S>, n: u64)
+    ensures { map.new.pairs ≡ cleaned_at n map.old.pairs }
+{
+    if let Some(page) = map.peek_mut(&n) {
+        page.is_dirty = false;
+    }
+}
+
+impl<B: Copy, D: BlockDevice<B>, S: KeyHasher<u64>> PageCache<B, D, S> {
+    /// Writes a page to the device if it is cached and dirty. The page is clean afterwards, and the order of use stays.
+    ///
+    /// It does not call `sync`: until a `flush` returns `Ok`, a crash may leave the old block, or a torn one.
+    ///
+    /// ```
+    /// assert_eq!(rt; (cache.dirty_len(), cache.flush_page(1), cache.dirty_len()), (1, Ok(()), 0));
+    /// assert_eq!(rt; cache.device().blocks, [10, 20, 12, 13]);
+    /// ```
+    ///
+    /// Cost: `O(1)` expected, and at most one write of the device.
+    ///
+    /// # Errors
+    ///
+    /// `Device`: the write failed, and the page stays dirty. `Broken`: a `sync` has failed.
+    pub fn flush_page(&mut self, n: u64) -> Result<(), PageError<D::Error>>
+        ensures keeps { ShowsTheSame D.BlockDevice self.old self.new }
+        ensures pages { OnOk result (self.new.pages ≡ cleaned_at n self.old.pages) }
+        ensures dirty { OnErr result (self.new.pages ≡ self.old.pages) }
+        ensures gives { IsTrue (D.is_usable self.old.device) → (page : Page B)
+            → lookup (nat_eq n) self.old.pages ≡ Some page → page.is_dirty ≡ true
+            → D.write_gives self.old.device n (D.seen page.block) self.new.device }
+        ensures untouched { dirty self.old n ≡ false → self.new.device ≡ self.old.device }
+        ensures crash { CrashAdds D.BlockDevice self.old.pages self.old.device self.new.device }
+        ensures broken { D.is_usable self.old.device ≡ false → (result ≡ Err PageError.Broken) × (self.new ≡ self.old) }
+        ensures cause { IfErr result (IsFlushCause D.BlockDevice self.old.device self.new.device) }
+        ensures serves { Serves D.BlockDevice self.old.device self.new.device }
+        ensures capacity { self.new.capacity ≡ self.old.capacity }
+    {
+        if !self.device.is_usable() {
+            return Err(PageError::Broken);
+        }
+        write_page(&self.map, &mut self.device, n)?;
+        clean_page(&mut self.map, n);
+        Ok(())
+    }
+
+    /// Returns how many pages are dirty.
+    ///
+    /// ```
+    /// assert_eq!(rt; cache.dirty_len(), 1);
+    /// ```
+    ///
+    /// Cost: `O(len)`.
+    pub fn dirty_len(&self) -> usize
+        ensures { result ≡ length (dirty_numbers self.now.pages) }
+    {
+        count_dirty(&self.map)
+    }
+}
+
+fn count_dirty<B: Copy, S: KeyHasher<u64>>(map: &Pages<B, S>) -> usize
+    ensures { result ≡ length (dirty_numbers map.now.pairs) }
+{
+    let mut count = 0usize;
+    for (_, page) in map.iter() {
+        if page.is_dirty {
+            count += 1;
+        }
+    }
+    count
 }
