@@ -5,8 +5,8 @@
 use crate::rattle_std::prelude::*;
 
 use crate::erased::lru_caches::device::BlockDevice;
-use crate::erased::lru_caches::page_cache::PageError;
 use crate::erased::lru_caches::page_cache::pages::{Page, Pages};
+use crate::erased::lru_caches::page_cache::{PageCache, PageError};
 use crate::erased::schnellru::KeyHasher;
 
 /// Takes memory for the number of one page more, so that a flush needs none.
@@ -76,4 +76,56 @@ fn write_each_back<B: Copy, D: BlockDevice<B>, S: KeyHasher<u64>>(
 
 pub(super) fn make_clean<B: Copy, S: KeyHasher<u64>>(map: &mut Pages<B, S>) {
     map.for_each_mut(|_, page| page.is_dirty = false);
+}
+
+fn clean_page<B: Copy, S: KeyHasher<u64>>(map: &mut Pages<B, S>, n: u64) {
+    if let Some(page) = map.peek_mut(&n) {
+        page.is_dirty = false;
+    }
+}
+
+impl<B: Copy, D: BlockDevice<B>, S: KeyHasher<u64>> PageCache<B, D, S> {
+    /// Writes a page to the device if it is cached and dirty. The page is clean afterwards, and the order of use stays.
+    ///
+    /// It does not call `sync`: until a `flush` returns `Ok`, a crash may leave the old block, or a torn one.
+    ///
+    /// ```text
+    /// assert_eq!(rt; (cache.dirty_len(), cache.flush_page(1), cache.dirty_len()), (1, Ok(()), 0));
+    /// assert_eq!(rt; cache.device().blocks, [10, 20, 12, 13]);
+    /// ```
+    ///
+    /// Cost: `O(1)` expected, and at most one write of the device.
+    ///
+    /// # Errors
+    ///
+    /// `Device`: the write failed, and the page stays dirty. `Broken`: a `sync` has failed.
+    pub fn flush_page(&mut self, n: u64) -> Result<(), PageError<D::Error>> {
+        if !self.device.is_usable() {
+            return Err(PageError::Broken);
+        }
+        write_page(&self.map, &mut self.device, n)?;
+        clean_page(&mut self.map, n);
+        Ok(())
+    }
+
+    /// Returns how many pages are dirty.
+    ///
+    /// ```text
+    /// assert_eq!(rt; cache.dirty_len(), 1);
+    /// ```
+    ///
+    /// Cost: `O(len)`.
+    pub fn dirty_len(&self) -> usize {
+        count_dirty(&self.map)
+    }
+}
+
+fn count_dirty<B: Copy, S: KeyHasher<u64>>(map: &Pages<B, S>) -> usize {
+    let mut count = 0usize;
+    for (_, page) in map.iter() {
+        if page.is_dirty {
+            count += 1;
+        }
+    }
+    count
 }
