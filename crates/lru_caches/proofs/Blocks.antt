@@ -37,6 +37,15 @@ module _ {B D E S : Type 0} (d : device.Ghosts D B E S) where
   pub crash-same : (pages : List (ℕ × Page B)) (it : D) → CrashAdds d pages it it
   crash-same pages it n block left = inl left
 
+  pub crash-then : (pages : List (ℕ × Page B)) (first old new : D) → CrashAdds d pages first old
+      → CrashAdds d pages old new → CrashAdds d pages first new
+  crash-then pages first old new one two n block left = go (two n block left)
+    where
+      go : d.may_leave old n block ⊎ IsWritten d (lookup (nat_eq n) pages) block
+          → d.may_leave first n block ⊎ IsWritten d (lookup (nat_eq n) pages) block
+      go (inl was) = one n block was
+      go (inr is) = inr is
+
   module _ (pages : List (ℕ × Page B)) (old new : D) (k : ℕ) (page : Page B)
       (there : lookup (nat_eq k) pages ≡ Some page) (others : (m : ℕ) → m ≢ k → d.blocks new m ≡ d.blocks old m) where
     pub shown-written_back : (n : ℕ) → block_at d pages new n ≡ block_at d pages old n

@@ -1,6 +1,8 @@
 pub mod PageLists
 pub mod PageOrder
 pub mod Blocks
+pub mod DirtyPages
+pub mod SetPages
 pub mod StoredAnswers
 pub mod TurnedEntries
 pub mod RetainedEntries

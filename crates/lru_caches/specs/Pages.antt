@@ -1,8 +1,9 @@
 -- A page cache: which blocks it shows, which of its pages are dirty, and what a crash may leave.
 --     d    the ghost members of the device: what contracts see of a block, the blocks, what a crash may leave of them
-use Rattle.std.specs.Prelude.{◌≡◌, ◌≢◌, ◌⊎◌, ℕ, Bool, false, List, ◌∷◌, map, take, nat_eq, Option, Some, None, is_some}
-use Rattle.std.specs.Prelude.{IsTrue}
-use Rattle.std.specs.Map.{lookup}
+use Rattle.std.specs.Prelude.{◌≡◌, ◌≢◌, ◌⊎◌, ℕ, Bool, false, List, [], ◌∷◌, ◌++◌, map, take, nat_eq, Option, Some, None}
+use Rattle.std.specs.Prelude.{is_some, IsTrue, filter, IsPermutation}
+use Rattle.std.specs.List.Sorted.{IsStrictlyIncreasing}
+use Rattle.std.specs.Map.{lookup, keys_of, set_value}
 use Rattle.lru_model.specs.Lists.{without}
 use Rattle.lru_caches.specs.declared.device.BlockDevice as device
 use Rattle.lru_caches.specs.declared.page_cache.pages.Page.{Page}
@@ -26,6 +27,19 @@ module _ {B : Type 0} where
   -- the same pages, all of them clean
   abbrev pub cleaned : List (ℕ × Page B) → List (ℕ × Page B)
   cleaned pages = map (λ p. (p.0, record { block = p.1.block; is_dirty = false })) pages
+
+  -- the same pages, and this page n, if there is one, is clean
+  abbrev pub with_clean : ℕ → Option (Page B) → List (ℕ × Page B) → List (ℕ × Page B)
+  with_clean n None pages = pages
+  with_clean n (Some page) pages = set_value (nat_eq n) pages (record { block = page.block; is_dirty = false })
+
+  -- the same pages, and page n is clean, if there is one
+  abbrev pub cleaned_at : ℕ → List (ℕ × Page B) → List (ℕ × Page B)
+  cleaned_at n pages = with_clean n (lookup (nat_eq n) pages) pages
+
+  -- the numbers of the dirty pages
+  abbrev pub dirty_numbers : List (ℕ × Page B) → List ℕ
+  dirty_numbers pages = keys_of (filter (λ p. p.1.is_dirty) pages)
 
 module _ {B D : Type 0} where
   -- the cache has a page of this number
@@ -85,6 +99,31 @@ module _ {B D E S : Type 0} (d : device.Ghosts D B E S) where
     pub numbers : (n : ℕ) → d.has new n ≡ d.has old n
     pub usable : d.is_usable new ≡ d.is_usable old
     pub honest : d.IsHonest new → d.IsHonest old
+
+  -- The pages of these numbers were written to the device, one after another, and nothing else was done to it.
+  abbrev pub AreWritten : List ℕ → List (ℕ × Page B) → D → D → Type 0
+  AreWritten [] pages old new = new ≡ old
+  AreWritten (n ∷ numbers) pages old new = (page : Page B) × (between : D) × (lookup (nat_eq n) pages ≡ Some page)
+      × d.write_gives old n (d.seen page.block) between × AreWritten numbers pages between new
+
+  -- The dirty pages were written, each once, in the order of their numbers, and then the device was synced.
+  pub record IsFlush (pages : List (ℕ × Page B)) (old new : D) : Type 0 where
+    pub numbers : List ℕ
+    pub all_dirty : IsPermutation (dirty_numbers pages) numbers
+    pub ascending : IsStrictlyIncreasing numbers
+    pub written : D
+    pub writes : AreWritten numbers pages old written
+    pub synced : d.sync_gives written new
+
+  -- a flush that was cut off after the first of its writes, or in its sync
+  pub record IsCutOff (pages : List (ℕ × Page B)) (old new : D) : Type 0 where
+    pub numbers : List ℕ
+    pub rest : List ℕ
+    pub all_dirty : IsPermutation (dirty_numbers pages) (numbers ++ rest)
+    pub ascending : IsStrictlyIncreasing (numbers ++ rest)
+    pub written : D
+    pub writes : AreWritten numbers pages old written
+    pub ends : (new ≡ written) ⊎ d.sync_gives written new
 
   -- the device failed in the call
   abbrev pub IsFault : D → D → PageError E → Type 0

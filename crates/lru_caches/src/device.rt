@@ -51,6 +51,12 @@ pub trait BlockDevice<B> {
     /// No read has returned anything but the known block: for a file a premise that no code can test.
     ghost IsHonest: { Self → Type 0 } = { λ _. Unit {0} };
 
+    /// A `write` of a block to this number takes the first state to the second. By default any two states.
+    ghost write_gives: { Self → ℕ → Self.Seen → Self → Type 0 } = { λ _ _ _ _. Unit {0} };
+
+    /// A `sync` takes the first state to the second. By default any two states.
+    ghost sync_gives: { Self → Self → Type 0 } = { λ _ _. Unit {0} };
+
     /// Returns whether the device has a block of this number.
     fn has(&self, n: u64) -> bool
         ensures { result ≡ has self.now n };
@@ -83,6 +89,7 @@ pub trait BlockDevice<B> {
     fn write(&mut self, n: u64, block: &B) -> Result<(), Self::Error>
         requires there { IsTrue (has self.old n) }
         requires usable { IsTrue (is_usable self.old) }
+        ensures gives { write_gives self.old n (seen block.now) self.new }
         ensures written { OnOk result (blocks self.new n ≡ Some (seen block.now)) }
         ensures others { (m : ℕ) → m ≢ n → blocks self.new m ≡ blocks self.old m }
         ensures crash { (m : ℕ) (b : Self.Seen) → may_leave self.new m b
@@ -99,6 +106,7 @@ pub trait BlockDevice<B> {
     /// The device failed, and is not usable from then on. What was written since the last `sync` may be lost.
     fn sync(&mut self) -> Result<(), Self::Error>
         requires usable { IsTrue (is_usable self.old) }
+        ensures gives { sync_gives self.old self.new }
         ensures keeps { OnOk result ((m : ℕ) → blocks self.new m ≡ blocks self.old m) }
         ensures durable { OnOk result ((m : ℕ) (block b : Self.Seen) → blocks self.new m ≡ Some block
             → may_leave self.new m b → b ≡ block) }

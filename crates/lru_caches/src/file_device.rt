@@ -1,6 +1,7 @@
 //! A device over a file.
-ghost use Rattle.std.specs.Prelude.{◌≡◌, ℕ, ◌∷◌, [], nat_lt, IsTrue, ◌^◌, ◌<◌};
+ghost use Rattle.std.specs.Prelude.{◌≡◌, ℕ, Bool, ◌∷◌, [], nat_lt, if◌then◌else◌, IsTrue, ◌^◌, ◌<◌};
 ghost use Rattle.lru_caches.specs.Files.{known, left, IsLeft, failures, IsHonest as AnsweredAsRecorded};
+ghost use Rattle.lru_caches.specs.Files.{written, unwritten, synced, unsynced};
 ghost use Rattle.lru_caches.specs.LeftLemma.{left_is_known};
 
 use crate::device::BlockDevice;
@@ -136,6 +137,12 @@ impl<F: Read + Write + Seek + Durable, const N: usize> BlockDevice<[u8; N]> for 
     ghost faults = { λ device. failures device.file.log.events };
 
     ghost IsHonest = { λ device. AnsweredAsRecorded device.file.log.events };
+
+    ghost write_gives = { λ old n block new. (ok : Bool) × (new.file.log.events
+        ≡ (if ok then written n block else unwritten n block) ∷ old.file.log.events) };
+
+    ghost sync_gives = { λ old new. (ok : Bool) × (new.file.log.events
+        ≡ (if ok then synced else unsynced) ∷ old.file.log.events) };
 
     ghost stays = { λ device n block is. left_is_known (λ block. block) device.file.log.events n block is };
 

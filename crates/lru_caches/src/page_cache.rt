@@ -3,18 +3,18 @@ ghost use Rattle.std.specs.Prelude.{◌≡◌, ◌≢◌, ◌⊎◌, ◌≤◌, 
 ghost use Rattle.std.specs.Prelude.{IfOk, IfErr, OnOk, OnErr, IsOk};
 ghost use Rattle.lru_model.specs.Lists.{is_empty};
 ghost use Rattle.lru_caches.specs.Pages.{shown, dirty, cleaned, pages_after, IsCached, ShowsTheSame, CrashAdds, Serves};
-ghost use Rattle.lru_caches.specs.Pages.{IsCause, IsFlushCause};
+ghost use Rattle.lru_caches.specs.Pages.{IsCause, IsFlushCause, IsFlush, IsCutOff};
 
 use crate::device::BlockDevice;
-use crate::page_cache::pages::{
-    Page, Pages, admit, cached_block, load, make_clean, overwrite, store, write_all_back,
-};
+use crate::page_cache::flush::{list_dirty, make_clean, reserve_number, write_all_back};
+use crate::page_cache::pages::{Page, Pages, admit, cached_block, load, overwrite, store};
 use schnellru::{KeyHasher, LruMap, RandomState, UnlimitedCompact};
 use std::alloc::Global;
 use std::fmt::Display;
 use std::marker::Model;
 use thiserror::Error;
 
+mod flush;
 mod pages;
 
 /// Why a call on a page cache failed. A call that fails changes no block that the cache shows, unless a `sync` of the
@@ -63,12 +63,14 @@ pub enum PageError<E> {
 /// ```
 pub struct PageCache<B: Copy, D: BlockDevice<B>, S: KeyHasher<u64> = RandomState> {
     map: Pages<B, S>,
+    // memory for the number of each page
+    numbers: Vec<u64>,
     capacity: usize,
     device: D,
 }
 
 impl<B: Copy, D: BlockDevice<B>, S: KeyHasher<u64>> Model for PageCache<B, D, S> {
-    ghost use Rattle.std.specs.Prelude.{◌≤◌, ◌<◌, length};
+    ghost use Rattle.std.specs.Prelude.{◌≤◌, ◌<◌, length, vec_capacity};
     ghost use Rattle.lru_caches.specs.Pages.{Cached, AreClean, AreThere};
 
     ghost Value = { Cached B D };
@@ -81,7 +83,8 @@ impl<B: Copy, D: BlockDevice<B>, S: KeyHasher<u64>> Model for PageCache<B, D, S>
 
     ghost invariant = { λ c. AreClean D.BlockDevice c.map.pairs c.device
         × AreThere D.BlockDevice c.map.pairs c.device
-        × (length c.map.pairs ≤ c.capacity) × (0 < c.capacity) };
+        × (length c.map.pairs ≤ c.capacity) × (0 < c.capacity)
+        × (length c.map.pairs ≤ vec_capacity c.numbers) };
 }
 
 impl<B: Copy, D: BlockDevice<B>> PageCache<B, D, RandomState> {
@@ -120,6 +123,7 @@ impl<B: Copy, D: BlockDevice<B>, S: KeyHasher<u64>> PageCache<B, D, S> {
     {
         PageCache {
             map: LruMap::with_limiter_and_hasher(alloc, UnlimitedCompact, hasher),
+            numbers: Vec::new(alloc),
             capacity: capacity.max(1),
             device,
         }
@@ -214,6 +218,7 @@ impl<B: Copy, D: BlockDevice<B>, S: KeyHasher<u64>> PageCache<B, D, S> {
             return Ok(block);
         }
         admit(&self.device, n)?;
+        reserve_number(&mut self.numbers, self.map.len())?;
         load(&mut self.map, &mut self.device, self.capacity, n)
     }
 
@@ -254,6 +259,7 @@ impl<B: Copy, D: BlockDevice<B>, S: KeyHasher<u64>> PageCache<B, D, S> {
         if overwrite(&mut self.map, n, page) {
             return Ok(());
         }
+        reserve_number(&mut self.numbers, self.map.len())?;
         store(&mut self.map, &mut self.device, self.capacity, n, page)
     }
 
@@ -287,11 +293,15 @@ impl<B: Copy, D: BlockDevice<B>, S: KeyHasher<u64>> PageCache<B, D, S> {
         ensures numbers { (n : ℕ) → D.has self.new.device n ≡ D.has self.old.device n }
         ensures honest { D.IsHonest self.new.device → D.IsHonest self.old.device }
         ensures capacity { self.new.capacity ≡ self.old.capacity }
+        ensures order { OnOk result (IsFlush D.BlockDevice self.old.pages self.old.device self.new.device) }
+        ensures cut_off { IsTrue (D.is_usable self.old.device)
+            → OnErr result (IsCutOff D.BlockDevice self.old.pages self.old.device self.new.device) }
     {
         if !self.device.is_usable() {
             return Err(PageError::Broken);
         }
-        write_all_back(&self.map, &mut self.device)?;
+        list_dirty(&self.map, &mut self.numbers);
+        write_all_back(&self.map, self.numbers.as_slice(), &mut self.device)?;
         make_clean(&mut self.map);
         Ok(())
     }
@@ -347,6 +357,7 @@ impl<B: Copy, D: BlockDevice<B>, S: KeyHasher<u64>> PageCache<B, D, S> {
     {
         let PageCache {
             map: _,
+            numbers: _,
             capacity: _,
             device,
         } = self;

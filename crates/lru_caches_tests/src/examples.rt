@@ -98,10 +98,20 @@ fn on_a_map(rt: HostRuntime) {
 fn cache_1(cache: &mut Cache<'_>) -> bool {
     all!(
         rewrite(cache),
+        (cache.dirty_len(), cache.flush_page(1), cache.dirty_len()) == (1, Ok(()), 0),
+        cache.device().blocks == [10, 20, 12, 13],
+        rewrite(cache),
+        cache.dirty_len() == 1,
+        rewrite(cache),
         cache.read(4) == Err(PageError::NoBlock),
         rewrite(cache),
         cache.contains(1) && !cache.contains(2),
-        cache.device().blocks == [10, 11, 12, 13],
+        cache.device().blocks == [10, 11, 12, 13]
+    )
+}
+
+fn cache_2(cache: &mut Cache<'_>) -> bool {
+    all!(
         rewrite(cache),
         cache.flush() == Ok(()),
         cache.device().blocks == [10, 20, 12, 13]
@@ -114,7 +124,7 @@ fn on_a_cache(rt: HostRuntime) {
     let calls_left = Cell::new(100);
     let disk = Disk::new([10, 11, 12, 13], [false; 4], &calls_left);
     let mut cache = PageCache::new(alloc, disk, 2);
-    let held = cache_1(&mut cache);
+    let held = all!(cache_1(&mut cache), cache_2(&mut cache));
     cache.discard();
     check!(rt; held);
 }

@@ -90,3 +90,66 @@ fn a_flush_makes_blocks_durable() {
     assert_eq!(many_pages(FileDevice::new(disk(), 300)).file().1, 1);
     assert_eq!(many_pages(HashedFileDevice::new(disk(), 300)).file().1, 1);
 }
+
+/// A device that lists its writes.
+struct Listed([u64; 12], Vec<u64>);
+
+impl BlockDevice<u64> for Listed {
+    type Error = u32;
+    fn has(&self, n: u64) -> bool {
+        n < 12
+    }
+    fn read(&mut self, n: u64) -> std::result::Result<u64, u32> {
+        Ok(self.0[n as usize])
+    }
+    fn write(&mut self, n: u64, block: &u64) -> std::result::Result<(), u32> {
+        self.0[n as usize] = *block;
+        self.1.push(n);
+        Ok(())
+    }
+    fn sync(&mut self) -> std::result::Result<(), u32> {
+        Ok(())
+    }
+}
+
+/// A page as the model keeps it: its number and block, and whether it is dirty.
+type Kept = (u64, u64, bool);
+
+fn write_back(page: &mut Kept, blocks: &mut [u64; 12], writes: &mut Vec<u64>) {
+    if page.2 {
+        (blocks[page.0 as usize], page.2) = (page.1, false);
+        writes.push(page.0);
+    }
+}
+
+/// Random calls compared with a plain list of pages, newest first, and with the list of the writes.
+#[test]
+fn each_dirty_page_is_written_once_in_order() {
+    let mut cache = PageCache::new(Listed([0; 12], Vec::new()), 4);
+    let (mut pages, mut blocks, mut writes, mut random) = (Vec::<Kept>::new(), [0; 12], Vec::new(), 7u64);
+    for call in 0..20_000u64 {
+        random = random.wrapping_mul(6_364_136_223_846_793_005).wrapping_add(1_442_695_040_888_963_407);
+        let (kind, n) = ((random >> 33) % 8, (random >> 40) % 12);
+        let place = pages.iter().position(|page| page.0 == n);
+        if kind < 6 {
+            if place.is_none() && pages.len() == 4 {
+                write_back(&mut pages.pop().unwrap(), &mut blocks, &mut writes);
+            }
+            let page = place.map_or((n, blocks[n as usize], false), |at| pages.remove(at));
+            pages.insert(0, if kind < 2 { page } else { (n, call, true) });
+            let shown = if kind < 2 { cache.read(n) } else { cache.write(n, call).map(|()| call) };
+            assert_eq!(shown, Ok(pages[0].1));
+        } else if kind < 7 {
+            place.into_iter().for_each(|at| write_back(&mut pages[at], &mut blocks, &mut writes));
+            assert_eq!(cache.flush_page(n), Ok(()));
+        } else {
+            let mut in_order: Vec<&mut Kept> = pages.iter_mut().collect();
+            in_order.sort_by_key(|page| page.0);
+            in_order.into_iter().for_each(|page| write_back(page, &mut blocks, &mut writes));
+            assert_eq!(cache.flush(), Ok(()));
+        }
+        assert_eq!((&cache.device().0, &cache.device().1), (&blocks, &writes));
+        assert_eq!(cache.dirty_len(), pages.iter().filter(|page| page.2).count());
+    }
+    assert!(writes.len() > 5000);
+}

@@ -1,5 +1,5 @@
 //! The steps of a page cache, over its map of pages and its device.
-ghost use Rattle.std.specs.Prelude.{◌≡◌, ◌≢◌, ◌⊎◌, ◌≤◌, ◌<◌, ◌-◌, ℕ, ◌∷◌, length, nat_eq, None, Some, option_map};
+ghost use Rattle.std.specs.Prelude.{◌≡◌, ◌≢◌, ◌⊎◌, ◌≤◌, ◌<◌, ◌+◌, ◌-◌, ℕ, ◌∷◌, length, nat_eq, None, Some, option_map};
 ghost use Rattle.std.specs.Prelude.{is_some, true, false, take, IsTrue, IfSome, IfOk, IfErr, OnOk, OnErr};
 ghost use Rattle.std.specs.Map.{lookup};
 ghost use Rattle.lru_model.specs.Lists.{without};
@@ -8,6 +8,7 @@ ghost use Rattle.lru_caches.specs.Pages.{AreClean, AreThere, CrashAdds, IsCause,
 
 use crate::device::BlockDevice;
 use crate::page_cache::PageError;
+use crate::page_cache::flush::write_back;
 use schnellru::{KeyHasher, LruMap, UnlimitedCompact};
 
 #[derive(Clone, Copy)]
@@ -76,6 +77,7 @@ pub(super) fn load<B: Copy, D: BlockDevice<B>, S: KeyHasher<u64>>(
     ensures cause { IfErr result (λ e. IsFault D.BlockDevice device.old device.new e ⊎ (e ≡ PageError.Memory)) }
     ensures newest { IfOk result (λ block. map.new.pairs
         ≡ (n, record { block = block; is_dirty = false }) ∷ take (capacity - 1) map.old.pairs) }
+    ensures no_more { length map.new.pairs ≤ length map.old.pairs + 1 }
 {
     let block = read_block(device, n)?;
     let page = Page {
@@ -146,6 +148,7 @@ pub(super) fn store<B: Copy, D: BlockDevice<B>, S: KeyHasher<u64>>(
     ensures failed { OnErr result (D.IsHonest device.new → (m : ℕ)
         → block_at D.BlockDevice map.new.pairs device.new m ≡ block_at D.BlockDevice map.old.pairs device.old m) }
     ensures stored { OnOk result (map.new.pairs ≡ (n, page) ∷ take (capacity - 1) map.old.pairs) }
+    ensures no_more { length map.new.pairs ≤ length map.old.pairs + 1 }
     ensures crash { CrashAdds D.BlockDevice map.old.pairs device.old device.new }
     ensures serves { Serves D.BlockDevice device.old device.new }
     ensures cause { IfErr result (λ e. IsFault D.BlockDevice device.old device.new e ⊎ (e ≡ PageError.Memory)) }
@@ -175,6 +178,7 @@ fn make_room<B: Copy, D: BlockDevice<B>, S: KeyHasher<u64>>(
     ensures absent { (n : ℕ) → lookup (nat_eq n) map.old.pairs ≡ None → lookup (nat_eq n) map.new.pairs ≡ None }
     ensures growth_left { OnOk result (length map.new.pairs < capacity) }
     ensures newest { OnOk result (map.new.pairs ≡ take (capacity - 1) map.old.pairs) }
+    ensures no_more { length map.new.pairs ≤ length map.old.pairs }
 {
     if map.len() < capacity {
         return Ok(());
@@ -209,82 +213,6 @@ fn evict_oldest<B: Copy, D: BlockDevice<B>, S: KeyHasher<u64>>(
     write_back(device, *n, page)?;
     map.pop_oldest();
     Ok(())
-}
-
-fn write_back<B: Copy, D: BlockDevice<B>>(
-    device: &mut D,
-    n: u64,
-    page: &Page<B>,
-) -> Result<(), PageError<D::Error>>
-    requires usable { IsTrue (D.is_usable device.old) }
-    requires there { IsTrue (D.has device.old n) }
-    ensures written { OnOk result (page.now.is_dirty ≡ true → D.blocks device.new n ≡ Some (D.seen page.now.block)) }
-    ensures clean { page.now.is_dirty ≡ false → D.blocks device.new n ≡ D.blocks device.old n }
-    ensures others { (m : ℕ) → m ≢ n → D.blocks device.new m ≡ D.blocks device.old m }
-    ensures crash { (m : ℕ) (b : D.Seen) → D.may_leave device.new m b → D.may_leave device.old m b
-        ⊎ ((m ≡ n) × IsTrue page.now.is_dirty × ((b ≡ D.seen page.now.block) ⊎ D.IsTorn b)) }
-    ensures serves { Serves D.BlockDevice device.old device.new }
-    ensures cause { IfErr result (IsFault D.BlockDevice device.old device.new) }
-    ensures calm { OnOk result (D.faults device.new ≡ D.faults device.old) }
-{
-    if !page.is_dirty {
-        return Ok(());
-    }
-    device.write(n, &page.block).map_err(PageError::Device)
-}
-
-pub(super) fn write_all_back<B: Copy, D: BlockDevice<B>, S: KeyHasher<u64>>(
-    map: &Pages<B, S>,
-    device: &mut D,
-) -> Result<(), PageError<D::Error>>
-    requires usable { IsTrue (D.is_usable device.old) }
-    requires clean { AreClean D.BlockDevice map.now.pairs device.old }
-    requires there { AreThere D.BlockDevice map.now.pairs device.old }
-    ensures clean { AreClean D.BlockDevice map.now.pairs device.new }
-    ensures there { AreThere D.BlockDevice map.now.pairs device.new }
-    ensures shows { IsTrue (D.is_usable device.new) → (n : ℕ) →
-        block_at D.BlockDevice map.now.pairs device.new n ≡ block_at D.BlockDevice map.now.pairs device.old n }
-    ensures written { OnOk result (D.IsHonest device.new → (n : ℕ) →
-        D.blocks device.new n ≡ block_at D.BlockDevice map.now.pairs device.old n) }
-    ensures durable { OnOk result ((n : ℕ) (block b : D.Seen) → D.blocks device.new n ≡ Some block
-        → D.may_leave device.new n b → b ≡ block) }
-    ensures crash { CrashAdds D.BlockDevice map.now.pairs device.old device.new }
-    ensures usable { OnOk result (IsTrue (D.is_usable device.new)) }
-    ensures numbers { (n : ℕ) → D.has device.new n ≡ D.has device.old n }
-    ensures honest { D.IsHonest device.new → D.IsHonest device.old }
-    ensures cause { IfErr result (IsFault D.BlockDevice device.old device.new) }
-{
-    write_each_back(map, device)?;
-    device.sync().map_err(PageError::Device)
-}
-
-fn write_each_back<B: Copy, D: BlockDevice<B>, S: KeyHasher<u64>>(
-    map: &Pages<B, S>,
-    device: &mut D,
-) -> Result<(), PageError<D::Error>>
-    requires usable { IsTrue (D.is_usable device.old) }
-    requires clean { AreClean D.BlockDevice map.now.pairs device.old }
-    requires there { AreThere D.BlockDevice map.now.pairs device.old }
-    ensures clean { AreClean D.BlockDevice map.now.pairs device.new }
-    ensures shows { (n : ℕ) →
-        block_at D.BlockDevice map.now.pairs device.new n ≡ block_at D.BlockDevice map.now.pairs device.old n }
-    ensures written { OnOk result (D.IsHonest device.new → (n : ℕ) →
-        D.blocks device.new n ≡ block_at D.BlockDevice map.now.pairs device.old n) }
-    ensures crash { CrashAdds D.BlockDevice map.now.pairs device.old device.new }
-    ensures serves { Serves D.BlockDevice device.old device.new }
-    ensures cause { IfErr result (IsFault D.BlockDevice device.old device.new) }
-    ensures calm { OnOk result (D.faults device.new ≡ D.faults device.old) }
-{
-    for (n, page) in map.iter() {
-        write_back(device, *n, page)?;
-    }
-    Ok(())
-}
-
-pub(super) fn make_clean<B: Copy, S: KeyHasher<u64>>(map: &mut Pages<B, S>)
-    ensures { map.new.pairs ≡ cleaned map.old.pairs }
-{
-    map.for_each_mut(|_, page| page.is_dirty = false);
 }
 
 fn add_page<B: Copy, E, S: KeyHasher<u64>>(

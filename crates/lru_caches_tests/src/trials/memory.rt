@@ -6,7 +6,7 @@ use std::cell::Cell;
 use std::rc::Rc;
 use test_helpers::Hog;
 
-fn hog(alloc: Global, requests: &[usize; 3], met: usize) -> Result<Hog, AllocError> {
+fn hog(alloc: Global, requests: &[usize], met: usize) -> Result<Hog, AllocError> {
     let mut hog = Hog::new(alloc, requests)?;
     for _ in 0..met {
         hog.release();
@@ -72,7 +72,7 @@ fn finds_memory(alloc: Global, closes: bool) -> bool {
 /// Makes a thousand caches one after another, with memory for one. Each is closed, or its pages are discarded. Returns
 /// how many found memory for their pages.
 pub fn caches_that_find_memory(alloc: Global) -> u64 {
-    let hog = hog(alloc, &[128, 20, 16], 3);
+    let hog = hog(alloc, &[128, 20, 16, 32], 4);
     let mut count = 0u64;
     for n in 0..1000u64 {
         count = count.saturating_add(finds_memory(alloc, n % 2 == 0) as u64);

@@ -263,7 +263,8 @@ impl<B: Copy, D: BlockDevice<B>, S: BuildHasher> PageCache<B, D, S> {
         self.cache.write(n, block)
     }
 
-    /// Writes all dirty pages to the device, and then calls its `sync`. The pages stay cached, and are clean then.
+    /// Writes each dirty page to the device, in the order of their numbers, and then calls its `sync`. The pages stay
+    /// cached, and are clean then.
     ///
     /// # Errors
     ///
@@ -279,6 +280,36 @@ impl<B: Copy, D: BlockDevice<B>, S: BuildHasher> PageCache<B, D, S> {
     /// ```
     pub fn flush(&mut self) -> Result<(), PageError<D::Error>> {
         self.cache.flush()
+    }
+
+    /// Writes a page to the device if it is cached and dirty. It does not call `sync`: until a flush, a crash may lose the
+    /// block. The page is clean then.
+    ///
+    /// # Errors
+    ///
+    /// `Device`: the write failed, and the page stays dirty. `Broken`: a `sync` has failed.
+    ///
+    /// ```
+    /// # use jeerdurian::caches::{FileDevice, PageCache};
+    /// # let file = std::io::Cursor::new(*b"zeroone.two.");
+    /// # let mut cache = PageCache::new(FileDevice::<_, 4>::new(file, 3), 2);
+    /// assert_eq!((cache.write(1, *b"uno."), cache.flush_page(1)), (Ok(()), Ok(())));
+    /// assert_eq!((cache.device().file().get_ref(), cache.dirty_len()), (b"zerouno.two.", 0));
+    /// ```
+    pub fn flush_page(&mut self, n: u64) -> Result<(), PageError<D::Error>> {
+        self.cache.flush_page(n)
+    }
+
+    /// Returns how many pages are dirty, in `O(len)`.
+    ///
+    /// ```
+    /// # use jeerdurian::caches::{FileDevice, PageCache};
+    /// # let file = std::io::Cursor::new(*b"zeroone.two.");
+    /// # let mut cache = PageCache::new(FileDevice::<_, 4>::new(file, 3), 2);
+    /// assert_eq!((cache.write(1, *b"uno."), cache.dirty_len()), (Ok(()), 1));
+    /// ```
+    pub fn dirty_len(&self) -> usize {
+        self.cache.dirty_len()
     }
 
     /// Flushes the cache, and returns the device.

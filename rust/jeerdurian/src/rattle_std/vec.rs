@@ -62,6 +62,11 @@ impl<T> Vec<T> {
         Ok(())
     }
 
+    /// Takes memory for n items more.
+    pub fn reserve(&mut self, n: usize) -> Result<(), AllocError> {
+        self.0.try_reserve(n).map_err(|_| AllocError)
+    }
+
     pub fn truncate(&mut self, n: usize) {
         self.0.truncate(n);
     }

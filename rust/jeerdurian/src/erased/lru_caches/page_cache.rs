@@ -5,13 +5,13 @@
 use crate::rattle_std::prelude::*;
 
 use crate::erased::lru_caches::device::BlockDevice;
-use crate::erased::lru_caches::page_cache::pages::{
-    Page, Pages, admit, cached_block, load, make_clean, overwrite, store, write_all_back,
-};
+use crate::erased::lru_caches::page_cache::flush::{list_dirty, make_clean, reserve_number, write_all_back};
+use crate::erased::lru_caches::page_cache::pages::{Page, Pages, admit, cached_block, load, overwrite, store};
 use crate::erased::schnellru::{KeyHasher, LruMap, RandomState, UnlimitedCompact};
 use crate::rattle_std::alloc::Global;
 use crate::rattle_std::fmt::Display;
 
+mod flush;
 mod pages;
 
 /// Why a call on a page cache failed. A call that fails changes no block that the cache shows, unless a `sync` of the
@@ -70,6 +70,8 @@ where
 /// ```
 pub struct PageCache<B: Copy, D: BlockDevice<B>, S = RandomState> {
     map: Pages<B, S>,
+    // memory for the number of each page
+    numbers: Vec<u64>,
     capacity: usize,
     device: D,
 }
@@ -102,6 +104,7 @@ impl<B: Copy, D: BlockDevice<B>, S: KeyHasher<u64>> PageCache<B, D, S> {
     pub fn with_hasher(alloc: Global, device: D, capacity: usize, hasher: S) -> Self {
         PageCache {
             map: LruMap::with_limiter_and_hasher(alloc, UnlimitedCompact, hasher),
+            numbers: Vec::new(alloc),
             capacity: capacity.max(1),
             device,
         }
@@ -174,6 +177,7 @@ impl<B: Copy, D: BlockDevice<B>, S: KeyHasher<u64>> PageCache<B, D, S> {
             return Ok(block);
         }
         admit(&self.device, n)?;
+        reserve_number(&mut self.numbers, self.map.len())?;
         load(&mut self.map, &mut self.device, self.capacity, n)
     }
 
@@ -197,6 +201,7 @@ impl<B: Copy, D: BlockDevice<B>, S: KeyHasher<u64>> PageCache<B, D, S> {
         if overwrite(&mut self.map, n, page) {
             return Ok(());
         }
+        reserve_number(&mut self.numbers, self.map.len())?;
         store(&mut self.map, &mut self.device, self.capacity, n, page)
     }
 
@@ -218,7 +223,8 @@ impl<B: Copy, D: BlockDevice<B>, S: KeyHasher<u64>> PageCache<B, D, S> {
         if !self.device.is_usable() {
             return Err(PageError::Broken);
         }
-        write_all_back(&self.map, &mut self.device)?;
+        list_dirty(&self.map, &mut self.numbers);
+        write_all_back(&self.map, self.numbers.as_slice(), &mut self.device)?;
         make_clean(&mut self.map);
         Ok(())
     }
@@ -255,7 +261,7 @@ where {
     /// Cost: `O(1)`.
     pub fn discard(self) -> D
 where {
-        let PageCache { map: _, capacity: _, device } = self;
+        let PageCache { map: _, numbers: _, capacity: _, device } = self;
         device
     }
 }

@@ -1,4 +1,4 @@
-use Rattle.std.proofs.Common.{◌≡◌, ◌≤◌, length, nat_eq, Some, sym, ap, ◌∙◌, subst}
+use Rattle.std.proofs.Common.{◌≡◌, ◌≤◌, length, nat_eq, vec_capacity, Some, sym, ap, ◌∙◌, subst, arith}
 use Rattle.std.specs.Map.{lookup}
 use Rattle.lru_caches.specs.Pages.{cleaned, shown, block_or, AreClean, AreThere}
 use Rattle.lru_caches.proofs.Blocks.{clean-cleaned, there-cleaned, shown-cleaned}
@@ -16,6 +16,8 @@ invariant_of-self-2 g c =
       subst (λ l. length l ≤ c.self.inside.capacity) is
           (subst (λ k. k ≤ c.self.inside.capacity) (sym (length-cleaned pages)) c.self.invariant.2),
       c.self.invariant.3,
+      subst (λ l. length l ≤ vec_capacity c.list_dirty.new.numbers) is
+          (omega (arith, length-cleaned pages, c.self.invariant.4, c.list_dirty.ensures.keeps)),
     )
 
 pub returns-clause-keeps : goal.returns-clause-keeps

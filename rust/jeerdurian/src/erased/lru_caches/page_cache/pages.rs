@@ -6,6 +6,7 @@ use crate::rattle_std::prelude::*;
 
 use crate::erased::lru_caches::device::BlockDevice;
 use crate::erased::lru_caches::page_cache::PageError;
+use crate::erased::lru_caches::page_cache::flush::write_back;
 use crate::erased::schnellru::{KeyHasher, LruMap, UnlimitedCompact};
 
 #[derive(Clone, Copy)]
@@ -93,35 +94,6 @@ fn evict_oldest<B: Copy, D: BlockDevice<B>, S: KeyHasher<u64>>(
     write_back(device, *n, page)?;
     map.pop_oldest();
     Ok(())
-}
-
-fn write_back<B: Copy, D: BlockDevice<B>>(device: &mut D, n: u64, page: &Page<B>) -> Result<(), PageError<D::Error>> {
-    if !page.is_dirty {
-        return Ok(());
-    }
-    device.write(n, &page.block).map_err(PageError::Device)
-}
-
-pub(super) fn write_all_back<B: Copy, D: BlockDevice<B>, S: KeyHasher<u64>>(
-    map: &Pages<B, S>,
-    device: &mut D,
-) -> Result<(), PageError<D::Error>> {
-    write_each_back(map, device)?;
-    device.sync().map_err(PageError::Device)
-}
-
-fn write_each_back<B: Copy, D: BlockDevice<B>, S: KeyHasher<u64>>(
-    map: &Pages<B, S>,
-    device: &mut D,
-) -> Result<(), PageError<D::Error>> {
-    for (n, page) in map.iter() {
-        write_back(device, *n, page)?;
-    }
-    Ok(())
-}
-
-pub(super) fn make_clean<B: Copy, S: KeyHasher<u64>>(map: &mut Pages<B, S>) {
-    map.for_each_mut(|_, page| page.is_dirty = false);
 }
 
 fn add_page<B: Copy, E, S: KeyHasher<u64>>(map: &mut Pages<B, S>, n: u64, page: Page<B>) -> Result<(), PageError<E>> {

@@ -10,7 +10,7 @@ use crate::rattle_std::alloc::{AllocError, Global};
 use crate::rattle_std::cell::Cell;
 use crate::rattle_std::rc::Rc;
 
-fn hog(alloc: Global, requests: &[usize; 3], met: usize) -> Result<Hog, AllocError> {
+fn hog(alloc: Global, requests: &[usize], met: usize) -> Result<Hog, AllocError> {
     let mut hog = Hog::new(alloc, requests)?;
     for _ in 0..met {
         hog.release();
@@ -76,7 +76,7 @@ fn finds_memory(alloc: Global, closes: bool) -> bool {
 /// Makes a thousand caches one after another, with memory for one. Each is closed, or its pages are discarded. Returns
 /// how many found memory for their pages.
 pub fn caches_that_find_memory(alloc: Global) -> u64 {
-    let hog = hog(alloc, &[128, 20, 16], 3);
+    let hog = hog(alloc, &[128, 20, 16, 32], 4);
     let mut count = 0u64;
     for n in 0..1000u64 {
         count = count.saturating_add(finds_memory(alloc, n % 2 == 0) as u64);

@@ -1,6 +1,6 @@
 use Rattle.std.proofs.Common.{rules}
 use Rattle.lru_caches.proofs.PageOrder.{cleaned-each}
-use Rattle.lru_caches.proofs.page_cache.pages.make_clean.Goals as goal
+use Rattle.lru_caches.proofs.page_cache.flush.make_clean.Goals as goal
 
 pub returns : goal.returns
 returns g c =
