@@ -163,8 +163,8 @@ def svg(read, best):
     def across(size):
         level = size.bit_length() - 1
         behind = (size - 2**level) * 1000 // 2**level
-        log = 1000 * level + behind + behind * (1000 - behind) * 345 // 1000000
-        assert abs(log - 1000 * math.log2(size)) < 10
+        log = 1000 * level + behind + behind * (1000 - behind) * 353 // 1000000
+        assert abs(log - 1000 * math.log2(size)) < 9
         return 900 + log * 6400 // (1000 * octaves)
 
     out = FRAME + f"<text x='900' y='290'>{len(read.keys)} references to {read.different} keys, "

@@ -18,12 +18,12 @@ unfoldable pub level_of : ℕ → ℕ → ℕ
 level_of zero n = 0
 level_of (suc most) n = if nat_le (2 ^ suc most) n then suc most else level_of most n
 
--- a thousand logarithms of n to the base 2, within 10: exact at a power of two, and a parabola between two
+-- a thousand logarithms of n to the base 2, within 9: exact at a power of two, and a parabola between two
 abbrev pub log_of : ℕ → ℕ
 log_of n =
     let level : ℕ = level_of 63 n in
     let behind : ℕ = part (n - 2 ^ level) (2 ^ level) 1000 in
-    1000 * level + (behind + behind * (1000 - behind) * 345 / 1000000)
+    1000 * level + (behind + behind * (1000 - behind) * 353 / 1000000)
 
 -- where a size stands
 abbrev pub x_of : ℕ → ℕ → ℕ

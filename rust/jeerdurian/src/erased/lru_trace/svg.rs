@@ -71,7 +71,7 @@ fn log_of(size: usize) -> u128 {
     let level = level_of(size);
     let power = 1_usize << level;
     let behind = thousandths(size - power, power);
-    let above = behind * (1000 - behind) * 345 / 1_000_000;
+    let above = behind * (1000 - behind) * 353 / 1_000_000;
     (1000 * level as usize + behind + above) as u128
 }
 
