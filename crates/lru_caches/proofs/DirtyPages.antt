@@ -19,7 +19,6 @@ module _ {B : Type 0} where
   some_page : (p q : Page B) → Some p ≡ Some q → p ≡ q
   some_page p q e = ap (λ o. unwrap_or o q) e
 
-  -- the page of this number is dirty
   abbrev pub IsDirtyAt : List (ℕ × Page B) → ℕ → Type 0
   IsDirtyAt pages n = is_dirty (lookup (nat_eq n) pages) ≡ true
 
@@ -38,7 +37,6 @@ module _ {B : Type 0} where
               (All-head (Contains pages) p ps all)) ∙ e) later
           step false e later = later
 
-  -- a page that is dirty by its number
   pub dirty_page : (pages : List (ℕ × Page B)) (n : ℕ) → IsDirtyAt pages n
       → (page : Page B) × (lookup (nat_eq n) pages ≡ Some page) × (page.is_dirty ≡ true)
   dirty_page pages n dirty = go (lookup (nat_eq n) pages) refl
@@ -80,7 +78,6 @@ module _ {B D E S : Type 0} (d : device.Ghosts D B E S) where
   written-then (k ∷ ns) pages n page first old new are found gives =
       (are.0, are.1, are.2, are.3, written-then ns pages n page are.1 old new are.4 found gives)
 
-  -- the page of this number, if there is one, is as on the device
   abbrev pub IsBack : List (ℕ × Page B) → D → ℕ → Type 0
   IsBack pages it n = (page : Page B) → lookup (nat_eq n) pages ≡ Some page → d.blocks it n ≡ Some (d.seen page.block)
 

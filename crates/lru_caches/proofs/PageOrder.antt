@@ -1,4 +1,3 @@
--- The pages after a use of one, and the clean pages.
 use Rattle.std.proofs.Common.{◌≡◌, ◌<◌, ◌-◌, ℕ, suc, nat_eq, false, cond, List, [], ◌∷◌, length, take}
 use Rattle.std.proofs.Common.{Option, Some, None, option_map, refl, sym, ap, ◌∙◌, arith}
 use Rattle.std.proofs.lemmas.Bool.{eqb-true}

@@ -8,13 +8,11 @@ pub type Map = OrderedMap<u64, u64>;
 
 pub type Cache<'a> = PageCache<u64, Disk<'a>>;
 
-/// Leaves the entries (1, 11) and (2, 20). Returns whether there was memory.
 pub fn refill(map: &mut Map) -> bool {
     map.clear();
     (map.insert(1, 11), map.insert(2, 20)) == (Ok(None), Ok(None))
 }
 
-/// Leaves 11 in block 1 of the disk, and 20 in its page. Returns whether the disk worked.
 pub fn rewrite(cache: &mut Cache<'_>) -> bool {
     (cache.write(1, 11), cache.flush(), cache.write(1, 20)) == (Ok(()), Ok(()), Ok(()))
 }

@@ -8,7 +8,6 @@ const CALLS: u64 = 100_000;
 
 const BLOCKS: u64 = 10_000;
 
-// A file of blocks that are zero.
 fn file(alloc: Global) -> Cursor<Vec<u8>> {
     Cursor::new(vec![in alloc; 0u8; 160_000].unwrap_or(Vec::new(alloc)))
 }

@@ -28,7 +28,6 @@ use test_helpers::check;
 trait Source {
     ghost size: { String Global → ℕ };
 
-    /// Loads the value of a text.
     fn load(&self, text: &String) -> Result<Vec<u8>, AllocError>
         ensures { IfOk result (λ bytes. vec_len bytes ≡ size text.now) };
 
@@ -77,7 +76,6 @@ fn read_through<L: Source>(
     Ok(count)
 }
 
-/// Makes an empty map for such values.
 fn map_within<L: Source>(alloc: Global, limit: u64) -> LruMap<String, Vec<u8>, ByCost>
     requires small { limit < 2 ^ 63 }
     requires dear { (text : String Global) → limit < 234881023 * L.size text }
@@ -111,8 +109,6 @@ fn compare<L: Source>(
     ))
 }
 
-/// Looks up the texts in two maps, and loads what is not there. The texts of the map with the smaller limit are the newest
-/// of the other, and so it loads at least as often.
 fn read_both<L: Source>(
     small: &mut LruMap<String, Vec<u8>, ByCost>,
     large: &mut LruMap<String, Vec<u8>, ByCost>,
@@ -154,7 +150,6 @@ fn remember<F: FnOnce() -> Vec<u8>>(
     Ok(kept)
 }
 
-/// The same with a value that may not be made.
 fn try_to_remember<F: FnOnce() -> Result<Vec<u8>, u64>>(
     map: &mut LruMap<String, Vec<u8>, ByCost>,
     text: String,
@@ -189,7 +184,6 @@ fn insert_weighed(
     Ok(kept)
 }
 
-/// A source of the bytes of a text, and one byte more.
 #[derive(Drop)]
 struct Bytes;
 
@@ -206,7 +200,6 @@ impl Source for Bytes {
     }
 }
 
-/// Whether a value of each text is within the limit.
 fn are_short(texts: &[String], limit: u64) -> bool
     ensures { result ≡ true → All (λ text. length (string_bytes text) + 1 ≤ limit) texts.now }
 {

@@ -30,7 +30,6 @@ fn remember<F: FnOnce() -> u64>(
     Ok(kept)
 }
 
-/// The same with a computation that may fail.
 fn try_to_remember<F: FnOnce() -> Result<u64, u64>>(
     map: &mut LruMap<String, u64>,
     text: String,
@@ -57,8 +56,6 @@ fn insert_new(map: &mut LruMap<String, u64>, text: String, value: u64) -> Result
     Ok(kept)
 }
 
-/// Looks up the texts in two maps, and computes what is not there. The smaller map is included in the larger one before,
-/// and so it computes at least as often.
 fn read_both<F: Fn(&String) -> u64>(
     small: &mut LruMap<String, u64>,
     large: &mut LruMap<String, u64>,
@@ -79,7 +76,6 @@ fn read_both<F: Fn(&String) -> u64>(
     ))
 }
 
-/// Makes one text the newest and removes another, in two maps. The smaller map stays included in the larger one.
 fn keep_and_forget(
     small: &mut LruMap<String, u64>,
     large: &mut LruMap<String, u64>,

@@ -73,7 +73,6 @@ pub none_kept : {Z : Type 0} (kept : Option (Vec ℕ Z)) → IfSome kept (λ v. 
 none_kept None none = tt
 none_kept (Some v) none = none
 
--- the map before a reference was kept
 pub kept_still : (past : List (List ℕ)) (old new : Counted) → new ≡ record old { kept = new.kept } → IsOf past old
     → IsOf past (record new { kept = old.kept })
 kept_still past old new rest of = subst (λ v. IsOf past (record v { kept = old.kept })) (sym rest) of

@@ -29,7 +29,6 @@ abbrev pub span : List ℕ → ℕ → ℕ → ℕ
 span t a zero = 0
 span t a (suc n) = get_or t a 0 + span t (a + 1) n
 
--- the sum of the nodes behind one, in a level of w nodes
 abbrev pub behind : List ℕ → ℕ → ℕ → ℕ
 behind t node w = span t (node + 1) (2 * w - 1 - node)
 
@@ -213,7 +212,6 @@ blank levels = record {
           (omega (arith, h, length-replicate {A = ℕ} (2 * 2 ^ levels) 0))
     ]
 
--- one leaf was written, and the nodes above it are corrected, from the leaf's parent on
 pub record Corrects (slots levels up down : ℕ) (marks : List ℕ) (t : List ℕ) (node : ℕ) : Type 0 where
   pub power : slots ≡ 2 ^ levels
   pub off : IsOff slots up down t node

@@ -112,7 +112,6 @@ module _ {K : Type 0} {eq : K → K → Bool} (laws : IsEquivalence eq) where
     abbrev other_times : List ℕ
     other_times = times eq i trace xs
 
-    -- the time of the key is among the times, if the key comes again
     abbrev AmongTimes : List K → Type 0
     AmongTimes keys = times eq i trace keys ≡ cond (nat_lt key_wait end)
         (insert_key nat_cmp (times eq i trace (x ∷ xs)) (i + key_wait)) (times eq i trace (x ∷ xs))
@@ -176,7 +175,6 @@ module _ {K : Type 0} {eq : K → K → Bool} (laws : IsEquivalence eq) where
         go true ih = rw (later_time i (until eq x rest)) ih
         go false ih = ih
 
-    -- Whether the key is among the keys, and what is left without it.
     pub record Due (xs : List K) : Type 0 where
       pub found : list_any (is_at (nat_cmp i)) (times eq i (key ∷ rest) xs) ≡ is_in eq key xs
       pub left : remove_key (is_at (nat_cmp i)) (times eq i (key ∷ rest) xs)
@@ -217,7 +215,6 @@ module _ {K : Type 0} {eq : K → K → Bool} (laws : IsEquivalence eq) where
                   ∙ ap (times eq (suc i) rest) (sym (ap (λ b. cond b xs (x ∷ remove_key (eq key) xs)) same));
             }
 
-    -- what is left of the times when the reference of time i is made
     abbrev left_times : List K → List ℕ
     left_times xs = remove_key (is_at (nat_cmp i)) (times eq i (key ∷ rest) xs)
 

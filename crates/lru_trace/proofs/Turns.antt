@@ -15,7 +15,6 @@ use Rattle.lru_theory.proofs.Nexts.{Ordered}
 use Rattle.lru_trace.specs.Times.{next_times, with_time}
 use Rattle.lru_trace.proofs.Times.{Missed, all_missed, refers, times, min_times, bypass_times}
 
--- MIN and MIN with bypass in this many places
 module _ {K : Type 0} {eq : K → K → Bool} (laws : IsEquivalence eq) (places : ℕ) (trace : List K) (now missed : ℕ)
     (ts : List ℕ) (h : now < length trace) where
   pub min_refers : 0 < places → Missed eq (min_refer eq places) trace now missed ts
@@ -64,7 +63,6 @@ module _ (trace : List (List ℕ)) {nexts : List ℕ} (are : nexts ≡ next_time
   within_trace : now < length trace
   within_trace = omega (arith, h, size)
 
-  -- the same numbers and times, as the loop computes them
   computed : (refer : List ℕ → List (List ℕ) → List (List ℕ) → List (List ℕ)) (us : List ℕ) → us ≡ new
       → Missed bytes_eq refer trace (suc now) (missed + from_bool (not (list_any (is_at (nat_cmp now)) ts))) us
       → Missed bytes_eq refer trace (now + 1) (missed + count) new

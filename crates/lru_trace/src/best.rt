@@ -100,7 +100,6 @@ impl Best {
     }
 }
 
-/// Keeps the first n times, of one more at most.
 fn keep(times: &mut BTreeSet<usize>, n: usize)
     requires { length times.old.keys ≤ n + 1 }
     ensures { times.new.keys ≡ take n times.old.keys }
@@ -110,7 +109,6 @@ fn keep(times: &mut BTreeSet<usize>, n: usize)
     }
 }
 
-/// Adds a time, if it comes before the end.
 fn add(times: &mut BTreeSet<usize>, time: usize, end: usize) -> Result<(), AllocError>
     ensures added { OnOk result (times.new.keys ≡ with_time end time times.old.keys) }
     ensures few { OnOk result (length times.new.keys ≤ length times.old.keys + 1) }
@@ -138,7 +136,6 @@ fn bound_of(numbers: &[usize]) -> Result<usize, AllocError>
     Ok(bound)
 }
 
-/// Returns the times of next references, from the last one back.
 fn next_times(alloc: Global, numbers: &[usize]) -> Result<Vec<usize>, AllocError>
     ensures { IfOk result (λ nexts. nexts.items ≡ next_times nat_eq 0 numbers.now) }
 {

@@ -1,4 +1,3 @@
-//! The columns of separated text.
 ghost use Rattle.std.specs.Prelude.{◌≡◌};
 ghost use Rattle.lru_trace.specs.Lines.{before, behind, cell, text_in};
 

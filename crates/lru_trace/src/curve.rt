@@ -132,7 +132,6 @@ impl Curve {
         Ok(())
     }
 
-    // Keeps a reference, if the curve keeps them.
     fn keep(&mut self, number: usize) -> Result<(), AllocError>
         ensures kept { OnOk result (self.new.kept ≡ option_map (λ ns. ns ++ number ∷ []) self.old.kept) }
         ensures rest { self.new ≡ record self.old { kept = self.new.kept } }
@@ -144,7 +143,6 @@ impl Curve {
         Ok(())
     }
 
-    // Forgets the last reference, if the curve keeps them.
     fn forget(&mut self)
         ensures kept { (ns : List ℕ) (number : ℕ) → self.old.kept ≡ Some (ns ++ number ∷ []) → self.new.kept ≡ Some ns }
         ensures none { self.old.kept ≡ None → self.new.kept ≡ None }
@@ -155,7 +153,6 @@ impl Curve {
         }
     }
 
-    // Counts a reference, which is kept already, if the curve keeps them.
     fn count(&mut self, key: &str, number: usize) -> Result<(), AllocError>
         requires fits { self.old.references < 2 ^ 64 - 1 }
         requires number { number_in self.old.names key.now ≡ Some number }

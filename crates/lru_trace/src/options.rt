@@ -1,5 +1,3 @@
-//! What a trace is asked to read and to write.
-
 /// The form of what is written.
 #[derive(Clone, Copy, Debug, PartialEq, Eq)]
 pub enum Form {

@@ -1,4 +1,3 @@
-//! The progress of a long read, for a person who waits.
 use std::alloc::Global;
 use std::io::Write;
 

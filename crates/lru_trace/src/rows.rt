@@ -1,4 +1,3 @@
-//! The numbers that are written of each size.
 ghost use Rattle.std.specs.Prelude.{◌≡◌, ◌<◌, ℕ, List, IfOk, OnOk, is_some, map};
 ghost use Rattle.std.specs.List.{All, fold};
 ghost use Rattle.lru_trace.specs.Counted.{IsOf};

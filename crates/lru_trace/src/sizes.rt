@@ -1,4 +1,3 @@
-//! The sizes that a line names.
 ghost use Rattle.std.specs.Prelude.{◌≡◌, [], IfOk, None};
 ghost use Rattle.std.specs.Option.{option_map};
 ghost use Rattle.lru_trace.specs.Sizes.{with_digit, sizes_from};

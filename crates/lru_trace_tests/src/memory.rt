@@ -41,7 +41,6 @@ fn references_give_their_memory_back(rt: HostRuntime) -> Result<(), Fail> {
     Ok(())
 }
 
-/// Returns whether a trace writes nothing with too little memory, and ends with the status 3.
 fn fails_without_memory(alloc: Global, form: Form) -> Result<bool, TraceError> {
     let options = Options {
         column: None,

@@ -14,7 +14,6 @@ fn hog(alloc: Global, requests: &[usize], met: usize) -> Result<Hog, AllocError>
     Ok(hog)
 }
 
-// Whether a growth succeeded exactly if its three requests were met.
 fn is_expected(hog: &Result<Hog, AllocError>, met: usize, grew: bool) -> bool {
     match hog {
         Ok(hog) => grew == (met == 3 || !hog.took_all()),
@@ -24,7 +23,6 @@ fn is_expected(hog: &Result<Hog, AllocError>, met: usize, grew: bool) -> bool {
 
 type Cache<'a> = PageCache<u64, Disk<'a>>;
 
-// A cache of at most four pages, three of which are written.
 fn cache_of_three(alloc: Global, calls_left: &Cell<u64>) -> Cache<'_> {
     let disk = Disk::new([10, 11, 12, 13], [false; 4], calls_left);
     let mut cache = PageCache::new(alloc, disk, 4);
@@ -34,8 +32,6 @@ fn cache_of_three(alloc: Global, calls_left: &Cell<u64>) -> Cache<'_> {
     cache
 }
 
-/// Whether a read and a write of a fourth page, and the insert of a fourth entry of an ordered map, succeed exactly if
-/// all requests of the growth are met.
 pub fn grows_if_met(alloc: Global, met: usize) -> bool {
     let calls_left = Cell::new(9);
     let mut cache = cache_of_three(alloc, &calls_left);

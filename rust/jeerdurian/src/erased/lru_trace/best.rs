@@ -77,14 +77,12 @@ impl Best {
     }
 }
 
-/// Keeps the first n times, of one more at most.
 fn keep(times: &mut BTreeSet<usize>, n: usize) {
     if times.len() > n {
         times.pop_last();
     }
 }
 
-/// Adds a time, if it comes before the end.
 fn add(times: &mut BTreeSet<usize>, time: usize, end: usize) -> Result<(), AllocError> {
     if time >= end {
         return Ok(());
@@ -107,7 +105,6 @@ fn bound_of(numbers: &[usize]) -> Result<usize, AllocError> {
     Ok(bound)
 }
 
-/// Returns the times of next references, from the last one back.
 fn next_times(alloc: Global, numbers: &[usize]) -> Result<Vec<usize>, AllocError> {
     let end = numbers.len();
     let mut nexts = vec![in alloc; end; end]?;

@@ -1,6 +1,4 @@
 // Erased from crates/lru_trace/src/columns.rt: do not edit.
-//! The columns of separated text.
-
 #[allow(unused_imports)]
 use crate::rattle_std::prelude::*;
 

@@ -91,7 +91,6 @@ impl Curve {
         Ok(())
     }
 
-    // Keeps a reference, if the curve keeps them.
     fn keep(&mut self, number: usize) -> Result<(), AllocError> {
         if let Some(kept) = &mut self.kept {
             kept.push(number)?;
@@ -99,14 +98,12 @@ impl Curve {
         Ok(())
     }
 
-    // Forgets the last reference, if the curve keeps them.
     fn forget(&mut self) {
         if let Some(kept) = &mut self.kept {
             kept.pop();
         }
     }
 
-    // Counts a reference, which is kept already, if the curve keeps them.
     fn count(&mut self, key: &str, number: usize) -> Result<(), AllocError> {
         match self.distances.refer(number)? {
             Some(distance) => (*at_mut!(self.counts, distance)) += 1,

@@ -1,6 +1,4 @@
 // Erased from crates/lru_trace/src/options.rt: do not edit.
-//! What a trace is asked to read and to write.
-
 #[allow(unused_imports)]
 use crate::rattle_std::prelude::*;
 

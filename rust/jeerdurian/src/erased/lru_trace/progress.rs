@@ -1,5 +1,4 @@
 // Erased from crates/lru_trace/src/progress.rt: do not edit.
-//! The progress of a long read, for a person who waits.
 #[allow(unused_imports)]
 use crate::rattle_std::prelude::*;
 

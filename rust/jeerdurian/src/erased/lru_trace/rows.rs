@@ -1,6 +1,4 @@
 // Erased from crates/lru_trace/src/rows.rt: do not edit.
-//! The numbers that are written of each size.
-
 #[allow(unused_imports)]
 use crate::rattle_std::prelude::*;
 

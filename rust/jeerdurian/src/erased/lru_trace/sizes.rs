@@ -1,6 +1,4 @@
 // Erased from crates/lru_trace/src/sizes.rt: do not edit.
-//! The sizes that a line names.
-
 #[allow(unused_imports)]
 use crate::rattle_std::prelude::*;
 

@@ -12,7 +12,6 @@ const CALLS: u64 = 100_000;
 
 const BLOCKS: u64 = 10_000;
 
-// A file of blocks that are zero.
 fn file(alloc: Global) -> Cursor<std::vec::Vec<u8>> {
     Cursor::new(vec![in alloc; 0u8; 160_000].unwrap_or(Vec::new(alloc)).into_std())
 }

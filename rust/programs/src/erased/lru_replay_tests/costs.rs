@@ -15,7 +15,6 @@ use crate::rattle_std::test::Fail;
 
 /// Where values come from. The text determines of how many bytes its value is.
 trait Source {
-    /// Loads the value of a text.
     fn load(&self, text: &String) -> Result<Vec<u8>, AllocError>;
 }
 
@@ -48,7 +47,6 @@ fn read_through<L: Source>(
     Ok(count)
 }
 
-/// Makes an empty map for such values.
 fn map_within<L: Source>(alloc: Global, limit: u64) -> LruMap<String, Vec<u8>, ByCost> {
     maps_keep_to_their_cost::<String, Vec<u8>, RandomState>();
     LruMap::new(alloc, ByCost::new(limit), [1, 2, 3, 4], 40)
@@ -67,8 +65,6 @@ fn compare<L: Source>(
     Ok((read_through(&mut small, texts, source)?, read_through(&mut large, texts, source)?))
 }
 
-/// Looks up the texts in two maps, and loads what is not there. The texts of the map with the smaller limit are the newest
-/// of the other, and so it loads at least as often.
 fn read_both<L: Source>(
     small: &mut LruMap<String, Vec<u8>, ByCost>,
     large: &mut LruMap<String, Vec<u8>, ByCost>,
@@ -91,7 +87,6 @@ fn remember<F: FnOnce() -> Vec<u8>>(
     Ok(kept)
 }
 
-/// The same with a value that may not be made.
 fn try_to_remember<F: FnOnce() -> Result<Vec<u8>, u64>>(
     map: &mut LruMap<String, Vec<u8>, ByCost>,
     text: String,
@@ -109,8 +104,6 @@ fn insert_weighed(map: &mut LruMap<u64, String, ByWeight<16>>, key: u64, text: S
     Ok(kept)
 }
 
-/// A source of the bytes of a text, and one byte more.
-
 struct Bytes;
 
 impl Source for Bytes {
@@ -121,7 +114,6 @@ impl Source for Bytes {
     }
 }
 
-/// Whether a value of each text is within the limit.
 fn are_short(texts: &[String], limit: u64) -> bool {
     for text in texts {
         if text.as_bytes().len() as u64 >= limit {

@@ -19,7 +19,6 @@ fn remember<F: FnOnce() -> u64>(map: &mut LruMap<String, u64>, text: String, mak
     Ok(kept)
 }
 
-/// The same with a computation that may fail.
 fn try_to_remember<F: FnOnce() -> Result<u64, u64>>(
     map: &mut LruMap<String, u64>,
     text: String,
@@ -38,8 +37,6 @@ fn insert_new(map: &mut LruMap<String, u64>, text: String, value: u64) -> Result
     Ok(kept)
 }
 
-/// Looks up the texts in two maps, and computes what is not there. The smaller map is included in the larger one before,
-/// and so it computes at least as often.
 fn read_both<F: Fn(&String) -> u64>(
     small: &mut LruMap<String, u64>,
     large: &mut LruMap<String, u64>,
@@ -50,7 +47,6 @@ fn read_both<F: Fn(&String) -> u64>(
     Ok((read_through(small, texts, compute)?, read_through(large, texts, compute)?))
 }
 
-/// Makes one text the newest and removes another, in two maps. The smaller map stays included in the larger one.
 fn keep_and_forget(small: &mut LruMap<String, u64>, large: &mut LruMap<String, u64>, kept: &String, gone: &String) {
     calls_change_the_keys::<String, u64, RandomState>();
     a_smaller_map_is_included::<String, u64, RandomState>();

@@ -15,7 +15,6 @@ const ANSWERS: usize = 3 * size_of::<Answer<u64, u64>>();
 
 const LIST: usize = 128;
 
-/// Whether the calls were made, the pair was inserted, and the pairs were listed, and then drained.
 type Facts = (bool, bool, bool, bool);
 
 fn facts_of(answers: Option<Vec<Answer<u64, u64>>>) -> Facts {
@@ -30,7 +29,6 @@ fn facts_of(answers: Option<Vec<Answer<u64, u64>>>) -> Facts {
     }
 }
 
-/// What is expected if this many requests are met: for the answers, for the growth, for the list, and for the drain.
 fn expected(met: usize) -> Facts {
     match met {
         0 => (false, false, false, false),
@@ -91,10 +89,8 @@ const PUTS: &[u8] = b"compact\nput 1 10\nput 2 20\nlist\n";
 
 const ANSWERS_TO_PUTS: &[u8] = b"true\ntrue\n2:20 1:10\n";
 
-/// The requests of a table of 4 buckets, and of one of 8.
 const TABLES: [usize; 5] = [96, 20, 192, 24, 16];
 
-/// A line that runs out of memory says so.
 fn text_of(met: usize) -> &'static [u8] {
     match met {
         0..=1 => {
@@ -107,8 +103,6 @@ fn text_of(met: usize) -> &'static [u8] {
     }
 }
 
-/// A `put` allocates memory for the pairs that leave before it inserts: for one pair here, and then for a table of 4
-/// buckets.
 fn text_of_puts(met: usize) -> &'static [u8] {
     match met {
         0 => b"no memory\nno memory\n-\n",

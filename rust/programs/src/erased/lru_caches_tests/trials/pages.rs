@@ -13,7 +13,6 @@ const LENGTH: usize = 100;
 
 const CAPACITIES: usize = 6;
 
-/// A list needs fewer calls of the disk than this.
 const MOST: u64 = 80;
 
 /// How many calls of the disk the lists need together, from another program.
@@ -88,7 +87,6 @@ fn run(alloc: Global, capacity: usize, k: u64, stays_broken: bool) -> (bool, boo
     }
 }
 
-/// Returns at how many calls of the disk a failure was tried, and how many of these runs ended well.
 pub fn runs_that_end_well(alloc: Global, stays_broken: bool) -> (u64, u64) {
     let (mut tried, mut kept) = (0u64, 0u64);
     for capacity in 0..CAPACITIES {
