@@ -221,7 +221,7 @@ fn of_memo_table(rt: HostRuntime) {
     let held = held
         & all!(
             empty.is_empty(),
-            squares.get_with(&3, |square| *square + 1) == Some(10)
+            squares.get_with(&3, |square| square.wrapping_add(1)) == Some(10)
         );
     check!(rt; held);
 }

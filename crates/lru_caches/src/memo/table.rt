@@ -167,7 +167,7 @@ impl<
     /// Lends a closure what `get` would return, and returns what the closure returns. The answers need not be `Copy`.
     ///
     /// ```
-    /// assert_eq!(rt; squares.get_with(&3, |square| *square + 1), Some(10));
+    /// assert_eq!(rt; squares.get_with(&3, |square| square.wrapping_add(1)), Some(10));
     /// ```
     ///
     /// Cost: as `get`, and a call of the closure.

@@ -208,7 +208,7 @@ fn of_memo_table() {
         let held = (squares.get(&3), squares.get(&4), squares.len()) == (Some(9), None, 1);
         let seeded = RandomState::with_seeds([5, 6, 7, 8]);
         let empty = MemoTable::with_hasher(alloc, ByLength::new(9), seeded, 24, Squares);
-        let held = held & all!(empty.is_empty(), squares.get_with(&3, |square| *square + 1) == Some(10));
+        let held = held & all!(empty.is_empty(), squares.get_with(&3, |square| square.wrapping_add(1)) == Some(10));
         check!(rt; held);
     };
     run(HostRuntime).passes();
