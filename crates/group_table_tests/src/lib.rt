@@ -2,11 +2,7 @@
 #![tactic(auto)]
 
 #[cfg(test)]
-mod drops;
-#[cfg(test)]
 mod examples;
-#[cfg(test)]
-mod memory;
 #[cfg(test)]
 mod relocations;
 #[cfg(test)]

@@ -1,66 +1,7 @@
-//! The limiters of the crate: the keys and values that they drop, and their texts.
-use lru_limits::{
-    Both, ByCost, ByLength, ByMemoryUsage, ByWeight, Costed, Insertion, RandomState, Storing,
-    Unlimited, UnlimitedCompact,
-};
-use std::alloc::{AllocError, Global};
-use std::rc::Rc;
+//! The texts of the limiters.
+use lru_limits::{ByCost, ByLength, ByMemoryUsage, RandomState, Storing, Unlimited};
 use std::test::Fail;
-use test_helpers::{all, check};
-
-/// A key or a value. All share one number, and cost 1 each.
-#[derive(Drop, PartialEq, Eq, Hash)]
-struct Share(Rc<u64>);
-
-impl Costed for Share {
-    ghost cost = { λ _. 1 };
-
-    fn cost(&self) -> u64 {
-        1
-    }
-}
-
-fn pair_of(shared: &Rc<u64>) -> Result<(Share, Share), AllocError> {
-    Ok((Share(shared.clone()?), Share(shared.clone()?)))
-}
-
-// Offers a pair, and offers it again instead of a stored one. Returns whether each is accepted, and how many owners the
-// number has left.
-fn offered<L: Insertion<Share, Share, Share>>(
-    shared: &Rc<u64>,
-    alloc: Global,
-    limiter: &mut L,
-) -> Result<(bool, bool, usize), AllocError> {
-    let (key, value) = pair_of(shared)?;
-    let is_given = limiter.on_insert(alloc, 0, key, value)?.is_some();
-    let (mut key, mut old) = pair_of(shared)?;
-    let (new_key, mut new) = pair_of(shared)?;
-    let is_accepted = limiter.on_replace(1, &mut key, new_key, &mut old, &mut new);
-    drop((key, old, new));
-    Ok((is_given, is_accepted, Rc::strong_count(shared)))
-}
-
-#[test]
-fn what_is_offered_is_dropped(rt: HostRuntime) -> Result<(), Fail> {
-    let alloc = rt.alloc();
-    let shared = Rc::new(alloc, 7u64)?;
-    let (both, second, none) = ((true, true, 1), (false, true, 1), (false, false, 1));
-    check!(rt; all!(
-        offered(&shared, alloc, &mut ByLength::new(3)) == Ok(both),
-        offered(&shared, alloc, &mut ByLength::new(0)) == Ok(second),
-        offered(&shared, alloc, &mut ByMemoryUsage::new(0)) == Ok(both),
-        offered(&shared, alloc, &mut Unlimited) == Ok(both),
-        offered(&shared, alloc, &mut UnlimitedCompact) == Ok(both),
-        offered(&shared, alloc, &mut Storing(ByLength::new(0))) == Ok(both),
-        offered(&shared, alloc, &mut ByCost::new(1)) == Ok(both),
-        offered(&shared, alloc, &mut ByCost::new(0)) == Ok(none),
-        offered(&shared, alloc, &mut ByWeight::<0>::new(2)) == Ok(both),
-        offered(&shared, alloc, &mut ByWeight::<0>::new(1)) == Ok(none),
-        offered(&shared, alloc, &mut Both(ByCost::new(1), ByLength::new(3))) == Ok(both),
-        offered(&shared, alloc, &mut Both(ByCost::new(0), ByLength::new(3))) == Ok(none)
-    ));
-    Ok(())
-}
+use test_helpers::check;
 
 #[test]
 fn texts(rt: HostRuntime) -> Result<(), Fail> {

@@ -8,8 +8,6 @@ mod bytes;
 #[cfg(test)]
 mod callers;
 #[cfg(test)]
-mod counts;
-#[cfg(test)]
 mod every_call;
 #[cfg(test)]
 mod exact;
@@ -17,8 +15,6 @@ mod exact;
 mod examples;
 #[cfg(test)]
 mod memory;
-#[cfg(test)]
-mod order_of_calls;
 #[cfg(test)]
 mod sizes;
 #[cfg(test)]

@@ -1,16 +1,12 @@
-//! Hashers whose hashes a test chooses, and one that counts.
-ghost use Rattle.std.specs.Prelude.{◌≡◌, ◌+◌, ◌%◌, ◌^◌, fold};
+//! A hasher whose hashes a test chooses.
+ghost use Rattle.std.specs.Prelude.{◌≡◌, fold};
 
-use std::cell::Cell;
 use std::hash::{BuildHasher, Hasher};
 
 /// Hashes to the last byte that was written, which is the highest byte of a number. So a `u64` below 2 to the 56th
 /// hashes to 0.
 #[derive(Clone, Copy)]
 pub struct LastByte(pub u64);
-
-/// A key whose last byte, and so its hash under `LastByte`, is 28.
-pub const OF_HASH_28: u64 = 28 << 56;
 
 impl Hasher for LastByte {
     ghost write = { λ s bytes. record { 0 = fold (λ _ b. b) s.0 bytes } };
@@ -33,38 +29,5 @@ impl BuildHasher for LastByte {
 
     fn build_hasher(&self) -> LastByte {
         *self
-    }
-}
-
-/// Builds hashers that sum bytes, and counts them.
-#[derive(Drop)]
-pub struct Counted(pub Cell<u64>);
-
-impl BuildHasher for Counted {
-    type Hasher = Sum;
-
-    ghost build_hasher = { λ _. record { 0 = 0 } };
-
-    fn build_hasher(&self) -> Sum {
-        self.0.set(self.0.get().wrapping_add(1));
-        Sum(0)
-    }
-}
-
-/// Hashes to the sum of the bytes that were written: a number below 256 to itself.
-#[derive(Clone, Copy)]
-pub struct Sum(pub u64);
-
-impl Hasher for Sum {
-    ghost write = { λ s bytes. record { 0 = fold (λ a b. (a + b) % 2 ^ 64) s.0 bytes } };
-
-    ghost finish = { λ s. s.0 };
-
-    fn write(&mut self, bytes: &[u8]) {
-        self.0 = bytes.iter().fold(self.0, |a, b| a.wrapping_add(*b as u64));
-    }
-
-    fn finish(&self) -> u64 {
-        self.0
     }
 }

@@ -5,7 +5,7 @@
 //! - [`LinkedBy`], [`Alternating`], [`Blanking`]: limiters of maps from numbers to numbers.
 //! - [`InsertKey`] and [`Counting`]: texts that become a `String` when they are stored, and a limiter for them.
 //! - [`Random`]: random numbers, the same in each run.
-//! - [`LastByte`] with [`OF_HASH_28`], [`Sum`], [`Counted`]: hashers.
+//! - [`LastByte`]: a hasher.
 #![tactic(auto)]
 
 mod hashers;
@@ -14,7 +14,7 @@ mod insert_key;
 mod limiters;
 mod random;
 
-pub use hashers::{Counted, LastByte, OF_HASH_28, Sum};
+pub use hashers::LastByte;
 pub use hog::Hog;
 pub use insert_key::{Counting, InsertKey};
 pub use limiters::{Alternating, Blanking, LinkedBy};

@@ -1,10 +1,10 @@
 //! Maps that tests share, and what a test looks at in them.
 //!
-//! - [`map_of`], [`insert`], [`insert_all`], [`remove_all`], [`reserve`], [`shrink`]: a map of numbers.
+//! - [`map_of`], [`insert_all`]: a map of numbers.
 //! - [`fill`], [`is_pair`], [`is_value`]: the map of the examples of the docs, and forms of their assertions that are
 //!   proved faster.
 #![tactic(auto)]
 
 mod maps;
 
-pub use maps::{fill, insert, insert_all, is_pair, is_value, map_of, remove_all, reserve, shrink};
+pub use maps::{fill, insert_all, is_pair, is_value, map_of};

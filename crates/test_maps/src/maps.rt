@@ -1,5 +1,5 @@
 //! Maps from numbers to numbers, and what a test looks at in them.
-use schnellru::{ByLength, Insertion, Limiter, LruMap, RandomState, ReserveError};
+use schnellru::{ByLength, Insertion, Limiter, LruMap, RandomState};
 use std::alloc::{AllocError, Global};
 use std::hash::BuildHasher;
 use std::ops::RangeInclusive;
@@ -23,7 +23,7 @@ pub fn is_value(found: Option<&u64>, value: u64) -> bool {
     found == Some(&value)
 }
 
-pub fn insert<L: Insertion<u64, u64, u64>, S: BuildHasher>(
+fn insert<L: Insertion<u64, u64, u64>, S: BuildHasher>(
     map: &mut LruMap<u64, u64, L, S>,
     n: u64,
 ) -> Result<bool, AllocError> {
@@ -41,26 +41,4 @@ pub fn insert_all<L: Insertion<u64, u64, u64>, S: BuildHasher>(
         }
     }
     Ok(taken)
-}
-
-pub fn reserve<L: Limiter<u64, u64>, S: BuildHasher>(
-    map: &mut LruMap<u64, u64, L, S>,
-    n: usize,
-) -> Result<(), ReserveError> {
-    map.try_reserve(n)
-}
-
-pub fn shrink<L: Limiter<u64, u64>, S: BuildHasher>(
-    map: &mut LruMap<u64, u64, L, S>,
-) -> Result<bool, AllocError> {
-    map.shrink_to_fit()
-}
-
-pub fn remove_all<L: Limiter<u64, u64>, S: BuildHasher>(
-    map: &mut LruMap<u64, u64, L, S>,
-    numbers: RangeInclusive<u64>,
-) {
-    for n in numbers {
-        map.remove(&n);
-    }
 }

@@ -1,6 +1,6 @@
 //! How often and when callbacks are called, which no clause of a contract says.
 
-use jeerdurian::{Admission, Limiter, LruMap, More};
+use jeerdurian::{Admission, Limiter, LruMap, More, UnlimitedCompact, Updated};
 use std::cell::{Cell, RefCell};
 use std::hash::{BuildHasherDefault, DefaultHasher};
 use std::rc::Rc;
@@ -8,8 +8,11 @@ use std::rc::Rc;
 type Log = Rc<RefCell<Vec<String>>>;
 type S = BuildHasherDefault<DefaultHasher>;
 
-/// A limiter by length that logs its callbacks.
-struct Logging(usize, Log);
+/// A limiter of the length, the bytes and each value that logs its callbacks.
+struct Logging(usize, Log, usize);
+
+/// The greatest value that replaces another one.
+const GREATEST: u64 = 100;
 
 impl Logging {
     fn note(&self, text: String) {
@@ -31,9 +34,9 @@ impl Limiter<u64, u64> for Logging {
         Some((key, value))
     }
 
-    fn on_replace(&mut self, _: usize, key: &mut u64, _: u64, _: &mut u64, _: &mut u64) -> bool {
+    fn on_replace(&mut self, _: usize, key: &mut u64, _: u64, _: &mut u64, value: &mut u64) -> bool {
         self.note(format!("replace {key}"));
-        true
+        *value <= GREATEST
     }
 
     fn on_removed(&mut self, key: &mut u64, _: &mut u64) {
@@ -44,26 +47,44 @@ impl Limiter<u64, u64> for Logging {
         self.note("cleared".into());
     }
 
-    fn on_grow(&mut self, _: usize) -> bool {
+    fn on_grow(&mut self, bytes: usize) -> bool {
         self.note("grow".into());
-        true
+        bytes <= self.2
     }
 }
 
 /// A map of the keys below `n`, whose log is empty.
 fn filled(n: u64, most: usize) -> (LruMap<u64, u64, Logging, S>, Log) {
     let log = Log::default();
-    let mut map = LruMap::with_hasher(Logging(most, log.clone()), S::new());
+    let mut map = LruMap::with_hasher(Logging(most, log.clone(), usize::MAX), S::new());
     (0..n).for_each(|k| assert!(map.insert(k, k)));
     log.borrow_mut().clear();
     (map, log)
 }
 
+/// Inserts into a map of the keys below `n`, whose table may grow or not.
+fn logged(n: u64, (most, grows): (usize, bool), (key, value): (u64, u64)) -> String {
+    let (mut map, log) = filled(n, 100);
+    map.limiter_mut().0 = most;
+    if !grows {
+        map.limiter_mut().2 = map.memory_usage();
+    }
+    let passed = |key, _| log.borrow_mut().push(format!("passed {key}"));
+    map.insert_with(key, value, passed);
+    log.borrow().join(", ")
+}
+
+/// Each entry is passed on before the next callback.
 #[test]
 fn callbacks_of_inserts() {
-    let (mut map, log) = filled(3, 3);
-    assert!(map.insert(1, 5) && map.insert(9, 9));
-    assert_eq!(*log.borrow(), ["replace 1", "over 3", "insert 3 9", "over 4", "removed 0", "over 3"]);
+    let new = |n, limits| logged(n, limits, (9, 40));
+    let evicted = "removed 0, passed 0, over 3, removed 1, passed 1, over 2, removed 2, passed 2, over 1";
+    assert_eq!(new(3, (1, true)), format!("insert 3 9, over 4, {evicted}"));
+    assert_eq!(new(3, (9, false)), "insert 3 9, over 4, grow, removed 0, passed 0, over 3");
+    assert_eq!(new(0, (9, false)), "insert 0 9, grow, removed 9, passed 9");
+    assert_eq!(new(3, (9, true)), "insert 3 9, over 4, grow, over 4");
+    assert_eq!(logged(3, (9, false), (1, 101)), "replace 1, removed 1, passed 1");
+    assert_eq!(logged(3, (9, false), (1, 5)), "replace 1, over 3");
 }
 
 #[test]
@@ -164,11 +185,62 @@ fn a_key_is_hashed_once_by_an_insert_and_compared_once() {
     assert_eq!((HASHED.get(), COMPARED.get()), (102, 2));
 }
 
+/// A hasher that counts how often it is built.
+#[derive(Default)]
+struct Builds(Cell<u64>);
+
+impl std::hash::BuildHasher for Builds {
+    type Hasher = Itself;
+
+    fn build_hasher(&self) -> Itself {
+        self.0.set(self.0.get() + 1);
+        Itself(0)
+    }
+}
+
+/// Hashes a number to itself, so that keys in a row lie next to one another.
+struct Itself(u64);
+
+impl std::hash::Hasher for Itself {
+    fn write(&mut self, _: &[u8]) {}
+
+    fn write_u64(&mut self, number: u64) {
+        self.0 = number;
+    }
+
+    fn finish(&self) -> u64 {
+        self.0
+    }
+}
+
+/// Each call hashes its key once, and each move of an entry, which the report counts, once more.
+#[test]
+fn calls_and_moves_hash_once() {
+    let mut map = LruMap::with_hasher(UnlimitedCompact, Builds::default());
+    (1..=6).for_each(|n| assert!(map.insert(n, n)));
+    map.hasher().0.set(0);
+    let found = [map.insert(1, 0), map.get(&2).is_some(), map.peek(&3).is_some(), map.remove(&4).is_some()];
+    let moved = [map.contains(&5), map.get_or_insert(5, || 0).is_some(), map.promote(&5), map.demote(&6)];
+    let taken = [map.remove_entry(&5).is_some(), matches!(map.update(6, 0), Updated::Replaced(_))];
+    let others = [map.get_key_value(&6).is_some(), map.get_index_of(&6).is_some(), map.try_insert(8, 0).is_ok()];
+    let fails = map.get_or_insert_fallible(4, || Err::<u64, _>(0)).is_err();
+    assert!(found.into_iter().chain(moved).chain(taken).chain(others).all(|it| it) && fails);
+    assert_eq!(map.hasher().0.replace(0), 14);
+    let before = map.move_report().moved;
+    for key in 1000..3000 {
+        map.insert(key, key);
+        map.remove(&(key - 40));
+    }
+    let moved = map.move_report().moved - before;
+    assert!(moved > 500);
+    assert_eq!(map.hasher().0.get(), moved + 4000);
+}
+
 /// A table that stays at most half full is rehashed at its size, and never grows, by inserts of both kinds.
 #[test]
 fn a_table_of_deleted_buckets_is_rehashed() {
     for is_tried in [false, true] {
-        let mut map = LruMap::with_seed(jeerdurian::UnlimitedCompact, [1, 2, 3, 4]);
+        let mut map = LruMap::with_seed(UnlimitedCompact, [1, 2, 3, 4]);
         (0..1792u64).for_each(|n| assert!(map.insert(n, n)));
         let bytes = map.memory_usage();
         (0..900u64).for_each(|n| assert!(map.remove(&n).is_some()));

@@ -76,6 +76,9 @@ where
         told(|| call(&mut map, kind, n));
         world(|it| (it.lies, it.panics) = (0, 0));
         assert_is_map(&map);
+        if panics == 0 {
+            assert_eq!(world(|it| it.live.len()), 2 * map.len(), "seed {seed}, call {kind}");
+        }
     }
     drop(map);
     if panics == 0 {

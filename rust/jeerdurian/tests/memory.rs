@@ -52,6 +52,12 @@ fn an_insert_out_of_memory_returns_false_and_evicts_nothing() {
 }
 
 #[test]
+fn a_new_map_and_its_copy_take_no_memory() {
+    let made = refused(1, || (Map::new(UnlimitedCompact).clone().len(), LruMap::<u8, u8, _>::new(Unlimited).len()));
+    assert_eq!(made, ((0, 0), false));
+}
+
+#[test]
 fn an_insert_passes_on_what_it_cannot_store() {
     let mut map = filled(14, 0);
     let mut lost = None;
@@ -130,6 +136,29 @@ fn caches_out_of_memory_return_errors() {
     errs(1, tenants, |cache| cache.open(3, 9).is_ok() || cache.contains(&3, &0).is_ok());
     errs(2, tenants, |cache| cache.put(&0, 1, 1).is_ok());
     errs(4, || Curve::new().unwrap(), |curve| curve.refer("a").is_ok());
+}
+
+/// Tenants that evict, and are closed or dropped, and references to the same keys.
+#[test]
+fn caches_give_their_memory_back() {
+    let bytes = held();
+    let mut cache: TenantCache<String, String, u64> = TenantCache::new();
+    for n in 0..1000 {
+        assert_eq!(cache.open("a".into(), 2), Ok(()));
+        (0..3).for_each(|key| assert_eq!(cache.put(&"a".into(), key.to_string(), 1), Ok(true)));
+        assert_eq!(cache.set_budget(&"a".into(), 1), Ok(()));
+        assert!(n == 999 || cache.close(&"a".into()) == Ok(1));
+        assert_eq!(cache.put(&"b".into(), "1".into(), 1).is_err(), n < 1000);
+    }
+    drop(cache);
+    let mut curve = Curve::new().unwrap();
+    let mut refer = |count| (0..count).for_each(|n| assert_eq!(curve.refer(&(n % 20).to_string()), Ok(())));
+    refer(200);
+    let used = held();
+    refer(200_000);
+    assert_eq!(held(), used);
+    drop(curve);
+    assert_eq!(held(), bytes);
 }
 
 /// Lines, keys, counts and texts.

@@ -67,6 +67,46 @@ fn a_try_insert_without_growth_left() {
     }
 }
 
+const FORMS: u64 = 6;
+
+fn insert<S: BuildHasher>(map: &mut LruMap<u64, u64, UnlimitedCompact, S>, form: u64, key: u64) -> bool {
+    let make = || Ok::<_, ()>(5);
+    match form {
+        0 => map.insert(key, 5),
+        1 => map.insert_with(key, 5, |_, _| {}),
+        2 => map.insert_full(key, 5, |_, _| {}).kept,
+        3 => map.get_or_insert(key, || 5).is_some(),
+        4 => map.get_or_insert_fallible(key, make).is_ok_and(|it| it.is_some()),
+        _ => map.fallible().get_or_insert(key, make).is_ok_and(|it| it.is_some()),
+    }
+}
+
+/// The same of each form of an insert, which evicts nothing, whichever request is refused.
+#[test]
+fn inserts_without_growth_left() {
+    for (left, requests) in [(0, 0), (1, 2), (13, 2), (14, 3), (27, 3)] {
+        for case in 0..FORMS * (requests + 1) {
+            let (form, n) = (case % FORMS, case / FORMS + 1);
+            let mut map = full_of_deleted_buckets(left);
+            let (is_kept, was_refused) = refused(n, || insert(&mut map, form, OF_HASH_28));
+            assert_eq!((is_kept, was_refused), (n > requests, n <= requests), "{form}, {left} entries, request {n}");
+            assert!(is_kept || map.keys().copied().eq((28 - left..28).rev()));
+            assert!(insert(&mut map, form, OF_HASH_28));
+            assert!(map.keys().copied().eq([OF_HASH_28].into_iter().chain((28 - left..28).rev())));
+        }
+    }
+}
+
+/// No form of an insert fails above some number of entries.
+#[test]
+fn inserts_of_many_entries() {
+    for form in 0..FORMS {
+        let mut map = LruMap::with_seed(UnlimitedCompact, [1, 2, 3, 4]);
+        (0..100_000).for_each(|n| assert!(insert(&mut map, form, n)));
+        assert!(map.keys().copied().eq((0..100_000).rev()));
+    }
+}
+
 /// The same of an ordered map, which inserts by `try_insert`.
 #[test]
 fn an_insert_into_an_ordered_map_without_growth_left() {

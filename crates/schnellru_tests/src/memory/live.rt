@@ -1,7 +1,6 @@
 ghost use Rattle.std.specs.Prelude.{◌≡◌};
 
-use schnellru::{Both, ByCost, ByMemoryUsage, Costed, LruMap};
-use std::alloc::{AllocError, Global};
+use std::alloc::AllocError;
 use std::cell::Cell;
 
 #[derive(Drop)]
@@ -33,7 +32,7 @@ impl Lives {
     }
 }
 
-/// A number that is counted while it lives. It costs itself.
+/// A number that is counted while it lives.
 #[derive_where(PartialEq, Eq, Hash)]
 pub struct Live<'a> {
     pub number: u64,
@@ -74,30 +73,5 @@ impl Clone for Live<'_> {
         self.clones
             .set(self.clones.get().checked_sub(1).ok_or(AllocError)?);
         Ok(Live::new(self.number, self.lives, self.clones))
-    }
-}
-
-pub type Limit = Both<ByCost, ByMemoryUsage>;
-
-pub type Map<'a> = LruMap<Live<'a>, Live<'a>, Limit>;
-
-pub fn map_of_lives<'a>(alloc: Global, most: u64, bytes: usize) -> Map<'a> {
-    let limit = Both(ByCost::new(most), ByMemoryUsage::new(bytes));
-    LruMap::new(alloc, limit, [1, 2, 3, 4], 16)
-}
-
-pub fn fill_with<'a>(map: &mut Map<'a>, lives: &'a Lives, n: u64) -> bool {
-    let mut is_filled = true;
-    for number in 0..n {
-        is_filled = map.insert(lives.key(number), lives.value(1)).is_ok() & is_filled;
-    }
-    is_filled
-}
-
-impl Costed for Live<'_> {
-    ghost cost = { λ l. l.number };
-
-    fn cost(&self) -> u64 {
-        self.number
     }
 }

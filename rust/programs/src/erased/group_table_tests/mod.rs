@@ -5,11 +5,7 @@
 use crate::rattle_std::prelude::*;
 
 #[cfg(test)]
-mod drops;
-#[cfg(test)]
 mod examples;
-#[cfg(test)]
-mod memory;
 #[cfg(test)]
 mod relocations;
 #[cfg(test)]

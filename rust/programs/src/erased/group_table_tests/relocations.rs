@@ -1,11 +1,11 @@
 // Erased from crates/group_table_tests/src/relocations.rt: do not edit.
-//! Relocations and rehashes, compared with the rules of docs/TABLE.md, and how many requests they make.
+//! Relocations and rehashes, compared with the rules of docs/TABLE.md.
 #[allow(unused_imports)]
 use crate::rattle_std::prelude::*;
 
-use super::tables::{SCATTERED, fill, is_copied, keys_after, keys_of, move_once, moved, table_of, thin};
+use super::tables::{SCATTERED, fill, is_copied, keys_after, keys_of, moved, table_of, thin};
 use crate::erased::group_table::{Table, full_capacity};
-use crate::programs::test_helpers::{Hog, check};
+use crate::programs::test_helpers::check;
 use crate::rattle_std::alloc::{AllocError, Global};
 use crate::rattle_std::cell::Cell;
 use crate::rattle_std::test::Fail;
@@ -64,38 +64,6 @@ fn many_buckets() {
     let run = |rt: HostRuntime| -> Result<(), Fail> {
         let mut table = table_of(rt.alloc(), 1 << 20)?;
         check!(rt; moves_many(rt.alloc(), &mut table) == Ok(true));
-        Ok(())
-    };
-    run(HostRuntime).passes();
-}
-
-fn refusals(alloc: Global, table: &mut Table<u64>, buckets: usize, requests: &[usize]) -> Result<usize, AllocError> {
-    let mut refused = 0usize;
-    let mut hog = Hog::new(alloc, requests)?;
-    for _ in 0..=requests.len() {
-        if move_once(table, buckets).is_ok() {
-            break;
-        }
-        refused = refused.wrapping_add(1);
-        hog.release();
-    }
-    Ok(if hog.took_all() { refused } else { requests.len() })
-}
-
-#[test]
-fn each_request_is_refused() {
-    let run = |rt: HostRuntime| -> Result<(), Fail> {
-        // The buckets, the entries that are left of a full table, the buckets to which they are moved, and the requests:
-        // entries and control bytes of 16 buckets, and links if there are entries; for a rehash links and control bytes.
-        let rows: [(usize, usize, usize, &[usize]); 4] =
-            [(8, 7, 16, &[128, 32, 32]), (8, 0, 16, &[128, 32]), (8, 7, 8, &[32, 24]), (32, 14, 32, &[128, 48])];
-        for (buckets, left, to, requests) in rows {
-            let mut table = table_of(rt.alloc(), buckets)?;
-            fill(&mut table, 0, 0);
-            thin(&mut table, 1, left);
-            check!(rt; refusals(rt.alloc(), &mut table, to, requests) == Ok(requests.len()));
-            check!(rt; (table.buckets(), table.len()) == (to, left));
-        }
         Ok(())
     };
     run(HostRuntime).passes();

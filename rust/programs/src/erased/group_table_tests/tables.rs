@@ -61,11 +61,6 @@ pub(super) fn moved(
     Err(AllocError)
 }
 
-pub(super) fn move_once(table: &mut Table<u64>, buckets: usize) -> Result<(), AllocError> {
-    drop(moved(table, buckets, 1, &Cell::new(0))?);
-    Ok(())
-}
-
 pub(super) fn is_copied(table: &Table<u64>, refused: u64) -> bool {
     let copy = table.clone_with(|key| if *key == refused { Err(AllocError) } else { Ok(*key) });
     copy.is_ok()

@@ -1,5 +1,5 @@
 // Erased from crates/lru_trace_tests/src/memory.rt: do not edit.
-//! Curves of many keys, and the memory that references give back.
+//! Traces that run out of memory.
 #[allow(unused_imports)]
 use crate::rattle_std::prelude::*;
 
@@ -13,42 +13,6 @@ fn refer(alloc: Global, curve: &mut Curve, number: u64) -> Result<(), TraceError
         curve.refer(format!(in alloc; "{number}")?.as_str())?;
     }
     Ok(())
-}
-
-/// Each of 150,000 keys is referenced twice, in the same order, so all others come between.
-#[test]
-fn of_many_keys() {
-    let run = |rt: HostRuntime| -> Result<(), Fail> {
-        let mut curve = Curve::new(rt.alloc())?;
-        for n in 0..300_000u64 {
-            refer(rt.alloc(), &mut curve, n % 150_000)?;
-        }
-        check!(rt; (curve.keys(), curve.references()) == (150_000, 300_000));
-        let misses = (curve.misses(149_999), curve.misses(150_000));
-        check!(rt; misses == (300_000, 150_000));
-        Ok(())
-    };
-    run(HostRuntime).passes();
-}
-
-/// Twenty keys are referenced 200,000 times, with memory for 16 blocks.
-#[test]
-fn references_give_their_memory_back() {
-    let run = |rt: HostRuntime| -> Result<(), Fail> {
-        let mut curve = Curve::new(rt.alloc())?;
-        for n in 0..200u64 {
-            refer(rt.alloc(), &mut curve, n % 20)?;
-        }
-        let hog = Hog::but(rt.alloc(), 16)?;
-        let mut met = 0u64;
-        for n in 0..200_000u64 {
-            met = met.saturating_add(refer(rt.alloc(), &mut curve, n % 20).is_ok() as u64);
-        }
-        drop(hog);
-        check!(rt; (met, curve.misses(19)) == (200_000, 200_200));
-        Ok(())
-    };
-    run(HostRuntime).passes();
 }
 
 fn fails_without_memory(alloc: Global, form: Form) -> Result<bool, TraceError> {

@@ -4,7 +4,5 @@
 use crate::rattle_std::prelude::*;
 
 mod clones;
-mod drops;
-mod leaks;
 mod live;
 mod refused;

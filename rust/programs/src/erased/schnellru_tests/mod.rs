@@ -11,8 +11,6 @@ mod bytes;
 #[cfg(test)]
 mod callers;
 #[cfg(test)]
-mod counts;
-#[cfg(test)]
 mod every_call;
 #[cfg(test)]
 mod exact;
@@ -20,8 +18,6 @@ mod exact;
 mod examples;
 #[cfg(test)]
 mod memory;
-#[cfg(test)]
-mod order_of_calls;
 #[cfg(test)]
 mod sizes;
 #[cfg(test)]

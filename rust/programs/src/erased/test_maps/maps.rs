@@ -3,7 +3,7 @@
 #[allow(unused_imports)]
 use crate::rattle_std::prelude::*;
 
-use crate::erased::schnellru::{ByLength, Insertion, Limiter, LruMap, RandomState, ReserveError};
+use crate::erased::schnellru::{ByLength, Insertion, Limiter, LruMap, RandomState};
 use crate::rattle_std::alloc::{AllocError, Global};
 use crate::rattle_std::hash::BuildHasher;
 use crate::rattle_std::ops::RangeInclusive;
@@ -27,7 +27,7 @@ pub fn is_value(found: Option<&u64>, value: u64) -> bool {
     found == Some(&value)
 }
 
-pub fn insert<L: Insertion<u64, u64, u64>, S: BuildHasher>(
+fn insert<L: Insertion<u64, u64, u64>, S: BuildHasher>(
     map: &mut LruMap<u64, u64, L, S>,
     n: u64,
 ) -> Result<bool, AllocError> {
@@ -45,24 +45,4 @@ pub fn insert_all<L: Insertion<u64, u64, u64>, S: BuildHasher>(
         }
     }
     Ok(taken)
-}
-
-pub fn reserve<L: Limiter<u64, u64>, S: BuildHasher>(
-    map: &mut LruMap<u64, u64, L, S>,
-    n: usize,
-) -> Result<(), ReserveError> {
-    map.try_reserve(n)
-}
-
-pub fn shrink<L: Limiter<u64, u64>, S: BuildHasher>(map: &mut LruMap<u64, u64, L, S>) -> Result<bool, AllocError> {
-    map.shrink_to_fit()
-}
-
-pub fn remove_all<L: Limiter<u64, u64>, S: BuildHasher>(
-    map: &mut LruMap<u64, u64, L, S>,
-    numbers: RangeInclusive<u64>,
-) {
-    for n in numbers {
-        map.remove(&n);
-    }
 }

@@ -1,7 +1,7 @@
 // Erased from crates/test_maps/src/lib.rt: do not edit.
 //! Maps that tests share, and what a test looks at in them.
 //!
-//! - [`map_of`], [`insert`], [`insert_all`], [`remove_all`], [`reserve`], [`shrink`]: a map of numbers.
+//! - [`map_of`], [`insert_all`]: a map of numbers.
 //! - [`fill`], [`is_pair`], [`is_value`]: the map of the examples of the docs, and forms of their assertions that are
 //!   proved faster.
 
@@ -10,4 +10,4 @@ use crate::rattle_std::prelude::*;
 
 mod maps;
 
-pub use maps::{fill, insert, insert_all, is_pair, is_value, map_of, remove_all, reserve, shrink};
+pub use maps::{fill, insert_all, is_pair, is_value, map_of};

@@ -2,8 +2,7 @@
 #[allow(unused_imports)]
 use crate::rattle_std::prelude::*;
 
-use crate::erased::schnellru::{Both, ByCost, ByMemoryUsage, Costed, LruMap};
-use crate::rattle_std::alloc::{AllocError, Global};
+use crate::rattle_std::alloc::AllocError;
 use crate::rattle_std::cell::Cell;
 
 pub struct Lives {
@@ -30,7 +29,7 @@ impl Lives {
     }
 }
 
-/// A number that is counted while it lives. It costs itself.
+/// A number that is counted while it lives.
 pub struct Live<'a> {
     pub number: u64,
     pub lives: &'a Cell<u64>,
@@ -78,28 +77,5 @@ impl TryClone for Live<'_> {
     fn try_clone(&self) -> Result<Self, AllocError> {
         self.clones.set(self.clones.get().checked_sub(1).ok_or(AllocError)?);
         Ok(Live::new(self.number, self.lives, self.clones))
-    }
-}
-
-pub type Limit = Both<ByCost, ByMemoryUsage>;
-
-pub type Map<'a> = LruMap<Live<'a>, Live<'a>, Limit>;
-
-pub fn map_of_lives<'a>(alloc: Global, most: u64, bytes: usize) -> Map<'a> {
-    let limit = Both(ByCost::new(most), ByMemoryUsage::new(bytes));
-    LruMap::new(alloc, limit, [1, 2, 3, 4], 16)
-}
-
-pub fn fill_with<'a>(map: &mut Map<'a>, lives: &'a Lives, n: u64) -> bool {
-    let mut is_filled = true;
-    for number in 0..n {
-        is_filled = map.insert(lives.key(number), lives.value(1)).is_ok() & is_filled;
-    }
-    is_filled
-}
-
-impl Costed for Live<'_> {
-    fn cost(&self) -> u64 {
-        self.number
     }
 }

@@ -1,0 +1,123 @@
+//! Each key, value and closure is dropped once: what calls evict, what they reject, and what closures own.
+
+use jeerdurian::{
+    ByCost, ByLength, ByMemoryUsage, ByWeight, Costed, Limiter, LruMap, More, Unlimited, UnlimitedCompact,
+};
+use std::cell::Cell;
+
+thread_local! {
+    static LIVE: Cell<usize> = const { Cell::new(0) };
+}
+
+/// A number that counts how many of its kind live.
+#[derive(PartialEq, Eq, Hash)]
+struct Live(u64);
+
+impl Live {
+    fn new(n: u64) -> Self {
+        LIVE.set(LIVE.get() + 1);
+        Live(n)
+    }
+}
+
+impl Drop for Live {
+    fn drop(&mut self) {
+        LIVE.set(LIVE.get() - 1);
+    }
+}
+
+impl Costed for Live {
+    fn cost(&self) -> u64 {
+        1
+    }
+}
+
+fn is_alive(n: usize) -> bool {
+    LIVE.get() == 2 * n
+}
+
+#[test]
+fn what_calls_evict_is_dropped() {
+    let mut map = LruMap::new(ByLength::new(20_000));
+    for n in 0..20_100 {
+        assert!(map.insert(Live::new(n), Live::new(n)));
+    }
+    assert!(is_alive(20_000));
+    *map.limiter_mut() = ByLength::new(16_000);
+    map.update(Live::new(20_099), Live::new(1));
+    assert!(is_alive(16_000));
+    *map.limiter_mut() = ByLength::new(12_000);
+    map.trim();
+    assert!(is_alive(12_000));
+    map.set_limiter(ByLength::new(5000));
+    assert!(map.remove_entry(&Live::new(20_099)).is_some() && is_alive(4999));
+    map.retain(|key, _| key.0 % 2 == 0);
+    assert!(is_alive(2500));
+    map.retain_with(|key, _| key.0 % 4 == 0, |key, value| drop((key, value)));
+    assert!(is_alive(1250));
+    drop(map.into_iter().next());
+    assert!(is_alive(0));
+}
+
+type Map = LruMap<Live, Live, UnlimitedCompact>;
+
+/// Makes a call with a closure that owns a value, which it accepts, rejects or fails with.
+fn ask(map: &mut Map, call: u64, owned: Live) {
+    let accepts = owned.0 == 0;
+    let answer = move |_: &Live, _: &Live| owned.0 == 0;
+    let hash = std::hash::BuildHasher::hash_one(map.hasher(), Live::new(0));
+    match call {
+        0 => drop(map.pop_oldest_if(answer)),
+        1 => drop(map.peek_by_hash(hash, answer).is_some()),
+        2 => drop(map.get_by_hash(hash, answer).is_some()),
+        3 => drop(map.peek_by_hash_mut(hash, answer).is_some()),
+        4 => map.retain(answer),
+        5 => map.retain_with(answer, |key, value| drop((key, value))),
+        6 => drop(map.get_or_insert(Live::new(0), move || Live::new(answer(&Live::new(0), &Live::new(0)) as u64))),
+        _ => {
+            let make = move || if answer(&Live::new(0), &Live::new(0)) { Ok(Live::new(1)) } else { Err(Live::new(2)) };
+            let made = map.get_or_insert_fallible(Live::new(9), make).is_ok();
+            assert_eq!(made, accepts);
+        }
+    }
+}
+
+/// A closure is dropped, whether it is called or not, and whatever it returns: on a map of one entry, and of none.
+#[test]
+fn closures_are_dropped() {
+    for case in 0..32 {
+        let mut map = Map::new(UnlimitedCompact);
+        if case / 8 % 2 == 1 {
+            assert!(map.insert(Live::new(0), Live::new(0)));
+        }
+        ask(&mut map, case % 8, Live::new(case / 16));
+        assert!(is_alive(map.len()), "case {case}");
+    }
+}
+
+/// Inserts an entry, and offers the key again with another value. Returns whether each is in the map.
+fn offers<L: for<'a> Limiter<Live, Live, KeyToInsert<'a> = Live>>(limiter: L) -> [bool; 2] {
+    let mut map = LruMap::new(limiter);
+    let kept = [5, 6].map(|n| {
+        let kept = map.insert(Live::new(1), Live::new(n));
+        assert!(is_alive(map.len()));
+        kept
+    });
+    drop(map);
+    assert!(is_alive(0));
+    kept
+}
+
+/// A limiter drops what it rejects, and the key that is offered again.
+#[test]
+fn what_limiters_reject_is_dropped() {
+    assert_eq!(offers(ByLength::new(3)), [true; 2]);
+    assert_eq!(offers(ByLength::new(0)), [false; 2]);
+    assert_eq!(offers(ByMemoryUsage::new(0)), [false; 2]);
+    assert_eq!(offers(Unlimited), [true; 2]);
+    assert_eq!(offers(UnlimitedCompact), [true; 2]);
+    assert_eq!(offers(ByCost::new(1)), [true; 2]);
+    assert_eq!(offers(ByCost::new(0)), [false; 2]);
+    assert_eq!(offers(ByWeight::<0>::new(2)), [true; 2]);
+    assert_eq!(offers(ByWeight::<0>::new(1)), [false; 2]);
+}
