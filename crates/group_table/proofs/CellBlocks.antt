@@ -42,7 +42,7 @@ abbrev pub none_val : Val
 none_val = vstruct (vcons (vstruct vnil) vnil)
 
 module _ (R : RattleType) where
-  -- the owner of places, and the right to give a block back, by what they have in memory
+  -- the owner of places and the right to give a block back, by what they have in memory
   abbrev pub BucketState : RattleType
   BucketState = Struct (shape (cells.the_type R))
 
@@ -62,7 +62,7 @@ module _ (R : RattleType) where
   abbrev pub size_of : ℕ
   size_of = type_size R
 
-  -- the type that the allocator knows a block of n places by
+  -- the allocator's type for a block of n places
   abbrev pub block_ty : ℕ → Ty
   block_ty n = bare (ty_array (lone R.mir) n)
 

@@ -1,4 +1,4 @@
--- A `&` to places is made, if one to an entry is.
+-- A `&` to places can be made if a `&` to an entry can.
 use Prim.Native.Nat.{ℕ, ◌+◌}
 use Rattle.std.specs.Prelude.{List, [], ◌∷◌, Option, Some, None}
 use Rattle.std.specs.Mem.{type_size}

@@ -1,4 +1,4 @@
--- A list that has one element many times: what stands at each place of it, and which lists are one.
+-- A list that repeats one element: what is at each of its places, and which lists equal it.
 use Rattle.std.proofs.Common.{◌≡◌, ℕ, zero, suc, ◌<◌, List, [], ◌∷◌, length, get_or, replicate, refl, ap, ◌∙◌, arith}
 
 module _ {X : Type 0} where

@@ -1,4 +1,4 @@
--- What the code learns, lane by lane and group by group, of a search that calls a closure.
+-- What each lane and each group shows the code about a search that calls a closure.
 use Rattle.std.proofs.Common.{◌≡◌, ◌≢◌, ℕ, ◌+◌, ◌%◌, ◌/◌, ◌<◌, ◌≤◌, min, Bool, true, false, cond, List, [], ◌∷◌, ◌++◌}
 use Rattle.std.proofs.Common.{length}
 use Rattle.std.proofs.Common.{get_or, Option, None, Some, refl, ap, sym, ◌∙◌, subst, arith, append_assoc}
@@ -217,8 +217,8 @@ module _ {T : Type 0} (control : List ℕ) (entries : List (Option T)) (laid_out
   none_on q t p = rw (length-bucket_states (slots_of control entries), length-laid_out control entries laid_out)
       (none_up_to t (omega arith))
 
--- a search for the hash goes past its first n steps: `f` refused the candidates there and is then `g`, and none of the
--- buckets there is empty
+-- a search for the hash goes past its first n steps: `f` rejected the candidates there and is then `g`, and no bucket
+-- there is empty
 pub record GoesPast {T F : Type 0} (closure : Mut F (Bor T × Unit {0}) Bool) (slots : List (Slot T)) (hash n : ℕ)
     (f g : F) : Type 0 where
   pub within : n < length slots

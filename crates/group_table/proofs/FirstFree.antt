@@ -1,5 +1,5 @@
--- The first free bucket in the order of a search.
--- There is one if a bucket is free, and only one, and it is one of the table's.
+-- The first free bucket in the order of a search is a bucket of the table. If any bucket is free, exactly one is the
+-- first.
 use Rattle.std.proofs.Common.{◌≡◌, ℕ, zero, suc, ◌<◌, Bool, true, false, List, [], ◌∷◌, length, refl, ap, sym, ◌∙◌}
 use Rattle.std.proofs.Common.{subst, arith, ◌⊎◌, inl, inr}
 use Rattle.std.proofs.lemmas.Bool.{false≢true}

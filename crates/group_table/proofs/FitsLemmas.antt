@@ -1,4 +1,4 @@
--- What a table's changes leave of the hashes that fit.
+-- Which hashes fit a table after a change.
 use Rattle.std.proofs.Common.{◌≡◌, ◌≢◌, ℕ, ◌+◌, ◌*◌, ◌/◌, ◌%◌, ◌<◌, true, List, length, set, refl, ap, sym, ◌∙◌, inl}
 use Rattle.std.proofs.Common.{inr, arith, eq-eqb, length-set}
 use Rattle.std.proofs.lemmas.Bool.{cases_eq, ne_eqb}

@@ -7,7 +7,7 @@ use Rattle.group_table.specs.Layout.{slots_of, IsValid}
 use Rattle.group_table.specs.Moves.{place_at}
 use Rattle.group_table.specs.Relocation.{Moves, KeepsHashes}
 
--- of the places that are not passed, each whose bucket is free holds what it held before
+-- each place that is not passed and whose bucket is free holds what it held before
 abbrev pub StaysWhereFree : {T : Type 0} → List (Option T) → List (Option T) → List ℕ → ℕ → Type 0
 StaysWhereFree old now control passed = (b : ℕ) → passed ≤ b → b < length old → IsFreeByte (slice_index control b)
     → place_at now b ≡ place_at old b
@@ -25,8 +25,8 @@ module _ {T : Type 0} (old gone placed now : List (Option T)) (b : ℕ) where
     pub none_placed : place_at placed b ≡ None
 
 module _ {T N : Type 0} (number : N → ℕ) (none : N) (IsGiven : (ℕ → ℕ) → Type 0) where
-  -- the entries that have moved are as in a fresh table of these control bytes, the others are where they were, and in
-  -- the first `passed` places no entry waits
+  -- the entries that have moved are as in a fresh table of these control bytes; the others are where they were; and no
+  -- entry waits in the first `passed` places
   pub record IsHalfway (old now : List (Option T)) (control : List ℕ) (links : List N) (passed : ℕ) : Type 0 where
     pub gone : List (Option T)
     pub placed : List (Option T)
@@ -44,7 +44,7 @@ module _ {T N : Type 0} (number : N → ℕ) (none : N) (IsGiven : (ℕ → ℕ)
     pub hashes : (hash_at : ℕ → ℕ) → IsGiven hash_at
         → KeepsHashes number none (place_at gone) (slots_of control placed) links hash_at
 
-  -- between two turns: with an entry in hand, whose old place counts as free; or with no entry in hand
+  -- between two turns, no entry is in hand, or one whose old place counts as free
   abbrev pub IsInTurn : List (Option T) → List (Option T) → List ℕ → List N → ℕ → ℕ → Option T → Type 0
   IsInTurn old now control links passed b None = IsHalfway old now control links passed
   IsInTurn old now control links passed b (Some entry) =

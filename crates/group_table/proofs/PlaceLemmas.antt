@@ -36,7 +36,7 @@ module _ {T : Type 0} where
   free_deleted byte None (inl p) q h = (rw p, refl)
   free_deleted byte None (inr p) q h = absurd (h p)
 
-  -- what an insertion takes of the room: 1 at an empty bucket, and nothing at a deleted one
+  -- how much growth an insertion takes: 1 at an empty bucket, and 0 at a deleted one
   abbrev pub Spends : Slot T → ℕ → ℕ → Type 0
   Spends s growth_left spent = ((s ≡ empty) × (0 < growth_left) × (spent ≡ 1)) ⊎ ((s ≡ deleted) × (spent ≡ 0))
 

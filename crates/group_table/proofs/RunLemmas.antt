@@ -1,4 +1,4 @@
--- Two runs of used buckets round a bucket decide whether every 16 neighbours contain an empty one.
+-- Two runs of used buckets around a bucket decide whether every 16 neighbours contain an empty bucket.
 use Rattle.std.proofs.Common.{◌≡◌, ◌≢◌, ℕ, ◌+◌, ◌-◌, ◌%◌, ◌<◌, ◌≤◌, List, get_or, refl, ap, sym, ◌∙◌, arith, nat_lt}
 use Rattle.std.proofs.Common.{MatchBool}
 use Rattle.std.specs.Prelude.{slice_index}
@@ -10,14 +10,14 @@ use Rattle.group_table.specs.Bytes.{empty_byte}
 use Rattle.group_table.specs.Group.{IsEmptyAt}
 use Rattle.group_table.proofs.Circle.{distance}
 
--- `run` used buckets are directly before this one: 16, or all up to an empty one
+-- `run` used buckets are directly before this one: 16, or fewer if an empty bucket precedes them
 pub record IsRunBefore (control : List ℕ) (buckets b run : ℕ) : Type 0 where
   pub bound : run ≤ 16
   pub used : (x steps : ℕ) → x < buckets → 0 < steps → steps ≤ run → (x + steps) % buckets ≡ b
       → slice_index control x ≢ empty_byte
   pub ends : run < 16 → (x : ℕ) → x < buckets → (x + (run + 1)) % buckets ≡ b → slice_index control x ≡ empty_byte
 
--- `run` used buckets begin with this one: 16, or all up to an empty one
+-- `run` used buckets begin with this one: 16, or fewer if an empty bucket follows them
 pub record IsRunFrom (control : List ℕ) (buckets b run : ℕ) : Type 0 where
   pub bound : run ≤ 16
   pub used : (steps : ℕ) → steps < run → slice_index control ((b + steps) % buckets) ≢ empty_byte

@@ -4,7 +4,7 @@ use Rattle.std.proofs.Common.{◌∙◌}
 use Rattle.std.proofs.Math.Nat.{two-pow-succ}
 use native.Mathlib.Decide.{dec_lt}
 
--- the triangular number of t is g, and q times n
+-- the triangular number of t is g + n * q
 pub record IsTriangle (n t g q : ℕ) : Type 0 where
   pub is : t * (t + 1) ≡ 2 * (g + n * q)
 

@@ -1,4 +1,4 @@
--- Entries take new places in the table where they stand: the turn of one.
+-- A table is rehashed in place: the turn of one entry.
 use Rattle.std.proofs.Common.{◌≡◌, ◌≢◌, ℕ, ◌+◌, ◌-◌, ◌<◌, ◌≤◌, ◌⊎◌, max, List, length, get_or, set}
 use Rattle.std.proofs.Common.{Option, Some, None, refl, ap, sym, ◌∙◌, subst, arith, inl, inr, count_by, is_some}
 use Rattle.std.proofs.Common.{get_or-set_same, get_or-set_other, length-set}
@@ -79,7 +79,7 @@ module _ {T N : Type 0} {number : N → ℕ} {none : N} {IsGiven : (ℕ → ℕ)
     put_within : b < length now
     put_within = omega (arith, in_placed, half.placed_length, half.now_length)
 
-  -- what is known of the bucket
+  -- what is known about the bucket that the entry was put into
   pub record IsPut (hash b : ℕ) : Type 0 where
     pub reached : IsFreeFor control half.placed hash b
     pub in_whole : b < length whole

@@ -1,4 +1,4 @@
--- Which places hold an entry that waits, while entries take new places in the table where they stand.
+-- Which places hold an entry that waits while a table is rehashed in place.
 use Rattle.std.proofs.Common.{◌≡◌, ◌≢◌, ℕ, ◌+◌, ◌<◌, ◌≤◌, List, length, get_or, set, Option, None}
 use Rattle.std.proofs.Common.{◌∙◌, arith, inl, inr, get_or-set_same, get_or-set_other}
 use Rattle.std.proofs.lemmas.Bool.{cases_eq}

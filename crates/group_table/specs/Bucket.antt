@@ -1,4 +1,4 @@
--- What is in the buckets of a table: in full (slots), or only the bucket states (`BucketState`).
+-- What is in the buckets of a table: all (`Slot`), or only their states (`BucketState`).
 use Rattle.std.specs.Prelude.{◌≡◌, ℕ, ◌-◌, if◌then◌else◌, Bool, true, false, List, length, map, count_by}
 use Rattle.std.specs.Prelude.{slice_index_or, nat_eq, Option, Some, None, IsTrue}
 use Rattle.group_table.specs.Sizes.{full_capacity}
@@ -13,11 +13,11 @@ pub record Tagged (T : Type 0) : Type 0 where
   pub tag : ℕ
   pub entry : T
 
--- a bucket with what a full one holds
+-- a bucket, which holds an entry with its tag if it is full
 abbrev pub Slot : Type 0 → Type 0
 Slot T = Bucket (Tagged T)
 
--- a bucket without it
+-- the state of a bucket, without an entry
 abbrev pub BucketState : Type 0
 BucketState = Bucket (Unit {0})
 

@@ -31,7 +31,7 @@ module _ (R : RattleType) where
   places_lent block o [] = nothing
   places_lent block o (held ∷ more) = beside (place_lent block o held) (places_lent block (o + type_size R) more)
 
-  -- they have fewer than 2 ^ 63 bytes
+  -- the places have fewer than 2 ^ 63 bytes
   abbrev pub addressable : List (Option R.Denot) → Fml
   addressable held = flt (length held * type_size R) (2 ^ 63)
 
@@ -40,7 +40,7 @@ module _ (R : RattleType) where
   owns_cells (block_ptr block o) held = fsep (addressable held) (places block o held)
   owns_cells null_ptr held = ffalse
 
-  -- what a `&` to them reaches
+  -- what a `&` to all places of a block reaches
   abbrev pub lends_cells : Ptr → List (Option R.Denot) → Lft → Fml
   lends_cells (block_ptr block o) held = beside (said (addressable held)) (places_lent block o held)
   lends_cells null_ptr held = said ffalse

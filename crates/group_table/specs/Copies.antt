@@ -7,18 +7,18 @@ use Rattle.std.specs.Fn.{Shared, FnReturnsAt}
 use Rattle.group_table.specs.Bucket.{Slot, empty, deleted, full}
 
 module _ {T F : Type 0} (closure : Shared F (Bor T × Unit {0}) (Result T AllocError)) (f : F) where
-  -- a bucket of the copy: as the old one, but with an entry that f may answer of the old one's
+  -- a bucket of the copy: as the old one, but with an entry that f may return for the old entry
   abbrev pub IsCopyOf : Slot T → Slot T → Type 0
   IsCopyOf empty copy = copy ≡ empty
   IsCopyOf deleted copy = copy ≡ deleted
   IsCopyOf (full held) copy = (made : T) × FnReturnsAt closure f held.entry (Ok made)
       × (copy ≡ full (record held { entry = made }))
 
-  -- bucket by bucket
+  -- each bucket is copied
   abbrev pub Copies : List (Slot T) → List (Slot T) → Type 0
   Copies old new = AllZip IsCopyOf old new
 
-  -- a place for an entry, as the fields have it
+  -- a place of the copy: bare if the old one is, else with an entry that f may return for the old entry
   abbrev pub IsPlaceCopy : Option T → Option T → Type 0
   IsPlaceCopy None copy = copy ≡ None
   IsPlaceCopy (Some entry) copy = (made : T) × FnReturnsAt closure f entry (Ok made) × (copy ≡ Some made)

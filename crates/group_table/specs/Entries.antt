@@ -9,7 +9,7 @@ module _ {T : Type 0} where
   places_of None = []
   places_of (Some row) = row.cells.places
 
-  -- the pointer, the places and the deed are of one block of that allocator, of one place at least
+  -- the pointer, the places and the deed belong to one block of that allocator, with at least one place
   pub record IsOneBlock (row : Row T) (alloc : Global) : Type 0 where
     pub places_start : row.cells.start ≡ row.block.start
     pub deed_start : row.deed.start ≡ row.block.start
@@ -17,7 +17,7 @@ module _ {T : Type 0} where
     pub deed_alloc : row.deed.alloc ≡ alloc
     pub some : 0 < length row.cells.places
 
-  -- one block, or none for no places
+  -- one block, or no block if there are no places
   abbrev pub IsRow : Option (Row T) → Global → Type 0
   IsRow None alloc = ⊤
   IsRow (Some row) alloc = IsOneBlock row alloc

@@ -1,4 +1,4 @@
--- What the entries of a table end as, if a `&mut` to one of them is returned.
+-- What becomes of the entries of a table if a `&mut` to one of them is returned.
 use Rattle.std.specs.Prelude.{ℕ, List, slice_set, Option, Some}
 use Rattle.std.specs.Borrow.{Lends, Fml, RattleType, MutBor}
 use Rattle.group_table.specs.contracts.entries.Entries.{the_row}

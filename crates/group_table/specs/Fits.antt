@@ -1,4 +1,4 @@
--- Which hashes the entries of a table may have. A table stores none, and each of its contracts holds for all that fit.
+-- Which hashes the entries of a table may have. A table stores no hash, and its contracts hold for all hashes that fit.
 use Rattle.std.specs.Prelude.{◌≡◌, ℕ, List, nat_eq, if◌then◌else◌}
 use Rattle.group_table.specs.Bucket.{Slot, Tagged, full, bucket_at, IsFull, bucket_states}
 use Rattle.group_table.specs.Probe.{hash_tag, Reaches}
@@ -8,6 +8,6 @@ pub record Fits {T : Type 0} (slots : List (Slot T)) (hash_of : ℕ → ℕ) : T
   pub tags : (b : ℕ) (held : Tagged T) → bucket_at slots b ≡ full held → held.tag ≡ hash_tag (hash_of b)
   pub reached : (b : ℕ) → IsFull slots b → Reaches (bucket_states slots) (hash_of b) b
 
--- the hashes, and this one for the bucket
+-- the hashes, but this one for the bucket
 abbrev pub with_hash : (ℕ → ℕ) → ℕ → ℕ → ℕ → ℕ
 with_hash hash_of b hash other = if nat_eq other b then hash else hash_of other

@@ -1,11 +1,11 @@
--- What a walk over the full buckets has ahead. No public clause cites this module.
+-- Which buckets a walk over the full buckets has still to visit. No public clause cites this module.
 use Rattle.std.specs.Prelude.{ℕ, ◌+◌, ◌<◌, ◌≤◌, ◌↔◌, List, slice_index}
 use Rattle.group_table.specs.Bytes.{IsTag, IsFreeByte}
 use Rattle.group_table.specs.Control.{buckets_of, IsCircle}
 use Rattle.group_table.specs.Lanes.{HasLane}
 use Rattle.group_table.specs.declared.full_buckets.FullBuckets.{FullBuckets}
 
--- from `from` on, the lanes are the full buckets of the group, and no bucket before the group is full
+-- the lanes are the full buckets of the group from `from` on, and no bucket from `from` up to the group is full
 pub record IsAhead (control : List ℕ) (walk : FullBuckets) (from : ℕ) : Type 0 where
   pub circle : IsCircle control
   pub within : from ≤ buckets_of control

@@ -58,7 +58,7 @@ module _ {T F : Type 0} (closure : Mut F (Bor T × Unit {0}) Bool) (slots : List
   abbrev pub RejectsGroup : F → Type 0
   RejectsGroup g = RejectsEach closure slots f (tagged_lanes slots tag start (width slots)) g
 
-  -- what came of it: an accepted bucket, the end of the search at an empty bucket, or neither
+  -- the result of a group: an accepted bucket, the end of the search at an empty bucket, or neither
   abbrev pub SearchesGroup : Searched → F → Type 0
   SearchesGroup (Accepted b) g = AcceptsIn b g
   SearchesGroup Ended g = RejectsGroup g × HasEmptyLane slots start (width slots)
@@ -72,7 +72,7 @@ full_at control b = nat_lt (slice_index control b) deleted_byte
 abbrev pub IsEmptyAt : List ℕ → ℕ → Type 0
 IsEmptyAt control b = slice_index control b ≡ empty_byte
 
--- the first bucket of the group that begins here that is empty or deleted
+-- the first empty or deleted bucket of the group that begins here
 pub record IsFreeLane (control : List ℕ) (buckets start b : ℕ) : Type 0 where
   pub first : IsFirst (full_at control) (λ lane. (start + lane) % buckets) b
   pub in_group : first.step < 16

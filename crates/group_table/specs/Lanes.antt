@@ -7,7 +7,7 @@ use Rattle.std.specs.Int.{w16, bit_at, trailing_zeros}
 abbrev pub IsMaskOf : (ℕ → Type 0) → List ℕ → ℕ → Type 0
 IsMaskOf P bytes mask = (lane : ℕ) → (bit_at mask lane ≡ 1) ↔ ((lane < 16) × P (slice_index bytes lane))
 
--- of the sixteen bytes from a place on
+-- bit i of the mask is set exactly if i names a lane from `start` on whose byte has the property
 abbrev pub IsMaskAt : (ℕ → Type 0) → List ℕ → ℕ → ℕ → Type 0
 IsMaskAt P bytes start mask = (lane : ℕ) → (bit_at mask lane ≡ 1) ↔ ((lane < 16) × P (slice_index bytes (start + lane)))
 
@@ -15,7 +15,7 @@ IsMaskAt P bytes start mask = (lane : ℕ) → (bit_at mask lane ≡ 1) ↔ ((la
 abbrev pub HasLane : ℕ → ℕ → Type 0
 HasLane mask lane = bit_at mask lane ≡ 1
 
--- the lowest lane of a mask that holds one
+-- the lowest lane of a mask other than 0
 abbrev pub lowest : ℕ → ℕ
 lowest mask = trailing_zeros w16 mask
 

@@ -18,7 +18,7 @@ pub record IsLinkType {N : Type 0} (number : N → ℕ) (link : ℕ → N) (most
   -- a link has at least eight bits
   pub wide_enough : narrowest_most ≤ number most
 
--- so it is not `MAX`
+-- so the link of a number below the number of `MAX` is not `MAX`
 pub link_below : {N : Type 0} {number : N → ℕ} {link : ℕ → N} {most : N} → IsLinkType number link most
     → (n : ℕ) → n < number most → link n ≢ most
 link_below {N} {number} {link} {most} laws n below same =

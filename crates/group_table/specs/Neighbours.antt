@@ -2,12 +2,12 @@
 use Rattle.std.specs.Prelude.{◌≡◌, ℕ, ◌+◌, ◌%◌, ◌<◌}
 
 module _ (Empty : ℕ → Type 0) (buckets b : ℕ) where
-  -- every 16 neighbouring buckets that hold this one hold an empty one
+  -- every 16 neighbouring buckets that include this one include an empty bucket
   abbrev pub HasEmptyNeighbours : Type 0
   HasEmptyNeighbours = (start at : ℕ) → at < 16 → (start + at) % buckets ≡ b
       → (lane : ℕ) × (lane < 16) × Empty ((start + lane) % buckets)
 
-  -- some 16 neighbouring buckets that hold this one hold no empty one
+  -- some 16 neighbouring buckets that include this one include no empty bucket
   pub record IsHemmedIn : Type 0 where
     pub start : ℕ
     pub at : ℕ

@@ -6,12 +6,12 @@ use Rattle.group_table.specs.Bucket.{Slot, BucketState, empty, full, bucket_at, 
 abbrev pub hash_tag : ℕ → ℕ
 hash_tag hash = hash / 2 ^ 57
 
--- a bucket that is filled by an entry of this hash: it has the tag of the hash
+-- a full bucket with this entry, and the tag of this hash
 abbrev pub filled : {T : Type 0} → ℕ → T → Slot T
 filled hash entry = full (record { tag = hash_tag hash; entry = entry })
 
--- the bucket that a search visits at a step: it goes by groups of 16, the first of which begins at the hash,
--- and each other one 16, 32, 48, .. buckets after the one before
+-- the bucket that a search visits at a step. A search goes by groups of 16. The first begins at the hash; the next
+-- begin 16, 32, 48, .. buckets after the group before them.
 abbrev pub probed : ℕ → ℕ → ℕ → ℕ
 probed buckets hash step = (hash + 8 * (step / 16) * (step / 16 + 1) + step % 16) % buckets
 
@@ -27,7 +27,8 @@ module _ (states : List BucketState) (hash : ℕ) where
   abbrev pub state_probed : ℕ → BucketState
   state_probed step = bucket_at states (probed (length states) hash step)
 
-  -- a search reaches the bucket: it ends at a group with an empty bucket, and no group before has one
+  -- a search, which ends at a group with an empty bucket, reaches this one: no group before its group has an empty
+  -- bucket
   pub record Reaches (b : ℕ) : Type 0 where
     pub step : ℕ
     pub there : probed (length states) hash step ≡ b

@@ -6,13 +6,13 @@ use Rattle.group_table.specs.Bucket.{Slot, entry_at, entry_count, IsFull}
 use Rattle.group_table.specs.Fits.{Fits}
 
 module _ {N : Type 0} (number : N → ℕ) (none : N) where
-  -- the number of the bucket that the entry of an old one moved to, by these links
+  -- the number of the bucket that the entry of old bucket b moved to, by these links
   abbrev pub moved_to : List N → ℕ → ℕ
   moved_to links b = number (slice_index_or links b none)
 
 -- Below, `old b` is the entry that was in the old bucket b, if there was one.
 module _ {T N : Type 0} (number : N → ℕ) (none : N) (old : ℕ → Option T) (new : List (Slot T)) (links : List N) where
-  -- each entry is where its link leads to, and no other entry is there
+  -- each entry is in the bucket that its link names, and no other bucket is full
   pub record Moves : Type 0 where
     pub moved : (b : ℕ) (entry : T) → old b ≡ Some entry → entry_at new (moved_to number none links b) ≡ Some entry
     pub others : (b : ℕ) → old b ≡ None → slice_index_or links b none ≡ none

@@ -8,7 +8,7 @@ use Rattle.group_table.specs.Bucket.{Slot, empty, bucket_at, entry_at, has_tag, 
 use Rattle.group_table.specs.Probe.{hash_tag, probed, state_probed, Reaches}
 use Rattle.group_table.specs.Fits.{Fits}
 
--- the buckets with the tag, among those that an order visits in the first steps
+-- the buckets with the tag that an order visits in the first steps
 abbrev pub tagged : {T : Type 0} → List (Slot T) → ℕ → (ℕ → ℕ) → ℕ → List ℕ
 tagged slots tag order steps = filter (λ b. has_tag tag (bucket_at slots b)) (map order (range_with_len 0 steps))
 
@@ -17,7 +17,7 @@ module _ {T : Type 0} (slots : List (Slot T)) (hash : ℕ) where
   abbrev pub candidates : ℕ → List ℕ
   candidates steps = tagged slots (hash_tag hash) (probed (length slots) hash) steps
 
-  -- these are the candidates of the first `steps` steps, each of which a search reaches, each once
+  -- these are the candidates of the first `steps` steps; a search reaches each step, and no candidate is there twice
   pub record IsSearch (asked : List ℕ) : Type 0 where
     pub steps : ℕ
     pub within : steps ≤ length slots
@@ -27,7 +27,7 @@ module _ {T : Type 0} (slots : List (Slot T)) (hash : ℕ) where
     pub distinct : AllPairs ◌≢◌ asked
 
 module _ {T F : Type 0} (closure : Mut F (Bor T × Unit {0}) Bool) (slots : List (Slot T)) where
-  -- a call of f about the entry in the bucket may answer so, and leave f as g
+  -- a call of f with the entry in the bucket may return `answer`, and leave f as g
   pub record Answers (f : F) (b : ℕ) (answer : Bool) (g : F) : Type 0 where
     pub entry : T
     pub there : entry_at slots b ≡ Some entry
@@ -37,7 +37,8 @@ module _ {T F : Type 0} (closure : Mut F (Bor T × Unit {0}) Bool) (slots : List
   abbrev pub RejectsEach : F → List ℕ → F → Type 0
   RejectsEach f asked g = FoldsTo (λ p b q. Answers p b false q) f asked g
 
-  -- a search for the hash called f with the entries in these buckets, and f rejected all but the one in the last, b
+  -- a search for the hash called f with the entries in these buckets; f accepted the last, in b, and rejected the
+  -- others
   pub record Finds (hash : ℕ) (f : F) (b : ℕ) : Type 0 where
     pub asked : List ℕ
     pub search : IsSearch slots hash (asked ++ b ∷ [])
@@ -46,8 +47,8 @@ module _ {T F : Type 0} (closure : Mut F (Bor T × Unit {0}) Bool) (slots : List
     pub last : F
     pub accepted : Answers between b true last
 
-  -- a search for the hash called f with the entries in these buckets, and f rejected all; among them is each bucket
-  -- with the tag that a search reaches, and so each with an entry of that hash, whatever hashes fit
+  -- a search for the hash called f with the entries in these buckets, and f rejected all. Each bucket with the tag that
+  -- a search reaches is among them, and so is each entry of that hash, for all hashes that fit.
   pub record FindsNone (hash : ℕ) (f : F) : Type 0 where
     pub asked : List ℕ
     pub search : IsSearch slots hash asked

@@ -10,7 +10,7 @@ IsPowerFromFour buckets = (k : ℕ) × (buckets ≡ 4 * 2 ^ k)
 abbrev pub IsBucketCount : ℕ → Type 0
 IsBucketCount buckets = (buckets ≡ 0) ⊎ IsPowerFromFour buckets
 
--- the most entries that n buckets may hold: all but one of 4 or 8, and seven eighths of more
+-- the most entries that n buckets may hold: n - 1 for up to 8 buckets, and seven eighths of n for more
 unfoldable pub full_capacity : ℕ → ℕ
 full_capacity buckets = if nat_le buckets 8 then buckets - 1 else buckets / 8 * 7
 
@@ -27,8 +27,8 @@ least_power n = first_power_from 64 n 1
 abbrev pub below : ℕ → ℕ → Option ℕ
 below limit n = if nat_lt n limit then Some n else None
 
--- the buckets for n entries, if links can number them: none for none, then 4, then 8, and else the least power of two
--- that is at least eight sevenths of n
+-- how many buckets n entries need, if links can number them: 0 for none, 4 for up to 3, 8 for up to 7, and for more the
+-- least power of two that is at least eight sevenths of n
 unfoldable pub buckets_for : ℕ → ℕ → Option ℕ
 buckets_for max entries =
     if entries == 0 then Some 0

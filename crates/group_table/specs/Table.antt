@@ -1,4 +1,4 @@
--- What a contract sees of a `Table`, and what it knows of any.
+-- What a contract sees of a `Table`, and what holds of every table.
 use Rattle.std.specs.Prelude.{◌≡◌, ℕ, ◌+◌, ◌^◌, ◌<◌, ◌≤◌, List, length, count_by, slice_set}
 use Rattle.group_table.specs.Sizes.{IsBucketCount, full_capacity}
 use Rattle.group_table.specs.Bucket.{Slot, BucketState, bucket_at, refilled, is_deleted, is_used}
@@ -22,5 +22,5 @@ pub record IsTable (states : List BucketState) : Type 0 where
   pub count : IsBucketCount (length states)
   pub addressable : length states + 16 < 2 ^ 63
   pub used_within : count_by is_used states ≤ full_capacity (length states)
-  -- up to 16 buckets none is deleted
+  -- a table of up to 16 buckets has no deleted bucket
   pub none_deleted : length states ≤ 16 → count_by is_deleted states ≡ 0

@@ -32,8 +32,8 @@ impl<T> Clone for Block<T> {
 
 impl<T> Copy for Block<T> {}
 
-// SAFETY: a `Block` is an address. To read or write there also takes the `Cells` of the same block, whose `Send` and
-// `Sync` require the same of `T`.
+// SAFETY: a `Block` is an address. Only code with the `Cells` of the block reads or writes there, and `Cells` are
+// `Send` or `Sync` only if `T` is.
 unsafe impl<T> Send for Block<T> {}
 
 unsafe impl<T> Sync for Block<T> {}
@@ -51,7 +51,7 @@ impl<T> Model for Cells<T> {
     ghost also_shares = { λ c _ κ. lends_cells T.row c.start c.places κ };
 }
 
-// SAFETY: it owns the entries as a `Box<T>` does, so it may be sent and shared if they may.
+// SAFETY: `Cells` own the entries as a `Box<T>` does, so they may be sent and shared if the entries may.
 unsafe impl<T: Send> Send for Cells<T> {}
 
 unsafe impl<T: Sync> Sync for Cells<T> {}
@@ -70,10 +70,10 @@ impl<T, A: Allocator> Model for Deed<T, A> {
     ghost also_shares = { λ _ _ _. ftrue };
 }
 
-// SAFETY: it only gives memory back, by the allocator, so it may be sent if the allocator may.
+// SAFETY: a `Deed` only gives memory back to the allocator, so it may be sent if the allocator may.
 unsafe impl<T, A: Allocator + Send> Send for Deed<T, A> {}
 
-// SAFETY: it has no method that takes a `&`.
+// SAFETY: a `Deed` has no method that takes a `&`.
 unsafe impl<T, A: Allocator> Sync for Deed<T, A> {}
 
 #[inline]
@@ -160,7 +160,7 @@ impl<T> Cells<T> {
         ensures places { (self.new.start ≡ self.old.start)
             × (self.new.places ≡ slice_set self.old.places b None) }
     {
-        // SAFETY: place b holds an entry, and `self` no longer counts it as there.
+        // SAFETY: place b holds an entry, and `self` no longer counts it.
         unsafe { block.start.add(b).read() }
     }
 
@@ -169,7 +169,7 @@ impl<T> Cells<T> {
         requires { (self.now.start ≡ block.start) × Holds self.now.places b }
         ensures { get_or self.now.places b None ≡ Some result.now }
     {
-        // SAFETY: place b holds an entry, which `self` lends as long as it is lent.
+        // SAFETY: place b holds an entry, which `self` lends for as long as `self` is borrowed.
         unsafe { &*block.start.add(b) }
     }
 
@@ -179,7 +179,7 @@ impl<T> Cells<T> {
         ensures* writes_back { sem 𝓛 (lends_place T.row self.entry b result) }
         ensures value { get_or self.old.places b None ≡ Some result.now }
     {
-        // SAFETY: place b holds an entry, which `self` lends to nobody else meanwhile.
+        // SAFETY: place b holds an entry, which `self` lends to nobody else.
         unsafe { &mut *block.start.add(b) }
     }
 }

@@ -1,6 +1,6 @@
--- What a write of the bytes of a number leaves.
+-- The hasher after it wrote the bytes of a number.
 --     written-le_bytes_N      if the number has N bytes
---     number_writes           those that are one step
+--     number_writes           the lemmas for numbers that one step writes
 use Rattle.std.proofs.Common.{◌≡◌, ◌<◌, ◌+◌, ◌*◌, ◌/◌, ◌%◌, ◌^◌, ℕ, ap, arith, ◌∙◌}
 use Rattle.std.specs.Hash.{le_bytes}
 use Rattle.lru_limits.specs.Mixing.{Mixer, joined, written}
@@ -31,5 +31,5 @@ unfolding le_bytes
 written-le_bytes_16 h n fits =
     rw (word-low_bytes_8 n, word-high_bytes n fits)
 
--- what numbers of up to 16 bytes write
+-- the hasher after a number of 2, 4 or 8 bytes
 pub ruleset number_writes = (written-le_bytes_2, written-le_bytes_4, written-le_bytes_8)

@@ -1,6 +1,6 @@
--- What a limiter says of the pairs that it is offered, and stores as they come.
---     Terms K V S                  which pairs it accepts, and what it is after that
---     offers_of terms              its offers: a pair is stored as it came if the terms accept it
+-- A limiter that stores entries as they come: which entries it accepts.
+--     Terms K V S                  which entries it accepts, and the limiter after an offer
+--     offers_of terms              its offers: an entry is stored as it came if the terms accept it
 --     never_changes admits         the terms of a limiter that never changes
 --     offers_of-lawful             the laws of `Insertion`
 use Rattle.std.specs.Prelude.{ℕ, Bool, true}
@@ -9,15 +9,15 @@ use Rattle.lru_limits.specs.Rules.{Offers}
 use Rattle.lru_limits.specs.Laws.{IsInsertion}
 use Rattle.lru_limits.specs.Stores.{ReturnsPairIf, given-names}
 
--- Each is named after its callback. A map has n pairs.
+-- Each is named after its callback. A map has n entries.
 pub record Terms (K V S : Type 0) : Type 0 where
-  -- whether a pair with a new key is accepted
+  -- whether an entry with a new key is accepted
   pub accepts : S → ℕ → K → V → Bool
-  -- the limiter after such a pair was offered
+  -- the limiter after such an entry was offered
   pub admit : S → ℕ → K → V → S
-  -- whether a value is accepted in the place of another, under a stored key
+  -- whether a new value of a stored key is accepted
   pub accepts_in_place : S → ℕ → K → V → V → Bool
-  -- the limiter after such a value was offered
+  -- the limiter after a new value of a stored key was offered
   pub admit_in_place : S → ℕ → K → V → V → S
 
 module _ {K V S : Type 0} (terms : Terms K V S) where

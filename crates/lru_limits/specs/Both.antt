@@ -1,7 +1,7 @@
 -- Two limiters that limit one map.
 --     both_rules a b      a map is over the limit if either says so, may grow if both permit it, and both are notified
---     both_terms a b      a pair is accepted if both accept it, and then both store it
---     both-sums           a running total of the first limiter is one of both
+--     both_terms a b      an entry is accepted if both accept it
+--     both-sums           a running total of the first limiter is a running total of both
 use Rattle.std.specs.Prelude.{◌≡◌, ◌≤◌, ◌+◌, ◌-◌, ◌&&◌, ◌||◌, ℕ, Bool, true, false, Some, None, IsTrue}
 use Rattle.std.specs.Prelude.{if◌then◌else◌, refl}
 use Rattle.std.proofs.Common.{ap, sym, ◌∙◌, arith}
@@ -13,7 +13,7 @@ use Rattle.lru_limits.specs.Stores.{ReturnsPairIf, given-adds, refused-keeps}
 use Rattle.lru_limits.specs.Admissions.{Terms, offers_of}
 
 module _ {K V A B : Type 0} where
-  -- the second limiter sees the pair that left as the first leaves it
+  -- the second limiter sees a removed entry as the first one left it
   abbrev pub both_rules : Rules K V A → Rules K V B → Rules K V (Both A B)
   both_rules a b = record {
     is_over_the_limit = λ s n. a.is_over_the_limit s.0 n || b.is_over_the_limit s.1 n;
@@ -35,7 +35,7 @@ module _ {K V A B : Type 0} where
         };
   }
 
-  -- what either rejects changes neither
+  -- what either limiter rejects changes neither limiter
   abbrev pub both_terms : Terms K V A → Terms K V B → Terms K V (Both A B)
   both_terms a b = record {
     accepts = λ s n k v. a.accepts s.0 n k v && b.accepts s.1 n k v;
@@ -48,7 +48,7 @@ module _ {K V A B : Type 0} where
         then record { 0 = a.admit_in_place s.0 n k v w; 1 = b.admit_in_place s.1 n k v w } else s;
   }
 
--- as `given-adds` and `replaced-exchanges`, of a change that is known only if the limiter accepts
+-- `given-adds` and `replaced-exchanges`, for a change that is known only if the limiter accepts
 module _ {K V S : Type 0} (cost : K → V → ℕ) (account : S → ℕ) where
   adds_if : (accepts : Bool) (s s' : S) (i : K) (v : V) (t : S) (k : K) (w : V)
       → (IsTrue accepts → account s' ≡ account s + cost i v)

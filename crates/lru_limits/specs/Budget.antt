@@ -1,13 +1,13 @@
--- The limiters by a cost: their limit, and the sum of the costs that they keep.
---     Budget                 the two numbers
---     can_add limit sum c    the cost c is at most the limit, and the sum with it fits 64 bits
---     charged b c            the sum with c added, if it can be
---     refunded b c           the sum with c taken off, or 0 if c is greater
---     exchanged b c d        what is left after a value of cost c was to be replaced by one of cost d
---     by_weight, weighs      the rules and the offers of a limiter, if a pair has this cost
---     budget_terms           the terms of its offers
---     by_cost, charges       those, if a value has this cost
---     pair_cost o k v        the cost of a pair whose key costs k and whose value costs v, with the overhead o
+-- The limiters by a cost: their limit, and their sum of costs.
+--     Budget                 the limit and the sum
+--     can_add limit sum c    the cost c is at most the limit, and sum + c fits 64 bits
+--     charged b c            c is added to the sum, if it can be
+--     refunded b c           c is subtracted from the sum, which is 0 if c is greater
+--     exchanged b c d        a value of cost c is replaced by one of cost d, if it can be
+--     by_weight, weighs      the rules and the offers of a limiter, if an entry has this cost
+--     budget_terms           the terms of these offers
+--     by_cost, charges       the rules and the offers, if a value has this cost
+--     pair_cost o k v        the cost of an entry: k for its key, v for its value, o for itself
 --     weighs-sums, charges-sums        the laws of `Summing`
 use Rattle.std.specs.Prelude.{◌+◌, ◌-◌, ◌^◌, ◌&&◌, ℕ, min, Bool, true, nat_lt, nat_le, if◌then◌else◌, refl}
 use Rattle.lru_limits.specs.Rules.{Rules, Offers}
@@ -58,7 +58,7 @@ module _ {K V : Type 0} (cost : V → ℕ) where
   abbrev pub charges : Offers K V Budget K
   charges = weighs (λ k v. cost v)
 
--- the cost of a pair, or the greatest number of 64 bits if that is less
+-- the cost of an entry, at most the greatest number of 64 bits
 abbrev pub pair_cost : ℕ → ℕ → ℕ → ℕ
 pair_cost overhead k v = min (k + v + overhead) (2 ^ 64 - 1)
 

@@ -1,10 +1,10 @@
 -- The limiter by bytes: its limit, what the entries own, and the table.
---     in_word n              n, or the greatest number of 64 bits if that is less
+--     in_word n              n, but at most the greatest number of 64 bits
 --     block_bytes n          what a block of n bytes takes from the allocator
---     both_own of_k of_v     what an entry owns, by what its key and its value own
+--     both_own of_k of_v     what an entry owns: what its key and its value own
 --     Bytes                  the three numbers of the limiter
---     left_for_entries b     the bytes that entries may own beside the table
---     by_bytes, bytes_offers, bytes_terms      the rules, the offers and their terms, if an entry owns this number of bytes
+--     left_for_entries b     the bytes within the limit that the table leaves to entries
+--     by_bytes, bytes_offers, bytes_terms      the rules, the offers and their terms, if an entry owns these bytes
 --     bytes-sums             the laws of `Summing`
 use Rattle.std.specs.Prelude.{◌≡◌, ◌+◌, ◌-◌, ◌*◌, ◌/◌, ◌^◌, ◌==◌, ℕ, min, Bool, true, false, nat_lt, nat_le, if◌then◌else◌, refl}
 use Rattle.lru_limits.specs.Rules.{Rules, Offers}
@@ -24,11 +24,11 @@ abbrev pub both_own : {K V : Type 0} → (K → ℕ) → (V → ℕ) → K → V
 both_own of_k of_v k v = in_word (of_k k + of_v v)
 
 pub record Bytes : Type 0 where
-  -- the table and what the entries own are to stay within the limit together
+  -- the limit of the bytes of the table and of what the entries own, together
   pub limit : ℕ
   -- the sum of the bytes that entries own
   pub owned : ℕ
-  -- the bytes of the greatest table that the map may have: the one that the limiter permitted last
+  -- the bytes of the greatest table that the map may have, which the limiter permitted last
   pub table : ℕ
 
 abbrev pub left_for_entries : Bytes → ℕ
@@ -40,7 +40,7 @@ grown_owns true b n = refl
 grown_owns false b n = refl
 
 module _ {K V : Type 0} (bytes_of : K → V → ℕ) where
-  -- A table is permitted if it fits beside what the entries own. The table that it replaces is not counted.
+  -- A table is permitted if it and what the entries own are within the limit. The old table is not counted.
   abbrev pub by_bytes : Rules K V Bytes
   by_bytes = record {
     is_over_the_limit = λ b n. nat_lt (left_for_entries b) b.owned;
@@ -50,7 +50,7 @@ module _ {K V : Type 0} (bytes_of : K → V → ℕ) where
         answers (if fits then record b { table = bytes } else b) fits;
   }
 
-  -- an entry or a new value is accepted if its entry fits beside the table
+  -- an entry or a new value is accepted if its entry and the table are within the limit, and `owned` fits 64 bits
   abbrev pub bytes_terms : Terms K V Bytes
   bytes_terms = record {
     accepts = λ b n k v. can_add (left_for_entries b) b.owned (bytes_of k v);

@@ -1,7 +1,7 @@
--- Look-up keys that are made of others.
+-- Look-up keys that are made of other look-up keys.
 --     number-lawful          a number names the number that is equal to it
---     field-lawful of_q of_k      a field of a look-up key names a field of the key
---     both-lawful            two look-up keys, one after the other, name a key together
+--     field-lawful of_q of_k      a look-up key names a key if a field of it names a field of the key
+--     both-lawful            a look-up key of two parts names a key if each part does
 use Rattle.std.specs.Prelude.{◌≡◌, ◌&&◌, ◌++◌, ℕ, Bool, true, false, List, IsTrue, nat_eq}
 use Rattle.std.proofs.Common.{refl, ap, arith}
 use Rattle.std.proofs.lemmas.Bool.Decides.{nat_tests}

@@ -2,7 +2,7 @@
 --     IsLookup names eq query_input key_input        the laws of `LookupKey`: what a query and a key write to a hasher
 --     IsInsertion names eq offers                    the laws of `Insertion`
 --     IsAccount rules offers cost account            the laws of `Summing`
---     kept_value r                                   the value that stays after a replacement was asked for
+--     kept_value r                                   the value that stays: the new one if r accepts it, else the old
 use Rattle.std.specs.Prelude.{◌≡◌, ◌≤◌, ◌+◌, ◌-◌, ℕ, Bool, List, Some, None, IsTrue, if◌then◌else◌}
 use Rattle.lru_limits.specs.Rules.{Rules, Offers, Replaced}
 
@@ -15,10 +15,10 @@ pub record IsLookup {Q K : Type 0} (names : Q → K → Bool) (eq : K → K → 
 
 pub record IsInsertion {K V S I : Type 0} (names : I → K → Bool) (eq : K → K → Bool)
     (offers : Offers K V S I) : Type 0 where
-  -- the key of the pair to store is one that the offered key names
+  -- the offered key names the key of the entry to store
   pub names_given : (s : S) (n : ℕ) (i : I) (v : V) (t : S) (k : K) (w : V) → offers.on_insert s n i v t (Some (k, w))
       → IsTrue (names i k)
-  -- a replacement leaves the stored key equal to what it was
+  -- a replacement leaves a stored key that equals the old one
   pub keeps_key : (s : S) (n : ℕ) (k : K) (i : I) (v w : V) → IsTrue (names i k)
       → IsTrue (eq k (offers.on_replace s n k i v w).key)
 
@@ -27,15 +27,15 @@ kept_value r = if r.taken then r.new_value else r.old_value
 
 pub record IsAccount {K V S I : Type 0} (rules : Rules K V S) (offers : Offers K V S I) (cost : K → V → ℕ)
     (account : S → ℕ) : Type 0 where
-  -- a pair that is returned for storage adds its cost
+  -- an entry to store adds its cost
   pub adds : (s : S) (n : ℕ) (i : I) (v : V) (t : S) (k : K) (w : V) → offers.on_insert s n i v t (Some (k, w))
       → account t ≡ account s + cost k w
-  -- a rejected element changes nothing
+  -- a rejected entry changes nothing
   pub refuses : (s : S) (n : ℕ) (i : I) (v : V) (t : S) → offers.on_insert s n i v t None → account t ≡ account s
-  -- a replacement subtracts the cost of the old pair, and adds the cost of the stored key with the value that stays
+  -- a replacement subtracts the cost of the old entry, and adds the cost of the stored key with the value that stays
   pub exchanges : (s : S) (n : ℕ) (k : K) (i : I) (v w : V) → cost k v ≤ account s →
       let r = offers.on_replace s n k i v w in account r.limiter ≡ account s - cost k v + cost r.key (kept_value r)
-  -- a pair that leaves subtracts its cost
+  -- a removed entry subtracts its cost
   pub takes_off : (s : S) (k : K) (v : V) → cost k v ≤ account s → account (rules.on_removed s k v).limiter
       ≡ account s - cost k v
   -- after a clear the running total is 0

@@ -1,10 +1,10 @@
--- Limits by length and by the bytes of a table, as laws of a limiter that may do other things, too.
+-- Limits by length and by the bytes of a table, as laws of a limiter. It may do other things, too.
 --     IsFixed rules offers number          no callback changes this number of the limiter
 --     LimitsLength rules offers most       a map that is not over the limit has at most `most` entries
 --     LimitsMemory rules offers most       a table that the limiter permits has at most `most` bytes
---     length-limits, memory-limits         `ByLength` and `ByMemoryUsage` are such limiters,
---     storing-length, storing-memory       as is `Storing` around one,
---     both-first_length, ..                and `Both` whose first or second limiter is one
+--     length-limits, memory-limits         `ByLength` and `ByMemoryUsage` satisfy these laws,
+--     storing-length, storing-memory       `Storing` does if the limiter in it does,
+--     both-first_length, ..                and `Both` does if its first or second limiter does
 use Rattle.std.specs.Prelude.{◌≡◌, ◌≤◌, ◌&&◌, ◌||◌, ℕ, Bool, true, false, Option, Some, None, if◌then◌else◌, refl}
 use Rattle.std.proofs.Common.{ap, ◌∙◌, arith}
 use Rattle.std.proofs.lemmas.Bool.{true≢false}
@@ -73,7 +73,7 @@ module _ {K V S I : Type 0} {rules : Rules K V S} {offers : Offers K V S I} {mos
   pub storing-memory : LimitsMemory rules offers most → LimitsMemory (stored rules) all_offers (λ s. most s.0)
   storing-memory limits = record { fixed = storing-fixed limits.fixed; within = λ s bytes. limits.within s.0 bytes }
 
--- so the terms change the number neither
+-- so the terms do not change the number
 module _ {K V S : Type 0} {rules : Rules K V S} {terms : Terms K V S} {number : S → ℕ}
     (fixed : IsFixed rules (offers_of terms) number) where
   admit : (s : S) (n : ℕ) (k : K) (v : V) → number (terms.admit s n k v) ≡ number s

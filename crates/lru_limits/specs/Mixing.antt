@@ -1,9 +1,9 @@
 -- The hasher as functions.
---     Mixer                   the state, and the keys of a word and of the bytes that are left of a write
---     folded a b              the 128 bits of a * b, their two halves joined by xor
+--     Mixer                   the state, and two keys: for words, and for the bytes that are left
+--     folded a b              the xor of the two halves of the 128 bits of a * b
 --     joined key state word   the state after a word
 --     rest_word bytes         fewer than eight bytes as a word, with their count as its top byte
---     written h bytes         the hasher after a write: a word for each eight bytes, and one for those that are left
+--     written h bytes         the hasher after a write: a word for each eight bytes, and one for the bytes that are left
 --     closed h                the hash
 --     seeded words            the hasher before the first write
 use Rattle.std.specs.Prelude.{ℕ, ◌+◌, ◌*◌, ◌/◌, ◌%◌, ◌^◌, ◌==◌, List, length, drop, fold, bit_xor, slice_index}
@@ -36,7 +36,7 @@ written h bytes =
 abbrev pub closed : Mixer → ℕ
 closed h = h.state
 
--- each word of the seed is joined to its own constant, and two of them make one key
+-- each word has a constant of its own, and the last two words make one key
 abbrev pub seeded : List ℕ → Mixer
 seeded words = record {
   state = bit_xor (slice_index words 0) 0x6a09_e667_f3bc_c908;

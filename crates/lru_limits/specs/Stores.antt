@@ -1,12 +1,12 @@
--- Words for limiters that store a pair as it came.
+-- Words for limiters that store an entry as it came.
 --     plain over grants                    the rules of a limiter that never changes
---     rules_at of to rules                 the rules of a limiter that contains another: of and to read and make it
---     ReturnsPairIf accepts s k v t given  the limiter stays s, which is t, and the pair is given exactly if accepted
---     unmoved s k v                        a pair that left, and the limiter is now s
---     answers s b                          the answer b on growth, and the limiter is now s
---     replaces s k v w                     the new value is taken, and the limiter is now s
---     given-is, given-names                what a pair that was offered is
---     given-adds, refused-keeps, replaced-exchanges      what a running total becomes, for a `Summing` of your own
+--     rules_at of to rules                 the rules of a limiter around another, which `of` takes out and `to` puts in
+--     ReturnsPairIf accepts s k v t given  t is s, and given is the entry if it is accepted, and else nothing
+--     unmoved s k v                        the limiter s after a removed entry, which it did not change
+--     answers s b                          the answer b to a growth, and the limiter s
+--     replaces s k v w                     the new value w is accepted, and the limiter is s
+--     given-is, given-names                the returned entry is the offered one
+--     given-adds, refused-keeps, replaced-exchanges      the running total afterwards, for a `Summing` of your own
 use Rattle.std.specs.Prelude.{◌≡◌, ◌≤◌, ◌+◌, ◌-◌, ℕ, Bool, true, false, Option, Some, None, IsTrue, if◌then◌else◌}
 use Rattle.std.specs.Prelude.{unwrap_or}
 use Rattle.std.proofs.Common.{ap, sym, ◌∙◌, subst, arith}
@@ -43,21 +43,21 @@ rules_at of to rules = record {
   on_grow = λ w bytes. let asked = rules.on_grow (of w) bytes in answers (to asked.limiter) asked.allowed;
 }
 
--- the returned pair is the offered one
+-- the returned entry is the offered one
 pub given-is : {S K V : Type 0} (accepts : Bool) (s : S) (k : K) (v : V) (t : S) (p : K × V)
     → ReturnsPairIf accepts s k v t (Some p) → p ≡ (k, v)
 given-is true s k v t p h = ap (λ o. unwrap_or o (k, v)) h.pair
 given-is false s k v t p h = let e = h.pair in cc
 
--- so a test that holds of each key and itself holds of the key that is returned
+-- so a reflexive test relates the offered key to the returned key
 pub given-names : {S K V : Type 0} {accepts : Bool} {s t : S} {i k : K} {v w : V} (E : K → K → Bool)
     → ((x : K) → IsTrue (E x x)) → ReturnsPairIf accepts s i v t (Some (k, w)) → IsTrue (E i k)
 given-names {accepts} {s} {t} {i} {k} {v} {w} E reflexive h =
     subst (λ x. IsTrue (E i x)) (sym (ap (λ p. p.0) (given-is accepts s i v t (k, w) h))) (reflexive i)
 
--- Below, a limiter accepts or not; if it accepts, s becomes s', and elsewhere it stays s.
+-- Below, s becomes s' if the limiter accepts, and stays s if it does not.
 
--- Such a pair adds its cost, if s' has that much more than s.
+-- An accepted entry adds its cost, if s' has its cost more than s.
 pub given-adds : {K V S : Type 0} (cost : K → V → ℕ) (account : S → ℕ) (accepts : Bool) (s s' : S) (i : K) (v : V)
     (t : S) (k : K) (w : V) → account s' ≡ account s + cost i v
     → ReturnsPairIf accepts (if accepts then s' else s) i v t (Some (k, w)) → account t ≡ account s + cost k w
@@ -65,13 +65,13 @@ given-adds cost account true s s' i v t k w more h = ap account h.limiter ∙ mo
     (sym (given-is true s' i v t (k, w) h))
 given-adds cost account false s s' i v t k w more h = let e = h.pair in cc
 
--- A rejected element changes nothing.
+-- A rejected entry changes nothing.
 pub refused-keeps : {K V S : Type 0} (account : S → ℕ) (accepts : Bool) (s s' : S) (i : K) (v : V) (t : S)
     → ReturnsPairIf accepts (if accepts then s' else s) i v t None → account t ≡ account s
 refused-keeps account true s s' i v t h = let e = h.pair in cc
 refused-keeps account false s s' i v t h = ap account h.limiter
 
--- A replacement exchanges the costs, if s' has that changed.
+-- A replacement exchanges the costs, if s' does.
 pub replaced-exchanges : {K V S : Type 0} (cost : K → V → ℕ) (account : S → ℕ) (accepts : Bool) (s s' : S) (k : K)
     (v w : V) → account s' ≡ account s - cost k v + cost k w
     → cost k v ≤ account s → account (if accepts then s' else s) ≡ account s - cost k v

@@ -1,9 +1,9 @@
 -- Texts that name keys of the type `String`.
 --     names_text bytes k          whether the key k has these bytes
---     names_text-lawful text      the laws of a look-up key that names the `String` of the bytes that text gives of it
---     GivesText bytes v given     a pair is given to be stored whose key has these bytes, with the value v
---     given-names_text            so these bytes name its key
---     same_text k                 a key equals itself
+--     names_text-lawful text      the laws of a look-up key q that names the `String` with the bytes `text q`
+--     GivesText bytes v given     the entry to store has the value v and a key with these bytes
+--     given-names_text            so these bytes name the key to store
+--     same_text k                 the bytes of a key name it
 use Rattle.std.specs.Prelude.{◌≡◌, ℕ, Bool, List, Option, Some, IsTrue, IsSomeAnd, string_bytes}
 use Rattle.std.specs.declared.string.String.{String}
 use Rattle.std.specs.declared.alloc.Global.{Global}

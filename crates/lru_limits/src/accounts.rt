@@ -1,4 +1,4 @@
-//! Costs, limiters with a running total of them, two limiters by cost, and one by bytes.
+//! Costs, limiters with a running total of costs, two limiters by cost, and one by bytes.
 ghost use Rattle.std.specs.Prelude.{◌≡◌, ◌+◌, ℕ, Some, None, if◌then◌else◌, string_len, vec_len};
 ghost use Rattle.lru_limits.specs.Admissions.{offers_of};
 ghost use Rattle.lru_limits.specs.Budget.{can_add};
@@ -17,11 +17,11 @@ pub use by_cost::ByCost;
 pub use by_weight::ByWeight;
 pub use owned_bytes::OwnedBytes;
 
-/// A value with a cost. An unsigned number of up to 64 bits costs itself, a text its bytes, and a vector the number of
-/// its items.
+/// A value with a cost. An unsigned number of up to 64 bits costs itself, a text the number of its bytes, and a vector
+/// the number of its items.
 ///
-/// The cost is read again when the entry is evicted or removed, or the value is replaced. So if the cost changes in the
-/// map, the running total is no longer the sum of the costs.
+/// The cost is read again when the entry is evicted or removed, or when the value is replaced. So if the cost of a
+/// stored value changes, the running total is no longer the sum of the costs.
 ///
 /// ```
 /// struct Page {
@@ -133,7 +133,7 @@ pub trait Summing<K, V>: Admission<K, V> {
     fn account(&self) -> u64
         ensures { result ≡ account self.now };
 
-    /// What each callback does to the running total.
+    /// How each callback changes the running total.
     ghost laws: { IsAccount Self.rules (offers_of Self.terms) cost_of account };
 }
 

@@ -7,10 +7,10 @@ use crate::limiter::{Insertion, Limiter};
 use std::alloc::{AllocError, Global};
 use std::hash::Hash;
 
-/// Accepts or rejects entries, and stores what it accepts as it came.
+/// Accepts or rejects entries, and stores an accepted entry as it came.
 ///
-/// Every such limiter is an [`Insertion`], can be in [`crate::Both`], and permits `try_insert`. For a limiter that
-/// never changes, `never_changes` of `specs/Admissions.antt` makes the terms.
+/// Every such limiter is an [`Insertion`], can be in [`crate::Both`], and permits `try_insert`. `never_changes` of
+/// `specs/Admissions.antt` makes the terms of a limiter that never changes.
 ///
 /// ```
 /// let mut limiter = ByLength::new(0);
@@ -18,14 +18,14 @@ use std::hash::Hash;
 /// assert!(rt; limiter.accepts_in_place(1, &1u64, &2u64, &3u64));
 /// ```
 pub trait Admission<K, V>: Limiter<K, V> {
-    /// Which entries are accepted, and the limiter after that.
+    /// Which entries are accepted, and the limiter after an offer.
     ghost terms: { Terms K V Self };
 
     /// Returns whether `admit` would accept this entry.
     fn accepts(&self, length: usize, key: &K, value: &V) -> bool
         ensures { result ≡ terms.accepts self.now length key.now value.now };
 
-    /// Called by an insert with a new key and its value, before anything is evicted for it from a map of `length`
+    /// Called by an insert with a new key and its value, before it evicts anything from the map, which has `length`
     /// entries. Returns whether the entry is accepted; if not, it is dropped, and the map does not change.
     fn admit(&mut self, length: usize, key: &K, value: &V) -> bool
         ensures answer { result ≡ terms.accepts self.old length key.now value.now }
@@ -45,8 +45,8 @@ pub trait Admission<K, V>: Limiter<K, V> {
 impl<K: Eq + Hash + Drop, V: Drop, L: Admission<K, V>> Insertion<K, V, K> for L {
     ghost offers = { offers_of L.terms };
 
-    // Forced inline: the caller then branches, instead of selecting between `Some` and `None`, and takes the pair as it
-    // came.
+    // Forced inline, so that the caller branches instead of selecting between `Some` and `None`, and takes the entry as
+    // it came.
     #[inline(always)]
     fn on_insert(
         &mut self,

@@ -1,4 +1,4 @@
-//! A fast seeded hasher: each eight bytes of a write cost one multiplication. Nothing promises which hashes it gives.
+//! A fast seeded hasher: each eight bytes of a write cost one multiplication. Which hashes it gives may change.
 ghost use Rattle.std.specs.Prelude.{◌≡◌, ◌+◌, ◌*◌, ◌^◌, ◌<◌, length, fold};
 ghost use Rattle.std.specs.Int.{w64, from_le_bytes};
 ghost use Rattle.lru_limits.specs.Mixing.{folded, joined, written, closed, seeded};
@@ -16,10 +16,11 @@ const REST_KEY: u64 = 0x3c6e_f372_fe94_f82b;
 
 const REST_FACTOR: u64 = 0xa54f_f53a_5f1d_36f1;
 
-/// Builds hashers with four seeds. A contract sees it as the hasher before the first write.
+/// Builds hashers with four seeds. A contract sees a `RandomState` as the hasher before the first write.
 ///
 /// So `state.hash_one(&key)` is the hash of the key in a map with an equal state, and of every value that names the
-/// key. The default seeds are 1, 2, 3, 4: nothing is random here, and nothing is claimed against chosen keys.
+/// key. The default seeds are 1, 2, 3, 4: they are not random, and no claim is made about keys that an attacker
+/// chooses.
 ///
 /// ```
 /// let state = RandomState::with_seeds([5, 6, 7, 8]);
@@ -94,7 +95,7 @@ impl BuildHasher for RandomState {
 /// The hasher that a `RandomState` makes.
 ///
 /// A whole number is written as its bytes, the lowest first: `write_u64(n)` does what `write(&n.to_le_bytes())` does.
-/// Two writes are not one write of the bytes of both.
+/// Two writes differ from one write of the bytes of both.
 ///
 /// ```
 /// let mut hasher = state.build_hasher();
@@ -116,7 +117,7 @@ impl Model for DefaultHasher {
     ghost view = { λ h. record { state = h.state; word_key = h.word_key; rest_key = h.rest_key } };
 }
 
-// The 128 bits of the product, their halves joined by xor.
+// Returns the xor of the two halves of the 128 bits of a product.
 #[inline]
 const fn folded(a: u64, b: u64) -> u64
     ensures { result ≡ folded a b }
@@ -125,7 +126,7 @@ const fn folded(a: u64, b: u64) -> u64
     (product & u64::MAX as u128) as u64 ^ (product >> 64) as u64
 }
 
-// One to seven bytes as a number, the lowest first, by two or three loads that may overlap.
+// Returns one to seven bytes as a number, the lowest first, by two or three loads that may overlap.
 #[inline]
 fn short_number(bytes: &[u8]) -> u64
     requires some { 0 < length bytes.now }

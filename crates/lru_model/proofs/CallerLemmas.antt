@@ -1,38 +1,38 @@
 -- For proofs of callers of a map.
---     read_back            a get through which nothing is written brings the pair to the front, and no more
---     promoted-summed      and keeps the sum of the costs
---     promoted-absent, demoted-absent      if nothing is found, nothing comes to the front, or to the back
+--     read_back            a get through which nothing is written only brings the pair to the front
+--     promoted-summed      such a get keeps the sum of the costs
+--     promoted-absent, demoted-absent      if nothing is found, nothing moves to the front or to the back
 --     written-absent       if nothing is found, a write changes nothing
 --     written-found        after a value was written through a get, a look-up finds it
---     read-all             what holds of each pair holds of each after a get through which nothing is written
---     offers_of-keeps      a limiter that stores pairs as they come keeps their values,
---     offers_of-determined leaves nothing open
---     offers_of-accepts    when it accepts a pair of a new key
---     plain-grants, by_weight-grants, by_cost-grants                    if a limiter permits every growth
---     plain-changes_none, by_weight-changes_none, by_cost-changes_none  limiters that change no removed pair
+--     read-all             what holds of each pair still does after a get through which nothing is written
+--     offers_of-keeps      a limiter that stores pairs as they come keeps their values
+--     offers_of-determined such a limiter leaves nothing open
+--     offers_of-accepts    when such a limiter accepts a pair of a new key
+--     plain-grants, by_weight-grants, by_cost-grants                    these limiters permit every growth
+--     plain-changes_none, by_weight-changes_none, by_cost-changes_none  these limiters change no removed pair
 --     stored_key-same      a key that equals no other key is stored as it came
---     stored-came          and so is the pair, by a limiter that stores pairs as they come
+--     stored-came          a limiter that stores pairs as they come stores such a pair as it came
 --     inserted-found       under such a limiter, after an insert that returned true, a look-up finds the value
---     inserted-only        whatever it returned, a look-up finds no other value
---     inserted-all         what holds of each pair holds of each after an insert, if it holds of the inserted one
---     all-without          and of each after the removal of one
+--     inserted-only        whatever the insert returned, a look-up finds no other value
+--     inserted-all         what holds of each pair still does after an insert, if it holds of the inserted pair
+--     all-without          what holds of each pair still does after a removal
 --     given-found          a search by a hash with a closure that tests a key returns the pair of that key
---     given-tag            and only one whose hash has the tag of the hash
---     given-promoted       one through which nothing is written brings that pair to the front, and no more
---     none-found           if it returns none, no pair of that key has the hash
---     empty_is_map         a map without pairs and buckets is a map, with a sound table
---     has_tables           there are tables for the pairs of a map, if links and bytes reach one for many more
---     tables_of_next       or if there is one for one pair more, and an entry takes a byte or more
+--     given-tag            such a search returns only a pair whose hash has the tag of the hash
+--     given-promoted       such a search through which nothing is written only brings that pair to the front
+--     none-found           if such a search returns none, no pair of that key has the hash
+--     empty_is_map         `IsMap` holds of a map without pairs and buckets
+--     has_tables           there are tables for the pairs of a map if links and bytes reach a table for many more
+--     tables_of_next       or if there is a table for one pair more, and an entry takes a byte or more
 --     shrink_contents      a shrink leaves the pairs and the limiter
 --     usage_bytes          the bytes of a table that has a usage
---     value_removed        of an entry that is removed, the value may be returned alone
+--     value_removed        a removal may return only the value of the removed entry
 --     step_keeps_number    no call changes a number that no callback of the limiter changes
---     step_stays_short     a call leaves at most as many pairs as a limit by length, if there were no more before
---     any_is_map           each call leaves a map, if the table is sound
---     any_step_same        no call changes what builds the hashers, how far links reach, and what a bucket takes
+--     step_stays_short     a call keeps the pairs within a limit by length
+--     any_is_map           each call leaves `IsMap`, if the table is sound
+--     any_step_same        no call changes what builds the hashers, how far links reach, or what a bucket takes
 --     lookup-entry, no_pair      a look-up returns the value of the pair that is found, and none if no pair is
---     without_none         if no pair is named, the others are all
---     length-front_pairs   a pair that is brought to the front leaves the number of pairs
+--     without_none         if no pair is named, removing the named pair changes nothing
+--     length-front_pairs   bringing a pair to the front keeps the number of pairs
 pub use Rattle.lru_model.proofs.Theorems.KeySearches.{given-found, given-tag, none-found}
 pub use Rattle.lru_model.proofs.States.EmptyMaps.{empty_is_map}
 pub use Rattle.lru_model.proofs.States.LeavingPairs.{leaves_trans, length-without_first, length-without_last}

@@ -18,7 +18,7 @@ module _ {K V H : Type 0} (bytes_of : K → V → ℕ) where
     pub table : UsesAtMost st.limiter.table st
     pub owned : IsSummed bytes_of (λ b. b.owned) st
 
-  -- and what it counts is within its limit
+  -- the limiter counts what the map takes (`CountsBytes`), and this is within its limit
   pub record KeepsBytes (st : State K V Bytes H) : Type 0 where
     pub counts : CountsBytes st
     pub within : st.limiter.owned + st.limiter.table ≤ st.limiter.limit

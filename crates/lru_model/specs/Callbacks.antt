@@ -1,5 +1,6 @@
--- Which pairs a call passes to its callback: each pair that is evicted or removed, or that the limiter returned and the
--- map could not store, as the limiter leaves it, in the order in which the limiter is notified.
+-- Which pairs a call passes to its callback: each pair that is evicted or removed, and each pair that the limiter
+-- returned and the map could not store. The callback gets these pairs as the limiter leaves them, in the order in which
+-- the limiter is notified.
 --     rules, offers       what the limiter does (`Rules`, `Offers` of `lru_limits`)
 --     names i k           the inserted key i names the key k
 --     hash_of h k         the hash of the key k, by the hasher h

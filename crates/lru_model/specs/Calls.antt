@@ -1,4 +1,4 @@
--- What gets, writes, removals, pops and a clear make of a map. Each other kind of call has a file of its own.
+-- How gets, writes, removals, pops and a clear change a map. Each other kind of call has a file of its own.
 --     rules      what the limiter does (`Rules` of `lru_limits`)
 --     names      whether a key is the one that is looked up
 use Rattle.std.specs.Prelude.{◌≡◌, Bool, List, [], Option, Some, None, option_map, replicate}
@@ -39,7 +39,7 @@ module _ {K V S H : Type 0} where
         Get names old result new
 
 module _ {K V S : Type 0} (rules : Rules K V S) where
-  -- what `on_removed` of the limiter leaves of a removed pair, if there is one
+  -- the removed pair, if there is one, as `on_removed` of the limiter leaves it
   abbrev pub left_of : S → Option (K × V) → Option (K × V)
   left_of s pair = option_map (λ p. ((rules.on_removed s p.0 p.1).key, (rules.on_removed s p.0 p.1).value)) pair
 

@@ -1,4 +1,4 @@
--- What a clone of a map is: the same map, with clones of its keys, values, limiter and hasher.
+-- A clone of a map is the same map with clones of its keys, values, limiter and hasher.
 --     same_key, same_value, ..    whether the second is a clone of the first
 use Rattle.std.specs.Prelude.{◌≡◌}
 use Rattle.std.specs.List.{AllZip}
@@ -13,7 +13,7 @@ module _ {K V : Type 0} (same_key : K → K → Type 0) (same_value : V → V �
   module _ {S H : Type 0} (same_limiter : S → S → Type 0) (same_hasher : H → H → Type 0) where
     -- `new` is a clone of `old`
     pub record IsClone (old new : State K V S H) : Type 0 where
-      -- pair by pair, in the same order
+      -- each pair is cloned, in the same order
       pub pairs : AllZip IsPairClone old.pairs new.pairs
       pub limiter : same_limiter old.limiter new.limiter
       pub hasher : same_hasher old.hasher new.hasher

@@ -1,5 +1,5 @@
--- What an insert makes of a list of pairs and a limiter. They determine it, with what the table reports, unless memory
--- runs out. In a table of up to 16 buckets the growth left determines the report.
+-- How an insert changes a list of pairs and a limiter. These and what the table reports determine the result, unless
+-- memory runs out. In a table of up to 16 buckets the growth left determines the report.
 use Rattle.std.specs.Prelude.{◌≡◌, ◌≢◌, ℕ, ◌+◌, ◌-◌, ◌/◌, ◌<◌, ◌≤◌, nat_lt, nat_le, Bool, true, false, not}
 use Rattle.std.specs.Prelude.{if◌then◌else◌, ◌∷◌, length, Option, Some, None, MatchOption, Result, Ok, IsErr}
 use Rattle.std.specs.declared.alloc.AllocError.{AllocError}
@@ -20,7 +20,7 @@ pub record Report : Type 0 where
   -- whether there is a bucket for the pair
   pub has_bucket : Bool
 
--- there is a bucket at once
+-- there is a bucket, without a query or an eviction
 abbrev pub at_once : Report
 at_once = record { asked = None; evicted = 0; has_bucket = true }
 
@@ -30,7 +30,7 @@ module _ {K V S : Type 0} (rules : Rules K V S) where
   abbrev pub refusal : Option ℕ → ℕ → Contents K V S → Report
   refusal asked n c = record { asked = asked; evicted = n; has_bucket = not (is_empty c.pairs) }
 
-  -- what a table that is too small reports, if growth leads into this one
+  -- what a table that is too small reports, if it grows into this table
   abbrev pub report_of : Target → ℕ → Contents K V S → Report
   report_of no_table n c = refusal None n c
   report_of same_table n c = at_once
@@ -50,8 +50,8 @@ module _ {K V S : Type 0} (rules : Rules K V S) where
         report ≡ report_of (table_for 1 st) n (contents st) →
         MayReport hash st report
 
-  -- what the table of a map reports if it has up to 16 buckets: each pair that is not in c any more has given back one
-  -- of the growth left
+  -- what the table of a map reports if it has up to 16 buckets: each pair that is no longer in c has given back one of
+  -- the growth left
   abbrev pub small_report : {H : Type 0} → State K V S H → Contents K V S → Report
   small_report st c =
       if nat_lt 0 (growth_left st + length st.pairs - length c.pairs) then at_once
@@ -63,7 +63,7 @@ module _ {K V S : Type 0} (rules : Rules K V S) where
   queried None s = s
   queried (Some bytes) s = (rules.on_grow s bytes).limiter
 
-  -- the pairs and the limiter that a new pair meets
+  -- the pairs and the limiter just before a new pair is stored
   abbrev pub met : Report → Contents K V S → Contents K V S
   met report c = pops rules report.evicted (record { pairs = c.pairs; limiter = queried report.asked c.limiter })
 
@@ -71,7 +71,7 @@ module _ {K V S : Type 0} (rules : Rules K V S) where
   abbrev pub trimmed : Contents K V S → Result Bool AllocError × Contents K V S
   trimmed c = (Ok (not (is_empty (trim rules c).pairs)), trim rules c)
 
-  -- the pair meets c and is not stored, and the limiter is notified of it
+  -- the pair is not stored, and the limiter is notified of it
   abbrev pub not_stored : Report → K × V → Contents K V S → Contents K V S
   not_stored report pair c = let d = met report c in after_removal rules (Some pair) d.pairs d.limiter
 
@@ -81,15 +81,15 @@ module _ {K V S : Type 0} (rules : Rules K V S) where
       if report.has_bucket then trimmed (record { pairs = pair ∷ d.pairs; limiter = d.limiter })
       else (Ok false, not_stored report pair c)
 
--- the pair gets the value and is the newest, or is removed, as the limiter says
+-- if the limiter accepts the value, the pair gets it and is the newest; otherwise the pair is removed
 abbrev pub exchanged : {K V S I : Type 0} (rules : Rules K V S) (offers : Offers K V S I) (names : I → K → Bool) (i : I)
     (v : V) → Contents K V S → K × V → Result Bool AllocError × Contents K V S
 exchanged rules offers names i v c pair =
     if (replacement rules offers names pair i v c).taken then trimmed rules (with_replaced rules offers names pair i v c)
     else (Ok false, with_removed rules offers names pair i v c)
 
--- What an insert into a list returns and leaves. `Tells s pair report`: the table may report this when the limiter, now
--- s, has returned the pair.
+-- What an insert into a list returns and leaves. `Tells s pair report`: the table may report this after the limiter
+-- returned the pair and became s.
 module _ {K V S I : Type 0} (rules : Rules K V S) (offers : Offers K V S I) (names : I → K → Bool)
     (Tells : S → K × V → Report → Type 0) (i : I) (v : V) (old : Contents K V S) (result : Result Bool AllocError)
     (new : Contents K V S) where
@@ -109,29 +109,29 @@ module _ {K V S I : Type 0} (rules : Rules K V S) (offers : Offers K V S I) (nam
         new ≡ not_stored rules report pair (make_room rules (record { pairs = old.pairs; limiter = s })) →
         InsertsNew
 
-  -- the key is new, or in this pair
+  -- an insert of a new key, or of the key of a stored pair
   abbrev pub InsertsBy : Type 0
   InsertsBy = MatchOption (lookup_entry (names i) old.pairs) InsertsNew
       (λ pair. exchanged rules offers names i v old pair ≡ (result, new))
 
 module _ {K V S I : Type 0} (rules : Rules K V S) (offers : Offers K V S I) (names : I → K → Bool) where
-  -- the same if the limiter and the pair determine the report
+  -- an insert if the limiter and the pair determine the report
   abbrev pub InsertsGiven : (S → K × V → Report) → I → V → Contents K V S → Result Bool AllocError → Contents K V S →
       Type 0
   InsertsGiven reports = InsertsBy rules offers names (λ s pair report. report ≡ reports s pair)
 
-  -- the same without a table: a bucket is always there
+  -- an insert without a table: a bucket is always there
   abbrev pub InsertsInList : I → V → Contents K V S → Result Bool AllocError → Contents K V S → Type 0
   InsertsInList = InsertsGiven (λ s pair. at_once)
 
   module _ {H : Type 0} (old : State K V S H) where
-    -- the same into this map
+    -- an insert into this map
     abbrev pub InsertsAsReported : (H → K → ℕ) → I → V → Result Bool AllocError → Contents K V S → Type 0
     InsertsAsReported hash_of i v = InsertsBy rules offers names (λ s pair report. (ready : State K V S H)
         × Leaves (record old { limiter = s }) (make_room rules (record { pairs = old.pairs; limiter = s })) ready
         × MayReport rules (hash_of ready.hasher pair.0) ready report) i v (contents old)
 
-    -- and if it has up to 16 buckets
+    -- an insert into this map, if its table has up to 16 buckets
     abbrev pub InsertsInSmallTable : I → V → Result Bool AllocError → Contents K V S → Type 0
     InsertsInSmallTable i v = InsertsGiven (λ s pair. small_report rules old
         (make_room rules (record { pairs = old.pairs; limiter = s }))) i v (contents old)

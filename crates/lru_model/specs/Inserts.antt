@@ -34,12 +34,12 @@ module _ {K V S H : Type 0} (rules : Rules K V S) where
   Settles refused landed result new = (result ≡ Ok false) × (new ≡ landed)
   Settles no_memory landed result new = IsErr result × (new ≡ landed)
 
-  -- the pair of a new key is inserted into the table, with what follows
+  -- the pair of a new key is inserted into the table, and what follows (`Settles`)
   abbrev pub PlacesAndTrims : (H → K → ℕ) → K × V → State K V S H → Result Bool AllocError → State K V S H → Type 0
   PlacesAndTrims hash_of pair old result new = (outcome : Outcome) × (landed : State K V S H)
       × Place rules hash_of pair old outcome landed × Settles outcome landed result new
 
-  -- the same, after the oldest pair was evicted if the limiter would be over its limit with one more (`make_room`)
+  -- `PlacesAndTrims` after `make_room`
   abbrev pub PlacesNew : (H → K → ℕ) → K × V → State K V S H → Result Bool AllocError → State K V S H → Type 0
   PlacesNew hash_of pair old result new = (ready : State K V S H) × Leaves old (make_room rules (contents old)) ready
       × PlacesAndTrims hash_of pair ready result new
@@ -93,7 +93,7 @@ module _ {K V S I : Type 0} (rules : Rules K V S) (offers : Offers K V S I) (nam
           (replacement pair i v (contents old)).taken ≡ false →
           result ≡ Ok false → Leaves old (with_removed pair i v (contents old)) new →
           Insert i v old result new
-      -- The key is new: the limiter runs out of memory, or returns no pair to store,
+      -- The key is new, and the limiter runs out of memory, or returns no pair to store,
       no_memory_to_admit : lookup_entry (names i) old.pairs ≡ None →
           offers.may_run_out old.limiter (length old.pairs) i v →
           IsErr result → new ≡ old →

@@ -65,7 +65,7 @@ module _ {K V S I : Type 0} (rules : Rules K V S) (offers : Offers K V S I) (nam
     pub gives : (s : S) (given : Option (K × V)) → MayGive rules offers names i v c s given →
         (given ≡ Some pair) × (rules.is_over_the_limit s (length c.pairs + 1) ≡ false)
 
--- the stored key that is named, if there is one, and else the inserted key
+-- the stored key that is named, if there is one, otherwise the inserted key
 abbrev pub stored_key : {K V : Type 0} → (K → Bool) → K → List (K × V) → K
 stored_key names key pairs = unwrap_or (option_map (λ pair. pair.0) (lookup_entry names pairs)) key
 
@@ -87,7 +87,7 @@ pub record LeavesTheNewest {K V : Type 0} (eq : K → K → Bool) (most : ℕ) (
 abbrev pub most_exact_length : ℕ
 most_exact_length = 939524096
 
--- The map is within its maximum length, and links and bytes reach each table that this length needs: the length is at
+-- The map is within its maximum length, and links and bytes reach each table that this length needs: the maximum is at
 -- most `most_exact_length`, links have 32 bits, and an entry takes fewer than 2 ^ 32 - 1 bytes.
 pub record KeepsToLength {K V H : Type 0} (st : State K V ℕ H) : Type 0 where
   pub within : length st.pairs ≤ st.limiter

@@ -1,5 +1,5 @@
--- What a call requires of its callback: that it may be called n times, each time with any pair that may be evicted,
--- removed or rejected, if there are n such pairs.
+-- What a call requires of its callback: if n pairs may be evicted, removed or rejected, the callback may be called n
+-- times, each time with any of them.
 --     rules, offers       what the limiter does (`Rules`, `Offers` of `lru_limits`)
 --     names i k           the inserted key i names the key k
 --     closure             how the callback may be called
@@ -19,7 +19,7 @@ MayTake {K} {V} {F} closure passes n f = (before : List (K × V)) (g : F) (pair 
     → All passes before → CalledWith closure f before g → passes pair → MayBeCalled closure g (pair.0, (pair.1, tt))
 
 module _ {K V S : Type 0} (rules : Rules K V S) where
-  -- `left` is what the limiter may leave of one of these pairs when it is notified of the removal
+  -- `left` is one of these pairs as the limiter may leave it when it is notified of the removal
   abbrev pub IsLeftOf : List (K × V) → K × V → Type 0
   IsLeftOf pairs left = (s : S) × (pair : K × V) × Contains pairs pair × (left_of rules s (Some pair) ≡ Some left)
 

@@ -1,4 +1,4 @@
--- What all insertions into the table cost, those of a reservation for which no growth was left included.
+-- What all insertions into the table cost, even those of a reservation, if no growth was left before it.
 --     terms, rules        what the limiter accepts, and what it does (`Terms`, `Rules` of `lru_limits`)
 --     eq                  whether two keys are equal
 --     hash_of h k         the hash of the key k, by the hasher h
@@ -10,7 +10,7 @@ use Rattle.lru_model.specs.TryInserts.{TryInsert}
 use Rattle.lru_model.specs.Runs.{AnyStep, calls, reserves}
 
 -- Insertions into the table and the potential together rise by at most 3 for each entry stored, and by 2 for each entry
--- that shrinks rehashed, unless one of the counts of these has stopped at its maximum.
+-- that shrinks rehashed, unless the count of stored or of rehashed entries has stopped at its maximum.
 pub record PaysForInsertions {K V S H : Type 0} (old new : State K V S H) : Type 0 where
   pub placed : old.counts.placed ≤ new.counts.placed
   pub shrunk : old.counts.shrunk ≤ new.counts.shrunk
@@ -20,12 +20,12 @@ pub record PaysForInsertions {K V S H : Type 0} (old new : State K V S H) : Type
 
 module _ {K V S H : Type 0} (terms : Terms K V S) (rules : Rules K V S) (eq : K → K → Bool)
     (hash_of : H → K → ℕ) where
-  -- if it is a reservation, no growth was left
+  -- if the step is a reservation, no growth was left
   abbrev pub ReservesIfFull : (old new : State K V S H) → AnyStep rules (offers_of terms) eq hash_of old new → Type 0
   ReservesIfFull old new (calls (reserves n result h)) = growth_left old ≡ 0
   ReservesIfFull old new step = Unit {0}
 
-  -- a `try_insert`, or any other step, a reservation only if no growth was left
+  -- a `try_insert`, or any other step except a reservation while growth was left
   pub data PaidStep (old new : State K V S H) : Type 0 where
     tries : (key : K) (value : V) (result : Result (Unit {0}) (K × V)) →
         TryInsert terms rules key value old eq hash_of result new → PaidStep old new

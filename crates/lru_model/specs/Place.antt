@@ -10,12 +10,12 @@ use Rattle.lru_limits.specs.Rules.{Rules}
 use Rattle.lru_model.specs.Sizes.{target, Target, no_table, new_table}
 use Rattle.lru_model.specs.State.{State, TableState, buckets, growth_left, FirstFreeIs, count_insert, contents, Leaves, pop}
 
--- What comes of it: the pair is stored (`placed`), the table cannot grow and there is no pair to evict (`refused`), or
--- the map ran out of memory.
+-- How it ends: the pair is stored (`placed`), the table cannot grow and there is no pair to evict (`refused`), or the
+-- map ran out of memory.
 pub data Outcome : Type 0 where
   placed refused no_memory : Outcome
 
--- the outcome that a result reports: whether the pair is stored, or out of memory
+-- the outcome that a result reports
 abbrev pub outcome_of : {E : Type 0} → Result Bool E → Outcome
 outcome_of (Ok true) = placed
 outcome_of (Ok false) = refused
@@ -39,8 +39,8 @@ pub record NoBucketTakes (hash n : ℕ) (states : List BucketState) : Type 0 whe
   pub no_growth_left : growth_left_of states ≡ 0
   pub first_empty : 0 < n → FirstFreeIs empty hash states
 
--- No bucket takes a pair of this hash, and a rehash is no remedy: with one pair more the table would be over half full.
--- Either there is no table yet, or it contains pairs.
+-- No bucket takes a pair of this hash, and a rehash does not help, because with one pair more the table would be over
+-- half full. Either there is no table yet, or it contains pairs.
 pub record IsTooSmallFor (hash n : ℕ) (states : List BucketState) : Type 0 where
   pub no_bucket : NoBucketTakes hash n states
   pub above_half : full_capacity (length states) / 2 < n + 1
@@ -66,7 +66,7 @@ module _ {K V S H : Type 0} where
   abbrev pub HasNoBucket : ℕ → State K V S H → Type 0
   HasNoBucket hash st = NoBucketTakes hash (length st.pairs) st.table.states
 
-  -- no bucket takes a pair of this hash, and a rehash is no remedy
+  -- no bucket takes a pair of this hash, and a rehash does not help
   abbrev pub IsOutgrown : ℕ → State K V S H → Type 0
   IsOutgrown hash st = IsTooSmallFor hash (length st.pairs) st.table.states
 
@@ -113,15 +113,15 @@ module _ {K V S H : Type 0} (rules : Rules K V S) where
       IsPlacedIfMemory pair count (full_capacity count - length old.pairs - 1) (length old.pairs) old
 
   -- The table cannot grow: links or bytes do not reach a larger one, or the limiter, which was queried, refuses it.
-  -- `mid` is the map after that.
+  -- `mid` is the map after the query, if there was one.
   pub data CannotGrow (old mid : State K V S H) : Type 0 where
     no_target : table_for 1 old ≡ no_table → mid ≡ old → CannotGrow old mid
     denied : (count bytes : ℕ) → table_for 1 old ≡ new_table count bytes → Denies bytes old →
         mid ≡ asked bytes old → CannotGrow old mid
 
-  -- The oldest pairs of mid are evicted until the new pair finds a bucket, or until fewer than half of what the table
-  -- may hold are left, and it is rehashed. If there is no pair to evict, the new pair is rejected. `old` is the map
-  -- before the limiter was queried for a larger table, and `mid` the map after.
+  -- The oldest pairs of `mid` are evicted until the new pair finds a bucket, or until fewer pairs are left than half of
+  -- what the table may hold; then the table is rehashed. If there is no pair to evict, the new pair is rejected. `old`
+  -- is the map before the limiter was queried for a larger table, and `mid` the map after.
   pub data Evicts (hash : ℕ) (pair : K × V) (old mid : State K V S H) (outcome : Outcome)
       (new : State K V S H) : Type 0 where
     nothing_to_evict : old.pairs ≡ [] →
@@ -139,15 +139,15 @@ module _ {K V S H : Type 0} (rules : Rules K V S) where
         Evicts hash pair old mid outcome new
 
 module _ {K V S H : Type 0} (rules : Rules K V S) (hash_of : H → K → ℕ) where
-  -- what may come of inserting the pair into the table
+  -- how the insertion of the pair into the table may end
   pub data Place (pair : K × V) (old : State K V S H) (outcome : Outcome) (new : State K V S H) : Type 0 where
     -- A free bucket takes the pair. The limiter is not queried, and no memory is needed.
     in_bucket : length old.pairs < full_capacity (buckets old) → (0 < growth_left old) ⊎ (0 < length old.pairs) →
         FillsBucket (hash_of old.hasher pair.0) old.table new.table →
         outcome ≡ placed → IsPlacedInTable pair old new →
         Place pair old outcome new
-    -- Or no bucket takes it, and with it the table is at most half full: the table is rehashed. Without pairs this
-    -- needs no memory.
+    -- Or no bucket takes the pair, and the table is at most half full with it: then it is rehashed, which needs no
+    -- memory without pairs.
     rehashed : HasNoBucket (hash_of old.hasher pair.0) old → length old.pairs + 1 ≤ full_capacity (buckets old) / 2 →
         (outcome ≡ no_memory → 0 < length old.pairs) →
         IsPlacedByMove rules pair (buckets old) old outcome new →

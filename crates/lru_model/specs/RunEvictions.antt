@@ -1,6 +1,6 @@
 -- What each insert of a run evicts, whatever the other calls of the run are.
 --     rules, offers       what the limiter does (`Rules`, `Offers` of `lru_limits`)
---     names i k           the key i, as a call gets it, names the key k
+--     names i k           the key i that a call gets names the key k
 --     hash_of h k         the hash of the key k, by the hasher h
 use Rattle.std.specs.Prelude.{◌≡◌, ℕ, Bool, false}
 use Rattle.lru_limits.specs.Rules.{Rules, Offers}
@@ -11,15 +11,15 @@ use Rattle.lru_model.specs.Theorems.{EvictsOldest}
 
 module _ {K V S H : Type 0} {IsStep : State K V S H → State K V S H → Type 0}
     (Holds : (old new : State K V S H) → IsStep old new → Type 0) where
-  -- this holds of each step of the run
+  -- `Holds` is true of each step of the run
   abbrev pub EachStep : {new old : State K V S H} → Run IsStep new old → Type 0
   EachStep ends = Unit {0}
   EachStep (goes_on {old} mid step sized run) = Holds old mid step × EachStep run
 
 module _ {K V S H I : Type 0} (rules : Rules K V S) (offers : Offers K V S I) (names : I → K → Bool)
     (hash_of : H → K → ℕ) where
-  -- An insert evicts only from the old end. It may also remove the pair of its key, if the replacement is rejected. The
-  -- same goes for a get that inserts, which evicts nothing if its key is there.
+  -- An insert evicts only from the old end. It may also remove the pair of its key, if the replacement is rejected. So
+  -- does a get that inserts, but it evicts nothing if its key is there.
   abbrev pub InsertEvictsOldest : (old new : State K V S H) → AnyStep rules offers names hash_of old new → Type 0
   InsertEvictsOldest old new (calls (inserts key value result h)) = EvictsOldest (names key)
       (λ pair. (replacement rules offers names pair key value (contents old)).taken ≡ false) old.pairs new.pairs

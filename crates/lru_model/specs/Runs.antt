@@ -1,6 +1,6 @@
--- What one call makes of a map (`Step`), and what calls one after another make of it (`Run`).
+-- How one call changes a map (`Step`), and how calls one after another change it (`Run`).
 --     rules, offers       what the limiter does (`Rules`, `Offers` of `lru_limits`)
---     names i k           the key i, as a call gets it, names the key k
+--     names i k           the key i that a call gets names the key k
 --     hash_of h k         the hash of the key k, by the hasher h
 use Rattle.std.specs.Prelude.{◌≡◌, ◌⊎◌, ℕ, Bool, true, false, List, Option, IfSome, Result, Contains, map}
 use Rattle.std.specs.declared.alloc.AllocError.{AllocError}
@@ -24,7 +24,7 @@ AreAmong {K} named test = (key : K) → named key ≡ true → test key ≡ true
 
 module _ {K V S H I : Type 0} (rules : Rules K V S) (offers : Offers K V S I) (names : I → K → Bool)
     (hash_of : H → K → ℕ) where
-  -- What one call makes of a map if nothing is written through a reference. A call that only looks changes nothing. A
+  -- How one call changes a map if nothing is written through a reference. A call that only looks changes nothing. A
   -- look-up by a key of any type, or by a hash, promotes the pair that it finds. All inserts of a run are by keys of
   -- one type I.
   pub data Step (old new : State K V S H) : Type 0 where
@@ -57,7 +57,7 @@ module _ {K V S H I : Type 0} (rules : Rules K V S) (offers : Offers K V S I) (n
   abbrev pub StepOrWrite : State K V S H → State K V S H → Type 0
   StepOrWrite old new = Step old new ⊎ ((test : K → Bool) × (value : V) × (new ≡ written test value old))
 
-  -- a call, or a write of a value that costs what the value before it costs
+  -- a call, or a write of a value that costs what the old value costs
   abbrev pub StepOrKeptWrite : (cost : K → V → ℕ) → State K V S H → State K V S H → Type 0
   StepOrKeptWrite cost old new = Step old new ⊎ ((test : K → Bool) × (value : V)
       × IfSome (lookup_entry test old.pairs) (λ there. cost there.0 value ≡ cost there.0 there.1)
@@ -78,15 +78,15 @@ module _ {K V S H I : Type 0} (rules : Rules K V S) (offers : Offers K V S I) (n
   NamesOnly test old new (writes named value e) = AreAmong named test
   NamesOnly test old new step = Unit {0}
 
-  -- such a step that names only keys that pass the test
+  -- a step that names only keys that pass the test (`NamesOnly`)
   abbrev pub StepAmong : (K → Bool) → State K V S H → State K V S H → Type 0
   StepAmong test old new = (step : AnyStep old new) × NamesOnly test old new step
 
--- the keys by which a call that inserts nothing inserts, of which there are none
+-- the inserted keys of a call that inserts nothing: there are none
 abbrev pub no_keys : {K : Type 0} → ⊥ → K → Bool
 no_keys key k = false
 
--- what a limiter does with no offers
+-- the offers to a limiter if nothing is inserted
 abbrev pub no_offers : {K V S : Type 0} → Offers K V S ⊥
 no_offers = record {
   on_insert = λ limiter n key value left pair. ⊥;
@@ -108,7 +108,7 @@ pub data Run {K V S H : Type 0} (IsStep : State K V S H → State K V S H → Ty
       → Run IsStep new old
 
 module _ {K V S H : Type 0} (rules : Rules K V S) (hash_of : H → K → ℕ) where
-  -- a call that inserts nothing: by keys of any type, it is a step (`without_insert`)
+  -- a call that inserts nothing, which is a step whatever type the inserted keys have (`without_insert`)
   abbrev pub StepWithoutInsert : (old new : State K V S H) → Type 0
   StepWithoutInsert = Step rules no_offers no_keys hash_of
 

@@ -3,7 +3,7 @@ use Rattle.std.specs.Prelude.{◌≡◌, ◌⊎◌, ℕ, ◌+◌, ◌-◌, ◌*�
 use Rattle.std.specs.Prelude.{Option, Some, None}
 use Rattle.group_table.specs.Sizes.{IsPowerFromFour, full_capacity, buckets_for}
 
--- the number of the link `MAX` of 32 bits, and of 64 bits: buckets have smaller numbers
+-- the number of the link `MAX` of 32 bits, and of 64 bits; buckets have smaller numbers
 abbrev pub max_of_32_bits : ℕ
 max_of_32_bits = 2 ^ 32 - 1
 
@@ -29,25 +29,25 @@ pub record IsGreatestUsage (max entry_bytes budget bytes : ℕ) : Type 0 where
   pub greatest : (buckets other : ℕ) → IsPowerFromFour buckets → buckets < max →
       usage entry_bytes buckets ≡ Some other → other ≤ budget → other ≤ bytes
 
--- Into which table a map grows: into none, into one of the same size (a rehash), or into one of this number of buckets
--- and of bytes.
+-- Into which table a map grows: no table, a table of the same size (a rehash), or a table of this number of buckets and
+-- of bytes.
 pub data Target : Type 0 where
   no_table same_table : Target
   new_table : ℕ → ℕ → Target
 
--- the table of this number of buckets and of bytes, or none without a number of bytes
+-- the table of this number of buckets and of bytes, or no table if there is no number of bytes
 abbrev pub table_of : ℕ → Option ℕ → Target
 table_of buckets None = no_table
 table_of buckets (Some bytes) = new_table buckets bytes
 
--- the table of this number of buckets, or none without a number
+-- the table of this number of buckets, or no table if there is no number
 abbrev pub table_with : ℕ → Option ℕ → Target
 table_with entry_bytes None = no_table
 table_with entry_bytes (Some buckets) = table_of buckets (usage entry_bytes buckets)
 
--- Into which table a table of `buckets` buckets grows for `pairs` pairs that need `need` buckets: one of `need`
--- buckets, if it has fewer; the same, if the pairs are at most half of what it may hold; and else one of twice the
--- buckets.
+-- Into which table a table of `buckets` buckets grows for `pairs` pairs that need `need` buckets: a table of `need`
+-- buckets, if it has fewer; the same table, if the pairs are at most half of what it may hold; and otherwise a table of
+-- twice the buckets.
 abbrev pub target_from : ℕ → ℕ → ℕ → ℕ → Option ℕ → Target
 target_from max entry_bytes buckets pairs None = no_table
 target_from max entry_bytes buckets pairs (Some need) =

@@ -65,7 +65,7 @@ pub record IsSound (n entry_bytes max : ℕ) (states : List BucketState) (counts
   pub placed : counts.placed < 2 ^ 64
   pub shrunk : counts.shrunk < 2 ^ 64
 
--- n more moves are paid for, unless the count of shrinks has stopped at its maximum
+-- n more moves are paid for, unless the count of rehashed entries has stopped at its maximum
 abbrev pub IsAhead : ℕ → Counts → Type 0
 IsAhead n counts = counts.shrunk < 2 ^ 64 - 1 → counts.moved + n ≤ 2 * counts.placed + counts.shrunk
 
@@ -75,8 +75,8 @@ pub record IsPaid (potential : ℕ) (counts : Counts) : Type 0 where
   pub moved : counts.moved ≤ 2 * counts.placed + counts.shrunk
   pub ahead : IsAhead potential counts
 
--- Pairs were removed, or none: `was` pairs were there, and n are left. Each that is removed may give back one of the
--- growth left. In a table of up to 16 buckets it does.
+-- Of `was` pairs n are left. Each removed pair may give back one of the growth left; in a table of up to 16 buckets it
+-- does.
 pub record GivesBack (was n : ℕ) (old new : List BucketState) : Type 0 where
   pub table : length new ≡ length old
   pub keeps : growth_left_of old ≤ growth_left_of new
@@ -90,7 +90,7 @@ abbrev pub FirstFreeIs : BucketState → ℕ → List BucketState → Type 0
 FirstFreeIs state hash states = (b : ℕ) × IsFirstFree states hash b × (bucket_at states b ≡ state)
 
 -- The bucket of a removed pair, `place`, is free now: it is empty if every 16 neighbouring buckets around it contain an
--- empty one, and deleted otherwise. Each other bucket stays as it was.
+-- empty bucket, and deleted otherwise. Each other bucket stays as it was.
 pub record Frees (place : Option ℕ) (old new : TableState) : Type 0 where
   pub bucket : ℕ
   pub there : place ≡ Some bucket

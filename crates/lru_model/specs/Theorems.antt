@@ -29,7 +29,7 @@ module _ {K V S H : Type 0} where
         ≤ old.counts.moved + potential old + 2 * new.counts.placed
 
   -- `moved` and the potential together rise by at most 2 for each entry stored, and by 1 for each entry that shrinks
-  -- rehashed, unless one of these two counts has stopped at its maximum
+  -- rehashed, unless the count of stored or of rehashed entries has stopped at its maximum
   pub record PaysForMoves (old new : State K V S H) : Type 0 where
     pub placed : old.counts.placed ≤ new.counts.placed
     pub shrunk : old.counts.shrunk ≤ new.counts.shrunk
@@ -65,7 +65,7 @@ pub data EvictsOldest {K V : Type 0} (names : K → Bool) (refuses : K × V → 
       EvictsOldest names refuses old new
   -- The key was not there, and its pair is not stored. The oldest pairs may have been evicted.
   with_none : lookup_entry names old ≡ None → IsFront new old → EvictsOldest names refuses old new
-  -- the pair whose replacement is rejected is removed, and no other
+  -- only the pair whose replacement is rejected is removed
   without_one : (pair : K × V) → lookup_entry names old ≡ Some pair → refuses pair → new ≡ without names old →
       EvictsOldest names refuses old new
 
@@ -86,8 +86,8 @@ module _ {K V S H : Type 0} (rules : Rules K V S) where
   SaysWhether names result new = lookup_entry names new.pairs ≡ None
 
 module _ {K V S H I : Type 0} (rules : Rules K V S) (offers : Offers K V S I) (names : I → K → Bool) where
-  -- the pair that an insert stores: the old pair of the key, with what the replacement left of the new value, or the
-  -- pair that the limiter returned for a new key
+  -- the pair that an insert stores: the stored key with the new value, as the replacement left both, or the pair that
+  -- the limiter returned for a new key
   pub data Stores (i : I) (v : V) (old : State K V S H) (pair : K × V) : Type 0 where
     left : (was : K × V) → lookup_entry (names i) old.pairs ≡ Some was
         → (replacement rules offers names was i v (contents old)).taken ≡ true →

@@ -3,7 +3,7 @@
 use std::fmt::Display;
 use thiserror::Error;
 
-/// What an insert did, with the value that the map does not keep.
+/// What an insert did, and the value that the map does not keep.
 ///
 /// - The key was not there: `unkept` is `None`. `kept` is false if the limiter rejected the entry, if the map could not
 ///   store it, or if it was stored and then evicted.
@@ -12,8 +12,8 @@ use thiserror::Error;
 /// - The key was there, and the limiter rejected the new value: `unkept` is the new value, and `kept` is false. The
 ///   entry was removed.
 ///
-/// If `kept` is false and there is a value, the callback got the entry of the key: it was evicted, or its new value was
-/// rejected.
+/// If `kept` is false and `unkept` is a value, the callback got the entry of the key: it was evicted, or its new value
+/// was rejected.
 ///
 /// ```
 /// let inserted = map.insert_full(1, 11, &mut |_, _| {})?;
@@ -27,7 +27,7 @@ pub struct Inserted<V> {
     pub unkept: Option<V>,
 }
 
-/// What an update did, with the value that is not in the map afterwards.
+/// What an update did, and the value that is not in the map afterwards.
 ///
 /// ```
 /// assert_eq!(rt; map.update(1, 11), Updated::Replaced(10));
@@ -92,8 +92,8 @@ pub enum GetOrInsertError<E> {
 /// ```
 #[derive(Clone, Copy, Debug, PartialEq, Eq)]
 pub struct MoveReport {
-    /// Entries that inserts moved, because the table grew or was rehashed. Entries that `try_reserve` moves are not
-    /// counted, nor entries that `try_insert` moves, because it reserves.
+    /// Entries that inserts moved, because the table grew or was rehashed. Entries that `try_reserve` or `try_insert`
+    /// moves are not counted.
     pub moved: u64,
     /// New entries that inserts stored, `try_insert` included.
     pub placed: u64,

@@ -9,7 +9,7 @@ use Rattle.ordered_table.specs.OrderedTable.{bucket_after, bucket_before}
 use Rattle.ordered_table.specs.declared.linked.Entry.{Entry}
 use Rattle.ordered_table.specs.declared.linked.chain.Chain.{Chain}
 
--- the buckets with their pairs, without the links
+-- a bucket with its pair, without the links
 abbrev pub pair_slot : {K V N : Type 0} → Slot (Entry K V N) → Slot (K × V)
 pair_slot empty = empty
 pair_slot deleted = deleted
@@ -19,7 +19,7 @@ abbrev pub pair_slots : {K V N : Type 0} → List (Slot (Entry K V N)) → List 
 pair_slots slots = map pair_slot slots
 
 module _ {N : Type 0} (link : ℕ → N) (none : N) where
-  -- the link to a bucket, or to none
+  -- the link to a bucket, or `none`
   abbrev pub link_to : Option ℕ → N
   link_to None = none
   link_to (Some b) = link b
@@ -46,7 +46,7 @@ module _ {K V N : Type 0} where
     pub others : (c : ℕ) → c ≢ b → entry_at new c ≡ entry_at old c
 
 module _ {K V N : Type 0} (number : N → ℕ) where
-  -- The link `kind` of the entry at a link, if there is one, has been set to `to`. The link `other` of each entry, and
+  -- If the link `at` leads to an entry, the link `kind` of this entry is now `to`. The link `other` of each entry, and
   -- the links of all other entries, have stayed.
   pub record SetsLink (kind other : Entry K V N → N) (old new : List (Slot (Entry K V N))) (at to : N) : Type 0 where
     pub pairs : pair_slots new ≡ pair_slots old
@@ -61,7 +61,7 @@ module _ {K V N : Type 0} (number : N → ℕ) where
   SetsOlder = SetsLink (λ entry. entry.older) (λ entry. entry.newer)
 
 module _ {N : Type 0} (number : N → ℕ) (none : N) (links : List N) where
-  -- the link to where the bucket of a link has moved
+  -- the link to the new bucket of an entry, by the link to its old bucket
   abbrev pub moved_link : N → N
   moved_link l = slice_index_or links (number l) none
 
@@ -69,7 +69,7 @@ module _ {N : Type 0} (number : N → ℕ) (none : N) (links : List N) where
   abbrev pub HasPlace : N → Type 0
   HasPlace l = (l ≡ none) ⊎ (number l < length links)
 
-  -- the entry in a bucket has links to where its neighbours have moved, and nothing else has changed
+  -- the entry in a bucket has links to the new buckets of its neighbours, and nothing else has changed
   pub record MovesLinks {K V : Type 0} (old new : List (Slot (Entry K V N))) (b : ℕ) : Type 0 where
     pub pairs : pair_slots new ≡ pair_slots old
     pub newer_there : newer_at new b ≡ option_map moved_link (newer_at old b)
@@ -98,8 +98,8 @@ module _ {K V N : Type 0} (number : N → ℕ) (link : ℕ → N) (none : N) whe
     pub all : (b : ℕ) → IsFull slots b → Contains order b
     pub count : entry_count slots ≡ length order
 
-  -- A bucket with these links is about to be taken out of the chain of these buckets. Its entry may be gone from the
-  -- slots already; all other entries are there.
+  -- A bucket with these links is about to be taken out of the chain of these buckets. The slots may have lost its entry
+  -- already, but no other entry.
   pub record IsGap (slots : List (Slot (Entry K V N))) (newest oldest : N) (order : List ℕ) (b : ℕ) (newer older : N)
       : Type 0 where
     pub before : List (Slot (Entry K V N))
@@ -118,11 +118,11 @@ module _ {K V N : Type 0} (number : N → ℕ) (link : ℕ → N) (none : N) whe
   abbrev pub HasGap : Chain K V N → List ℕ → ℕ → N → N → Type 0
   HasGap chain = IsGap chain.table.slots chain.newest chain.oldest
 
-  -- the links keep an order of some buckets, and this one is among them
+  -- the links keep an order of some buckets, including this one
   abbrev pub InChain : Chain K V N → ℕ → Type 0
   InChain chain b = (order : List ℕ) × KeepsOrder chain order × Contains order b
 
-  -- the links keep an order of some buckets, and this one is not among them
+  -- the links keep an order of some buckets, without this one
   abbrev pub OutOfChain : Chain K V N → ℕ → Type 0
   OutOfChain chain b = (order : List ℕ) × KeepsOrder chain order × (Contains order b → ⊥)
 

@@ -11,14 +11,14 @@ use Rattle.group_table.specs.Table.{Insertions, IsTable}
 use Rattle.group_table.specs.Fits.{Fits}
 
 pub record OrderedTable (K V : Type 0) : Type 0 where
-  -- the buckets, a full one with its pair
+  -- the buckets; a full bucket has its pair
   pub slots : List (Slot (K × V))
   -- the full buckets, newest first
   pub order : List ℕ
   -- how many insertions the table has made
   pub insertions : Insertions
 
--- the buckets without this one
+-- the order without this bucket
 abbrev pub without_bucket : ℕ → List ℕ → List ℕ
 without_bucket b order = filter (λ c. not (nat_eq c b)) order
 
@@ -80,7 +80,7 @@ module _ {K V : Type 0} where
   -- what holds of every table whose buckets are linked
   pub record IsLinked (t : OrderedTable K V) : Type 0 where
     pub table : IsTable (bucket_states t.slots)
-    -- each full bucket is in the order once, and no other bucket is
+    -- the order contains each full bucket once, and no other bucket
     pub distinct : AllPairs ◌≢◌ t.order
     pub all : (b : ℕ) → IsFull t.slots b → Contains t.order b
     pub only : (b : ℕ) → Contains t.order b → IsFull t.slots b

@@ -1,4 +1,4 @@
--- How the fields of a walk hold what is left of it. No public clause cites this module.
+-- How the fields of a walk show what is left of it. No public clause cites this module.
 use Rattle.std.specs.Prelude.{◌≡◌, ℕ, ◌<◌, List, [], ◌∷◌, ◌++◌, length, take, nat_eq, if◌then◌else◌, Some}
 use Rattle.ordered_table.specs.OrderedTable.{OrderedTable, IsLinked, entries_in}
 use Rattle.lru_model.specs.Lists.{first as first_bucket, last as last_bucket}
@@ -9,7 +9,7 @@ from_bucket b [] = []
 from_bucket b (c ∷ cs) = if nat_eq c b then c ∷ cs else from_bucket b cs
 
 module _ {K V : Type 0} (t : OrderedTable K V) where
-  -- the next pairs of the walk, `left` in number, from the one in the bucket `front` on
+  -- the next `left` pairs of the walk, from the pair in the bucket `front` on
   abbrev pub rest_of : ℕ → ℕ → List (K × V)
   rest_of front left = entries_in t.slots (take left (from_bucket front t.order))
 
@@ -21,6 +21,6 @@ module _ {K V : Type 0} (t : OrderedTable K V) where
     pub after : List ℕ
     pub order : t.order ≡ before ++ (middle ++ after)
     pub count : length middle ≡ left
-    -- `front` and `back` are the ends of these, and any numbers if none is left
+    -- `front` and `back` are the first and the last bucket that is left, or any numbers if none is
     pub first : 0 < left → first_bucket middle ≡ Some front
     pub last : 0 < left → last_bucket middle ≡ Some back

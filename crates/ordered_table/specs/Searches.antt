@@ -24,7 +24,8 @@ module _ {K V F : Type 0} (closure : Mut F (Bor K × (Bor V × Unit {0})) Bool) 
     pub last : F
     pub accepted : AnswersPair between b true last
 
-  -- or f rejected all; for any hashes that fit the table, each bucket whose entry has the hash is among them
+  -- a search for the hash called f for these buckets, and f rejected all; they include each bucket whose entry has the
+  -- hash, for any hashes that fit the table
   pub record FindsNoPair (hash : ℕ) (f : F) : Type 0 where
     pub asked : List ℕ
     pub search : IsSearch slots hash asked

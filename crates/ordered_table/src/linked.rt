@@ -1,5 +1,5 @@
-//! `LinkedTable`: a table whose entries have links to their newer and older neighbours, so a promotion or a removal walks
-//! nowhere.
+//! `LinkedTable`: a table whose entries have links to their newer and older neighbours, so a promotion or a removal
+//! needs no walk.
 ghost use Rattle.std.specs.Prelude.{◌≡◌, ℕ, ◌+◌, ◌<◌, false, [], ◌∷◌, ◌++◌, length, Some, IfSome};
 ghost use Rattle.std.specs.Prelude.{IfNone, IsTrue, replicate};
 ghost use Rattle.std.specs.Borrow.{sem};
@@ -26,8 +26,8 @@ mod copy;
 mod moves;
 mod place;
 
-// A pair with its neighbours in the order; `MAX` at the ends. The key and the value are side by side, and so are the
-// value and the links, so that a look or a step reads one line of memory.
+// A pair with links to its neighbours in the order; a link is `MAX` at an end. The key and the value are side by side,
+// and so are the value and the links, so that a look-up or a step of a walk reads one line of memory.
 #[derive(Drop)]
 pub(crate) struct Entry<K, V, N> {
     pair: Pair<K, V>,

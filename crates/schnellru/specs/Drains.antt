@@ -10,7 +10,7 @@ module _ {K V L S N H : Type 0} where
   abbrev pub drain_map : Drain K V L S N H → State K V L S
   drain_map d = d.map.now
 
-  -- the ghost name of the reference to it
+  -- the ghost name of the reference to this map
   abbrev pub drain_lender : Drain K V L S N H → GName
   drain_lender d = d.map.ghost_name
 
@@ -18,7 +18,7 @@ module _ {K V L S N H : Type 0} where
   abbrev pub drain_left : Drain K V L S N H → Count
   drain_left d = at_most (length (drain_map d).pairs)
 
-  -- it takes the pair that the pop removes, if there is one
+  -- the drain takes the pair that the pop removes, if there is one
   pub record TakesBy (pop : State K V L S → Option (K × V) → State K V L S → Type 0) (old : Drain K V L S N H)
       (result : Option (K × V)) (new : Drain K V L S N H) : Type 0 where
     pub pops : pop (drain_map old) result (drain_map new)

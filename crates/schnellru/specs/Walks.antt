@@ -1,4 +1,4 @@
--- What a contract sees of an `IterMut`, and what it ends as once the loan of a value has ended.
+-- What a contract sees of an `IterMut`, and what becomes of it once the loan of a value has ended.
 use Rattle.std.proofs.Common.{refl, arith}
 use Rattle.std.specs.Prelude.{ℕ, ◌+◌, ◌-◌, ◌≤◌, [], length, slice_get, Option, None, Some, if◌then◌else◌, nat_lt}
 use Rattle.std.specs.Borrow.{Fml, GName, RattleType, Bor, MutBor, follows, follows_if}
@@ -26,7 +26,7 @@ abbrev pub lent_name : {K V : Type 0} → Option (Bor K × MutBor V) → maybe.O
 lent_name (Some pair) = maybe.some pair.1.ghost_name
 lent_name None = maybe.none
 
--- of a walk, over the members of the traits that an `IterMut` relies on
+-- `walk` is an `IterMut`; the other parameters are members of the traits that it depends on
 module _ {K V L S N H : Type 0} {equal : equality.Ghosts K} {input : hashing.Ghosts K} {limits : limiter.Ghosts L K V N}
     {links : link_type.Ghosts N}
     {keyed : key_hasher.Ghosts S K H} {build : builder.Ghosts S H} {hash : hasher.Ghosts H}
@@ -38,7 +38,7 @@ module _ {K V L S N H : Type 0} {equal : equality.Ghosts K} {input : hashing.Gho
   abbrev pub walk_lender : GName
   walk_lender = walk.map.ghost_name
 
-  -- the pairs that are left are at the positions from the first of these up to the second
+  -- the pairs that are left are at the positions from `walk_start` up to `walk_end`
   abbrev pub walk_start : ℕ
   walk_start = walk.start
 
@@ -49,7 +49,7 @@ module _ {K V L S N H : Type 0} {equal : equality.Ghosts K} {input : hashing.Gho
   abbrev pub walk_written : ℕ → V → MutBor (State K V L S)
   walk_written at w = record walk.map { now = record walk.map.now { pairs = set_value_at walk.map.now.pairs at w } }
 
-  -- the walk after it lent the first pair that was left, or the last, and w was written there
+  -- the walk after it lent the first pair that was left, and w was written there; below, after it lent the last
   abbrev pub walk_after_first : V → IterMut K V L S N H equal input limits links keyed build hash
   walk_after_first w = record walk {
     map = walk_written walk.start w;

@@ -22,7 +22,7 @@ mod positions;
 /// assert!(rt; walk.next_back() == Some((&1, &10)) && walk.len() == 2);
 /// ```
 ///
-/// After schnellru's `Iter`.
+/// Follows schnellru's `Iter`.
 pub type Iter<'a, K, V, L> = Walk<'a, K, V, <L as Limiter<K, V>>::LinkType>;
 
 impl<K: Eq + Hash, V, L: Limiter<K, V>, S: KeyHasher<K>> LruMap<K, V, L, S> {
@@ -36,9 +36,9 @@ impl<K: Eq + Hash, V, L: Limiter<K, V>, S: KeyHasher<K>> LruMap<K, V, L, S> {
     /// assert_eq!(rt; total, 140);
     /// ```
     ///
-    /// Cost: `O(1)`, and so is each step of the walk from either end.
+    /// Cost: `O(1)`, and `O(1)` for each step from either end.
     ///
-    /// After schnellru's `LruMap::iter`.
+    /// Follows schnellru's `LruMap::iter`.
     pub fn iter(&self) -> Iter<'_, K, V, L>
         ensures rest { result ≡ self.now.pairs }
         ensures runs { ShowsInOrder (deref_pair {K = K} {X = V}) }
@@ -54,10 +54,10 @@ impl<K: Eq + Hash, V, L: Limiter<K, V>, S: KeyHasher<K>> LruMap<K, V, L, S> {
     /// ```
     /// assert!(rt; map.keys().next() == Some(&3) && map.keys().next_back() == Some(&1));
     /// ```
-    /// Cost: as `iter`.
-    /// Cost: `O(1)`, and so is each step of the walk from either end.
     ///
-    /// After std's `HashMap::keys`.
+    /// Cost: as `iter`.
+    ///
+    /// Follows std's `HashMap::keys`.
     pub fn keys(&self) -> Keys<'_, K, V, L::LinkType>
         ensures rest { result ≡ keys_of self.now.pairs }
         ensures runs { ShowsInOrder (deref {X = K}) }
@@ -73,7 +73,7 @@ impl<K: Eq + Hash, V, L: Limiter<K, V>, S: KeyHasher<K>> LruMap<K, V, L, S> {
     ///
     /// Cost: as `iter`.
     ///
-    /// After std's `HashMap::values`.
+    /// Follows std's `HashMap::values`.
     pub fn values(&self) -> Values<'_, K, V, L::LinkType>
         ensures rest { result ≡ values_of self.now.pairs }
         ensures runs { ShowsInOrder (deref {X = V}) }
@@ -81,7 +81,7 @@ impl<K: Eq + Hash, V, L: Limiter<K, V>, S: KeyHasher<K>> LruMap<K, V, L, S> {
         self.entries.values()
     }
 
-    /// Returns the entry at this index in the order of use, counted from 0, the newest. The order stays.
+    /// Returns the entry at this index in the order of use. The newest has index 0. The order stays.
     ///
     /// ```
     /// assert!(rt; map.get_index(0) == Some((&3, &30)) && map.get_index(3).is_none());
@@ -89,7 +89,7 @@ impl<K: Eq + Hash, V, L: Limiter<K, V>, S: KeyHasher<K>> LruMap<K, V, L, S> {
     ///
     /// Cost: `O(index)`, and `O(1)` if there is no such entry.
     ///
-    /// After `get_index` of the crate `indexmap`.
+    /// Follows `get_index` of the crate `indexmap`.
     pub fn get_index(&self, index: usize) -> Option<(&K, &V)>
         ensures { option_map deref_pair result ≡ slice_get self.now.pairs index }
     {
@@ -97,7 +97,7 @@ impl<K: Eq + Hash, V, L: Limiter<K, V>, S: KeyHasher<K>> LruMap<K, V, L, S> {
         Some((&pair.key, &pair.value))
     }
 
-    /// Returns the index of a key in the order of use, counted from 0, the newest. The order stays.
+    /// Returns the index of a key in the order of use. The newest has index 0. The order stays.
     ///
     /// ```
     /// assert_eq!(rt; (map.get_index_of(&1), map.get_index_of(&9)), (Some(2), None));
@@ -105,7 +105,7 @@ impl<K: Eq + Hash, V, L: Limiter<K, V>, S: KeyHasher<K>> LruMap<K, V, L, S> {
     ///
     /// Cost: `O(1)` expected to find the key, and `O(index)` to count the entries that are newer.
     ///
-    /// After `get_index_of` of the crate `indexmap`.
+    /// Follows `get_index_of` of the crate `indexmap`.
     pub fn get_index_of<Q: LookupKey<K>>(&self, key: &Q) -> Option<usize>
         ensures { result ≡ position (λ pair. Q.names key.now pair.0) self.now.pairs }
     {

@@ -22,8 +22,8 @@ impl<T: Drop> Table<T> {
     ///
     /// # Errors
     ///
-    /// Out of memory, or the error of `f`. What was copied is dropped. A table without buckets asks for no memory, and
-    /// its copy never fails.
+    /// Out of memory, or the error of `f`. The entries copied so far are dropped. A table without buckets asks for no
+    /// memory, and its copy never fails.
     pub fn clone_with<F: Fn(&T) -> Result<T, AllocError>>(&self, f: F) -> Result<Self, AllocError>
         requires callable { F.IsAlwaysCallable f }
         ensures copies { IfOk result (λ t. Copies F.Fn f self.now.slots t.slots) }

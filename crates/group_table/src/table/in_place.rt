@@ -13,7 +13,7 @@ use crate::fields::put;
 use crate::link::LinkType;
 use crate::probe::{first_free, is_read_first};
 
-// Inserts every entry again, over cleared control bytes, and writes where each is now.
+// Inserts every entry again, over cleared control bytes, and writes to `links` where each is now.
 pub(crate) fn place_again<T, N: LinkType, H: Fn(&T) -> u64>(
     before: &Control,
     control: &mut Control,

@@ -7,8 +7,9 @@ use std::marker::Model;
 
 /// Limits the bytes of the table. A contract sees it as that number.
 ///
-/// It permits a growth if and only if the grown table is within the limit. After a refusal the map evicts its oldest
-/// entries. The old table, which exists during a growth, is not counted, nor is what keys and values own.
+/// It permits a growth if and only if the new table is within the limit. After a refusal the map evicts its oldest
+/// entries. The old table, which exists during a growth, is not counted. What keys and values own is not counted
+/// either.
 ///
 /// ```
 /// let mut limiter = ByMemoryUsage::new(152);
@@ -34,7 +35,7 @@ impl Model for ByMemoryUsage {
 }
 
 impl ByMemoryUsage {
-    /// Makes a limiter to a table of `max_bytes` bytes.
+    /// Makes a limiter that permits a table of `max_bytes` bytes.
     ///
     /// ```
     /// let mut limiter = ByMemoryUsage::new(152);

@@ -1,4 +1,4 @@
--- Pairs with distinct keys, cut at the one whose key is named.
+-- A list of pairs with distinct keys, cut at the pair whose key is named.
 use Rattle.std.proofs.Common.{◌≡◌, Bool, true, false, List, [], ◌∷◌, ◌++◌, Option, Some, None, refl, sym, ap, ◌∙◌}
 use Rattle.std.proofs.Common.{arith}
 use Rattle.std.proofs.Common.{cond, option_map}

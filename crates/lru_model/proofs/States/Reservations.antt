@@ -1,4 +1,4 @@
--- What the steps of a reservation amount to.
+-- The steps of a reservation make one of the cases of `Reserve`.
 use Rattle.std.proofs.Common.{◌≡◌, ℕ, ◌<◌, Ok, Err, true, false, List, [], ◌∷◌, length, refl, ap, ◌∙◌, subst, arith}
 use Rattle.std.proofs.Common.{inl, inr}
 use Rattle.lru_limits.specs.Rules.{Rules}

@@ -1,4 +1,4 @@
--- From every map an insert can end: there is a result that it may return, and a state after it.
+-- From every map an insert can end: some result and some state after it are permitted.
 use Rattle.std.proofs.Common.{◌≡◌, ℕ, Bool, true, false, length}
 use Rattle.std.proofs.Common.{Option, Some, None, Result, Ok, Err, refl, arith, not}
 use Rattle.std.specs.declared.alloc.AllocError.{AllocError}

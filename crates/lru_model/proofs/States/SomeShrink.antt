@@ -1,5 +1,4 @@
--- From every map with a sound table a shrink can end: there is a result that it may return, and a map that it may
--- leave.
+-- From every map with a sound table a shrink can end: some result and some map after it are permitted.
 use Rattle.std.proofs.Common.{◌≡◌, ℕ, Bool, true, false, Option, Some, None, Result, Ok, Err, List, [], ◌∷◌, length}
 use Rattle.std.proofs.Common.{inl, refl, sym, ap, ◌∙◌, arith}
 use Rattle.std.proofs.lemmas.Option.{same_Some}

@@ -1,4 +1,4 @@
--- From every map an update can end: there is a result that it may return, and a state after it.
+-- From every map an update can end: some result and some state after it are permitted.
 use Rattle.std.proofs.Common.{◌≡◌, Bool, true, false, Option, Some, None, refl, arith}
 use Rattle.lru_limits.specs.Rules.{Rules, Offers}
 use Rattle.lru_model.specs.Lists.{lookup_entry}

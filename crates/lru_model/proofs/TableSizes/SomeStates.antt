@@ -49,7 +49,7 @@ count-row p f d e =
 
 module _ {K V S H : Type 0} (old : State K V S H) (ok : IsSized old) (pairs : List (K × V)) (d : ℕ)
     (within : length pairs + d ≤ full_capacity (buckets old)) where
-  -- of the old buckets one is full for each of these pairs, n are deleted, and the others are empty
+  -- a state for each of the old buckets: one is full for each of these pairs, d are deleted, and the others are empty
   abbrev pub some_states : List BucketState
   some_states = row (length pairs) d (buckets old - length pairs - d)
 

@@ -1,7 +1,7 @@
--- A pair that the limiter can store, as its `terms` say in advance.
---     accepts_new      an insert of the pair finds the limiter ready
+-- A pair that the limiter can store, which its `terms` say in advance.
+--     accepts_new      the limiter accepts such a pair when an insert offers it
 --     adds             with growth left, an insert adds it to all the others
---     says             what a caller learns of `try_insert`
+--     says             what a caller learns about `try_insert`
 use Rattle.std.proofs.Common.{◌≡◌, ℕ, ◌+◌, ◌<◌, Bool, true, false, ◌∷◌, length, None, Result, Ok, Err, refl}
 use Rattle.std.proofs.Common.{ap, ◌∙◌, subst, arith}
 use Rattle.std.specs.Prelude.{not, if◌then◌else◌, OnOk, OnErr, IfErr}
@@ -78,7 +78,7 @@ module _ {K V S H : Type 0} (rules : Rules K V S) (old : State K V S H) where
 
 module _ {K V S H : Type 0} (terms : Terms K V S) (rules : Rules K V S) (eq : K → K → Bool) (hash_of : H → K → ℕ)
     (key : K) (value : V) (old : State K V S H) (ok : IsSized old) where
-  -- what a caller learns of `try_insert`
+  -- what a caller learns about `try_insert`
   pub record Says (result : Result (Unit {0}) (K × V)) (new : State K V S H) : Type 0 where
     pub calls : Run (Step rules (offers_of terms) eq hash_of) new old
     pub added : OnOk result (new.pairs ≡ (key, value) ∷ old.pairs)

@@ -1,4 +1,4 @@
--- A limit by a budget, as `ByCost` and `ByWeight` have: each call of a map keeps it, and so does a run of calls.
+-- Each call of a map, and so a run of calls, keeps a limit by a budget, such as `ByCost` and `ByWeight`.
 use Rattle.std.proofs.Common.{◌≡◌, ℕ, ◌≤◌, Bool, false, Result, refl, sym}
 use Rattle.std.proofs.Common.{ap, ◌∙◌, subst, arith, ◌⊎◌, inl, inr}
 use Rattle.std.proofs.lemmas.Bool.Decides.{nat_tests}

@@ -1,5 +1,5 @@
--- A limit of the bytes of the table and of what pairs own, as `ByBytes` has: what evictions and an insertion into the
--- table leave of it.
+-- A limit of the bytes of the table and of what pairs own, such as `ByBytes`: the limiter after evictions and after an
+-- insertion into the table.
 use Rattle.std.proofs.Common.{◌≡◌, ℕ, zero, suc, ◌+◌, ◌≤◌, ◌⊎◌, inl, inr, Bool, true, false, cond, List, [], ◌∷◌}
 use Rattle.std.proofs.Common.{length, Option, Some, None, if◌then◌else◌, refl, sym, ap, ◌∙◌, subst, arith}
 use Rattle.std.proofs.lemmas.Bool.Decides.{nat_tests}
@@ -23,7 +23,7 @@ use Rattle.lru_model.specs.Theorems.{UsesAtMost}
 use Rattle.lru_model.proofs.TableSizes.Budgets.{usage_fewer}
 use Rattle.lru_model.proofs.TableSizes.Growth.{target_doubles, target_usage}
 
--- what is left of a limiter once pairs have left
+-- c is b after pairs were removed
 pub record Frees (b c : Bytes) : Type 0 where
   pub limit : c.limit ≡ b.limit
   pub table : c.table ≡ b.table
@@ -100,7 +100,7 @@ module _ {K V : Type 0} (bytes_of : K → V → ℕ) where
       pub table : UsesAtMost st.limiter.table st
       pub fits : st.limiter.table ≤ most
 
-    -- pairs left, and the table is no larger
+    -- pairs may have been removed, and the table has the same size
     pub record Calm (old new : State K V Bytes H) : Type 0 where
       pub entry_bytes : new.entry_bytes ≡ old.entry_bytes
       pub table : buckets new ≡ buckets old

@@ -1,5 +1,4 @@
--- A limit of the bytes of the table and of what pairs own, as `ByBytes` has: each call of a map keeps it, and so does a
--- run of calls.
+-- Each call of a map, and so a run of calls, keeps a limit of the bytes of the table and of what pairs own.
 use Rattle.std.proofs.Common.{◌≡◌, ℕ, ◌+◌, ◌-◌, ◌≤◌, ◌⊎◌, inl, inr, Bool, true, false, List, length}
 use Rattle.std.proofs.Common.{Some, None, Result, if◌then◌else◌, refl, sym, ap, ◌∙◌, subst, arith}
 use Rattle.std.proofs.lemmas.Bool.Decides.{nat_tests}
@@ -88,7 +87,7 @@ module _ {K V H : Type 0} (bytes_of : K → V → ℕ) (most : ℕ) where
     quiet : Calm bytes_of most old new → Ends new
     quiet c = calm_ends old new c k w
 
-    -- a rejected value of this pair
+    -- the limiter rejects a new value for this pair
     removed_calm : (pair : K × V) (value : V) (left : Contents K V Bytes)
         → left.limiter ≡ (let r = (offers bytes_of).on_replace old.limiter (length old.pairs) pair.0 pair.0 pair.1 value in
         ((rules bytes_of).on_removed r.limiter r.key r.old_value).limiter)

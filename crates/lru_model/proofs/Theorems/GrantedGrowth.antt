@@ -1,5 +1,5 @@
--- If growth is left, or the limiter permits every growth and there are tables, an insert is one into a list that has no
--- table.
+-- If growth is left, or the limiter permits every growth and there are tables, an insert does what it would do to a
+-- list without a table.
 use Rattle.std.proofs.Common.{◌≡◌, ◌≢◌, ℕ, ◌+◌, ◌⊎◌, inl, inr, Bool, true, false, cond, length, Some, Result}
 use Rattle.std.proofs.Common.{refl, sym, ap, ◌∙◌, subst, arith, ◌<◌, ◌≤◌}
 use Rattle.std.specs.declared.alloc.AllocError.{AllocError}
@@ -60,11 +60,11 @@ module _ {K V S H I : Type 0} (rules : Rules K V S) (offers : Offers K V S I) (n
   abbrev EndsSo : Type 0
   EndsSo = InsertsInList rules offers names i v (contents old) result (contents new)
 
-  -- the map after the limiter returned a pair, and room was made for it
+  -- the map after the limiter returned a pair, and after `make_room`
   abbrev Ready : S → State K V S H → Type 0
   Ready s ready = Leaves (record old { limiter = s }) (make_room rules (record { pairs = old.pairs; limiter = s })) ready
 
-  -- the report comes to what it would be without a table
+  -- the report has the same effect as no table
   abbrev Comes : S → Report → Type 0
   Comes s report = let c = make_room rules (record { pairs = old.pairs; limiter = s }) in
       (report.has_bucket ≡ true) × (met rules report c ≡ c)

@@ -1,4 +1,4 @@
--- What the result of an insert says.
+-- What the result of an insert says about the map.
 use Rattle.std.proofs.Common.{None, ◌≡◌, ℕ, zero, suc, ◌⊎◌, inl, inr, Bool, true, false, cond, not, List, [], ◌∷◌}
 use Rattle.std.proofs.Common.{length, Result, Ok, Err, refl, sym, ap, ◌∙◌, subst, arith}
 use Rattle.std.proofs.lemmas.Bool.{false≢true, true≢false, not-true}
@@ -61,8 +61,8 @@ module _ {K V S : Type 0} (rules : Rules K V S) where
       go (inr t) = record { pair = n.pair; rest = t.0; first = t.2; named = n.named }
 
 module _ {K V S H : Type 0} (rules : Rules K V S) (hash_of : H → K → ℕ) (pair : K × V) (old : State K V S H) where
-  -- the new pair is the newest, if it is placed; no pair is left if it is refused, and the oldest may have gone
-  -- if memory runs out
+  -- the new pair is the newest if it was placed; no pair is left if it was refused; if memory ran out, some of the
+  -- oldest may be evicted
   abbrev pub Comes : Outcome → State K V S H → Type 0
   Comes placed new = (rest : List (K × V)) × (new.pairs ≡ pair ∷ rest)
   Comes refused new = new.pairs ≡ []

@@ -1,5 +1,4 @@
--- A search by a hash whose closure tests the key and changes nothing, and the pair of a key among pairs with distinct
--- keys.
+-- A search by a hash, whose closure tests the key and changes nothing, finds the pair of the key.
 use Rattle.std.proofs.Common.{◌≡◌, ℕ, zero, suc, Bool, true, false, cond, List, [], ◌∷◌, ◌++◌, Some, refl}
 use Rattle.std.proofs.Common.{sym, ap, ◌∙◌, subst, arith}
 use Rattle.std.specs.Prelude.{Contains, unwrap_or}

@@ -1,7 +1,7 @@
--- The moves that calls make of the pairs and the limiter. What each move keeps, every call keeps.
---     KeepsWay rules R                      the moves that make room
---     Keeps rules R                         and all that need no offers
---     KeepsOffers rules offers names R      and the moves of an insert
+-- Calls are made of these moves of the pairs and the limiter. If each move keeps a relation R, every call keeps it.
+--     KeepsWay rules R                      the moves before a pair is stored keep R
+--     Keeps rules R                         all moves that need no offers keep R
+--     KeepsOffers rules offers names R      the moves of an insert keep R, too
 use Rattle.std.proofs.Common.{◌≡◌, ℕ, zero, suc, ◌+◌, Bool, true, false, cond, List, [], ◌∷◌, ◌++◌, length, Some, None}
 use Rattle.std.proofs.Common.{Result, sym, ap, subst}
 use Rattle.std.specs.declared.alloc.AllocError.{AllocError}

@@ -1,5 +1,5 @@
--- If there is a table for one pair more, there is one for the pairs, unless an entry takes no bytes: then a full table of
--- 2 ^ 61 buckets may grow for one pair more, and not for a pair that is there.
+-- If there is a table for one pair more, there is a table for the pairs, unless an entry takes no bytes: then a full
+-- table of 2 ^ 61 buckets may grow for one pair more, but not for its own pairs.
 use Rattle.std.proofs.Common.{◌≡◌, ◌≢◌, ℕ, ◌+◌, ◌*◌, ◌/◌, ◌^◌, ◌<◌, ◌≤◌, inl, inr, ◌⊎◌, length, Some, refl, arith}
 use Rattle.std.proofs.Common.{pow-add, pow_pos}
 use Rattle.std.proofs.Math.Nat.{mul-le-mul_right}

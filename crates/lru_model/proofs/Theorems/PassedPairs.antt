@@ -1,4 +1,4 @@
--- How many pairs an insert passes to its callback: with those that are left, at most one more than there were.
+-- The pairs that an insert leaves or passes to its callback are at most one more than there were.
 use Rattle.std.proofs.Common.{◌≡◌, ℕ, zero, suc, ◌+◌, ◌≤◌, Bool, true, false, List, [], ◌∷◌, ◌++◌, length}
 use Rattle.std.proofs.Common.{Result, refl, ap, ◌∙◌, arith, length-append}
 use Rattle.std.specs.Prelude.{if◌then◌else◌}

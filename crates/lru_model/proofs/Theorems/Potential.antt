@@ -8,8 +8,8 @@ use Rattle.lru_model.proofs.TableSizes.SizedStates.{fits}
 use Rattle.lru_model.proofs.TableSizes.Growth.{full_capacity-at_most}
 
 module _ {K V S H : Type 0} where
-  -- `moved` and the potential together rise by at most 2 for each entry stored, and by 1 for each of `anew` entries
-  -- that shrinks rehashed, unless the count of stored entries has stopped at its maximum
+  -- `moved` and the potential together rise by at most 2 for each entry stored, plus `anew`, which is how many entries
+  -- shrinks rehashed, unless the count of stored entries has stopped at its maximum
   pub record Pays (anew : ℕ) (old new : State K V S H) : Type 0 where
     pub placed : old.counts.placed ≤ new.counts.placed
     pub shrunk : new.counts.shrunk ≡ count_up old.counts.shrunk anew
@@ -75,7 +75,7 @@ module _ {K V S H : Type 0} where
       }
 
 module _ {K V S H : Type 0} where
-  -- the pairs and the room fit the table, the table fits the memory, and the counts fit 64 bits
+  -- the pairs and the growth left fit the table, the table fits the memory, and the counts fit 64 bits
   pub record IsBounded (st : State K V S H) : Type 0 where
     pub count : IsBucketCount (buckets st)
     pub addressable : buckets st < 2 ^ 63

@@ -1,4 +1,4 @@
--- Which pairs an insertion keeps if growth is refused, and if it is not.
+-- Which pairs an insertion keeps, whether growth is refused or not.
 use Rattle.std.proofs.Common.{◌≡◌, ◌≢◌, ℕ, suc, ◌+◌, ◌-◌, ◌/◌, ◌<◌, ◌≤◌, ◌⊎◌, inl, inr, ◌∷◌, length}
 use Rattle.std.proofs.Common.{refl, sym, ap, ◌∙◌, arith}
 use Rattle.std.proofs.lemmas.Bool.{true≢false}
@@ -17,14 +17,14 @@ use Rattle.lru_model.proofs.States.Outcomes.{placed-not_no_memory, refused-not_n
 use Rattle.lru_model.proofs.States.LeavingPairs.{length-pops, known_is, oldest_leaves}
 
 module _ {K V S H : Type 0} (rules : Rules K V S) (hash_of : H → K → ℕ) (pair : K × V) (old : State K V S H) where
-  -- what is left of the pairs, the new one included: at least half of what the table takes, and up to 16 buckets all
-  -- but the oldest
+  -- at least half of what the table may hold is left, the new pair included; in a table of up to 16 buckets only the
+  -- oldest pair is evicted
   pub record GivesWay (new : State K V S H) : Type 0 where
     pub half : full_capacity (buckets old) / 2 ≤ length new.pairs
     pub one : buckets old ≤ 16 → new.pairs ≡ pair ∷ without_last old.pairs
     pub same_table : buckets new ≡ buckets old
 
-  -- the pair is stored with all others, in a deleted bucket if growth is refused
+  -- the pair is stored with all others; if growth is refused, the table has more than 16 buckets
   pub record KeepsAll (new : State K V S H) : Type 0 where
     pub pairs : new.pairs ≡ pair ∷ old.pairs
     pub large : IsRefusedGrowth rules old → 16 < buckets old

@@ -1,4 +1,4 @@
--- A limit by length and one by memory usage, over runs of calls and writes.
+-- Runs of calls and writes keep a limit by length and a limit by memory usage.
 use Rattle.std.proofs.Common.{◌≡◌, ℕ, ◌≤◌, Bool, length, refl, sym, ap, ◌∙◌, subst, arith, inl, inr}
 use Rattle.std.proofs.lemmas.Map.{length-set_value}
 use Rattle.lru_limits.specs.Rules.{Rules, Offers}

@@ -1,5 +1,4 @@
--- The premises of the laws on what an insert keeps, for limiters that store pairs as they come, and what the laws say
--- of these.
+-- Limiters that store pairs as they come satisfy the premises of the laws on what an insert keeps.
 use Rattle.std.proofs.Common.{◌≡◌, ℕ, ◌+◌, Bool, true, false, cond, List, length, Some, None, Option, refl, sym}
 use Rattle.std.proofs.Common.{ap}
 use Rattle.std.proofs.Common.{◌∙◌}

@@ -1,4 +1,4 @@
--- What calls make of the table: what it costs, how far it grows, and who permitted it.
+-- How calls change the table: what this costs, how far the table grows, and who permitted it.
 use Rattle.std.specs.declared.alloc.AllocError.{AllocError}
 use Rattle.std.proofs.Common.{◌≡◌, Bool, Result, ℕ, ◌+◌, ◌*◌, ◌^◌, ◌<◌, ◌≤◌, ◌⊎◌, inl, inr, true, List, length, Some}
 use Rattle.std.proofs.Common.{refl, ap, ◌∙◌, subst, arith}
@@ -12,7 +12,7 @@ use Rattle.lru_model.proofs.Theorems.Moves.{leaves_keep}
 use Rattle.lru_model.proofs.Theorems.Potential.{Pays, IsBounded, pays_trans, pays_calm}
 
 module _ {K V S H : Type 0} where
-  -- nothing is placed, and the table has as many buckets, with as much room or more, and no more pairs
+  -- nothing is inserted, and the table has the same number of buckets, no less growth left and no more pairs
   pub record Calm (old new : State K V S H) : Type 0 where
     pub hasher : new.hasher ≡ old.hasher
     pub max : new.max ≡ old.max
@@ -96,11 +96,11 @@ module _ {K V S : Type 0} (rules : Rules K V S) (P : S → Type 0) where
     pub granted : (rules.on_grow limiter bytes).allowed ≡ true
 
 module _ {K V S H : Type 0} (rules : Rules K V S) (P : S → Type 0) where
-  -- the table has no more buckets than before, or such a limiter permits their number
+  -- the table has no more buckets than before, or a limiter with the property P permits their number
   abbrev pub IsNextCount : State K V S H → ℕ → Type 0
   IsNextCount old count = (count ≤ buckets old) ⊎ IsPermitted rules P old.entry_bytes count
 
-  -- what a call makes of the table, with this number of pairs more, if shrinks rehash this number
+  -- how a call changes the table, if it adds at most `more` pairs, and shrinks rehash `anew` entries
   pub record Tables (more anew : ℕ) (old new : State K V S H) : Type 0 where
     pub hasher : new.hasher ≡ old.hasher
     pub max : new.max ≡ old.max
@@ -153,7 +153,7 @@ module _ {K V S H : Type 0} (rules : Rules K V S) (R : Contents K V S → Conten
   abbrev pub Reaches : State K V S H → S → Type 0
   Reaches old s = (pairs : List (K × V)) × R (contents old) (record { pairs = pairs; limiter = s })
 
-  -- what a call makes of the pairs, the limiter and the table
+  -- how a call changes the pairs, the limiter and the table
   pub record Changes (more anew : ℕ) (old new : State K V S H) : Type 0 where
     pub moves : R (contents old) (contents new)
     pub tables : Tables rules (Reaches old) more anew old new

@@ -23,8 +23,8 @@ use std::hash::Hash;
 
 /// An insert loses nothing, if the limiter changes no entry that is evicted or removed. The entries that are left,
 /// followed by the entries that the callback got, last one first, are the new entry and the old ones, newest first
-/// (`all`, with a case for each result). If the result is true, the stored entry comes first (`stored`). Whatever it
-/// is, each old entry of another key is left or was passed to the callback (`others`).
+/// (`all`, with a case for each result). If the result is true, the stored entry comes first (`stored`). In each case
+/// every old entry of another key is left or was passed to the callback (`others`).
 pub fn nothing_is_lost<K: Eq + Hash, V, I: LookupKey<K>, L: Insertion<K, V, I>, S: KeyHasher<K>>()
     ensures all { (key : I) (value : V) (old : State K V L S) (result : Result Bool AllocError)
         (passed : List (K × V)) (new : State K V L S) →
@@ -95,9 +95,9 @@ pub fn inserts_leave_the_newest<K: Eq + Hash + Drop, V: Drop, S: KeyHasher<K>>()
         new.pairs ≡ newest_after K.eq old.limiter inserted old.pairs }
 {}
 
-/// A new map with `ByLength` keeps to its length, if that is at most 939,524,096 and an entry has fewer than 2 ^ 32 - 1
-/// bytes (`begins`). So does a map after any call that does not set the limiter (`goes_on`), and after any value is
-/// written (`written`).
+/// A new map with `ByLength` keeps to its length, if this length is at most 939,524,096 and an entry has fewer than 2 ^
+/// 32 - 1 bytes (`begins`). So does a map after any call that does not set the limiter (`goes_on`), and after any write
+/// to a value (`written`).
 pub fn maps_keep_to_their_length<K: Eq + Hash + Drop, V: Drop, S: KeyHasher<K>>()
     ensures begins { (most entry_bytes : ℕ) (hasher : S) →
         most ≤ most_exact_length → entry_bytes < 2 ^ 32 - 1 →

@@ -20,8 +20,8 @@ pub fn runs_keep_maps<K: Eq + Hash, V, I: LookupKey<K>, L: Insertion<K, V, I>, S
         IsMap K.eq old → IsMap K.eq new }
 {}
 
-/// A limiter's running total that was the sum of the costs is their sum after any calls, and any writes of values that
-/// cost what the values before them cost.
+/// If a limiter's running total was the sum of the costs, it is their sum after any calls, and any writes of values
+/// that cost what the old values cost.
 pub fn runs_keep_sums<K: Eq + Hash, V, I: LookupKey<K>, L: Insertion<K, V, I>, S: KeyHasher<K>>()
     ensures sum { (cost : K → V → ℕ) (account : L → ℕ) → IsAccount L.rules L.offers cost account →
         (old new : State K V L S) →
@@ -30,8 +30,8 @@ pub fn runs_keep_sums<K: Eq + Hash, V, I: LookupKey<K>, L: Insertion<K, V, I>, S
 {}
 
 /// Over any calls the count of moved entries and the potential together rise by at most two for each entry that inserts
-/// store, and by one for each entry that shrinks rehash, while neither the count of stored entries nor the count of
-/// rehashed entries has reached `u64::MAX`.
+/// store, and by one for each entry that shrinks rehash, until the count of stored or of rehashed entries reaches
+/// `u64::MAX`.
 pub fn runs_pay_for_moves<
     K: Eq + Hash,
     V,
@@ -44,8 +44,8 @@ pub fn runs_pay_for_moves<
         IsSized old → PaysForMoves old new }
 {}
 
-/// Any calls evict only from the old end: of the entries whose keys none of them names, those that are left are the
-/// newest, in their order, unless one of the calls is `pop_newest`.
+/// Any calls evict only from the old end, unless one of them is `pop_newest`: of the entries whose keys no call names,
+/// the newest are left, in their order.
 pub fn runs_evict_the_oldest<
     K: Eq + Hash,
     V,
@@ -58,8 +58,8 @@ pub fn runs_evict_the_oldest<
         IsFront (others test new.pairs) (others test old.pairs) }
 {}
 
-/// Each insert of a run evicts only from the old end, whatever the other calls of the run are, `pop_newest` too. The
-/// one other entry that it may remove is the entry whose replacement is rejected. The same holds of each get that
+/// Each insert of a run evicts only from the old end, whatever the other calls of the run are, even `pop_newest`. The
+/// only other entry that it may remove is the entry whose replacement is rejected. The same holds for each get that
 /// inserts.
 pub fn each_insert_of_a_run_evicts_the_oldest<
     K: Eq + Hash,
@@ -90,8 +90,8 @@ pub fn runs_keep_the_memory_usage<K: Eq + Hash, V, L: Insertion<K, V, K>, S: Key
         UsesAtMost (most old.limiter) old → UsesAtMost (most old.limiter) new }
 {}
 
-/// What `calls_keep_the_budget` says of each call holds of any calls, and any writes of values that cost what the
-/// values before them cost. The budget stays as it is, whatever is written.
+/// What `calls_keep_the_budget` says of each call holds of any calls, and any writes of values that cost what the old
+/// values cost. The budget stays as it is, whatever is written.
 pub fn runs_keep_the_budget<K: Eq + Hash, V, L: Budgeted<K, V>, S: KeyHasher<K>>()
     ensures total { (old new : State K V L S) →
         Run (StepOrKeptWrite L.rules (offers_of L.terms) K.eq S.hash_of L.cost_of) new old →

@@ -1,4 +1,4 @@
--- What is read of a table whose links keep the order of its full buckets.
+-- What reads of a table return, if its links keep the order of its full buckets.
 use Rattle.std.proofs.Common.{◌≡◌, ◌≢◌, ℕ, ◌<◌, List, [], ◌∷◌, length, Option, Some, None, refl, ap}
 use Rattle.std.proofs.Common.{sym, ◌∙◌, arith}
 use Rattle.std.specs.Prelude.{Contains}

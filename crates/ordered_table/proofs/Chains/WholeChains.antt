@@ -1,4 +1,4 @@
--- The order that the links of a table keep: it is read along them, and each change of the table changes it.
+-- The order that the links of a table keep: reads follow the links, and each change of the table changes the order.
 use Rattle.std.proofs.Common.{◌≡◌, ◌≢◌, ℕ, zero, suc, ◌<◌, ◌≤◌, List, [], ◌∷◌, length, set, Option, Some, None}
 use Rattle.std.proofs.Common.{inl, inr, refl, ap, sym, ◌∙◌, subst, arith, eq-eqb, length-set}
 use Rattle.std.specs.Prelude.{option_map, unwrap_or, Contains, AllPairs}

@@ -77,7 +77,7 @@ promoted_kept t u None linked other same full = tt
 promoted_kept t u (Some f) linked other same full =
     other.only f (subst (λ o. Contains o f) (sym same) (linked.all f full))
 
--- the number that the links lead to from b, if they lead anywhere: the first of all if b is the front
+-- `next` is the bucket after b, if there is one, in the order with f in front
 abbrev pub LeadsTo : List ℕ → ℕ → ℕ → ℕ → Type 0
 LeadsTo order f b next = (b ≡ f → first_bucket order ≡ Some next)
     × (b ≢ f → (c : ℕ) → bucket_after b order ≡ Some c → next ≡ c)

@@ -1,4 +1,4 @@
--- An entry was taken out of the table, and its bucket out of the chain: what is left, seen as pairs.
+-- The pairs that are left after an entry was taken out of the table, and its bucket out of the chain.
 use Rattle.std.proofs.Common.{◌≡◌, ℕ, ◌+◌, List, length, ◌∙◌}
 use Rattle.group_table.specs.Link.{IsLinkType}
 use Rattle.group_table.specs.Bucket.{Slot, IsFull, bucket_states, growth_left, growth_left_at}

@@ -12,7 +12,8 @@ ghost use Rattle.ordered_table.specs.Chain.{newer_at, older_at, pair_slots};
 use crate::linked::Entry;
 use group_table::{LinkType, Table};
 
-// A table with links to its newest and its oldest entry; `MAX` if it has none. Only the contracts know the order.
+// A table with links to its newest and its oldest entry, which are `MAX` if it has none. Only the contracts know the
+// order.
 #[derive(Drop)]
 pub(crate) struct Chain<K, V, N> {
     pub(crate) table: Table<Entry<K, V, N>>,
@@ -53,7 +54,7 @@ impl<K, V, N: LinkType> Chain<K, V, N> {
         }
     }
 
-    // Compares the link with the number of buckets, and not with `MAX`: that takes one instruction less.
+    // Compares the link with the number of buckets instead of `MAX`, which saves an instruction.
     #[inline]
     pub(crate) fn leads(&self, link: N) -> bool
         requires some { 0 < length self.now.table.slots }
@@ -97,8 +98,8 @@ impl<K, V, N: LinkType> Chain<K, V, N> {
         self.oldest = link;
     }
 
-    // Puts a bucket that is in no chain in front of the chain, or makes it the only one. Its entry has the links of the
-    // newest entry already: the older one leads to `first`, which has been the newest.
+    // Puts a bucket that is in no chain in front of this chain. Its entry has the links of a newest entry already: the
+    // older link leads to `first`, the newest entry so far.
     #[inline]
     pub(crate) fn link_placed(&mut self, b: usize, first: N)
         requires first { first ≡ self.old.newest }

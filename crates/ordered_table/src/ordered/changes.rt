@@ -1,4 +1,4 @@
-//! The calls that change the order of an `OrderedTable`, or its buckets. Each first lets the links show the last
+//! The calls that change the order of an `OrderedTable`, or its buckets. Each call first lets the links show the last
 //! promotion.
 ghost use Rattle.std.specs.Prelude.{◌≡◌, ℕ, ◌+◌, ◌^◌, ◌<◌, ◌≤◌, [], ◌∷◌, ◌++◌, length, Some, replicate};
 ghost use Rattle.std.specs.Prelude.{IfOk, IfErr, OnOk, OnErr, IsOk};
@@ -42,11 +42,11 @@ impl<K, V, N: LinkType> OrderedTable<K, V, N> {
         self.linked.place(hash, pair);
     }
 
-    /// As `place`, for any table.
+    /// Does what `place` does, for any table.
     ///
     /// # Errors
     ///
-    /// No bucket may take the pair, which is returned. Nothing has changed.
+    /// Returns the pair if no bucket may take it. Then nothing has changed.
     pub fn try_place(&mut self, hash: u64, pair: (K, V)) -> Result<(), (K, V)>
         ensures placed { OnOk result ((b : ℕ) × Lands self.old self.new hash pair b) }
         ensures fits { OnOk result ((hash_of : K → ℕ) → KeysFit hash_of self.old.slots → hash_of pair.0 ≡ hash
@@ -76,8 +76,8 @@ impl<K, V, N: LinkType> OrderedTable<K, V, N> {
                 self.linked.promote(*last);
                 *last = b;
             }
-            // The links show it at once, which writes to the pair that is the oldest then. If pairs are promoted in the
-            // order of their last promotions, the next call reads that one.
+            // Lets the links show the promotion at once, which writes to the next oldest pair. If pairs are promoted in
+            // the order of their last promotions, the next call reads that pair.
             None if self.linked.oldest() == b => self.linked.promote(b),
             None => self.promoted = Some(b),
         }
@@ -151,8 +151,8 @@ impl<K: Eq + Hash, V, N: LinkType> OrderedTable<K, V, N> {
     ///
     /// # Errors
     ///
-    /// Out of memory; never for no buckets, nor for a table without pairs that keeps its number of buckets. Nothing has
-    /// changed.
+    /// Out of memory; then nothing has changed. It never fails if `buckets` is 0, or if a table without pairs keeps its
+    /// number of buckets.
     pub fn move_to<S: KeyHasher<K>>(&mut self, buckets: usize, hasher: &S) -> Result<(), AllocError>
         requires count { IsBucketCount buckets }
         requires addressable { buckets + 16 < 2 ^ 63 }
@@ -175,13 +175,13 @@ impl<K: Eq + Hash, V, N: LinkType> OrderedTable<K, V, N> {
 }
 
 impl<K: Drop, V: Drop, N: LinkType> OrderedTable<K, V, N> {
-    /// Clones the pairs, into buckets of the same numbers and in the same order. The links are copied with the entries.
+    /// Clones the pairs into buckets of the same numbers, in the same order. The links are copied with the entries.
     ///
     /// Cost: `O(buckets)`, and a clone of each key and value.
     ///
     /// # Errors
     ///
-    /// Out of memory; never for no buckets.
+    /// Out of memory, unless there are no buckets.
     pub fn copy(&self) -> Result<Self, AllocError>
     where
         K: Clone,

@@ -1,5 +1,5 @@
-//! The order of a table in which the bucket `promoted`, if there is one, is the newest. Its links may still show it
-//! elsewhere.
+//! The order of a table in which the bucket `promoted`, if there is one, is the newest. The links may still show this
+//! bucket elsewhere.
 ghost use Rattle.std.specs.Prelude.{◌≡◌, ◌<◌, ℕ, length, Some, None, IfSome};
 ghost use Rattle.group_table.specs.Bucket.{IsFull};
 ghost use Rattle.lru_model.specs.Lists.{first as first_bucket, last as last_bucket};
@@ -34,7 +34,7 @@ pub(crate) fn oldest<K, V, N: LinkType>(
 {
     let b = table.oldest();
     match promoted {
-        // The links show the promoted bucket last. The one before it is the oldest, unless there is none.
+        // The links show the promoted bucket last. So the bucket before it is the oldest, if there is one.
         Some(p) if p == b => {
             if table.newest() == p {
                 p

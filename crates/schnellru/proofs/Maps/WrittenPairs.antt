@@ -1,4 +1,4 @@
--- A closure that has written some values of a map, and one more value.
+-- A closure has written some values of a map, and writes one more.
 use Rattle.std.proofs.Common.{◌≡◌, ℕ, zero, suc, ◌+◌, Some, None, List, [], ◌∷◌, ◌++◌, length, refl, ap, sym, ◌∙◌}
 use Rattle.std.proofs.Common.{subst, arith}
 use Rattle.std.proofs.lemmas.List.{append_assoc}
@@ -25,7 +25,7 @@ length-more (y ∷ front) x = omega (arith, length-more front x)
 
 module _ {K V F : Type 0} (closure : Mut F (Bor K × (MutBor V × Unit {0})) (Unit {0} × (MutBor V × Unit {0})))
     (old : List (K × V)) (first : F) where
-  -- the closure wrote into the first pairs, `at` in number, and is f now
+  -- the closure wrote into the first `at` pairs, and is f now
   pub record IsWrittenTo (at : ℕ) (pairs : List (K × V)) (f : F) : Type 0 where
     pub front : List (K × V)
     pub rest : List (K × V)

@@ -11,7 +11,7 @@ pub record Fields (S H : Type 0) : Type 0 where
   pub entry_bytes : ℕ
   pub max : ℕ
 
--- from all fields, and the number of the link `MAX`
+-- these fields, by all fields and the number of the link `MAX`
 abbrev pub fields_of : {K V S H Link Hasher : Type 0} → Inside K V S H Link Hasher → ℕ → Fields S H
 fields_of m max = record {
   limiter = m.limiter;

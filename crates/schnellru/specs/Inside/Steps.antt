@@ -35,7 +35,7 @@ pub record IsTakenOut {K V S : Type 0} (rules : Rules K V S) (b : ℕ) (old new 
   pub left : Some result ≡ left_of rules limiter (Some pair)
   pub notified : after ≡ notified_of rules (Some pair) limiter
 
--- The limiter was offered a new value for the pair of the key, in a map. The result is whether the limiter accepts the
+-- The limiter was offered a new value for the stored pair of the key. The result is whether the limiter accepts the
 -- value, and the value that the map does not keep.
 pub record IsOffered {K V S H I : Type 0} (rules : Rules K V S) (offers : Offers K V S I) (names : I → K → Bool) (i : I)
     (v : V) (old : State K V S H) (result : Bool × V) (new : State K V S H) : Type 0 where
@@ -44,6 +44,6 @@ pub record IsOffered {K V S H I : Type 0} (rules : Rules K V S) (offers : Offers
   pub taken : (replacement rules offers names pair i v (contents old)).taken ≡ result.0
   pub unkept : result.1 ≡ unkept_of (replacement rules offers names pair i v (contents old))
   pub accepted : result.0 ≡ true → Leaves old (with_updated rules offers names pair i v (contents old)) new
-  -- it is in the same bucket
+  -- each pair stays in its bucket
   pub place : result.0 ≡ true → new.table.places ≡ old.table.places
   pub rejected : result.0 ≡ false → Leaves old (with_removed rules offers names pair i v (contents old)) new

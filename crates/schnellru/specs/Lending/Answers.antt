@@ -12,7 +12,7 @@ module _ {V E : Type 0} where
   lent_or_none (Err NotKept) = Ok None
   lent_or_none (Err (Failed e)) = Err e
 
-  -- the result with a flag, which says whether a value is lent, instead of the value
+  -- the result with a flag instead of the value: whether a value is lent
   abbrev pub is_kept : Result (Option (MutBor V)) E → Result Bool E
   is_kept (Ok o) = Ok (is_some o)
   is_kept (Err e) = Err e

@@ -1,4 +1,4 @@
--- What a map ends as, once a reference into it has ended.
+-- What a map is once a reference into it has ended.
 use Rattle.std.specs.Prelude.{◌≡◌, ℕ, Bool, List, [], ◌∷◌, Option, Some, OnSome, IfNone, ⊤, if◌then◌else◌, nat_eq}
 use Rattle.std.specs.Option.{option_copied_mut}
 use Rattle.std.specs.Borrow.{Fml, RattleType, Bor, MutBor, follows, follows_so, Lends, LendsIf, LendsSo}
@@ -28,7 +28,7 @@ module _ (K V L S N H : RattleType) (key : HashMembers K.Denot)
     (limits : limiter.Ghosts L.Denot K.Denot V.Denot N.Denot)
     (links : link_type.Ghosts N.Denot)
     (hashed : HasherMembers S.Denot K.Denot H.Denot) (hash : hasher.Ghosts H.Denot) where
-  -- the map's type, as the logic holds it
+  -- the map's type in the logic
   abbrev pub map_row : RattleType
   map_row = the_row K V L S N H (record { eq = key.eq })
       (record { hash_input = key.hash_input }) limits links
@@ -59,7 +59,7 @@ module _ (K V L S N H : RattleType) (key : HashMembers K.Denot)
     abbrev pub lends_newest : Option (MutBor V.Denot) → Fml
     lends_newest r = LendsIf map_row V m r (λ last. record m.now { pairs = set_newest m.now.pairs last }) m.now
 
-    -- of a reference that is always there
+    -- `lends_newest` for a reference that is always there
     abbrev pub lends_newest_value : MutBor V.Denot → Fml
     lends_newest_value r = Lends map_row V m r (λ last. record m.now { pairs = set_newest m.now.pairs last })
 

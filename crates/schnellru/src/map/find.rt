@@ -1,4 +1,4 @@
-//! The search for a key, with which every look-up begins, and what follows it: a promotion, a demotion or a removal.
+//! The search for a key, with which every look-up begins, and what follows: a promotion, a demotion or a removal.
 ghost use Rattle.std.specs.Prelude.{◌≡◌, Bool, Some, None, IfSome, IfNone, IsTrue, Contains};
 ghost use Rattle.lru_model.specs.Lists.{lookup_entry};
 ghost use Rattle.lru_model.specs.State.{place_in, Frees, IsMap};
@@ -70,7 +70,7 @@ impl<K: Eq + Hash, V, L: Limiter<K, V>, S: KeyHasher<K>> LruMap<K, V, L, S> {
         self.entries.promote(b);
     }
 
-    // Lets the links show the last promotion, so that what follows need not test for one.
+    // Lets the links show the last promotion, so that the code after it need not test for one.
     #[inline(always)]
     pub(crate) fn settle(&mut self)
         ensures { self.new ≡ self.old }

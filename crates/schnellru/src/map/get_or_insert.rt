@@ -47,7 +47,7 @@ impl<K: Eq + Hash + Drop, V: Drop, L: Limiter<K, V>, S: KeyHasher<K>> LruMap<K, 
     /// Makes the entry of a key the newest. If the key is not there, inserts it with the value that the closure
     /// returns, as `insert` does. Returns whether the key is in the map afterwards.
     ///
-    /// Then `newest_mut` lends the value.
+    /// Afterwards `newest_mut` lends the value.
     ///
     /// ```
     /// if map.ensure_newest(1, || 0)? {
@@ -137,9 +137,9 @@ impl<K: Eq + Hash + Drop, V: Drop, L: Limiter<K, V>, S: KeyHasher<K>> LruMap<K, 
     /// Lends the value of a key for writing. If the key is not there, inserts it with the value that the closure
     /// returns.
     ///
-    /// If the key is there, the closure is not called, and its entry becomes the newest. `None` says that the new entry
-    /// is not in the map, as `false` says it of `insert`. The clause `writes_back` does not reach a caller's proof;
-    /// write `ensure_newest` and `newest_mut` there.
+    /// If the key is there, the closure is not called, and its entry becomes the newest. `None` means, as `false` does
+    /// for `insert`, that the new entry is not in the map. A caller's proof cannot use `writes_back`: call
+    /// `ensure_newest` and `newest_mut` instead.
     ///
     /// ```
     /// assert_eq!(rt; map.get_or_insert(1, || 10)?.copied(), Some(10));
@@ -152,7 +152,7 @@ impl<K: Eq + Hash + Drop, V: Drop, L: Limiter<K, V>, S: KeyHasher<K>> LruMap<K, 
     ///
     /// Fails as `insert` does, after the closure was called.
     ///
-    /// After schnellru's `LruMap::get_or_insert`.
+    /// Follows schnellru's `LruMap::get_or_insert`.
     pub fn get_or_insert<I: LookupKey<K> + Drop, F: FnOnce() -> V>(
         &mut self,
         key: I,
@@ -169,7 +169,8 @@ impl<K: Eq + Hash + Drop, V: Drop, L: Limiter<K, V>, S: KeyHasher<K>> LruMap<K, 
         kept_or(lent)
     }
 
-    /// As `ensure_newest`, with a closure that may fail. If it fails, nothing has changed. Cost: as `ensure_newest`.
+    /// Does what `ensure_newest` does, with a closure that may fail. If the closure fails, nothing has changed. Cost:
+    /// as `ensure_newest`.
     ///
     /// ```
     /// assert!(rt; map.ensure_newest_fallible(4, || Err(7u8)).is_err());
@@ -180,8 +181,8 @@ impl<K: Eq + Hash + Drop, V: Drop, L: Limiter<K, V>, S: KeyHasher<K>> LruMap<K, 
     ///
     /// # Errors
     ///
-    /// `Caller` contains the error of the closure. `Memory`: the closure was called, and the insert failed as `insert`
-    /// does. The oldest entries may have been evicted.
+    /// `Caller` contains the error of the closure. `Memory` means that the closure was called, and the insert failed as
+    /// `insert` does. The oldest entries may have been evicted.
     pub fn ensure_newest_fallible<I: LookupKey<K> + Drop, E, F: FnOnce() -> Result<V, E>>(
         &mut self,
         key: I,
@@ -249,7 +250,8 @@ impl<K: Eq + Hash + Drop, V: Drop, L: Limiter<K, V>, S: KeyHasher<K>> LruMap<K, 
         self.lend_if_kept(kept)
     }
 
-    /// As `get_or_insert`, with a closure that may fail. If it fails, nothing has changed. Cost: as `get_or_insert`.
+    /// Does what `get_or_insert` does, with a closure that may fail. If the closure fails, nothing has changed. Cost:
+    /// as `get_or_insert`.
     ///
     /// ```
     /// assert!(rt; map.get_or_insert_fallible(5, || Err(7u8)).is_err());
@@ -259,9 +261,9 @@ impl<K: Eq + Hash + Drop, V: Drop, L: Limiter<K, V>, S: KeyHasher<K>> LruMap<K, 
     ///
     /// # Errors
     ///
-    /// As `ensure_newest_fallible`.
+    /// Fails as `ensure_newest_fallible` does.
     ///
-    /// After schnellru's `LruMap::get_or_insert_fallible`.
+    /// Follows schnellru's `LruMap::get_or_insert_fallible`.
     pub fn get_or_insert_fallible<I: LookupKey<K> + Drop, E, F: FnOnce() -> Result<V, E>>(
         &mut self,
         key: I,

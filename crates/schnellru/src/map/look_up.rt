@@ -13,8 +13,8 @@ use std::hash::Hash;
 impl<K: Eq + Hash, V, L: Limiter<K, V>, S: KeyHasher<K>> LruMap<K, V, L, S> {
     ghost use Rattle.schnellru.specs.Lending.Values.{lends_value, lends_newest, lends_newest_value, ends_as};
 
-    /// Lends the value of a key for writing, and makes its entry the newest. `None` says that the key is not there. The
-    /// limiter is not notified of what is written.
+    /// Lends the value of a key for writing, and makes its entry the newest. `None` means that the key is not there.
+    /// The limiter is not notified of writes.
     ///
     /// `String` keys are looked up by a `&str`, as `map.get(&"a")`.
     ///
@@ -27,7 +27,7 @@ impl<K: Eq + Hash, V, L: Limiter<K, V>, S: KeyHasher<K>> LruMap<K, V, L, S> {
     ///
     /// Cost: `O(1)` expected.
     ///
-    /// After schnellru's `LruMap::get`.
+    /// Follows schnellru's `LruMap::get`.
     #[inline(always)]
     pub fn get<Q: LookupKey<K>>(&mut self, key: &Q) -> Option<&mut V>
         ensures* writes_back { sem 𝓛 (lends_value K.row V.row L.row S.row L.LinkType.row S.Hasher.row K.Hash L.Limiter
@@ -44,7 +44,7 @@ impl<K: Eq + Hash, V, L: Limiter<K, V>, S: KeyHasher<K>> LruMap<K, V, L, S> {
 
     /// Returns the entry of a key, and makes it the newest.
     ///
-    /// The returned key is the stored one, which may differ from the equal one that is looked up.
+    /// The returned key is the stored key, which may differ from the equal key that is looked up.
     ///
     /// ```
     /// assert!(rt; map.get_key_value(&1) == Some((&1, &10)));
@@ -53,7 +53,7 @@ impl<K: Eq + Hash, V, L: Limiter<K, V>, S: KeyHasher<K>> LruMap<K, V, L, S> {
     ///
     /// Cost: `O(1)` expected.
     ///
-    /// After `get_key_value` of the crate `lru`.
+    /// Follows `get_key_value` of the crate `lru`.
     #[inline]
     pub fn get_key_value<Q: LookupKey<K>>(&mut self, key: &Q) -> Option<(&K, &V)>
         ensures* leaves { sem 𝓛 (ends_as K.row V.row L.row S.row L.LinkType.row S.Hasher.row K.Hash L.Limiter
@@ -76,7 +76,7 @@ impl<K: Eq + Hash, V, L: Limiter<K, V>, S: KeyHasher<K>> LruMap<K, V, L, S> {
     ///
     /// Cost: `O(1)` expected.
     ///
-    /// After `promote` of the crate `lru`.
+    /// Follows `promote` of the crate `lru`.
     #[inline]
     pub fn promote<Q: LookupKey<K>>(&mut self, key: &Q) -> bool
         ensures there { result ≡ is_some (lookup (Q.names key.now) self.old.pairs) }
@@ -101,7 +101,7 @@ impl<K: Eq + Hash, V, L: Limiter<K, V>, S: KeyHasher<K>> LruMap<K, V, L, S> {
     ///
     /// Cost: `O(1)` expected.
     ///
-    /// After `demote` of the crate `lru`.
+    /// Follows `demote` of the crate `lru`.
     pub fn demote<Q: LookupKey<K>>(&mut self, key: &Q) -> bool
         ensures there { result ≡ is_some (lookup (Q.names key.now) self.old.pairs) }
         ensures demoted { self.new ≡ demoted (Q.names key.now) self.old }
@@ -118,8 +118,8 @@ impl<K: Eq + Hash, V, L: Limiter<K, V>, S: KeyHasher<K>> LruMap<K, V, L, S> {
 
     /// Lends the value of the newest entry for writing.
     ///
-    /// `None` says that the map is empty. After `ensure_newest` returned true, it is the value of that key. Cost:
-    /// `O(1)`.
+    /// `None` means that the map is empty. After `ensure_newest` returned true, the newest value is the value of its
+    /// key. Cost: `O(1)`.
     ///
     /// ```
     /// if let Some(count) = map.newest_mut() {
@@ -161,7 +161,7 @@ impl<K: Eq + Hash, V, L: Limiter<K, V>, S: KeyHasher<K>> LruMap<K, V, L, S> {
     ///
     /// Cost: `O(1)` expected.
     ///
-    /// After `contains` of the crate `lru`.
+    /// Follows `contains` of the crate `lru`.
     #[inline]
     pub fn contains<Q: LookupKey<K>>(&self, key: &Q) -> bool
         ensures { result ≡ is_some (lookup (Q.names key.now) self.now.pairs) }
@@ -177,7 +177,7 @@ impl<K: Eq + Hash, V, L: Limiter<K, V>, S: KeyHasher<K>> LruMap<K, V, L, S> {
     /// assert_eq!(rt; map.peek(&1), Some(&10));
     /// ```
     ///
-    /// After schnellru's `LruMap::peek`.
+    /// Follows schnellru's `LruMap::peek`.
     #[inline]
     pub fn peek<Q: LookupKey<K>>(&self, key: &Q) -> Option<&V>
         ensures { option_copied result ≡ lookup (Q.names key.now) self.now.pairs }
@@ -194,7 +194,7 @@ impl<K: Eq + Hash, V, L: Limiter<K, V>, S: KeyHasher<K>> LruMap<K, V, L, S> {
     ///
     /// Cost: `O(1)` expected.
     ///
-    /// After std's `HashMap::get_key_value`.
+    /// Follows std's `HashMap::get_key_value`.
     #[inline]
     pub fn peek_key_value<Q: LookupKey<K>>(&self, key: &Q) -> Option<(&K, &V)>
         ensures { option_map deref_pair result ≡ lookup_entry (Q.names key.now) self.now.pairs }
@@ -215,7 +215,7 @@ impl<K: Eq + Hash, V, L: Limiter<K, V>, S: KeyHasher<K>> LruMap<K, V, L, S> {
     ///
     /// Cost: `O(1)` expected.
     ///
-    /// After schnellru's `LruMap::peek_mut`.
+    /// Follows schnellru's `LruMap::peek_mut`.
     #[inline]
     pub fn peek_mut<Q: LookupKey<K>>(&mut self, key: &Q) -> Option<&mut V>
         ensures* writes_back { sem 𝓛 (lends_value K.row V.row L.row S.row L.LinkType.row S.Hasher.row K.Hash L.Limiter
@@ -235,7 +235,7 @@ impl<K: Eq + Hash, V, L: Limiter<K, V>, S: KeyHasher<K>> LruMap<K, V, L, S> {
     ///
     /// Cost: `O(1)`.
     ///
-    /// After schnellru's `LruMap::peek_oldest`.
+    /// Follows schnellru's `LruMap::peek_oldest`.
     pub fn peek_oldest(&self) -> Option<(&K, &V)>
         ensures { option_map deref_pair result ≡ last self.now.pairs }
     {
@@ -254,7 +254,7 @@ impl<K: Eq + Hash, V, L: Limiter<K, V>, S: KeyHasher<K>> LruMap<K, V, L, S> {
     ///
     /// Cost: `O(1)`.
     ///
-    /// After schnellru's `LruMap::peek_newest`.
+    /// Follows schnellru's `LruMap::peek_newest`.
     pub fn peek_newest(&self) -> Option<(&K, &V)>
         ensures { option_map deref_pair result ≡ first self.now.pairs }
     {

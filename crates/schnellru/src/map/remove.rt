@@ -25,7 +25,7 @@ impl<K: Eq + Hash, V, L: Limiter<K, V>, S: KeyHasher<K>> LruMap<K, V, L, S> {
     ///
     /// Cost: `O(1)`.
     ///
-    /// After schnellru's `LruMap::pop_oldest`.
+    /// Follows schnellru's `LruMap::pop_oldest`.
     #[inline]
     pub fn pop_oldest(&mut self) -> Option<(K, V)>
         ensures step { PopOldest L.rules self.old result self.new }
@@ -47,7 +47,7 @@ impl<K: Eq + Hash, V, L: Limiter<K, V>, S: KeyHasher<K>> LruMap<K, V, L, S> {
     ///
     /// Cost: `O(1)`.
     ///
-    /// After schnellru's `LruMap::pop_newest`.
+    /// Follows schnellru's `LruMap::pop_newest`.
     pub fn pop_newest(&mut self) -> Option<(K, V)>
         ensures step { PopNewest L.rules self.old result self.new }
         ensures freed { IfSome result (λ _. Frees (first self.old.table.places) self.old.table self.new.table) }
@@ -69,7 +69,7 @@ impl<K: Eq + Hash, V, L: Limiter<K, V>, S: KeyHasher<K>> LruMap<K, V, L, S> {
     ///
     /// Cost: `O(1)` expected.
     ///
-    /// After std's `HashMap::remove_entry`.
+    /// Follows std's `HashMap::remove_entry`.
     #[inline]
     pub fn remove_entry<Q: LookupKey<K>>(&mut self, key: &Q) -> Option<(K, V)>
         ensures step { RemoveEntry L.rules (Q.names key.now) self.old result self.new }
@@ -92,7 +92,7 @@ impl<K: Eq + Hash + Drop, V, L: Limiter<K, V>, S: KeyHasher<K>> LruMap<K, V, L, 
     ///
     /// Cost: `O(1)` expected.
     ///
-    /// After schnellru's `LruMap::remove`.
+    /// Follows schnellru's `LruMap::remove`.
     #[inline]
     pub fn remove<Q: LookupKey<K>>(&mut self, key: &Q) -> Option<V>
         ensures step { Remove L.rules (Q.names key.now) self.old result self.new }
@@ -116,7 +116,7 @@ impl<K: Eq + Hash + Drop, V: Drop, L: Limiter<K, V>, S: KeyHasher<K>> LruMap<K, 
     ///
     /// Cost: `O(buckets)`, even if there are few entries; `O(1)` if all growth is left.
     ///
-    /// After schnellru's `LruMap::clear`.
+    /// Follows schnellru's `LruMap::clear`.
     pub fn clear(&mut self)
         ensures step { self.new ≡ cleared L.rules self.old }
         ensures map { IsMap K.eq self.new }
@@ -227,8 +227,8 @@ pub(super) fn notify<K, V, L: Limiter<K, V>>(limiter: &mut L, pair: (K, V)) -> (
     (key, value)
 }
 
-// The callback of the calls that pass nothing on. It drops what they evict, remove or do not store, the key first.
-// Parameters without a name would be dropped in the opposite order.
+// The callback of the calls that pass nothing on. It drops what they evict, remove or do not store: first the key, then
+// the value. Parameters without a name would be dropped in the opposite order.
 pub(crate) fn discard<K: Drop, V: Drop>(key: K, value: V) {
     drop(key);
     drop(value);

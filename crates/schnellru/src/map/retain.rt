@@ -24,7 +24,7 @@ impl<K: Eq + Hash + Drop, V: Drop, L: Limiter<K, V>, S: KeyHasher<K>> LruMap<K, 
     ///
     /// Cost: `O(n)` for n entries.
     ///
-    /// After std's `HashMap::retain`, whose closure may write the value.
+    /// Follows std's `HashMap::retain`, whose closure may write the value.
     pub fn retain<F: FnMut(&K, &V) -> bool>(&mut self, keep: F)
         requires callable { F.IsAlwaysCallable keep }
         ensures step { Retains F.FnMut L.rules keep self.old self.new }
@@ -35,7 +35,7 @@ impl<K: Eq + Hash + Drop, V: Drop, L: Limiter<K, V>, S: KeyHasher<K>> LruMap<K, 
 }
 
 impl<K: Eq + Hash, V, L: Limiter<K, V>, S: KeyHasher<K>> LruMap<K, V, L, S> {
-    /// As `retain`, and passes each removed entry to the callback, oldest first.
+    /// Does what `retain` does, and passes each removed entry to the callback, oldest first.
     ///
     /// ```
     /// let mut removed = 0u64;

@@ -1,4 +1,4 @@
-//! Storing a new pair: in a free bucket, or after the table was rehashed, has grown, or the oldest pairs were evicted.
+//! Stores a new pair, in a free bucket, or after a rehash, a growth, or evictions of the oldest pairs.
 ghost use Rattle.std.specs.Prelude.{◌≡◌, ℕ, ◌+◌, ◌-◌, ◌*◌, ◌/◌, ◌<◌, ◌≤◌, [], ◌∷◌, length, true, None, Some, List};
 ghost use Rattle.std.specs.Prelude.{Ok, OnOk, OnErr, IfErr, IsOk};
 ghost use Rattle.group_table.specs.Sizes.{IsPowerFromFour, full_capacity};
@@ -96,7 +96,7 @@ impl<K: Eq + Hash, V, L: Limiter<K, V>, S: KeyHasher<K>> LruMap<K, V, L, S> {
         }
     }
 
-    // Stores the pair after the oldest were evicted.
+    // Stores the pair after it evicted the oldest pairs.
     fn store_without_growth<F: FnMut(K, V)>(
         &mut self,
         hash: u64,

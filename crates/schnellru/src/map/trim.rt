@@ -22,7 +22,7 @@ impl<K: Eq + Hash + Drop, V: Drop, L: Limiter<K, V>, S: KeyHasher<K>> LruMap<K, 
     ///
     /// Cost: `O(1)` for each entry that is evicted.
     ///
-    /// After Guava's `Cache::cleanUp`.
+    /// Follows Guava's `Cache::cleanUp`.
     pub fn trim(&mut self)
         ensures step { Trims L.rules self.old self.new }
         ensures within { IsWithin L.rules (contents self.new) }
@@ -43,7 +43,7 @@ impl<K: Eq + Hash + Drop, V: Drop, L: Limiter<K, V>, S: KeyHasher<K>> LruMap<K, 
     ///
     /// Cost: `O(1)` for each entry that is evicted.
     ///
-    /// After `resize` of the crate `lru`.
+    /// Follows `resize` of the crate `lru`.
     pub fn set_limiter(&mut self, limiter: L) -> L
         ensures limiter { result ≡ self.old.limiter }
         ensures step { Trims L.rules (record self.old { limiter = limiter }) self.new }
@@ -55,7 +55,7 @@ impl<K: Eq + Hash + Drop, V: Drop, L: Limiter<K, V>, S: KeyHasher<K>> LruMap<K, 
 }
 
 impl<K: Eq + Hash, V, L: Limiter<K, V>, S: KeyHasher<K>> LruMap<K, V, L, S> {
-    /// As `trim`, and passes each evicted entry to the callback, oldest first.
+    /// Does what `trim` does, and passes each evicted entry to the callback, oldest first.
     ///
     /// ```
     /// let mut evicted = 0u64;
@@ -80,7 +80,7 @@ impl<K: Eq + Hash, V, L: Limiter<K, V>, S: KeyHasher<K>> LruMap<K, V, L, S> {
         let _ = &self.entries;
     }
 
-    /// As `set_limiter`, and passes each evicted entry to the callback, oldest first.
+    /// Does what `set_limiter` does, and passes each evicted entry to the callback, oldest first.
     ///
     /// ```
     /// let mut evicted = 0u64;

@@ -11,7 +11,7 @@ use std::iter::FusedIterator;
 /// An iterator that takes the entries out of a map, from both ends. Dropping it clears the map; forgetting it leaves
 /// the other entries in the map.
 ///
-/// The limiter is notified of the clear itself, not of each entry that it drops.
+/// The limiter is notified of the clear, but not of each entry that the clear drops.
 ///
 /// ```
 /// let mut sum = 0u64;
@@ -20,7 +20,7 @@ use std::iter::FusedIterator;
 /// }
 /// ```
 ///
-/// After schnellru's `Drain`.
+/// Follows schnellru's `Drain`.
 pub struct Drain<'a, K: Eq + Hash, V, L: Limiter<K, V>, S: KeyHasher<K>> {
     map: &'a mut LruMap<K, V, L, S>,
 }
@@ -98,7 +98,7 @@ impl<K: Eq + Hash, V, L: Limiter<K, V>, S: KeyHasher<K>> LruMap<K, V, L, S> {
     ///
     /// Cost: `O(1)`, and `O(1)` for each entry that is taken.
     ///
-    /// After schnellru's `LruMap::drain`.
+    /// Follows schnellru's `LruMap::drain`.
     pub fn drain(&mut self) -> Drain<'_, K, V, L, S>
         ensures map { drain_map result ≡ self.old }
         ensures same_reference { drain_lender result ≡ self.entry.ghost_name }

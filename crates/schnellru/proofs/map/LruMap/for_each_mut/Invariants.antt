@@ -1,4 +1,4 @@
--- The first `at` pairs have been written, and `next` is the bucket of the one after them.
+-- The first `at` pairs have been written, and `next` is the bucket of the pair after them.
 use Rattle.std.proofs.Common.{◌≡◌, ◌-◌, length}
 use Rattle.std.specs.Prelude.{slice_get}
 use denote.Param.Always.{always_mut}

@@ -3,7 +3,7 @@ use Rattle.std.specs.Cmp.Lexicographic.{pointwise}
 use Rattle.ordered_table.specs.OrderedTable.{pairs_of}
 use Rattle.ordered_table.proofs.ordered.equal.OrderedTablePartialEq.eq.Given as goal
 
--- the entries that are left are as many in both, and are equal if and only if all are
+-- both tables have equally many entries left; these are equal if and only if all entries are
 abbrev pub invariant-entries : goal.invariant-entries
 invariant-entries g l =
     (length l.ours ≡ length l.theirs)
