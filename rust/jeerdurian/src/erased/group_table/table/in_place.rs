@@ -8,7 +8,7 @@ use crate::erased::group_table::fields::put;
 use crate::erased::group_table::link::LinkType;
 use crate::erased::group_table::probe::{first_free, is_read_first};
 
-// Inserts every entry again, over cleared control bytes, and writes where each is now.
+// Inserts every entry again, over cleared control bytes, and writes to `links` where each is now.
 pub(crate) fn place_again<T, N: LinkType, H: Fn(&T) -> u64>(
     before: &Control,
     control: &mut Control,
