@@ -1,4 +1,4 @@
-//! Entries that are dropped, which no clause says. All entries of a table share one value.
+//! Tests that entries are dropped, which no clause says. All entries of a table share one value.
 use super::tables::table_of;
 use group_table::Table;
 use std::alloc::{AllocError, Global};

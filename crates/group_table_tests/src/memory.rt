@@ -1,10 +1,10 @@
-//! Memory that tables give back, which no clause says.
+//! Tests that tables give memory back, which no clause says.
 use super::tables::{fill, is_copied, move_once, table_of};
 use std::alloc::{AllocError, Global};
 use std::test::Fail;
 use test_helpers::{Hog, check};
 
-// A cycle of calls that loses 16 bytes uses it up within the cycles.
+// The memory that is left. If a cycle of calls loses 16 bytes, the cycles use it up.
 const SPARE: usize = 1 << 16;
 
 const CYCLES: u32 = 5000;

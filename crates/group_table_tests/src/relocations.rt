@@ -1,4 +1,4 @@
-//! Relocations and rehashes, compared with the rules of docs/TABLE.md, and how many requests they make.
+//! Compares relocations and rehashes with the rules of docs/TABLE.md, and counts their requests for memory.
 use super::tables::{
     SCATTERED, fill, is_copied, keys_after, keys_of, move_once, moved, table_of, thin,
 };
@@ -8,7 +8,7 @@ use std::cell::Cell;
 use std::test::Fail;
 use test_helpers::{Hog, check};
 
-// Whether the keys are where the rules have them, and the hash of each entry was asked for once.
+// Returns whether the keys are where the rules put them, and whether the hash of each entry was computed once.
 fn moves(
     alloc: Global,
     table: &mut Table<u64>,
@@ -62,7 +62,7 @@ fn moves_many(alloc: Global, table: &mut Table<u64>) -> Result<bool, AllocError>
     Ok(is_rehashed && is_copied && is_relocated)
 }
 
-// A call may run out of memory, so a body that returns an error above some size is proved.
+// A call may run out of memory, so the prover accepts a body that fails above some size. This test does not.
 #[test]
 fn many_buckets(rt: HostRuntime) -> Result<(), Fail> {
     let mut table = table_of(rt.alloc(), 1 << 20)?;
@@ -94,8 +94,9 @@ fn refusals(
 
 #[test]
 fn each_request_is_refused(rt: HostRuntime) -> Result<(), Fail> {
-    // The buckets, the entries that are left of a full table, the buckets to which they are moved, and the requests:
-    // entries and control bytes of 16 buckets, and links if there are entries; for a rehash links and control bytes.
+    // The number of buckets, the entries that are left of a full table, the new number of buckets, and the requests. A
+    // relocation requests entries and control bytes, and links if there are entries; a rehash requests links and
+    // control bytes.
     let rows: [(usize, usize, usize, &[usize]); 4] = [
         (8, 7, 16, &[128, 32, 32]),
         (8, 0, 16, &[128, 32]),

@@ -1,4 +1,4 @@
-//! The limiters of the crate: the keys and values that they drop, and their texts.
+//! Tests of the limiters of the crate: which keys and values they drop, and their texts.
 use lru_limits::{
     Both, ByCost, ByLength, ByMemoryUsage, ByWeight, Costed, Insertion, RandomState, Storing,
     Unlimited, UnlimitedCompact,
@@ -24,7 +24,7 @@ fn pair_of(shared: &Rc<u64>) -> Result<(Share, Share), AllocError> {
     Ok((Share(shared.clone()?), Share(shared.clone()?)))
 }
 
-// Offers a pair, and offers it again instead of a stored one. Returns whether each is accepted, and how many owners the
+// Offers an entry, and offers it again as a replacement. Returns whether each is accepted, and how many owners the
 // number has left.
 fn offered<L: Insertion<Share, Share, Share>>(
     shared: &Rc<u64>,

@@ -1,5 +1,5 @@
-//! How often and in which order calls call their limiter and their sink. A contract says what each callback is given,
-//! and not what is called in between.
+//! How often and in which order calls call their limiter and their sink. A contract says what each callback gets, but
+//! not what is called in between.
 ghost use Rattle.std.specs.Prelude.{◌≡◌, true, nat_lt, nat_le, nat_eq};
 ghost use Rattle.std.specs.Cmp.{nat_eq_equiv};
 ghost use Rattle.lru_limits.specs.Stores.{ReturnsPairIf, answers, given-names};
@@ -10,7 +10,7 @@ use std::cell::Cell;
 use test_helpers::{Counted, Hog, check};
 use test_maps::{insert_all, map_of};
 
-/// The calls that are noted, each as a digit.
+/// The calls that the limiter and the sink note, each as a digit.
 const IS_OVER: u64 = 1;
 
 const REMOVED: u64 = 2;
@@ -47,7 +47,7 @@ impl<'a> Noting<'a> {
     }
 }
 
-/// The greatest value that replaces another one.
+/// The greatest new value that may replace an old one.
 const GREATEST: u64 = 100;
 
 impl<V> Limiter<u64, V> for Noting<'_> {
@@ -121,7 +121,7 @@ impl Insertion<u64, u64, u64> for Noting<'_> {
     } };
 }
 
-/// Returns whether the calls are those of `expected`, or memory has no end.
+/// Returns whether the calls are as `expected`, or memory never ran out.
 fn is_traced(
     alloc: Global,
     [first, last, most, bytes, blocks, key, value, expected]: [u64; 8],
@@ -143,21 +143,21 @@ fn is_traced(
 #[test]
 fn each_pair_is_passed_on_before_the_next_callback(rt: HostRuntime) {
     for case in [
-        // Three pairs over a limit that was lowered.
+        // Three entries are evicted, after the limit was lowered.
         [1, 3, 1, 1000, 9, 4, 40, 41_231_231_231],
-        // The oldest, after a growth was refused.
+        // The oldest entry is evicted, after a growth was refused.
         [1, 3, 9, 84, 9, 4, 40, 415_231],
-        // The three oldest, after a growth was refused to a table of 32 buckets: the buckets of two of them do not
-        // serve.
+        // The three oldest entries are evicted, after a table of 32 buckets was refused growth: the buckets of two of
+        // them do not serve.
         [3, 30, 99, 1000, 9, 202, 40, 4_152_323_231],
-        // The pair whose replacement is refused.
+        // The entry whose replacement is rejected is removed.
         [1, 3, 9, 84, 9, 2, 101, 623],
-        // The new pair, if the first table is refused.
+        // The new entry is passed on, if the first table is refused.
         [1, 0, 9, 83, 9, 4, 40, 4523],
-        // The new pair, if there is no memory for the first table, and if there is none for a growth.
+        // The new entry is passed on, if memory runs out for the first table, and for a growth.
         [1, 0, 9, 84, 0, 4, 40, 4523],
         [1, 3, 9, 1000, 0, 4, 40, 41_523],
-        // None, after a growth, and if the value is replaced.
+        // No entry is passed on after a growth, or if the value is replaced.
         [1, 3, 9, 1000, 9, 4, 40, 4151],
         [1, 3, 9, 84, 9, 2, 21, 61],
     ] {

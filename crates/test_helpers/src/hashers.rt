@@ -1,11 +1,10 @@
-//! Hashers whose hashes a test chooses, and one that counts.
+//! Hashers whose hashes a test chooses, and a hasher that counts.
 ghost use Rattle.std.specs.Prelude.{◌≡◌, ◌+◌, ◌%◌, ◌^◌, fold};
 
 use std::cell::Cell;
 use std::hash::{BuildHasher, Hasher};
 
-/// Hashes to the last byte that was written, which is the highest byte of a number. So a `u64` below 2 to the 56th
-/// hashes to 0.
+/// Hashes to the last byte that was written, which is the highest byte of a number. So a `u64` below 2^56 hashes to 0.
 #[derive(Clone, Copy)]
 pub struct LastByte(pub u64);
 
@@ -51,7 +50,7 @@ impl BuildHasher for Counted {
     }
 }
 
-/// Hashes to the sum of the bytes that were written: a number below 256 to itself.
+/// Hashes to the sum of the bytes that were written. A number below 256 hashes to itself.
 #[derive(Clone, Copy)]
 pub struct Sum(pub u64);
 

@@ -1,4 +1,4 @@
-//! Each key and each value is dropped once: none twice, and none is forgotten.
+//! Tests that each key and each value is dropped exactly once.
 use super::live::{Limit, Live, Lives, Map, fill_with, map_of_lives};
 use schnellru::{Both, GetOrInsertError, KeyHasher};
 use std::alloc::Global;
@@ -184,8 +184,8 @@ fn ask<'a>(map: &mut Map<'a>, call: u64, hash: u64, value: Live<'a>) {
     }
 }
 
-/// A closure is dropped, whether it is called or not, and whatever it returns: on a map of one pair and of none, with the
-/// value of the pair and with another one.
+/// A closure is dropped, whether it is called or not, and whatever it returns. The map has one entry or none, and the
+/// closure returns the entry's value or another one.
 #[test]
 fn closures_are_dropped(rt: HostRuntime) {
     let lives = Lives::new();

@@ -33,7 +33,7 @@ impl Lives {
     }
 }
 
-/// A number that is counted while it lives. It costs itself.
+/// A number that is counted while it is alive. It costs itself.
 #[derive_where(PartialEq, Eq, Hash)]
 pub struct Live<'a> {
     pub number: u64,

@@ -1,4 +1,4 @@
-//! Calls whose requests for memory are refused in turn, until one is met.
+//! Calls whose requests for memory fail in turn, until all succeed.
 use schnellru::{ByMemoryUsage, LruMap};
 use std::alloc::Global;
 use std::hash::BuildHasher;
@@ -7,13 +7,13 @@ use test_maps::{insert_all, map_of, remove_all};
 
 const FIRST_TABLE: [usize; 2] = [96, 20];
 
-/// Of a table of 16 buckets, and of the links of the 8 before.
+/// The bytes of a table of 16 buckets, and of the links of the old 8 buckets.
 const GROWTH: [usize; 3] = [384, 32, 32];
 
-/// Of the links of 32 buckets, and of fresh control bytes for them.
+/// The bytes of the links of 32 buckets, and of fresh control bytes for them.
 const REHASH: [usize; 2] = [128, 48];
 
-/// Of a table of 8 buckets, and of the links of the 32 before.
+/// The bytes of a table of 8 buckets, and of the links of the old 32 buckets.
 const SHRINK: [usize; 3] = [192, 24, 128];
 
 /// The calls before this one insert a key.
@@ -73,8 +73,8 @@ fn is_met(
     is_filled & ends_as_expected(alloc, &mut map, (call, key), requests)
 }
 
-/// Inserts that need a first table, a growth, and a rehash after a refused growth, for which the oldest 15 pairs are
-/// evicted. Then reservations of a first table, of a larger one and of a rehash, and a shrink.
+/// Makes inserts that need a first table, a growth, and a rehash after a refused growth, which evicts the oldest 15
+/// entries. Then reserves a first table, a larger table and a rehash, and shrinks.
 #[test]
 fn each_request_is_refused(rt: HostRuntime) {
     let alloc = rt.alloc();
@@ -89,7 +89,7 @@ fn each_request_is_refused(rt: HostRuntime) {
     check!(rt; is_met(alloc, SHRINK_TO_FIT, [560, 15, 6, 0], &SHRINK));
 }
 
-/// No form of insert fails above some number of pairs, if there is memory.
+/// No form of insert fails above some number of entries, if there is memory.
 #[test]
 fn inserts_of_many_pairs(rt: HostRuntime) {
     for call in 0..RESERVE {
@@ -100,7 +100,7 @@ fn inserts_of_many_pairs(rt: HostRuntime) {
     }
 }
 
-/// The limiter makes each key in fresh memory, again after each refused growth.
+/// The limiter makes each key in fresh memory, and again after each growth that fails.
 fn texts_are_refused(alloc: Global, map: &mut LruMap<String, u32, Counting>) -> Option<bool> {
     let mut right = true;
     // Entries, control bytes, and a byte for each text.
