@@ -1,4 +1,4 @@
-//! Curves of many keys, and the memory that references give back.
+//! Tests curves of many keys, and that references give memory back.
 use lru_trace::{Curve, Form, Options, Progress, TraceError, status, trace};
 use std::alloc::Global;
 use std::test::Fail;
@@ -11,7 +11,7 @@ fn refer(alloc: Global, curve: &mut Curve, number: u64) -> Result<(), TraceError
     Ok(())
 }
 
-/// Each of 150,000 keys is referenced twice, in the same order, so all others come between.
+/// Each of 150,000 keys is referenced twice, in the same order, so all other keys come between its references.
 #[test]
 fn of_many_keys(rt: HostRuntime) -> Result<(), Fail> {
     let mut curve = Curve::new(rt.alloc())?;
