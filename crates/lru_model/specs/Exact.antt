@@ -93,7 +93,6 @@ exchanged rules offers names i v c pair =
 module _ {K V S I : Type 0} (rules : Rules K V S) (offers : Offers K V S I) (names : I → K → Bool)
     (Tells : S → K × V → Report → Type 0) (i : I) (v : V) (old : Contents K V S) (result : Result Bool AllocError)
     (new : Contents K V S) where
-  -- the key is new
   pub data InsertsNew : Type 0 where
     -- The limiter runs out of memory, or returns no pair to store,
     not_offered : offers.may_run_out old.limiter (length old.pairs) i v → IsErr result → new ≡ old → InsertsNew

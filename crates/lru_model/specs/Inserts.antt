@@ -1,7 +1,7 @@
 -- What an insert does.
---     rules, offers       what the limiter does (`Rules`, `Offers` of `lru_limits`)
---     names i k           the inserted key i names the key k
---     hash_of h k         the hash of the key k, by the hasher h
+--     rules, offers       the limiter's `Rules` and `Offers` (`lru_limits`)
+--     names i k           the inserted key i names k
+--     hash_of h k         the hash of k by the hasher h
 use Rattle.std.specs.Prelude.{◌≡◌, ℕ, ◌+◌, ◌⊎◌, ◌<◌, Bool, true, false, not, if◌then◌else◌, ◌∷◌, length, Option, Some}
 use Rattle.std.specs.Prelude.{None, option_map, Result, Ok, Err, IsErr}
 use Rattle.std.specs.declared.alloc.AllocError.{AllocError}
@@ -79,7 +79,6 @@ module _ {K V S I : Type 0} (rules : Rules K V S) (offers : Offers K V S I) (nam
   MayGive i v c s given = offers.on_insert c.limiter (length c.pairs) i v s given
 
   module _ {H : Type 0} (hash_of : H → K → ℕ) where
-    -- what an insert may return and leave
     pub data Insert (i : I) (v : V) (old : State K V S H) (result : Result Bool AllocError)
         (new : State K V S H) : Type 0 where
       -- The key is there, and the limiter accepts the new value: the pair becomes the newest with this value, and the

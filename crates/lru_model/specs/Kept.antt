@@ -1,7 +1,7 @@
 -- What an insert keeps: it loses no pair; it evicts none if growth is left and the limiter is not over its limit with
 -- the new pair; and with `ByLength` it leaves the newest pairs.
---     rules, offers       what the limiter does (`Rules`, `Offers` of `lru_limits`)
---     names i k           the inserted key i names the key k
+--     rules, offers       the limiter's `Rules` and `Offers` (`lru_limits`)
+--     names i k           the inserted key i names k
 use Rattle.std.specs.Prelude.{◌≡◌, ◌⊎◌, ℕ, ◌+◌, ◌-◌, ◌^◌, ◌≤◌, ◌<◌, Bool, true, false, not, List, []}
 use Rattle.std.specs.Prelude.{◌∷◌, ◌++◌, length, reverse, take, fold, nat_lt, Option, Some, None, unwrap_or}
 use Rattle.std.specs.Prelude.{option_map, Result, Ok, IsOk, IsErr, OnOk, OnErr}

@@ -15,7 +15,6 @@ use Rattle.lru_model.specs.State.{State, TableState, buckets, growth_left, First
 pub data Outcome : Type 0 where
   placed refused no_memory : Outcome
 
--- the outcome that a result reports
 abbrev pub outcome_of : {E : Type 0} → Result Bool E → Outcome
 outcome_of (Ok true) = placed
 outcome_of (Ok false) = refused
@@ -74,7 +73,6 @@ module _ {K V S H : Type 0} where
   abbrev pub table_for : ℕ → State K V S H → Target
   table_for n st = target st.max st.entry_bytes (buckets st) (length st.pairs + n)
 
-  -- there are pairs, and no growth is left
   abbrev pub HasPairsButNoGrowth : State K V S H → Type 0
   HasPairsButNoGrowth st = (0 < length st.pairs) × (growth_left st ≡ 0)
 
@@ -83,11 +81,9 @@ module _ {K V S H : Type 0} (rules : Rules K V S) where
   abbrev pub asked : ℕ → State K V S H → State K V S H
   asked bytes st = record st { limiter = (rules.on_grow st.limiter bytes).limiter }
 
-  -- the limiter permits a table of n bytes
   abbrev pub Grants : ℕ → State K V S H → Type 0
   Grants bytes st = (rules.on_grow st.limiter bytes).allowed ≡ true
 
-  -- the limiter refuses a table of n bytes
   abbrev pub Denies : ℕ → State K V S H → Type 0
   Denies bytes st = (rules.on_grow st.limiter bytes).allowed ≡ false
 

@@ -2,7 +2,6 @@
 use Rattle.std.specs.Prelude.{ℕ}
 use Rattle.schnellru.specs.declared.map.LruMap.TheInside.{Inside}
 
--- the fields of a map except its entries
 pub record Fields (S H : Type 0) : Type 0 where
   pub limiter : S
   pub hasher : H
