@@ -33,7 +33,7 @@ module _ {T : Type 0} where
       else if nat_lt position 16 then empty_byte
       else byte_of (bucket_at slots (position - max 16 (length slots)))
 
-  -- the byte is a tag if there is an entry, and else the byte of an empty or a deleted bucket
+  -- the byte is a tag if there is an entry, and otherwise the byte of an empty or a deleted bucket
   abbrev pub Agrees : ℕ → Option T → Type 0
   Agrees byte (Some entry) = IsTag byte
   Agrees byte None = (byte ≡ deleted_byte) ⊎ (byte ≡ empty_byte)

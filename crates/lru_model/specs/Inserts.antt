@@ -11,12 +11,12 @@ use Rattle.lru_model.specs.declared.results.Inserted.{Inserted}
 use Rattle.lru_model.specs.State.{State, buckets, growth_left, Contents, contents, Leaves, pop, trim}
 use Rattle.lru_model.specs.Place.{Place, Outcome, placed, refused, no_memory}
 
--- the value that the map does not keep after a new value was offered: the old one if the limiter accepted the new one,
--- and the new one otherwise
+-- the value that the map does not keep after a new value was offered: the old value if the limiter accepted the new
+-- one, and otherwise the new value
 abbrev pub unkept_of : {K V S : Type 0} → Replaced K V S → V
 unkept_of r = if r.taken then r.old_value else r.new_value
 
--- whether the key is in the map, from the result of an insert that also returns the value that the map does not keep
+-- whether the key is in the map, by the `Inserted` that an insert returned
 abbrev pub kept_of : {V E : Type 0} → Result (Inserted V) E → Result Bool E
 kept_of (Ok inserted) = Ok inserted.kept
 kept_of (Err e) = Err e
@@ -116,8 +116,8 @@ module _ {K V S I : Type 0} (rules : Rules K V S) (offers : Offers K V S I) (nam
       pub given : MayGive i v (contents old) s (Some pair)
       pub needed : (buckets old ≡ 0) ⊎ (0 < length (make_room rules (record { pairs = old.pairs; limiter = s })).pairs)
 
-    -- Why an insert runs out of memory: the key is new, and either `on_insert` of the limiter ran out of memory, and
-    -- nothing has changed, or the table needed memory.
+    -- Why an insert runs out of memory: the key is new, and either `on_insert` of the limiter ran out of memory, which
+    -- changed nothing, or the table needed memory.
     abbrev pub IsOutOfMemory : I → V → State K V S H → State K V S H → Type 0
     IsOutOfMemory i v old new = (lookup_entry (names i) old.pairs ≡ None)
         × ((offers.may_run_out old.limiter (length old.pairs) i v × (new ≡ old)) ⊎ NeedsMemory i v old)

@@ -69,8 +69,8 @@ module _ {K V S I : Type 0} (rules : Rules K V S) (offers : Offers K V S I) (nam
 abbrev pub stored_key : {K V : Type 0} → (K → Bool) → K → List (K × V) → K
 stored_key names key pairs = unwrap_or (option_map (λ pair. pair.0) (lookup_entry names pairs)) key
 
--- what is left of the pairs `old` after the pairs `inserted` were inserted one after another, with at most `most` pairs
--- left after each insert
+-- the pairs after `inserted` were inserted into `old` one after another, with at most `most` pairs left after each
+-- insert
 abbrev pub newest_after : {K V : Type 0} → (K → K → Bool) → ℕ → List (K × V) → List (K × V) → List (K × V)
 newest_after eq most inserted old = fold
     (λ left pair. take most ((stored_key (eq pair.0) pair.0 left, pair.1) ∷ without (eq pair.0) left)) old inserted

@@ -1,4 +1,4 @@
--- What all insertions into the table cost, even those of a reservation, if no growth was left before it.
+-- What all insertions into the table cost, even the insertions of a reservation, if no growth was left before it.
 --     terms, rules        the limiter's `Terms` and `Rules` (`lru_limits`)
 --     eq                  whether two keys are equal
 --     hash_of h k         the hash of k by the hasher h

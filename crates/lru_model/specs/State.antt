@@ -124,7 +124,7 @@ module _ {K V S H : Type 0} where
   abbrev pub buckets : State K V S H → ℕ
   buckets st = length st.table.states
 
-  -- the growth left: how many more pairs the table holds for sure
+  -- the growth left: how many more pairs the table is sure to hold
   abbrev pub growth_left : State K V S H → ℕ
   growth_left st = growth_left_of st.table.states
 

@@ -23,7 +23,7 @@ use Rattle.lru_replay.specs.Grammar.{pair_spelling, said_of, call_words, limit_w
 use Rattle.lru_replay.specs.Lines.{Lacks}
 use Rattle.lru_replay.proofs.Numbers.{decimal_lacks_space}
 
--- the word and the numbers of a line that spaces cut into these parts
+-- the word and the numbers of a line that consists of these parts, with spaces between them
 abbrev pub read : List (List ℕ) → List ℕ × Numbers
 read [] = ([], numbers.Zero)
 read (word ∷ []) = (word, numbers.Zero)

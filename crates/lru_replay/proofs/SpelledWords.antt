@@ -1,4 +1,4 @@
--- What holds of each row of `Words` holds of what a line means.
+-- If each row of `Words` has a property, what a line means has it.
 use Rattle.std.proofs.Common.{◌≡◌, ℕ, ◌<◌, ◌≤◌, ◌^◌, Bool, true, false, List, [], ◌∷◌, ◌++◌, length, refl, sym, subst}
 use Rattle.std.proofs.Common.{arith, rules, Option, Some, None, option_map, decimal}
 use Rattle.std.proofs.lemmas.Fmt.{length-decimal-le}

@@ -44,7 +44,7 @@ pub record KeepsToCost {K V H : Type 0} (weight : K → V → ℕ) (cost : K →
   pub sized : IsSized st
 
 module _ {K V H : Type 0} (eq : K → K → Bool) where
-  -- a map with a maximum length, which stores nothing if that is 0
+  -- a map with a maximum length, which stores nothing if the length is 0
   abbrev pub of_length : Cache K V ℕ H
   of_length = record { eq = eq; limit = λ n. n; refer = refer eq; Stores = λ n. 0 < n; Keeps = KeepsToLength }
 

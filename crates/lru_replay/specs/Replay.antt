@@ -38,7 +38,7 @@ abbrev pub IsReplay : List (List ℕ) → List ℕ → Type 0
 IsReplay lines text = (limit : Limit) × (first : List ℕ) × (others : List (List ℕ))
     × (lines ≡ first ∷ others) × SpellsLimit first limit × IsTextUnder limit others text
 
--- The first line names no limit, or there is none.
+-- The first line names no limit, or there is no line.
 abbrev pub NamesNoLimit : List (List ℕ) → Type 0
 NamesNoLimit lines = (limit : Limit) (first : List ℕ) (others : List (List ℕ)) → lines ≡ first ∷ others
     → SpellsLimit first limit → ⊥
@@ -61,7 +61,7 @@ module _ (from to old new : Option (List ℕ)) where
     pub replay : OfAll IsReplay from (Appends old new)
     pub at_end : OnSome from (IsAtEnd to)
 
-  -- The first line names no limit, or there is none. Only that line was read, and `no limiter` was written.
+  -- The first line names no limit, or there is no line. At most that line was read, and `no limiter` was written.
   pub record HasNoLimit : Type 0 where
     pub unnamed : IfSome from (λ input. NamesNoLimit (lines_of input))
     pub reads : TakesFirst from to

@@ -64,7 +64,7 @@ pub fn calls_make_references<K: Eq + Hash + Drop, V: Drop, S: KeyHasher<K>>()
         Reference (of_cost K.eq weight cost) key old new }
 {}
 
-/// So do `ensure_newest` and `get_or_insert`, whose closure is `make`.
+/// `ensure_newest` and `get_or_insert`, whose closure is `make`, make references, too.
 pub fn gets_that_insert_make_references<
     K: Eq + Hash + Drop,
     V: Drop,
@@ -78,7 +78,7 @@ pub fn gets_that_insert_make_references<
         Reference (of_cost K.eq weight cost) key old new }
 {}
 
-/// And so do their fallible forms.
+/// The fallible forms of `ensure_newest` and `get_or_insert` make references, too.
 pub fn gets_that_insert_if_made_make_references<
     K: Eq + Hash + Drop,
     V: Drop,

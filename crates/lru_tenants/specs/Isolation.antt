@@ -12,7 +12,7 @@ pub record Did (N K V L S : Type 0) : Type 0 where
   pub left : Option (State K V L S)
 
 module _ {N K V L S : Type 0} where
-  -- Calls that take the cache from old to new. Each leaves the other tenants as they are.
+  -- Calls that take the cache from old to new. Each call leaves the tenants that it does not name as they are.
   abbrev pub CacheRun : (N → N → Bool) → Cache N K V L S → List (Did N K V L S) → Cache N K V L S → Type 0
   CacheRun eq old [] new = new ≡ old
   CacheRun eq old (did ∷ more) new = (mid : Cache N K V L S) × (did.found ≡ tenant (eq did.name) old)

@@ -117,7 +117,7 @@ module _ {K V L S : Type 0} where
 module _ {N K V L S : Type 0} (rules : Rules K V L) (offers : Offers K V L K) (cost : K → V → ℕ)
     (account budget_of : L → ℕ) (eq : K → K → Bool) (hash_of : S → K → ℕ) (fresh : ℕ → State K V L S)
     (total_limit : Option ℕ) where
-  -- The call may answer this, and leave `new` of the tenant that it names. `sum` is the sum of all budgets with the new
+  -- The call may answer this, and leave the tenant that it names as `new`. `sum` is the sum of all budgets with the new
   -- one. The other tenants decide it, so nothing is said of it except that it is at least the new budget. No call is
   -- over the total if there is no limit.
   abbrev pub TenantStep : TenantCall N K V → Option (State K V L S) → TenantAnswer V → Option (State K V L S) → Type 0

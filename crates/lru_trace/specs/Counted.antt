@@ -20,7 +20,7 @@ pub record Counted : Type 0 where
 abbrev pub number_in : List (String Global × ℕ) → List ℕ → Option ℕ
 number_in names key = lookup (λ name. bytes_eq key (string_bytes name)) names
 
--- no two keys have one number, and numbers are below n
+-- no two keys have the same number, and numbers are below n
 pub record AreNumbered (names : List (String Global × ℕ)) (n : ℕ) : Type 0 where
   pub small : (key : List ℕ) (number : ℕ) → number_in names key ≡ Some number → number < n
   pub apart : (a b : List ℕ) (number : ℕ) → number_in names a ≡ Some number → number_in names b ≡ Some number → a ≡ b

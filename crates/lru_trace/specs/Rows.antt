@@ -25,7 +25,7 @@ module _ (trace : List (List ℕ)) where
   row_of best n =
       record { size = n; hits = length trace - missed n; misses = missed n; best = best_in best n }
 
--- the powers of two from 2 ^ level on, up to the first that is at least `most`, but at most n
+-- the powers of two from 2 ^ level on, up to the first that is at least `most`, but at most n of them
 unfoldable pub powers : ℕ → ℕ → ℕ → List ℕ
 powers most zero level = []
 powers most (suc n) level = 2 ^ level ∷ (if nat_le most (2 ^ level) then [] else powers most n (suc level))

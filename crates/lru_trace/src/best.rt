@@ -52,8 +52,8 @@ impl Best {
     /// Returns how often MIN with `places` places misses, from no keys. MIN stores each key that is referenced, and
     /// evicts the key whose next reference comes last. No policy that stores each key misses less often.
     ///
-    /// Cost: `O(log n)` for each reference and n places; the memory is in proportion to n, and to the number of keys at
-    /// most.
+    /// Cost: `O(log n)` for each reference and n places; the memory is in proportion to the smaller of n and the number
+    /// of keys.
     ///
     /// # Errors
     ///
@@ -122,7 +122,7 @@ fn add(times: &mut BTreeSet<usize>, time: usize, end: usize) -> Result<(), Alloc
     }
 }
 
-/// Returns a number above all of these. `Err` also if one is `usize::MAX`, which no vector is long enough for.
+/// Returns a number above all of these. Fails, too, if one is `usize::MAX`, because no vector is that long.
 fn bound_of(numbers: &[usize]) -> Result<usize, AllocError>
     ensures { IfOk result (λ bound. All (λ n. n < bound) numbers.now) }
 {

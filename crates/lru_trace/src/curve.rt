@@ -235,7 +235,7 @@ impl Curve {
 
     /// Returns how many references miss in an LRU cache of `places` places.
     ///
-    /// Cost: `O(places)`, and at most in proportion to the number of keys.
+    /// Cost: in proportion to the smaller of `places` and the number of keys.
     pub fn misses(&self, places: usize) -> u64
         ensures all { (trace : List (List ℕ)) → IsOf trace self.now →
             result ≡ misses bytes_eq places [] trace }

@@ -47,7 +47,7 @@ impl<K: Eq + Hash, V, L: Limiter<K, V>, S: KeyHasher<K>> LruMap<K, V, L, S> {
 
     /// Returns how many entries the table is sure to hold without growing: its entries and its growth left.
     ///
-    /// It may fall when an entry is removed from a table of more than 16 buckets. Cost: `O(1)`.
+    /// The number may fall when an entry is removed from a table of more than 16 buckets. Cost: `O(1)`.
     ///
     /// ```
     /// let mut map: LruMap<u64, u64, UnlimitedCompact> = LruMap::default(alloc);
