@@ -1,4 +1,4 @@
-//! Loads on the map that a Rust program times, each inside one call. If memory runs out, an entry is missing, and the
+//! Loads on the map. A Rust program times each load inside one call. If memory runs out, an entry is missing, and the
 //! result differs from the result of the other maps.
 #![tactic(auto)]
 

@@ -13,7 +13,7 @@ pub(crate) struct Table {
     pub(crate) shrunk: u64,
 }
 
-/// Returns the number of buckets for `pairs` pairs: 4, doubled until it holds the pairs.
+/// Returns the number of buckets for `pairs` pairs: 0 for none, and otherwise 4, doubled until it holds the pairs.
 fn buckets_for(pairs: u64) -> u64 {
     match pairs {
         0 => 0,

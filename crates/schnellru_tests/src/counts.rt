@@ -29,7 +29,7 @@ fn builds_of_calls(map: &mut Map) -> u64 {
 }
 
 /// Inserts and removes neighbouring keys, which leads to growth and to rehashes. Returns whether more entries move than
-/// by growth alone, and whether each call and each move builds at most one hasher. The report counts each move.
+/// by growth alone, and whether at most one hasher is built for each call and each move. The report counts each move.
 fn moves_hash_once(map: &mut Map) -> bool {
     map.hasher().0.set(0);
     let before = map.move_report().moved;

@@ -62,8 +62,8 @@ impl<K: Eq + Hash, V, L: Limiter<K, V>, S: KeyHasher<K>> LruMap<K, V, L, S> {
         self.entries.len() + self.entries.growth_left()
     }
 
-    /// Returns the bytes of the table, or 0 if there are no buckets. Each bucket, full or not, takes `entry_bytes`,
-    /// together rounded up to a multiple of 16, and a byte more. The table takes 16 bytes more.
+    /// Returns the bytes of the table, or 0 if there are no buckets. The `entry_bytes` of all buckets, full or not, are
+    /// together rounded up to a multiple of 16. Each bucket takes one byte more, and the table 16 more.
     ///
     /// Cost: `O(1)`.
     ///

@@ -9,7 +9,7 @@ const SPARE: usize = 1 << 16;
 
 const CYCLES: u32 = 5000;
 
-/// The memory that is left for maps of 400 entries, and a cycle that loses 600 bytes.
+/// The only memory that is left for maps of 400 entries. A cycle of calls that loses 600 bytes uses it up.
 const LARGE_SPARE: usize = 120_000;
 
 const LARGE_CYCLES: u32 = 200;

@@ -16,7 +16,7 @@ const REHASH: [usize; 2] = [128, 48];
 /// The bytes of a table of 8 buckets, and of the links of the old 32 buckets.
 const SHRINK: [usize; 3] = [192, 24, 128];
 
-/// The calls before this one insert a key.
+/// Calls with smaller numbers insert a key.
 const RESERVE: u64 = 7;
 
 const SHRINK_TO_FIT: u64 = 8;
