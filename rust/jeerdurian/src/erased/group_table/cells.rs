@@ -23,8 +23,8 @@ impl<T> Clone for Block<T> {
 
 impl<T> Copy for Block<T> {}
 
-// SAFETY: a `Block` is an address. To read or write there also takes the `Cells` of the same block, whose `Send` and
-// `Sync` require the same of `T`.
+// SAFETY: a `Block` is an address. Only code with the `Cells` of the block reads or writes there, and `Cells` are
+// `Send` or `Sync` only if `T` is.
 unsafe impl<T> Send for Block<T> {}
 
 unsafe impl<T> Sync for Block<T> {}
@@ -34,7 +34,7 @@ pub(crate) struct Cells<T> {
     mark: PhantomData<*const T>,
 }
 
-// SAFETY: it owns the entries as a `Box<T>` does, so it may be sent and shared if they may.
+// SAFETY: `Cells` own the entries as a `Box<T>` does, so they may be sent and shared if the entries may.
 unsafe impl<T: Send> Send for Cells<T> {}
 
 unsafe impl<T: Sync> Sync for Cells<T> {}
@@ -44,10 +44,10 @@ pub(crate) struct Deed<T, A: Allocator> {
     mark: PhantomData<*const (T, A)>,
 }
 
-// SAFETY: it only gives memory back, by the allocator, so it may be sent if the allocator may.
+// SAFETY: a `Deed` only gives memory back to the allocator, so it may be sent if the allocator may.
 unsafe impl<T, A: Allocator + Send> Send for Deed<T, A> {}
 
-// SAFETY: it has no method that takes a `&`.
+// SAFETY: a `Deed` has no method that takes a `&`.
 unsafe impl<T, A: Allocator> Sync for Deed<T, A> {}
 
 #[inline]
@@ -94,19 +94,19 @@ impl<T> Cells<T> {
 
     #[inline]
     pub(crate) fn read(&mut self, block: Block<T>, b: usize) -> T {
-        // SAFETY: place b holds an entry, and `self` no longer counts it as there.
+        // SAFETY: place b holds an entry, and `self` no longer counts it.
         unsafe { block.start.add(b).read() }
     }
 
     #[inline]
     pub(crate) fn get(&self, block: Block<T>, b: usize) -> &T {
-        // SAFETY: place b holds an entry, which `self` lends as long as it is lent.
+        // SAFETY: place b holds an entry, which `self` lends for as long as `self` is borrowed.
         unsafe { &*block.start.add(b) }
     }
 
     #[inline]
     pub(crate) fn get_mut(&mut self, block: Block<T>, b: usize) -> &mut T {
-        // SAFETY: place b holds an entry, which `self` lends to nobody else meanwhile.
+        // SAFETY: place b holds an entry, which `self` lends to nobody else.
         unsafe { &mut *block.start.add(b) }
     }
 }

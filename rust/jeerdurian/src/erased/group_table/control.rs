@@ -12,8 +12,6 @@ pub(crate) const EMPTY: u8 = 0xff;
 
 pub(crate) const DELETED: u8 = 0x80;
 
-// The control bytes of a table.
-
 pub(crate) struct Control {
     bytes: Vec<u8>,
     last: usize,
@@ -39,9 +37,9 @@ impl Control {
         self.last == 0
     }
 
-    // For a search that begins with this hash. Without buckets it begins at bucket 0, and else seldom does. So most
-    // searches test only where they begin, which they compute anyway. The sum keeps the compiler from joining both
-    // tests.
+    // Returns whether there are no buckets, before a search for this hash. Without buckets a search begins at bucket 0;
+    // with buckets it seldom does. So most searches test only where they begin, which they compute anyway. The sum
+    // keeps the compiler from joining both tests.
     #[inline]
     pub(crate) fn is_empty_at(&self, hash: u64) -> bool {
         hash as usize & self.last == 0 && self.bytes.len() + self.last == 0
@@ -93,7 +91,7 @@ pub(crate) fn tag_of(hash: u64) -> u8 {
     (hash >> 57) as u8
 }
 
-// Returns the control byte of a bucket whose entry has left: `EMPTY` if that gives growth left back, and `DELETED`
+// Returns the control byte of a bucket whose entry was taken out: `EMPTY` if this gives growth left back, and `DELETED`
 // otherwise. `gives_room` is all ones or 0.
 #[inline]
 pub(crate) fn emptied_byte(gives_room: usize) -> u8 {
@@ -108,8 +106,8 @@ pub(crate) fn room_taken(byte: u8) -> usize {
 #[inline]
 fn set_both(bytes: &mut [u8], last: usize, b: usize, byte: u8) {
     (*at_mut!(bytes, b)) = byte;
-    // The repetition of one of the first 16 buckets. For other buckets this rewrites the same byte, which avoids a
-    // branch.
+    // Writes the repetition of one of the first 16 buckets. For other buckets it writes the same byte again, which
+    // avoids a branch.
     (*at_mut!(bytes, sixteen_before(b, last) + 16)) = byte;
 }
 

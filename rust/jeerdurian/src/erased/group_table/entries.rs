@@ -16,7 +16,7 @@ struct Row<T> {
 
 // Without places there is no block. Only the control bytes know the number of places.
 //
-// So a caller of `free` must show that no place holds one.
+// So a caller of `free` must show that no place holds an entry.
 pub(crate) struct Entries<T> {
     row: Option<Row<T>>,
     alloc: Global,

@@ -41,7 +41,7 @@ pub fn match_free(bytes: &[u8; 16]) -> u16 {
     u8x16::from_array(*bytes).simd_ge(u8x16::splat(DELETED)).to_bitmask() as u16
 }
 
-// The sixteen control bytes from a bucket on, a lane each.
+// The sixteen control bytes from a bucket on; each is a lane.
 
 pub(crate) struct Group {
     lanes: [u8; 16],

@@ -1,10 +1,10 @@
 // Erased from crates/group_table/src/link.rt: do not edit.
-//! `LinkType`: the width of a link, which is the number of a bucket.
+//! `LinkType`: the widths of links, which are numbers of buckets.
 
 #[allow(unused_imports)]
 use crate::rattle_std::prelude::*;
 
-/// The type of a link: the number of a bucket, below `MAX`, or `MAX` itself, which means no bucket.
+/// The type of a link. A link is the number of a bucket, below `MAX`, or `MAX` itself, which means no bucket.
 ///
 /// A table with links of type `N` has fewer than `N::MAX` buckets, so the width of the links limits its size. It is
 /// implemented for `u8`, `u16`, `u32` and `usize`.

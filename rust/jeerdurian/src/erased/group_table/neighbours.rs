@@ -23,13 +23,13 @@ fn ones_if_less(low: u32, high: u16) -> usize {
     (difference >> 32).cast_unsigned() as usize
 }
 
-// Returns all ones if every 16 neighbouring buckets around this one contain an empty one, and 0 otherwise. The
-// neighbouring buckets lie between the last empty bucket before this one and the first one after it.
+// Returns all ones if every 16 neighbouring buckets around this one contain an empty one, and 0 otherwise. They do if
+// fewer than 16 used buckets lie between the last empty bucket before this one and the first after it.
 #[inline]
 pub(crate) fn ones_if_empty_neighbours(control: &Control, b: usize) -> usize {
-    // `used` has a bit for each used bucket from this one up to the next empty one. The mask of the empty buckets
-    // before is greater exactly if these used ones and those directly before are fewer than sixteen. Comparing the
-    // masks takes fewer instructions than two counts and their sum.
+    // `used` has a bit for each used bucket from this one up to the next empty one. It is less than the mask of the
+    // empty buckets before exactly if these used buckets and those directly before this one are fewer than 16 together.
+    // Comparing the masks takes fewer instructions than two counts and their sum.
     let used = lanes_below(empty_from(control, b));
     ones_if_less(used, empty_before(control, b))
 }

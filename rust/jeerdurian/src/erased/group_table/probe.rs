@@ -55,8 +55,8 @@ fn search_group<T, F: FnMut(&T) -> bool>(
     if group.match_empty() != 0 { Searched::Ended } else { Searched::GoesOn }
 }
 
-// Calls `f` with the entries with the tag of the hash, group by group, until it accepts one. `inline(always)`: an
-// argument of a call would be read before the search, also by a search that compares no entry.
+// Calls `f` with the entries with the tag of the hash, group by group, until it accepts one. `inline(always)`: a call
+// would read its arguments before the search, even if the search compares no entry.
 #[inline(always)]
 pub(crate) fn find_bucket<T, F: FnMut(&T) -> bool>(
     control: &Control,
@@ -92,7 +92,8 @@ fn free_in_group(control: &Control, start: usize) -> Option<usize> {
     if control.byte(b) >= DELETED {
         return Some(b);
     }
-    // Of 4 or 8 buckets, the lane was one of the bytes between them and their repetition: those from here on are full.
+    // The table has 4 or 8 buckets, and the lane is a byte between them and their repetition. So the buckets from
+    // `start` on are full.
     Some(lowest_lane(control.group(0).match_free()))
 }
 

@@ -55,20 +55,20 @@ impl<T> Table<T> {
         }
     }
 
-    /// Makes a table of `buckets` empty buckets: none, or a power of two from 4 on, and with 16 more at most
+    /// Makes a table of `buckets` empty buckets: 0, or a power of two from 4 on. `buckets` + 16 is at most
     /// `isize::MAX`.
     ///
-    /// It takes the bytes of a `T` for each bucket, and then `buckets` + 16 control bytes, each in one request. It
-    /// takes time O(buckets). No buckets take no memory.
+    /// It requests memory twice: a `T` for each bucket, and then `buckets` + 16 control bytes. It takes time
+    /// O(buckets). A table of no buckets takes no memory.
     ///
     /// # Errors
     ///
-    /// Out of memory; never for no buckets.
+    /// Out of memory, unless `buckets` is 0.
     pub fn with_buckets(alloc: Global, buckets: usize) -> Result<Self, AllocError> {
         if buckets == 0 {
             return Ok(Table::new(alloc));
         }
-        // The entries first, so that a table too large for the memory is refused before a byte is written.
+        // Allocates the entries first, so that a table too large for the memory fails before a byte is written.
         let entries = Entries::with_places(alloc, buckets)?;
         let control = match Control::with_buckets(alloc, buckets) {
             Ok(control) => control,
@@ -80,10 +80,10 @@ impl<T> Table<T> {
         Ok(Table { control, entries, growth_left: full_capacity(buckets), len: 0, placed: 0, moved: 0 })
     }
 
-    /// Returns the bucket of the first entry that `f` accepts, of those with the tag of the hash, its top 7 bits.
+    /// Returns the bucket of the first entry that `f` accepts among those whose tag is the hash's top 7 bits.
     ///
-    /// `f` is called with one entry after another in the order of the search; that it is called with each at most once
-    /// is only tested. `None` says that it rejected each entry of that hash.
+    /// `f` is called with one entry after another in the order of the search. Only tests show that it is called at most
+    /// once with each. `None` means that `f` rejected each entry of that hash.
     #[inline]
     pub fn find<F: FnMut(&T) -> bool>(&self, hash: u64, f: F) -> Option<usize> {
         if self.control.is_empty_at(hash) {
@@ -99,8 +99,8 @@ impl<T> Table<T> {
         self.entries.get(b)
     }
 
-    /// Lends the entry in a full bucket for writing, at the cost of `get`. The table does not rehash: do not write
-    /// anything that changes the entry's hash.
+    /// Lends the entry in a full bucket for writing, at the cost of `get`. The table does not rehash, so do not change
+    /// the entry's hash.
     #[inline]
     pub fn get_mut(&mut self, b: usize) -> &mut T {
         full!(self.control.byte(b));
@@ -109,8 +109,8 @@ impl<T> Table<T> {
 
     /// Takes the entry out of a full bucket.
     ///
-    /// The bucket is then empty, which gives growth left back, if every 16 neighbouring buckets around it contain an
-    /// empty one, as up to 16 buckets they do. Otherwise it is deleted, so that no search that went past it ends there.
+    /// If every 16 neighbouring buckets around it contain an empty bucket, as in a table of up to 16 buckets, it
+    /// becomes empty, which gives growth left back. Otherwise it becomes deleted, so that searches still go past it.
     #[inline(always)]
     pub fn take(&mut self, b: usize) -> T {
         full!(self.control.byte(b));
@@ -123,10 +123,10 @@ impl<T> Table<T> {
     }
 
     /// Puts an entry with this hash into the first free bucket in the order of a search, and returns its number. There
-    /// must be growth left, so that each free bucket may take an entry.
+    /// must be growth left.
     ///
-    /// An empty bucket takes one of the growth left, a deleted one none. It asks for no memory, and moves no other
-    /// entry.
+    /// Filling an empty bucket takes one of the growth left; filling a deleted bucket takes none. `place` asks for no
+    /// memory, and moves no other entry.
     ///
     /// ```text
     /// if table.growth_left() > 0 {
@@ -142,7 +142,7 @@ impl<T> Table<T> {
         b
     }
 
-    /// As `place`, for each table: without growth left, only a deleted bucket may take the entry.
+    /// Does what `place` does, but growth need not be left: if none is, only a deleted bucket may take the entry.
     ///
     /// # Errors
     ///

@@ -1,5 +1,5 @@
 // Erased from crates/lru_limits/src/accounts.rt: do not edit.
-//! Costs, limiters with a running total of them, two limiters by cost, and one by bytes.
+//! Costs, limiters with a running total of costs, two limiters by cost, and one by bytes.
 
 #[allow(unused_imports)]
 use crate::rattle_std::prelude::*;
@@ -17,11 +17,11 @@ pub use by_cost::ByCost;
 pub use by_weight::ByWeight;
 pub use owned_bytes::OwnedBytes;
 
-/// A value with a cost. An unsigned number of up to 64 bits costs itself, a text its bytes, and a vector the number of
-/// its items.
+/// A value with a cost. An unsigned number of up to 64 bits costs itself, a text the number of its bytes, and a vector
+/// the number of its items.
 ///
-/// The cost is read again when the entry is evicted or removed, or the value is replaced. So if the cost changes in the
-/// map, the running total is no longer the sum of the costs.
+/// The cost is read again when the entry is evicted or removed, or when the value is replaced. So if the cost of a
+/// stored value changes, the running total is no longer the sum of the costs.
 ///
 /// ```text
 /// struct Page {

@@ -9,10 +9,10 @@ use crate::erased::lru_limits::limiter::{Insertion, Limiter};
 use crate::rattle_std::alloc::{AllocError, Global};
 use crate::rattle_std::hash::Hash;
 
-/// Accepts or rejects entries, and stores what it accepts as it came.
+/// Accepts or rejects entries, and stores an accepted entry as it came.
 ///
-/// Every such limiter is an [`Insertion`], can be in [`crate::Both`], and permits `try_insert`. For a limiter that
-/// never changes, `never_changes` of `specs/Admissions.antt` makes the terms.
+/// Every such limiter is an [`Insertion`], can be in [`crate::Both`], and permits `try_insert`. `never_changes` of
+/// `specs/Admissions.antt` makes the terms of a limiter that never changes.
 ///
 /// ```text
 /// let mut limiter = ByLength::new(0);
@@ -23,7 +23,7 @@ pub trait Admission<K, V>: Limiter<K, V> {
     /// Returns whether `admit` would accept this entry.
     fn accepts(&self, length: usize, key: &K, value: &V) -> bool;
 
-    /// Called by an insert with a new key and its value, before anything is evicted for it from a map of `length`
+    /// Called by an insert with a new key and its value, before it evicts anything from the map, which has `length`
     /// entries. Returns whether the entry is accepted; if not, it is dropped, and the map does not change.
     fn admit(&mut self, length: usize, key: &K, value: &V) -> bool;
 
@@ -36,8 +36,8 @@ pub trait Admission<K, V>: Limiter<K, V> {
 }
 
 impl<K: Eq + Hash, V, L: Admission<K, V>> Insertion<K, V, K> for L {
-    // Forced inline: the caller then branches, instead of selecting between `Some` and `None`, and takes the pair as it
-    // came.
+    // Forced inline, so that the caller branches instead of selecting between `Some` and `None`, and takes the entry as
+    // it came.
     #[inline(always)]
     fn on_insert(&mut self, _alloc: Global, length: usize, key: K, value: V) -> Result<Option<(K, V)>, AllocError> {
         if self.admit(length, &key, &value) { Ok(Some((key, value))) } else { Ok(None) }

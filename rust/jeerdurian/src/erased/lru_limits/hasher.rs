@@ -1,5 +1,5 @@
 // Erased from crates/lru_limits/src/hasher.rt: do not edit.
-//! A fast seeded hasher: each eight bytes of a write cost one multiplication. Nothing promises which hashes it gives.
+//! A fast seeded hasher: each eight bytes of a write cost one multiplication. Which hashes it gives may change.
 
 #[allow(unused_imports)]
 use crate::rattle_std::prelude::*;
@@ -16,10 +16,11 @@ const REST_KEY: u64 = 0x3c6e_f372_fe94_f82b;
 
 const REST_FACTOR: u64 = 0xa54f_f53a_5f1d_36f1;
 
-/// Builds hashers with four seeds. A contract sees it as the hasher before the first write.
+/// Builds hashers with four seeds. A contract sees a `RandomState` as the hasher before the first write.
 ///
 /// So `state.hash_one(&key)` is the hash of the key in a map with an equal state, and of every value that names the
-/// key. The default seeds are 1, 2, 3, 4: nothing is random here, and nothing is claimed against chosen keys.
+/// key. The default seeds are 1, 2, 3, 4: they are not random, and no claim is made about keys that an attacker
+/// chooses.
 ///
 /// ```text
 /// let state = RandomState::with_seeds([5, 6, 7, 8]);
@@ -72,7 +73,7 @@ impl BuildHasher for RandomState {
 /// The hasher that a `RandomState` makes.
 ///
 /// A whole number is written as its bytes, the lowest first: `write_u64(n)` does what `write(&n.to_le_bytes())` does.
-/// Two writes are not one write of the bytes of both.
+/// Two writes differ from one write of the bytes of both.
 ///
 /// ```text
 /// let mut hasher = state.build_hasher();
@@ -86,14 +87,14 @@ pub struct DefaultHasher {
     rest_key: u64,
 }
 
-// The 128 bits of the product, their halves joined by xor.
+// Returns the xor of the two halves of the 128 bits of a product.
 #[inline]
 const fn folded(a: u64, b: u64) -> u64 {
     let product = a as u128 * b as u128;
     (product & u64::MAX as u128) as u64 ^ (product >> 64) as u64
 }
 
-// One to seven bytes as a number, the lowest first, by two or three loads that may overlap.
+// Returns one to seven bytes as a number, the lowest first, by two or three loads that may overlap.
 #[inline]
 fn short_number(bytes: &[u8]) -> u64 {
     let len = bytes.len();

@@ -8,9 +8,9 @@ use crate::rattle_std::hash::{BuildHasher, Hash};
 
 /// A value that names at most one key, up to equality, and hashes as that key does.
 ///
-/// It is implemented for every key itself, and for `&str` if the keys are `String`s. An impl of your own says by
-/// `names` which key it names, computes that test in `is_key`, and proves two laws. A derived `Hash` of a struct with
-/// one field writes what the field writes.
+/// It is implemented for every key itself, and for `&str` if the keys are `String`s. In your own impl, `names` says
+/// which key a value names, `is_key` computes this, and you prove two laws. A derived `Hash` of a struct with one field
+/// writes what the field writes.
 ///
 /// ```text
 /// let key = String::from_str(rt.alloc(), "a")?;
@@ -36,7 +36,7 @@ impl LookupKey<String> for &str {
     }
 }
 
-/// A hasher of keys, and of all that names them. Every `BuildHasher` is one.
+/// Hashes keys, and values that name keys. Every `BuildHasher` is a `KeyHasher`.
 ///
 /// ```text
 /// assert_eq!(rt; KeyHasher::<String>::hash_named(&state, &"a"), state.hash_one(&key));

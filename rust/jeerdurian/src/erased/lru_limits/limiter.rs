@@ -28,39 +28,39 @@ pub trait Limiter<K, V> {
     ///
     /// Called at two times:
     ///
-    /// - Before an insert stores a new entry in a map that is not empty, with the length that the map will have.
-    ///   `try_insert` calls it then on a copy of the limiter, in an empty map too.
+    /// - Before an insert stores a new entry in a map that is not empty, with the length that the map will have. At
+    ///   this time `try_insert` calls it on a copy of the limiter, even in an empty map.
     /// - With the length that the map has, if the map is not empty: by `trim` and `set_limiter`, and by an insert or an
-    ///   update that stored an entry or replaced a value. After each eviction they call it again, unless the map is
-    ///   empty by then.
+    ///   update that stored an entry or replaced a value. These call it again after each eviction, unless the map is
+    ///   then empty.
     fn is_over_the_limit(&self, length: usize) -> bool;
 
     /// Called with each entry that was evicted, removed or popped, or taken by an iterator, as soon as it is out of the
-    /// map. The caller of the map gets what is written to the key and the value.
+    /// map. It may write to the key and the value before the caller of the map gets them.
     ///
     /// It is also called with an entry that `on_insert` returned, if the map cannot store it. After `on_replace`
-    /// returned false, it is called with the entry that is removed. It is not called for the entries that are dropped
-    /// by a clear or a `Drain`, nor for those dropped with the map or an `IntoIter`, of which no contract speaks.
+    /// returned false, it is called with the entry that is removed. It is not called for entries that are dropped by a
+    /// clear or a `Drain`. It is not called for entries that are dropped with the map or an `IntoIter` either, but no
+    /// contract says so.
     fn on_removed(&mut self, key: &mut K, value: &mut V);
 
-    /// Called once by each clear of the map, even if the map is empty, and not for each entry. The drop of a `Drain` is
-    /// a clear.
+    /// Called once by each clear of the map, even if the map is empty. The drop of a `Drain` is a clear.
     fn on_cleared(&mut self);
 
     /// Returns whether the map may have a table of `new_memory_usage` bytes, which is more than it has.
     ///
     /// Called by an insert that finds no bucket for a new entry, and by `try_reserve` if too little growth is left.
     /// Neither calls it if there is no larger table, or if the table is rehashed at its size. After `false` the insert
-    /// evicts the oldest entries to store the new one, and `try_reserve` returns `Refused`. After `true` there may
-    /// still be no memory for the table; the limiter is not notified of that.
+    /// evicts the oldest entries to store the new one, and `try_reserve` returns `Refused`. After `true` the allocation
+    /// of the table may still fail; the limiter is not notified if it does.
     fn on_grow(&mut self, new_memory_usage: usize) -> bool;
 }
 
 /// Accepts or rejects entries whose key is given as an `I`.
 ///
-/// `I` is the key itself, or something that names the key and becomes it only if it is stored, as a `&str` that becomes
-/// a `String`. The impl defines `offers`: what may be stored of an offered entry, when an offer may run out of memory,
-/// and what a replacement does. Each [`crate::Admission`] is one.
+/// `I` is the key itself, or names the key and becomes it only if the entry is stored: a `&str` becomes a `String`. The
+/// impl defines `offers`: what may be stored for an offered entry, when an offer may run out of memory, and what a
+/// replacement does. Each [`crate::Admission`] is an `Insertion`.
 ///
 /// ```text
 /// let mut limiter = ByCost::new(3);
@@ -68,13 +68,13 @@ pub trait Limiter<K, V> {
 /// assert!(rt; limiter.on_insert(alloc, 1, 2u64, 4u64)?.is_none());
 /// ```
 pub trait Insertion<K: Eq + Hash, V, I: LookupKey<K>>: Limiter<K, V> {
-    /// Called by an insert with a new key and its value, before anything is evicted for it from a map of `length`
+    /// Called by an insert with a new key and its value, before it evicts anything from the map, which has `length`
     /// entries. Returns the entry to store, or `None` to reject it; then the map does not change.
     ///
     /// # Errors
     ///
-    /// An `Err` says that there was no memory to make the key. It leaves the limiter unchanged, and comes only if
-    /// `offers.may_run_out` permits it.
+    /// Out of memory to make the key. This happens only if `offers.may_run_out` permits it. The limiter is then
+    /// unchanged.
     fn on_insert(&mut self, alloc: Global, length: usize, key: I, value: V) -> Result<Option<(K, V)>, AllocError>;
 
     /// Called by an insert or an update before `new_value` replaces `old_value` in a map of `length` entries, if

@@ -24,5 +24,5 @@ pub use unlimited_compact::UnlimitedCompact;
 
 /// The links of a map have 32 bits under `ByLength`, `ByMemoryUsage`, `ByBytes` and `UnlimitedCompact`, and 64 bits
 /// under `Unlimited`, `ByCost` and `ByWeight`. `Storing` has the links of the limiter inside, and `Both` those of the
-/// first limiter. Proved here: all but those of `ByBytes`, `ByWeight` and `Both`.
+/// first limiter. These widths are proved here, except those of `ByBytes`, `ByWeight` and `Both`.
 pub fn limiters_fix_their_links<K, V, C: Costed, L: Limiter<K, V>>() {}

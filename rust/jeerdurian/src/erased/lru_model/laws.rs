@@ -1,7 +1,7 @@
 // Erased from crates/lru_model/src/laws.rt: do not edit.
-//! What is proved of inserts and other single calls, of what inserts keep (`kept`), of shrinks (`shrinks`), of each
-//! call (`calls`), of calls one after another (`runs`), and of both with `ByBytes` (`bytes`). Each theorem is the
-//! contract of a function that does nothing.
+//! What is proved about inserts and other single calls, about what inserts keep (`kept`), shrinks (`shrinks`), each
+//! call (`calls`), calls one after another (`runs`), and both with `ByBytes` (`bytes`). Each theorem is the contract of
+//! a function that does nothing.
 
 #[allow(unused_imports)]
 use crate::rattle_std::prelude::*;
@@ -29,7 +29,7 @@ pub use runs::{
 };
 pub use shrinks::{shrinks_keep_the_list, shrinks_leave_a_tight_table, shrinks_pay_for_moves};
 
-/// An insert evicts only from the old end. The one other entry that it may remove is the entry whose replacement is
+/// An insert evicts only from the old end. The only other entry that it may remove is the entry whose replacement is
 /// rejected.
 pub fn inserts_evict_the_oldest<K: Eq + Hash, V, I: LookupKey<K>, L: Insertion<K, V, I>, S: KeyHasher<K>>() {}
 
@@ -37,33 +37,33 @@ pub fn inserts_evict_the_oldest<K: Eq + Hash, V, I: LookupKey<K>, L: Insertion<K
 /// there were.
 pub fn inserts_pass_few<K: Eq + Hash, V, I: LookupKey<K>, L: Insertion<K, V, I>, S: KeyHasher<K>>() {}
 
-/// In a table of up to 16 buckets the entries, the limiter, the number of buckets and the growth left determine what the
-/// table reports of an insert (`small_report`), and so how the insert ends, unless memory runs out.
+/// In a table of up to 16 buckets the entries, the limiter, the number of buckets and the growth left determine what
+/// the table reports about an insert (`small_report`), and so how the insert ends, unless memory runs out.
 pub fn small_inserts_are_exact<K: Eq + Hash, V, I: LookupKey<K>, L: Insertion<K, V, I>, S: KeyHasher<K>>() {}
 
-/// An insert is one into a list, as the table reports (`exact`). Unless growth is refused, its entry is stored with all
-/// the others, after the limiter was queried for a table of some bytes, or not at all. If growth is refused, the report
-/// also says how many entries were evicted. Given the report (`given`), and if the limiter's offers are determined, the
-/// entries and the limiter before an insert that returns `Ok` determine what it returns and leaves (`alike`).
+/// An insert changes the list of entries as the table reports (`exact`). The report says whether the limiter was
+/// queried, and for how many bytes, and if growth was refused, how many entries were evicted. Every insert has a report
+/// (`given`). With the report, the entries and the limiter before an insert determine what it returns and leaves, if it
+/// returns `Ok` and the limiter's offers are determined (`alike`).
 pub fn inserts_are_exact_unless_refused<K: Eq + Hash, V, I: LookupKey<K>, L: Insertion<K, V, I>, S: KeyHasher<K>>() {}
 
 /// If the limiter permits every growth, as `ByLength` and the unlimited ones do, and the tables that an insert may need
 /// are within the reach of links and bytes, the insert does what it would do to a list of entries without a table. Only
-/// whether memory is there stays open.
+/// whether memory runs out stays open.
 pub fn granted_inserts_are_exact<K: Eq + Hash, V, I: LookupKey<K>, L: Insertion<K, V, I>, S: KeyHasher<K>>() {}
 
 /// If an insert grows the table, the new table can hold fewer than four times the entries, the new one included.
 pub fn inserts_grow_little<K: Eq + Hash, V, I: LookupKey<K>, L: Insertion<K, V, I>, S: KeyHasher<K>>() {}
 
 /// If there are entries and no growth left, and a search for the new key meets a deleted bucket first, the new entry
-/// fills that bucket: the limiter is not queried and nothing moves (`served`). An insertion that ends so, in the same
-/// table and without moves, met a deleted bucket first (`only`). So an insert of a new key, which the limiter accepts
-/// without being over its limit, adds the entry to all the others in the same table (`added`).
+/// fills that bucket: the limiter is not queried and nothing moves (`served`). Conversely, an insertion that ends in
+/// the same table without moves met a deleted bucket first (`only`). So if the limiter accepts a new key and is not
+/// over its limit with it, an insert adds the entry to all the others in the same table (`added`).
 pub fn deleted_buckets_serve<K: Eq + Hash, V, I: LookupKey<K>, L: Insertion<K, V, I>, S: KeyHasher<K>>() {}
 
 /// An insert pays for the entries that it moves: the count of moved entries and the potential together rise by at most
-/// 2 for the entry that it stores. So inserts move at most twice as many entries as they store, plus those that shrinks
-/// rehashed.
+/// 2 for the entry that it stores. So inserts move at most two entries for each that they store, plus one for each that
+/// a shrink rehashed.
 pub fn inserts_pay_for_moves<K: Eq + Hash, V, I: LookupKey<K>, L: Insertion<K, V, I>, S: KeyHasher<K>>() {}
 
 /// If a full table cannot grow, because the limiter refuses or there is no larger table, the map keeps at least half of
@@ -71,7 +71,7 @@ pub fn inserts_pay_for_moves<K: Eq + Hash, V, I: LookupKey<K>, L: Insertion<K, V
 pub fn refused_growth_keeps_half<K: Eq + Hash, V, L: Limiter<K, V>, S: KeyHasher<K>>() {}
 
 /// An insertion into the table evicts nothing if the table grows. It evicts only if the table would be more than half
-/// full and cannot grow, because the limiter refuses or there is no larger table, even if it then runs out of memory.
+/// full and cannot grow, because the limiter refuses or there is no larger table. This holds even if memory runs out.
 pub fn growth_keeps_the_list<K: Eq + Hash, V, L: Limiter<K, V>, S: KeyHasher<K>>() {}
 
 /// After a removal the key is not there.
@@ -83,5 +83,5 @@ pub fn reservations_keep_the_list<K: Eq + Hash, V, L: Limiter<K, V>, S: KeyHashe
 /// After a successful reservation of n, the table holds n more entries without growth.
 pub fn reservations_make_room<K: Eq + Hash, V, L: Limiter<K, V>, S: KeyHasher<K>>() {}
 
-/// If the bytes that a map uses are taken as a budget, the greatest usage within that budget is the same number.
+/// If the budget is the bytes that a map uses, the greatest usage within the budget is the same number.
 pub fn usages_are_their_budgets<K: Eq + Hash, V, L: Limiter<K, V>, S: KeyHasher<K>>() {}

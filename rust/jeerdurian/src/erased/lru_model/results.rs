@@ -6,7 +6,7 @@ use crate::rattle_std::prelude::*;
 
 use crate::rattle_std::fmt::Display;
 
-/// What an insert did, with the value that the map does not keep.
+/// What an insert did, and the value that the map does not keep.
 ///
 /// - The key was not there: `unkept` is `None`. `kept` is false if the limiter rejected the entry, if the map could not
 ///   store it, or if it was stored and then evicted.
@@ -15,8 +15,8 @@ use crate::rattle_std::fmt::Display;
 /// - The key was there, and the limiter rejected the new value: `unkept` is the new value, and `kept` is false. The
 ///   entry was removed.
 ///
-/// If `kept` is false and there is a value, the callback got the entry of the key: it was evicted, or its new value was
-/// rejected.
+/// If `kept` is false and `unkept` is a value, the callback got the entry of the key: it was evicted, or its new value
+/// was rejected.
 ///
 /// ```text
 /// let inserted = map.insert_full(1, 11, &mut |_, _| {})?;
@@ -30,7 +30,7 @@ pub struct Inserted<V> {
     pub unkept: Option<V>,
 }
 
-/// What an update did, with the value that is not in the map afterwards.
+/// What an update did, and the value that is not in the map afterwards.
 ///
 /// ```text
 /// assert_eq!(rt; map.update(1, 11), Updated::Replaced(10));
@@ -112,8 +112,8 @@ where
 /// ```
 #[derive(Clone, Copy, Debug, PartialEq, Eq)]
 pub struct MoveReport {
-    /// Entries that inserts moved, because the table grew or was rehashed. Entries that `try_reserve` moves are not
-    /// counted, nor entries that `try_insert` moves, because it reserves.
+    /// Entries that inserts moved, because the table grew or was rehashed. Entries that `try_reserve` or `try_insert`
+    /// moves are not counted.
     pub moved: u64,
     /// New entries that inserts stored, `try_insert` included.
     pub placed: u64,

@@ -24,9 +24,9 @@ pub fn bytes_of(entry_bytes: usize, buckets: usize) -> usize {
     (entry_bytes * buckets + 15) / 16 * 16 + buckets + 16
 }
 
-/// Returns the buckets and the bytes of the table that a table of `buckets` buckets grows into for `pairs` entries. These
-/// must be more than half of its capacity. Returns `None` if links cannot number so large a table, or its bytes would
-/// pass `isize::MAX - 15`.
+/// Returns the buckets and the bytes of the table that a table of `buckets` buckets grows into for `pairs` entries. The
+/// entries must be more than half of its capacity. Returns `None` if links cannot number so large a table, or its bytes
+/// would pass `isize::MAX - 15`.
 
 pub fn larger_table(max: usize, entry_bytes: usize, buckets: usize, pairs: usize) -> Option<(usize, usize)> {
     let need = buckets_for_capacity(pairs, max)?;

@@ -1,6 +1,6 @@
 // Erased from crates/ordered_table/src/linked.rt: do not edit.
-//! `LinkedTable`: a table whose entries have links to their newer and older neighbours, so a promotion or a removal walks
-//! nowhere.
+//! `LinkedTable`: a table whose entries have links to their newer and older neighbours, so a promotion or a removal
+//! needs no walk.
 
 #[allow(unused_imports)]
 use crate::rattle_std::prelude::*;
@@ -17,8 +17,8 @@ mod copy;
 mod moves;
 mod place;
 
-// A pair with its neighbours in the order; `MAX` at the ends. The key and the value are side by side, and so are the
-// value and the links, so that a look or a step reads one line of memory.
+// A pair with links to its neighbours in the order; a link is `MAX` at an end. The key and the value are side by side,
+// and so are the value and the links, so that a look-up or a step of a walk reads one line of memory.
 
 pub(crate) struct Entry<K, V, N> {
     pair: Pair<K, V>,

@@ -41,8 +41,8 @@ pub struct Pair<K, V> {
 /// ```
 pub struct OrderedTable<K, V, N: LinkType> {
     linked: LinkedTable<K, V, N>,
-    // The bucket of the last promotion, as long as its links show where it was before. The next call that changes the
-    // order changes them.
+    // The bucket of the last promotion, if the links do not show it yet. The next call that changes the order rewrites
+    // them.
     promoted: Option<usize>,
 }
 
@@ -52,7 +52,7 @@ impl<K, V, N: LinkType> OrderedTable<K, V, N> {
         OrderedTable { linked: LinkedTable::new(alloc), promoted: None }
     }
 
-    /// Returns the bytes of an entry: of a pair, and of two links.
+    /// Returns the bytes of an entry, which is a pair and two links.
     pub const fn entry_bytes() -> usize {
         LinkedTable::<K, V, N>::entry_bytes()
     }
@@ -100,14 +100,14 @@ impl<K, V, N: LinkType> OrderedTable<K, V, N> {
     }
 
     /// Returns the bucket after a full one in the order, towards the oldest. For the last bucket of the order, the
-    /// number says nothing.
+    /// result is any number.
     #[inline]
     pub fn older_unless_last(&self, b: usize) -> usize {
         promoted::older_unless_last(&self.linked, self.promoted, b)
     }
 
     /// Returns the bucket before a full one in the order, towards the newest. For the first bucket of the order, the
-    /// number says nothing.
+    /// result is any number.
     #[inline]
     pub fn newer_unless_first(&self, b: usize) -> usize {
         promoted::newer_unless_first(&self.linked, self.promoted, b)
@@ -119,9 +119,9 @@ impl<K, V, N: LinkType> OrderedTable<K, V, N> {
         self.linked.pair_mut(b)
     }
 
-    /// Returns the bucket of the first pair that `f` accepts, of those with the tag of the hash, its top 7 bits.
+    /// Returns the bucket of the first pair that `f` accepts among those whose tag is the hash's top 7 bits.
     ///
-    /// `f` is called with each pair at most once, and no more after it accepted one, which is only tested.
+    /// Only tests show that `f` is called with each pair at most once, and not again after it accepted one.
     ///
     /// Cost: `O(1)` expected.
     #[inline]

@@ -87,7 +87,7 @@ impl<'a, K: fmt::Debug, V: fmt::Debug, N: LinkType> fmt::Debug for Walk<'a, K, V
 impl<K, V, N: LinkType> OrderedTable<K, V, N> {
     /// Returns an iterator over the pairs, newest first.
     ///
-    /// Cost: `O(1)`, and so is each step of the walk from either end.
+    /// Cost: `O(1)`, and `O(1)` for each step from either end.
     pub fn iter(&self) -> Walk<'_, K, V, N> {
         let left = self.len();
         let (front, back) = if left == 0 { (0, 0) } else { (self.newest(), self.oldest()) };

@@ -22,7 +22,7 @@ mod positions;
 /// assert!(rt; walk.next_back() == Some((&1, &10)) && walk.len() == 2);
 /// ```
 ///
-/// After schnellru's `Iter`.
+/// Follows schnellru's `Iter`.
 pub type Iter<'a, K, V, L> = Walk<'a, K, V, <L as Limiter<K, V>>::LinkType>;
 
 impl<K: Eq + Hash, V, L: Limiter<K, V>, S: KeyHasher<K>> LruMap<K, V, L, S> {
@@ -36,9 +36,9 @@ impl<K: Eq + Hash, V, L: Limiter<K, V>, S: KeyHasher<K>> LruMap<K, V, L, S> {
     /// assert_eq!(rt; total, 140);
     /// ```
     ///
-    /// Cost: `O(1)`, and so is each step of the walk from either end.
+    /// Cost: `O(1)`, and `O(1)` for each step from either end.
     ///
-    /// After schnellru's `LruMap::iter`.
+    /// Follows schnellru's `LruMap::iter`.
     pub fn iter(&self) -> Iter<'_, K, V, L> {
         self.entries.iter()
     }
@@ -48,10 +48,10 @@ impl<K: Eq + Hash, V, L: Limiter<K, V>, S: KeyHasher<K>> LruMap<K, V, L, S> {
     /// ```text
     /// assert!(rt; map.keys().next() == Some(&3) && map.keys().next_back() == Some(&1));
     /// ```
-    /// Cost: as `iter`.
-    /// Cost: `O(1)`, and so is each step of the walk from either end.
     ///
-    /// After std's `HashMap::keys`.
+    /// Cost: as `iter`.
+    ///
+    /// Follows std's `HashMap::keys`.
     pub fn keys(&self) -> Keys<'_, K, V, L::LinkType> {
         self.entries.keys()
     }
@@ -64,12 +64,12 @@ impl<K: Eq + Hash, V, L: Limiter<K, V>, S: KeyHasher<K>> LruMap<K, V, L, S> {
     ///
     /// Cost: as `iter`.
     ///
-    /// After std's `HashMap::values`.
+    /// Follows std's `HashMap::values`.
     pub fn values(&self) -> Values<'_, K, V, L::LinkType> {
         self.entries.values()
     }
 
-    /// Returns the entry at this index in the order of use, counted from 0, the newest. The order stays.
+    /// Returns the entry at this index in the order of use. The newest has index 0. The order stays.
     ///
     /// ```text
     /// assert!(rt; map.get_index(0) == Some((&3, &30)) && map.get_index(3).is_none());
@@ -77,13 +77,13 @@ impl<K: Eq + Hash, V, L: Limiter<K, V>, S: KeyHasher<K>> LruMap<K, V, L, S> {
     ///
     /// Cost: `O(index)`, and `O(1)` if there is no such entry.
     ///
-    /// After `get_index` of the crate `indexmap`.
+    /// Follows `get_index` of the crate `indexmap`.
     pub fn get_index(&self, index: usize) -> Option<(&K, &V)> {
         let pair = self.entries.pair(self.entries.at_index(index)?);
         Some((&pair.key, &pair.value))
     }
 
-    /// Returns the index of a key in the order of use, counted from 0, the newest. The order stays.
+    /// Returns the index of a key in the order of use. The newest has index 0. The order stays.
     ///
     /// ```text
     /// assert_eq!(rt; (map.get_index_of(&1), map.get_index_of(&9)), (Some(2), None));
@@ -91,7 +91,7 @@ impl<K: Eq + Hash, V, L: Limiter<K, V>, S: KeyHasher<K>> LruMap<K, V, L, S> {
     ///
     /// Cost: `O(1)` expected to find the key, and `O(index)` to count the entries that are newer.
     ///
-    /// After `get_index_of` of the crate `indexmap`.
+    /// Follows `get_index_of` of the crate `indexmap`.
     pub fn get_index_of<Q: LookupKey<K>>(&self, key: &Q) -> Option<usize> {
         let b = self.find(key)?;
         Some(self.entries.index_of(b))

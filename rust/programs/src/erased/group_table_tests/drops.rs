@@ -1,5 +1,5 @@
 // Erased from crates/group_table_tests/src/drops.rt: do not edit.
-//! Entries that are dropped, which no clause says. All entries of a table share one value.
+//! Tests that entries are dropped, which no clause says. All entries of a table share one value.
 #[allow(unused_imports)]
 use crate::rattle_std::prelude::*;
 

@@ -1,5 +1,5 @@
 // Erased from crates/group_table_tests/src/memory.rt: do not edit.
-//! Memory that tables give back, which no clause says.
+//! Tests that tables give memory back, which no clause says.
 #[allow(unused_imports)]
 use crate::rattle_std::prelude::*;
 
@@ -8,7 +8,7 @@ use crate::programs::test_helpers::{Hog, check};
 use crate::rattle_std::alloc::{AllocError, Global};
 use crate::rattle_std::test::Fail;
 
-// A cycle of calls that loses 16 bytes uses it up within the cycles.
+// The memory that is left. If a cycle of calls loses 16 bytes, the cycles use it up.
 const SPARE: usize = 1 << 16;
 
 const CYCLES: u32 = 5000;

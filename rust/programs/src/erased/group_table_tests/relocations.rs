@@ -1,5 +1,5 @@
 // Erased from crates/group_table_tests/src/relocations.rt: do not edit.
-//! Relocations and rehashes, compared with the rules of docs/TABLE.md, and how many requests they make.
+//! Compares relocations and rehashes with the rules of docs/TABLE.md, and counts their requests for memory.
 #[allow(unused_imports)]
 use crate::rattle_std::prelude::*;
 
@@ -10,7 +10,7 @@ use crate::rattle_std::alloc::{AllocError, Global};
 use crate::rattle_std::cell::Cell;
 use crate::rattle_std::test::Fail;
 
-// Whether the keys are where the rules have them, and the hash of each entry was asked for once.
+// Returns whether the keys are where the rules put them, and whether the hash of each entry was computed once.
 fn moves(alloc: Global, table: &mut Table<u64>, buckets: usize, factor: u64) -> Result<bool, AllocError> {
     let expected = keys_after(alloc, &keys_of(alloc, table)?, buckets, factor)?;
     let asked = Cell::new(0usize);
@@ -58,7 +58,7 @@ fn moves_many(alloc: Global, table: &mut Table<u64>) -> Result<bool, AllocError>
     Ok(is_rehashed && is_copied && is_relocated)
 }
 
-// A call may run out of memory, so a body that returns an error above some size is proved.
+// A call may run out of memory, so the prover accepts a body that fails above some size. This test does not.
 #[test]
 fn many_buckets() {
     let run = |rt: HostRuntime| -> Result<(), Fail> {
@@ -85,8 +85,9 @@ fn refusals(alloc: Global, table: &mut Table<u64>, buckets: usize, requests: &[u
 #[test]
 fn each_request_is_refused() {
     let run = |rt: HostRuntime| -> Result<(), Fail> {
-        // The buckets, the entries that are left of a full table, the buckets to which they are moved, and the requests:
-        // entries and control bytes of 16 buckets, and links if there are entries; for a rehash links and control bytes.
+        // The number of buckets, the entries that are left of a full table, the new number of buckets, and the requests. A
+        // relocation requests entries and control bytes, and links if there are entries; a rehash requests links and
+        // control bytes.
         let rows: [(usize, usize, usize, &[usize]); 4] =
             [(8, 7, 16, &[128, 32, 32]), (8, 0, 16, &[128, 32]), (8, 7, 8, &[32, 24]), (32, 14, 32, &[128, 48])];
         for (buckets, left, to, requests) in rows {

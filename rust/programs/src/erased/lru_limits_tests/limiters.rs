@@ -1,5 +1,5 @@
 // Erased from crates/lru_limits_tests/src/limiters.rt: do not edit.
-//! The limiters of the crate: the keys and values that they drop, and their texts.
+//! Tests of the limiters of the crate: which keys and values they drop, and their texts.
 #[allow(unused_imports)]
 use crate::rattle_std::prelude::*;
 
@@ -26,7 +26,7 @@ fn pair_of(shared: &Rc<u64>) -> Result<(Share, Share), AllocError> {
     Ok((Share(shared.try_clone()?), Share(shared.try_clone()?)))
 }
 
-// Offers a pair, and offers it again instead of a stored one. Returns whether each is accepted, and how many owners the
+// Offers an entry, and offers it again as a replacement. Returns whether each is accepted, and how many owners the
 // number has left.
 fn offered<L: Insertion<Share, Share, Share>>(
     shared: &Rc<u64>,

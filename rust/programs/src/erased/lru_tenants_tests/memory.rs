@@ -1,5 +1,5 @@
 // Erased from crates/lru_tenants_tests/src/memory.rt: do not edit.
-//! Calls that are refused memory, and memory that a closed tenant gives back.
+//! Tests calls without memory, and that a closed tenant gives memory back.
 #[allow(unused_imports)]
 use crate::rattle_std::prelude::*;
 
@@ -63,8 +63,8 @@ fn lists_made(alloc: Global, cache: &mut TenantCache<u64, u64, u64>) -> u32 {
     made
 }
 
-// A list takes the memory of its answers, and fails without it. It is freed in both cases: the one block that is left
-// serves each of the lists.
+// A list of calls takes memory for its answers, and fails without it. The memory is freed in both cases: the one block
+// that is left serves each of the lists.
 #[test]
 fn a_list_takes_the_memory_of_its_answers() {
     let run = |rt: HostRuntime| -> Result<(), Fail> {
@@ -122,8 +122,8 @@ fn opens_and_closes(cache: &mut Shares, keys: &[Rc<u64>], passes: bool) -> bool 
     closed == Ok(1)
 }
 
-// A thousand tenants that evict are opened and closed, one after another, with memory for a few. Then no tenant is
-// open, and each call drops what it is given.
+// A thousand tenants are opened, evict, and are closed, one after another, with memory for a few. Then no tenant is
+// open, and each call drops its arguments.
 #[test]
 fn a_closed_tenant_gives_its_memory_back() {
     let run = |rt: HostRuntime| -> Result<(), Fail> {
@@ -157,7 +157,8 @@ fn open(cache: &mut Named, name: &Rc<u64>) -> usize {
     Rc::strong_count(name)
 }
 
-// A name that is not stored, one of a closed tenant, and one of a tenant that is open when the cache ends.
+// Three names are dropped: a name that is not stored, the name of a closed tenant, and the name of a tenant that is
+// open when the cache ends.
 #[test]
 fn names_are_dropped() {
     let run = |rt: HostRuntime| -> Result<(), Fail> {

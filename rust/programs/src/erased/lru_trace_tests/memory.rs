@@ -1,5 +1,5 @@
 // Erased from crates/lru_trace_tests/src/memory.rt: do not edit.
-//! Curves of many keys, and the memory that references give back.
+//! Tests curves of many keys, and that references give memory back.
 #[allow(unused_imports)]
 use crate::rattle_std::prelude::*;
 
@@ -15,7 +15,7 @@ fn refer(alloc: Global, curve: &mut Curve, number: u64) -> Result<(), TraceError
     Ok(())
 }
 
-/// Each of 150,000 keys is referenced twice, in the same order, so all others come between.
+/// Each of 150,000 keys is referenced twice, in the same order, so all other keys come between its references.
 #[test]
 fn of_many_keys() {
     let run = |rt: HostRuntime| -> Result<(), Fail> {

@@ -32,9 +32,8 @@ fn builds_of_calls(map: &mut Map) -> u64 {
     map.hasher().0.get()
 }
 
-/// Inserts keys that lie next to one another and removes them, which leads to growth and to rehashes. Returns whether that
-/// moves more entries than the growth, and builds no more hashers than one for each call and one for each move. The
-/// report counts each move.
+/// Inserts and removes neighbouring keys, which leads to growth and to rehashes. Returns whether more entries move than
+/// by growth alone, and whether at most one hasher is built for each call and each move. The report counts each move.
 fn moves_hash_once(map: &mut Map) -> bool {
     map.hasher().0.set(0);
     let before = map.move_report().moved;

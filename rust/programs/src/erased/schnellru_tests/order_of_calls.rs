@@ -1,6 +1,6 @@
 // Erased from crates/schnellru_tests/src/order_of_calls.rt: do not edit.
-//! How often and in which order calls call their limiter and their sink. A contract says what each callback is given,
-//! and not what is called in between.
+//! How often and in which order calls call their limiter and their sink. A contract says what each callback gets, but
+//! not what is called in between.
 
 #[allow(unused_imports)]
 use crate::rattle_std::prelude::*;
@@ -11,7 +11,7 @@ use crate::programs::test_maps::{insert_all, map_of};
 use crate::rattle_std::alloc::{AllocError, Global};
 use crate::rattle_std::cell::Cell;
 
-/// The calls that are noted, each as a digit.
+/// The calls that the limiter and the sink note, each as a digit.
 const IS_OVER: u64 = 1;
 
 const REMOVED: u64 = 2;
@@ -44,7 +44,7 @@ impl<'a> Noting<'a> {
     }
 }
 
-/// The greatest value that replaces another one.
+/// The greatest new value that may replace an old one.
 const GREATEST: u64 = 100;
 
 impl<V> Limiter<u64, V> for Noting<'_> {
@@ -94,7 +94,7 @@ impl Insertion<u64, u64, u64> for Noting<'_> {
     }
 }
 
-/// Returns whether the calls are those of `expected`, or memory has no end.
+/// Returns whether the calls are as `expected`, or memory never ran out.
 fn is_traced(alloc: Global, [first, last, most, bytes, blocks, key, value, expected]: [u64; 8]) -> bool {
     let trace = Cell::new(0u64);
     let mut map = map_of(alloc, Noting::new(99, 1000, &trace));
@@ -114,21 +114,21 @@ fn is_traced(alloc: Global, [first, last, most, bytes, blocks, key, value, expec
 fn each_pair_is_passed_on_before_the_next_callback() {
     let run = |rt: HostRuntime| -> () {
         for case in [
-            // Three pairs over a limit that was lowered.
+            // Three entries are evicted, after the limit was lowered.
             [1, 3, 1, 1000, 9, 4, 40, 41_231_231_231],
-            // The oldest, after a growth was refused.
+            // The oldest entry is evicted, after a growth was refused.
             [1, 3, 9, 84, 9, 4, 40, 415_231],
-            // The three oldest, after a growth was refused to a table of 32 buckets: the buckets of two of them do not
-            // serve.
+            // The three oldest entries are evicted, after a table of 32 buckets was refused growth: the buckets of two of
+            // them do not serve.
             [3, 30, 99, 1000, 9, 202, 40, 4_152_323_231],
-            // The pair whose replacement is refused.
+            // The entry whose replacement is rejected is removed.
             [1, 3, 9, 84, 9, 2, 101, 623],
-            // The new pair, if the first table is refused.
+            // The new entry is passed on, if the first table is refused.
             [1, 0, 9, 83, 9, 4, 40, 4523],
-            // The new pair, if there is no memory for the first table, and if there is none for a growth.
+            // The new entry is passed on, if memory runs out for the first table, and for a growth.
             [1, 0, 9, 84, 0, 4, 40, 4523],
             [1, 3, 9, 1000, 0, 4, 40, 41_523],
-            // None, after a growth, and if the value is replaced.
+            // No entry is passed on after a growth, or if the value is replaced.
             [1, 3, 9, 1000, 9, 4, 40, 4151],
             [1, 3, 9, 84, 9, 2, 21, 61],
         ] {

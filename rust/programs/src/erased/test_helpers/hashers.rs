@@ -1,5 +1,5 @@
 // Erased from crates/test_helpers/src/hashers.rt: do not edit.
-//! Hashers whose hashes a test chooses, and one that counts.
+//! Hashers whose hashes a test chooses, and a hasher that counts.
 
 #[allow(unused_imports)]
 use crate::rattle_std::prelude::*;
@@ -7,8 +7,7 @@ use crate::rattle_std::prelude::*;
 use crate::rattle_std::cell::Cell;
 use crate::rattle_std::hash::{BuildHasher, Hasher};
 
-/// Hashes to the last byte that was written, which is the highest byte of a number. So a `u64` below 2 to the 56th
-/// hashes to 0.
+/// Hashes to the last byte that was written, which is the highest byte of a number. So a `u64` below 2^56 hashes to 0.
 #[derive(Clone, Copy)]
 pub struct LastByte(pub u64);
 
@@ -46,7 +45,7 @@ impl BuildHasher for Counted {
     }
 }
 
-/// Hashes to the sum of the bytes that were written: a number below 256 to itself.
+/// Hashes to the sum of the bytes that were written. A number below 256 hashes to itself.
 #[derive(Clone, Copy)]
 pub struct Sum(pub u64);
 

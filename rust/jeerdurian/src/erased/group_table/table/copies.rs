@@ -18,8 +18,8 @@ impl<T> Table<T> {
     ///
     /// # Errors
     ///
-    /// Out of memory, or the error of `f`. What was copied is dropped. A table without buckets asks for no memory, and
-    /// its copy never fails.
+    /// Out of memory, or the error of `f`. The entries copied so far are dropped. A table without buckets asks for no
+    /// memory, and its copy never fails.
     pub fn clone_with<F: Fn(&T) -> Result<T, AllocError>>(&self, f: F) -> Result<Self, AllocError> {
         let alloc = self.entries.allocator();
         if self.control.is_empty() {

@@ -32,7 +32,7 @@ impl<T> Table<T> {
         self.len
     }
 
-    /// Returns the growth left: how many more entries find an empty bucket for sure.
+    /// Returns the growth left: how many more entries are sure to find an empty bucket.
     #[inline]
     pub fn growth_left(&self) -> usize {
         self.growth_left
@@ -63,7 +63,7 @@ impl<T> Table<T> {
         bytes_of::<T>()
     }
 
-    /// Returns whether the bucket exists and holds an entry, for any number.
+    /// Returns whether there is a bucket of this number that holds an entry.
     #[inline]
     pub fn is_full(&self, b: usize) -> bool {
         b < self.buckets() && self.control.byte(b) < DELETED

@@ -21,14 +21,14 @@ impl<T> Table<T> {
     /// A table without entries may move to no buckets, which gives its memory back.
     ///
     /// The result contains a link for each old bucket: the number of the bucket where its entry is now, or `MAX` if it
-    /// was free. It is empty for a table without entries. `hash_of` is called once for each entry. Of the `insertions`,
-    /// `moved` rises by the number of entries, and `placed` stays. No bucket is deleted afterwards. It takes time O(old
-    /// buckets + new buckets).
+    /// was free. The result is empty for a table without entries. `hash_of` is called once for each entry. Of the
+    /// `insertions`, `moved` rises by the number of entries, and `placed` stays. No bucket is deleted afterwards. It
+    /// takes time O(old buckets + new buckets).
     ///
     /// # Errors
     ///
-    /// Out of memory, which changes nothing: all memory is taken before the first entry moves. No buckets take none,
-    /// and never fail.
+    /// Out of memory, which changes nothing: all memory is taken before the first entry moves. With 0 buckets it takes
+    /// no memory, and never fails.
     pub fn relocate<N: LinkType, H: Fn(&T) -> u64>(
         &mut self,
         buckets: usize,
@@ -61,13 +61,13 @@ impl<T> Table<T> {
 
     /// Moves all entries within the table so that no bucket is deleted, and returns what `relocate` returns.
     ///
-    /// `hash_of` is called once for each entry. Of the `insertions`, `moved` rises by their number, and `placed` stays.
-    /// It takes time O(buckets).
+    /// `hash_of` is called once for each entry. Of the `insertions`, `moved` rises by the number of entries, and
+    /// `placed` stays. It takes time O(buckets).
     ///
     /// # Errors
     ///
     /// Out of memory, which changes nothing: all memory is taken before the first entry moves. A table without entries
-    /// makes none and never fails: its buckets are emptied in place.
+    /// takes no memory and never fails: its buckets are emptied in place.
     pub fn rehash<N: LinkType, H: Fn(&T) -> u64>(&mut self, hash_of: H) -> Result<Vec<N>, AllocError> {
         let alloc = self.entries.allocator();
         if self.len == 0 {

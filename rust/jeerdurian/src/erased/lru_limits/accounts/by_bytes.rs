@@ -9,10 +9,10 @@ use crate::erased::lru_limits::limiter::Limiter;
 /// Limits the bytes of the table and of what the entries own, together: `ByBytes::new(200 << 20)` is 200 MiB. A contract
 /// sees it as its limit, the bytes that the entries own, and the bytes of the table.
 ///
-/// It permits a table if the table fits beside what the entries own, and rejects an entry or a new value that does not
-/// fit beside the table. So after each call of the map `memory_usage` and what the entries own are together at most the
-/// limit, under the premises of `calls_keep_the_bytes` of `lru_model`. While the table grows, the old table exists,
-/// too.
+/// It permits a table if the table and what the entries own are within the limit. It rejects an entry or a new value if
+/// its entry alone and the table are not. So after each call of the map `memory_usage` and what the entries own are
+/// together at most the limit, under the premises of `calls_keep_the_bytes` of `lru_model`. While the table grows, the
+/// old table exists, too, and is not counted.
 ///
 /// `shrink_to_fit` does not notify the limiter. `map.set_limiter(map.limiter().with_table(map.memory_usage() as u64))`
 /// makes it count the smaller table.
@@ -26,7 +26,7 @@ use crate::erased::lru_limits::limiter::Limiter;
 /// assert_eq!(rt; (limiter.owned(), limiter.table()), (48, 152));
 /// ```
 ///
-/// Cost: each callback reads the owned bytes of each key and value that it gets once, and takes no memory.
+/// Cost: each callback reads the owned bytes of each of its keys and values once, and takes no memory.
 #[derive(Clone, Copy, Debug)]
 pub struct ByBytes {
     limit: u64,

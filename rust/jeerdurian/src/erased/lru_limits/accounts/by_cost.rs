@@ -6,10 +6,10 @@ use crate::erased::lru_limits::accounts::{Budgeted, Costed, Summing, sum_with};
 use crate::erased::lru_limits::admission::Admission;
 use crate::erased::lru_limits::limiter::Limiter;
 
-/// Limits the sum of the costs of the values. A contract sees it as its limit and that sum.
+/// Limits the sum of the costs of the values. A contract sees it as its limit and this sum.
 ///
-/// It rejects an entry or a replacement if its cost by itself is above the limit, or if the sum would pass `u64::MAX`.
-/// Otherwise it accepts it, and the map evicts its oldest entries until the sum is within the limit again.
+/// It rejects an entry or a new value whose cost alone is above the limit, or with which the sum would pass `u64::MAX`.
+/// After it accepts one, the map evicts its oldest entries until the sum is within the limit.
 ///
 /// ```text
 /// let mut limiter = ByCost::new(3);
@@ -17,7 +17,7 @@ use crate::erased::lru_limits::limiter::Limiter;
 /// assert_eq!(rt; limiter.cost(), 2);
 /// ```
 ///
-/// Cost: each callback reads the cost of each value that it gets once, and takes no memory.
+/// Cost: each callback reads the cost of each of its values once, and takes no memory.
 #[derive(Clone, Copy, Debug)]
 pub struct ByCost {
     limit: u64,

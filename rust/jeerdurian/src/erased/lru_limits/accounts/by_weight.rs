@@ -6,8 +6,8 @@ use crate::erased::lru_limits::accounts::{Budgeted, Costed, Summing, sum_with};
 use crate::erased::lru_limits::admission::Admission;
 use crate::erased::lru_limits::limiter::Limiter;
 
-/// Limits the sum of the costs of the entries: of each key, of its value, and `OVERHEAD` for the entry itself. A
-/// contract sees it as its limit and that sum.
+/// Limits the sum of the costs of the entries: the cost of the key, the cost of the value, and `OVERHEAD`. A contract
+/// sees it as its limit and this sum.
 ///
 /// It rejects what [`crate::ByCost`] rejects. An entry costs at most `u64::MAX`.
 ///
@@ -17,7 +17,7 @@ use crate::erased::lru_limits::limiter::Limiter;
 /// assert_eq!(rt; limiter.cost(), 19);
 /// ```
 ///
-/// Cost: each callback reads the cost of each key and value that it gets once, and takes no memory.
+/// Cost: each callback reads the cost of each of its keys and values once, and takes no memory.
 #[derive(Clone, Copy, Debug)]
 pub struct ByWeight<const OVERHEAD: u64> {
     limit: u64,

@@ -4,11 +4,11 @@ use crate::rattle_std::prelude::*;
 
 use crate::rattle_std::mem::size_of;
 
-/// A value that can say how many bytes it owns outside of itself: the blocks that it allocated, whole, and what is
-/// owned in them.
+/// A value that can say how many bytes it owns outside of itself: all bytes of the blocks that it allocated, and what
+/// the values in these blocks own.
 ///
-/// A block counts as its bytes rounded up to a multiple of 16, and 16 more for the allocator. This is what the
-/// allocator of GNU takes at most, unless a block is so large that it is mapped page by page.
+/// A block counts as its bytes rounded up to a multiple of 16, plus 16 for the allocator. The GNU allocator takes no
+/// more, unless a block is so large that it is mapped page by page.
 ///
 /// ```text
 /// let block: Vec<u8> = Vec::with_capacity(alloc, 17)?;
@@ -29,7 +29,7 @@ fn bytes_of<T>() -> usize {
     size_of::<T>()
 }
 
-/// A number owns nothing. Nor does a `bool` or a `char`.
+/// Numbers, `bool` and `char` own nothing.
 impl OwnedBytes for u8 {
     #[inline]
     fn owned_bytes(&self) -> u64 {

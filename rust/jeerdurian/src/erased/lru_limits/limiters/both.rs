@@ -10,9 +10,9 @@ use crate::erased::lru_limits::limiter::Limiter;
 ///
 /// A map is over the limit if it is over either limit, and its table may grow if both permit it. An entry is stored,
 /// and a value replaced, if both accept it. If either rejects it, neither changes. Both are notified of each entry that
-/// is evicted or removed: the second gets it with what the first wrote.
+/// is evicted or removed; the second sees what the first wrote to it.
 ///
-/// `Both` uses the links of the first limiter, and its running total, if it has one: put the limiter by a cost first.
+/// `Both` uses the links of the first limiter, and its running total, if it has one. So put a limiter by cost first.
 /// `map.limiter().0` is the first limiter.
 ///
 /// ```text

@@ -8,8 +8,8 @@ use crate::erased::lru_limits::limiter::Limiter;
 /// Limits the number of entries. A contract sees it as that number.
 ///
 /// A map under it has at most `max_length` entries after each call. If the limit is lowered through `limiter_mut`, the
-/// map may have more until a `trim`, or until an insert or an update stores an entry or replaces a value. It rejects an
-/// entry only if `max_length` is 0.
+/// map may have more entries until a `trim`, or until an insert or an update stores an entry or replaces a value.
+/// `ByLength` rejects an entry only if `max_length` is 0.
 ///
 /// ```text
 /// let limiter = ByLength::new(3);
@@ -25,7 +25,7 @@ pub struct ByLength {
 }
 
 impl ByLength {
-    /// Makes a limiter to `max_length` entries.
+    /// Makes a limiter with a limit of `max_length` entries.
     ///
     /// ```text
     /// let limiter = ByLength::new(3);

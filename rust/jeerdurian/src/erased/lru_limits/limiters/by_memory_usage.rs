@@ -7,8 +7,9 @@ use crate::erased::lru_limits::limiter::Limiter;
 
 /// Limits the bytes of the table. A contract sees it as that number.
 ///
-/// It permits a growth if and only if the grown table is within the limit. After a refusal the map evicts its oldest
-/// entries. The old table, which exists during a growth, is not counted, nor is what keys and values own.
+/// It permits a growth if and only if the new table is within the limit. After a refusal the map evicts its oldest
+/// entries. The old table, which exists during a growth, is not counted. What keys and values own is not counted
+/// either.
 ///
 /// ```text
 /// let mut limiter = ByMemoryUsage::new(152);
@@ -24,7 +25,7 @@ pub struct ByMemoryUsage {
 }
 
 impl ByMemoryUsage {
-    /// Makes a limiter to a table of `max_bytes` bytes.
+    /// Makes a limiter that permits a table of `max_bytes` bytes.
     ///
     /// ```text
     /// let mut limiter = ByMemoryUsage::new(152);

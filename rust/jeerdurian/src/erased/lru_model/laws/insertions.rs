@@ -1,5 +1,5 @@
 // Erased from crates/lru_model/src/laws/insertions.rt: do not edit.
-//! What is proved of all insertions into the table, those of `try_insert` included.
+//! What is proved of all insertions into the table, including those of `try_insert`.
 
 #[allow(unused_imports)]
 use crate::rattle_std::prelude::*;
@@ -10,8 +10,8 @@ use crate::rattle_std::hash::Hash;
 /// A `try_insert` pays for its insertions into the table, although it may reserve. Their number and the potential
 /// together rise by at most 3 (`rise`), and only if the entry is stored (`stored`).
 ///
-/// So do any calls one after another, inserts and `try_insert` among them (`runs`): the insertions and the potential
-/// together rise by at most 3 for each entry stored, and by 2 for each entry that shrinks rehashed, while neither the
-/// count of stored entries nor the count of rehashed entries has reached `u64::MAX`. A reservation is among these calls
-/// only if no growth is left before it.
+/// Any calls one after another, including inserts and `try_insert`, pay for theirs, too (`runs`): the insertions and
+/// the potential together rise by at most 3 for each entry stored, and by 2 for each entry that shrinks rehashed, until
+/// the count of stored or of rehashed entries reaches `u64::MAX`. A reservation may be among these calls only if no
+/// growth is left before it.
 pub fn try_inserts_pay_for_moves<K: Eq + Hash, V, L: Admission<K, V>, S: KeyHasher<K>>() {}

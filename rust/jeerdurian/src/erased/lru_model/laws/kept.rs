@@ -10,8 +10,8 @@ use crate::rattle_std::hash::Hash;
 
 /// An insert loses nothing, if the limiter changes no entry that is evicted or removed. The entries that are left,
 /// followed by the entries that the callback got, last one first, are the new entry and the old ones, newest first
-/// (`all`, with a case for each result). If the result is true, the stored entry comes first (`stored`). Whatever it
-/// is, each old entry of another key is left or was passed to the callback (`others`).
+/// (`all`, with a case for each result). If the result is true, the stored entry comes first (`stored`). In each case
+/// every old entry of another key is left or was passed to the callback (`others`).
 pub fn nothing_is_lost<K: Eq + Hash, V, I: LookupKey<K>, L: Insertion<K, V, I>, S: KeyHasher<K>>() {}
 
 /// If growth is left, an insert does what it would do to a plain list without a table (`list`), whatever `on_grow`
@@ -24,7 +24,7 @@ pub fn inserts_with_room_are_exact<K: Eq + Hash, V, I: LookupKey<K>, L: Insertio
 /// is left in its table. So do the inserts of a list, such as the inserts of `try_extend` (`lists`).
 pub fn inserts_leave_the_newest<K: Eq + Hash, V, S: KeyHasher<K>>() {}
 
-/// A new map with `ByLength` keeps to its length, if that is at most 939,524,096 and an entry has fewer than 2 ^ 32 - 1
-/// bytes (`begins`). So does a map after any call that does not set the limiter (`goes_on`), and after any value is
-/// written (`written`).
+/// A new map with `ByLength` keeps to its length, if this length is at most 939,524,096 and an entry has fewer than 2 ^
+/// 32 - 1 bytes (`begins`). So does a map after any call that does not set the limiter (`goes_on`), and after any write
+/// to a value (`written`).
 pub fn maps_keep_to_their_length<K: Eq + Hash, V, S: KeyHasher<K>>() {}

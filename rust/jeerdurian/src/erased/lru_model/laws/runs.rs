@@ -10,21 +10,21 @@ use crate::rattle_std::hash::Hash;
 /// as clause `map` of each call says (`Run`).
 pub fn runs_keep_maps<K: Eq + Hash, V, I: LookupKey<K>, L: Insertion<K, V, I>, S: KeyHasher<K>>() {}
 
-/// A limiter's running total that was the sum of the costs is their sum after any calls, and any writes of values that
-/// cost what the values before them cost.
+/// If a limiter's running total was the sum of the costs, it is their sum after any calls, and any writes of values
+/// that cost what the old values cost.
 pub fn runs_keep_sums<K: Eq + Hash, V, I: LookupKey<K>, L: Insertion<K, V, I>, S: KeyHasher<K>>() {}
 
 /// Over any calls the count of moved entries and the potential together rise by at most two for each entry that inserts
-/// store, and by one for each entry that shrinks rehash, while neither the count of stored entries nor the count of
-/// rehashed entries has reached `u64::MAX`.
+/// store, and by one for each entry that shrinks rehash, until the count of stored or of rehashed entries reaches
+/// `u64::MAX`.
 pub fn runs_pay_for_moves<K: Eq + Hash, V, I: LookupKey<K>, L: Insertion<K, V, I>, S: KeyHasher<K>>() {}
 
-/// Any calls evict only from the old end: of the entries whose keys none of them names, those that are left are the
-/// newest, in their order, unless one of the calls is `pop_newest`.
+/// Any calls evict only from the old end, unless one of them is `pop_newest`: of the entries whose keys no call names,
+/// the newest are left, in their order.
 pub fn runs_evict_the_oldest<K: Eq + Hash, V, I: LookupKey<K>, L: Insertion<K, V, I>, S: KeyHasher<K>>() {}
 
-/// Each insert of a run evicts only from the old end, whatever the other calls of the run are, `pop_newest` too. The
-/// one other entry that it may remove is the entry whose replacement is rejected. The same holds of each get that
+/// Each insert of a run evicts only from the old end, whatever the other calls of the run are, even `pop_newest`. The
+/// only other entry that it may remove is the entry whose replacement is rejected. The same holds for each get that
 /// inserts.
 pub fn each_insert_of_a_run_evicts_the_oldest<
     K: Eq + Hash,
@@ -41,8 +41,8 @@ pub fn runs_keep_the_length<K: Eq + Hash, V, L: Insertion<K, V, K>, S: KeyHasher
 /// What `calls_keep_the_memory_usage` says of each call holds of any calls and writes of values.
 pub fn runs_keep_the_memory_usage<K: Eq + Hash, V, L: Insertion<K, V, K>, S: KeyHasher<K>>() {}
 
-/// What `calls_keep_the_budget` says of each call holds of any calls, and any writes of values that cost what the
-/// values before them cost. The budget stays as it is, whatever is written.
+/// What `calls_keep_the_budget` says of each call holds of any calls, and any writes of values that cost what the old
+/// values cost. The budget stays as it is, whatever is written.
 pub fn runs_keep_the_budget<K: Eq + Hash, V, L: Budgeted<K, V>, S: KeyHasher<K>>() {}
 
 /// A new map, which contains no entries and no buckets, satisfies `IsMap`, the premise of `runs_keep_maps`.

@@ -7,7 +7,8 @@ use crate::rattle_std::prelude::*;
 use crate::erased::group_table::{LinkType, Table};
 use crate::erased::ordered_table::linked::Entry;
 
-// A table with links to its newest and its oldest entry; `MAX` if it has none. Only the contracts know the order.
+// A table with links to its newest and its oldest entry, which are `MAX` if it has none. Only the contracts know the
+// order.
 
 pub(crate) struct Chain<K, V, N> {
     pub(crate) table: Table<Entry<K, V, N>>,
@@ -35,7 +36,7 @@ impl<K, V, N: LinkType> Chain<K, V, N> {
         }
     }
 
-    // Compares the link with the number of buckets, and not with `MAX`: that takes one instruction less.
+    // Compares the link with the number of buckets instead of `MAX`, which saves an instruction.
     #[inline]
     pub(crate) fn leads(&self, link: N) -> bool {
         self.table.has_bucket(link.into_usize())
@@ -58,8 +59,8 @@ impl<K, V, N: LinkType> Chain<K, V, N> {
         self.oldest = link;
     }
 
-    // Puts a bucket that is in no chain in front of the chain, or makes it the only one. Its entry has the links of the
-    // newest entry already: the older one leads to `first`, which has been the newest.
+    // Puts a bucket that is in no chain in front of this chain. Its entry has the links of a newest entry already: the
+    // older link leads to `first`, the newest entry so far.
     #[inline]
     pub(crate) fn link_placed(&mut self, b: usize, first: N) {
         let link = N::from_usize(b);

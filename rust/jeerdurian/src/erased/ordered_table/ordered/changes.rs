@@ -1,5 +1,5 @@
 // Erased from crates/ordered_table/src/ordered/changes.rt: do not edit.
-//! The calls that change the order of an `OrderedTable`, or its buckets. Each first lets the links show the last
+//! The calls that change the order of an `OrderedTable`, or its buckets. Each call first lets the links show the last
 //! promotion.
 
 #[allow(unused_imports)]
@@ -13,8 +13,7 @@ use crate::rattle_std::alloc::AllocError;
 use crate::rattle_std::hash::Hash;
 
 impl<K, V, N: LinkType> OrderedTable<K, V, N> {
-    /// Lets the links show the last promotion. If several calls that change the order follow, the compiler then knows
-    /// that none of them has to.
+    /// Lets the links show the last promotion. Then the compiler knows that the calls after it need not do this.
     #[inline(always)]
     pub fn settle(&mut self) {
         settle(&mut self.linked, &mut self.promoted);
@@ -29,11 +28,11 @@ impl<K, V, N: LinkType> OrderedTable<K, V, N> {
         self.linked.place(hash, pair);
     }
 
-    /// As `place`, for any table.
+    /// Does what `place` does, for any table.
     ///
     /// # Errors
     ///
-    /// No bucket may take the pair, which is returned. Nothing has changed.
+    /// Returns the pair if no bucket may take it. Then nothing has changed.
     pub fn try_place(&mut self, hash: u64, pair: (K, V)) -> Result<(), (K, V)> {
         settle(&mut self.linked, &mut self.promoted);
         self.linked.try_place(hash, pair)
@@ -49,8 +48,8 @@ impl<K, V, N: LinkType> OrderedTable<K, V, N> {
                 self.linked.promote(*last);
                 *last = b;
             }
-            // The links show it at once, which writes to the pair that is the oldest then. If pairs are promoted in the
-            // order of their last promotions, the next call reads that one.
+            // Lets the links show the promotion at once, which writes to the next oldest pair. If pairs are promoted in
+            // the order of their last promotions, the next call reads that pair.
             None if self.linked.oldest() == b => self.linked.promote(b),
             None => self.promoted = Some(b),
         }
@@ -73,7 +72,7 @@ impl<K, V, N: LinkType> OrderedTable<K, V, N> {
         self.linked.take(b, false)
     }
 
-    /// Takes the oldest pair out of a table that is not empty. Its older link is not read.
+    /// Takes the oldest pair out of a table that is not empty. The older link of this pair is not read.
     ///
     /// Cost: `O(1)`.
     #[inline(always)]
@@ -102,8 +101,8 @@ impl<K: Eq + Hash, V, N: LinkType> OrderedTable<K, V, N> {
     ///
     /// # Errors
     ///
-    /// Out of memory; never for no buckets, nor for a table without pairs that keeps its number of buckets. Nothing has
-    /// changed.
+    /// Out of memory; then nothing has changed. It never fails if `buckets` is 0, or if a table without pairs keeps its
+    /// number of buckets.
     pub fn move_to<S: KeyHasher<K>>(&mut self, buckets: usize, hasher: &S) -> Result<(), AllocError> {
         settle(&mut self.linked, &mut self.promoted);
         self.linked.move_to(buckets, hasher)
@@ -111,13 +110,13 @@ impl<K: Eq + Hash, V, N: LinkType> OrderedTable<K, V, N> {
 }
 
 impl<K, V, N: LinkType> OrderedTable<K, V, N> {
-    /// Clones the pairs, into buckets of the same numbers and in the same order. The links are copied with the entries.
+    /// Clones the pairs into buckets of the same numbers, in the same order. The links are copied with the entries.
     ///
     /// Cost: `O(buckets)`, and a clone of each key and value.
     ///
     /// # Errors
     ///
-    /// Out of memory; never for no buckets.
+    /// Out of memory, unless there are no buckets.
     pub fn copy(&self) -> Result<Self, AllocError>
     where
         K: TryClone,

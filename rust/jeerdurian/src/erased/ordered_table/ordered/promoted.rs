@@ -1,6 +1,6 @@
 // Erased from crates/ordered_table/src/ordered/promoted.rt: do not edit.
-//! The order of a table in which the bucket `promoted`, if there is one, is the newest. Its links may still show it
-//! elsewhere.
+//! The order of a table in which the bucket `promoted`, if there is one, is the newest. The links may still show this
+//! bucket elsewhere.
 
 #[allow(unused_imports)]
 use crate::rattle_std::prelude::*;
@@ -20,7 +20,7 @@ pub(crate) fn newest<K, V, N: LinkType>(table: &LinkedTable<K, V, N>, promoted: 
 pub(crate) fn oldest<K, V, N: LinkType>(table: &LinkedTable<K, V, N>, promoted: Option<usize>) -> usize {
     let b = table.oldest();
     match promoted {
-        // The links show the promoted bucket last. The one before it is the oldest, unless there is none.
+        // The links show the promoted bucket last. So the bucket before it is the oldest, if there is one.
         Some(p) if p == b => {
             if table.newest() == p {
                 p

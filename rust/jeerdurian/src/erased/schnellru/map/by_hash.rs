@@ -11,9 +11,9 @@ use crate::rattle_std::hash::Hash;
 impl<K: Eq + Hash, V, L: Limiter<K, V>, S: KeyHasher<K>> LruMap<K, V, L, S> {
     /// Lends the value of an entry that `is_eq` accepts, for writing, and makes the entry the newest.
     ///
-    /// `is_eq` gets only entries whose hashes agree with `hash` in the top 7 bits: each at most once, and none after it
-    /// accepted one, which is only tested. It may accept an entry of another hash: let it compare keys. `None` says
-    /// that it rejected each entry of this hash, and that nothing has changed. The hash of a key is what
+    /// `is_eq` gets only entries whose hashes agree with `hash` in the top 7 bits. Only tests show that it gets each at
+    /// most once, and none after it accepted one. It may get an entry of another hash, so let it compare keys. `None`
+    /// means that `is_eq` rejected each entry of this hash, and that nothing has changed. The hash of a key is what
     /// `map.hasher().hash_named(&key)` returns.
     ///
     /// Cost: `O(1)` expected, with one call of `is_eq` for each entry that it gets.
@@ -24,7 +24,7 @@ impl<K: Eq + Hash, V, L: Limiter<K, V>, S: KeyHasher<K>> LruMap<K, V, L, S> {
     /// assert!(rt; map.peek_newest() == Some((&1, &10)));
     /// ```
     ///
-    /// After schnellru's `LruMap::get_by_hash`.
+    /// Follows schnellru's `LruMap::get_by_hash`.
     #[inline]
     pub fn get_by_hash<F: FnMut(&K, &V) -> bool>(&mut self, hash: u64, is_eq: F) -> Option<&mut V> {
         let b = self.find_by(hash, is_eq)?;
@@ -32,7 +32,7 @@ impl<K: Eq + Hash, V, L: Limiter<K, V>, S: KeyHasher<K>> LruMap<K, V, L, S> {
         Some(self.value_in_mut(b))
     }
 
-    /// Returns the value of an entry that `is_eq` accepts, which is called as by `get_by_hash`. The order stays.
+    /// Returns the value of an entry that `is_eq` accepts. The order stays. `is_eq` is called as by `get_by_hash`.
     ///
     /// ```text
     /// let hash = RandomState::default().hash_one(&1u64);
@@ -41,7 +41,7 @@ impl<K: Eq + Hash, V, L: Limiter<K, V>, S: KeyHasher<K>> LruMap<K, V, L, S> {
     ///
     /// Cost: as `get_by_hash`.
     ///
-    /// After schnellru's `LruMap::peek_by_hash`.
+    /// Follows schnellru's `LruMap::peek_by_hash`.
     #[inline]
     pub fn peek_by_hash<F: FnMut(&K, &V) -> bool>(&self, hash: u64, is_eq: F) -> Option<&V> {
         let b = self.find_by(hash, is_eq)?;
@@ -61,7 +61,7 @@ impl<K: Eq + Hash, V, L: Limiter<K, V>, S: KeyHasher<K>> LruMap<K, V, L, S> {
     ///
     /// Cost: as `get_by_hash`.
     ///
-    /// After schnellru's `LruMap::peek_by_hash_mut`.
+    /// Follows schnellru's `LruMap::peek_by_hash_mut`.
     #[inline]
     pub fn peek_by_hash_mut<F: FnMut(&K, &V) -> bool>(&mut self, hash: u64, is_eq: F) -> Option<&mut V> {
         let b = self.find_by(hash, is_eq)?;

@@ -8,7 +8,8 @@ use crate::rattle_std::alloc::AllocError;
 use crate::rattle_std::hash::Hash;
 
 impl<K: TryClone, V: TryClone, L: Limiter<K, V> + TryClone, S: TryClone> LruMap<K, V, L, S> {
-    /// Clones the entries in order, the limiter and the hasher, into a table of the same buckets and counts.
+    /// Clones the entries, in order, the limiter and the hasher. The table of the clone has the same buckets and
+    /// counts.
     ///
     /// ```text
     /// let mut copy = map.clone()?;
@@ -16,15 +17,14 @@ impl<K: TryClone, V: TryClone, L: Limiter<K, V> + TryClone, S: TryClone> LruMap<
     /// assert_eq!(rt; (copy.len(), map.len()), (2, 3));
     /// ```
     ///
-    /// A clone of a key has to equal the key, and a clone of the hasher has to hash alike: so this is a method and no
-    /// impl of `Clone`. Cost: `O(buckets)`, with two requests for memory and the requests of the clones; a map without
-    /// buckets does not make the two.
+    /// A clone of a key must equal the key, and a clone of the hasher must hash alike, so this is a method and not an
+    /// impl of `Clone`. Cost: `O(buckets)`, the requests for memory of the clones, and two more if the map has buckets.
     ///
     /// # Errors
     ///
-    /// `Err` says that the map ran out of memory, or a clone failed. What was copied is dropped.
+    /// Out of memory, or a clone failed. The entries cloned so far are dropped.
     ///
-    /// After schnellru's `LruMap::clone`.
+    /// Follows schnellru's `LruMap::clone`.
     pub fn try_clone(&self) -> Result<Self, AllocError> {
         let entries = self.entries.copy()?;
         let hasher = self.hasher.try_clone()?;

@@ -8,21 +8,21 @@ use crate::rattle_std::alloc::AllocError;
 use crate::rattle_std::hash::Hash;
 
 impl<K: Eq + Hash, V, L: Insertion<K, V, K>, S: KeyHasher<K>> LruMap<K, V, L, S> {
-    /// Inserts each entry, one after another, as `insert` inserts it: the last one is the newest.
+    /// Inserts entries one after another, as `insert` does, so the last one becomes the newest.
     ///
     /// ```text
     /// map.try_extend([(4, 40), (5, 50)])?;
     /// assert!(rt; map.peek_newest() == Some((&5, &50)));
     /// ```
     ///
-    /// Cost: as `insert` of each entry.
+    /// Cost: as `insert`, for each entry.
     ///
     /// # Errors
     ///
-    /// The insert of an entry ran out of memory. Those before it were inserted, and the others were not. The iterator
-    /// has yielded that entry; whether it yielded more, no contract says.
+    /// The insert of an entry ran out of memory. The entries before it were inserted, and the others were not. No
+    /// contract says whether the iterator yielded any after it.
     ///
-    /// After std's `Extend::extend`.
+    /// Follows std's `Extend::extend`.
     pub fn try_extend<T: IntoIterator<Item = (K, V)>>(&mut self, entries: T) -> Result<(), AllocError>
 where {
         for (key, value) in entries {

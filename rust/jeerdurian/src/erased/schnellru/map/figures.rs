@@ -18,7 +18,7 @@ impl<K: Eq + Hash, V, L: Limiter<K, V>, S: KeyHasher<K>> LruMap<K, V, L, S> {
     /// assert_eq!(rt; map.len(), 3);
     /// ```
     ///
-    /// After schnellru's `LruMap::len`.
+    /// Follows schnellru's `LruMap::len`.
     #[inline]
     pub fn len(&self) -> usize {
         self.entries.len()
@@ -31,15 +31,15 @@ impl<K: Eq + Hash, V, L: Limiter<K, V>, S: KeyHasher<K>> LruMap<K, V, L, S> {
     /// assert!(rt; map.is_empty() && map.memory_usage() == 0);
     /// ```
     ///
-    /// After schnellru's `LruMap::is_empty`.
+    /// Follows schnellru's `LruMap::is_empty`.
     #[inline]
     pub fn is_empty(&self) -> bool {
         self.entries.len() == 0
     }
 
-    /// Returns how many entries the table holds for sure without growing: its entries and its growth left.
+    /// Returns how many entries the table is sure to hold without growing: its entries and its growth left.
     ///
-    /// It may fall when an entry is removed from a table of more than 16 buckets. Cost: `O(1)`.
+    /// The number may fall when an entry is removed from a table of more than 16 buckets. Cost: `O(1)`.
     ///
     /// ```text
     /// let mut map: LruMap<u64, u64, UnlimitedCompact> = LruMap::default(alloc);
@@ -47,13 +47,13 @@ impl<K: Eq + Hash, V, L: Limiter<K, V>, S: KeyHasher<K>> LruMap<K, V, L, S> {
     /// assert_eq!(rt; (map.guaranteed_capacity(), map.len()), (7, 0));
     /// ```
     ///
-    /// After schnellru's `LruMap::guaranteed_capacity`.
+    /// Follows schnellru's `LruMap::guaranteed_capacity`.
     pub fn guaranteed_capacity(&self) -> usize {
         self.entries.len() + self.entries.growth_left()
     }
 
-    /// Returns the bytes of the table, or 0 without buckets: `entry_bytes` for each bucket, full or not, together
-    /// rounded up to a multiple of 16, a byte more for each bucket, and 16 more.
+    /// Returns the bytes of the table, or 0 if there are no buckets. The `entry_bytes` of all buckets, full or not, are
+    /// together rounded up to a multiple of 16. Each bucket takes one byte more, and the table 16 more.
     ///
     /// Cost: `O(1)`.
     ///
@@ -65,7 +65,7 @@ impl<K: Eq + Hash, V, L: Limiter<K, V>, S: KeyHasher<K>> LruMap<K, V, L, S> {
     /// assert!(rt; map.len() == 3 && map.memory_usage() == 84 && map.peek(&1).is_none());
     /// ```
     ///
-    /// After schnellru's `LruMap::memory_usage`.
+    /// Follows schnellru's `LruMap::memory_usage`.
     pub fn memory_usage(&self) -> usize {
         let buckets = self.bucket_count();
         if buckets == 0 {
@@ -74,7 +74,7 @@ impl<K: Eq + Hash, V, L: Limiter<K, V>, S: KeyHasher<K>> LruMap<K, V, L, S> {
         sizes::bytes_of(self.entry_bytes, buckets)
     }
 
-    /// Returns the greatest `memory_usage` within a budget that a map with `entry_bytes` bytes an entry can have, or 0
+    /// Returns the greatest `memory_usage` within a budget that a map with `entry_bytes` bytes per entry can have, or 0
     /// if no table fits.
     ///
     /// ```text
@@ -84,7 +84,7 @@ impl<K: Eq + Hash, V, L: Limiter<K, V>, S: KeyHasher<K>> LruMap<K, V, L, S> {
     ///
     /// Cost: at most 62 steps.
     ///
-    /// After schnellru's `LruMap::memory_usage_for_memory_budget`.
+    /// Follows schnellru's `LruMap::memory_usage_for_memory_budget`.
     pub fn memory_usage_for_memory_budget(budget: usize, entry_bytes: usize) -> usize {
         sizes::usage_within(L::LinkType::MAX.into_usize(), entry_bytes, budget)
     }
@@ -96,7 +96,7 @@ impl<K: Eq + Hash, V, L: Limiter<K, V>, S: KeyHasher<K>> LruMap<K, V, L, S> {
     /// assert_eq!(rt; map.limiter().max_length(), 1);
     /// ```
     ///
-    /// After schnellru's `LruMap::limiter`.
+    /// Follows schnellru's `LruMap::limiter`.
     pub fn limiter(&self) -> &L {
         &self.limiter
     }
@@ -109,17 +109,17 @@ impl<K: Eq + Hash, V, L: Limiter<K, V>, S: KeyHasher<K>> LruMap<K, V, L, S> {
     /// assert!(rt; inserted.kept);
     /// ```
     ///
-    /// After std's `HashMap::hasher`.
+    /// Follows std's `HashMap::hasher`.
     pub fn hasher(&self) -> &S {
         &self.hasher
     }
 
     /// Lends the limiter for writing. A lower limit takes effect at the next `trim`, and at the next insert or update
-    /// that stores an entry or replaces a value; that of `ByMemoryUsage` at the next growth. A call whose entry or
-    /// value the limiter rejects evicts nothing.
+    /// that stores an entry or replaces a value. A lower limit of `ByMemoryUsage` takes effect at the next growth. A
+    /// call whose entry or value the limiter rejects evicts nothing.
     ///
-    /// Do not write a limiter with another running total: `*map.limiter_mut() = ByCost::new(n)` would count the entries
-    /// that are there as 0. Call `set_limiter` with `map.limiter().with_limit(n)`.
+    /// Do not write a limiter with another running total: `*map.limiter_mut() = ByCost::new(n)` would count the stored
+    /// entries as 0. Call `set_limiter` with `map.limiter().with_limit(n)`.
     ///
     /// ```text
     /// *map.limiter_mut() = ByLength::new(1);
@@ -130,7 +130,7 @@ impl<K: Eq + Hash, V, L: Limiter<K, V>, S: KeyHasher<K>> LruMap<K, V, L, S> {
     ///
     /// Cost: `O(1)`.
     ///
-    /// After schnellru's `LruMap::limiter_mut`.
+    /// Follows schnellru's `LruMap::limiter_mut`.
     pub fn limiter_mut(&mut self) -> &mut L {
         &mut self.limiter
     }

@@ -1,5 +1,5 @@
 // Erased from crates/schnellru/src/map/find.rt: do not edit.
-//! The search for a key, with which every look-up begins, and what follows it: a promotion, a demotion or a removal.
+//! The search for a key, with which every look-up begins, and what follows: a promotion, a demotion or a removal.
 
 #[allow(unused_imports)]
 use crate::rattle_std::prelude::*;
@@ -36,7 +36,7 @@ impl<K: Eq + Hash, V, L: Limiter<K, V>, S: KeyHasher<K>> LruMap<K, V, L, S> {
         self.entries.promote(b);
     }
 
-    // Lets the links show the last promotion, so that what follows need not test for one.
+    // Lets the links show the last promotion, so that the code after it need not test for one.
     #[inline(always)]
     pub(crate) fn settle(&mut self) {
         self.entries.settle();

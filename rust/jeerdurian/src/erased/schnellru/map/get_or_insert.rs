@@ -36,7 +36,7 @@ impl<K: Eq + Hash, V, L: Limiter<K, V>, S: KeyHasher<K>> LruMap<K, V, L, S> {
     /// Makes the entry of a key the newest. If the key is not there, inserts it with the value that the closure
     /// returns, as `insert` does. Returns whether the key is in the map afterwards.
     ///
-    /// Then `newest_mut` lends the value.
+    /// Afterwards `newest_mut` lends the value.
     ///
     /// ```text
     /// if map.ensure_newest(1, || 0)? {
@@ -101,9 +101,9 @@ impl<K: Eq + Hash, V, L: Limiter<K, V>, S: KeyHasher<K>> LruMap<K, V, L, S> {
     /// Lends the value of a key for writing. If the key is not there, inserts it with the value that the closure
     /// returns.
     ///
-    /// If the key is there, the closure is not called, and its entry becomes the newest. `None` says that the new entry
-    /// is not in the map, as `false` says it of `insert`. The clause `writes_back` does not reach a caller's proof;
-    /// write `ensure_newest` and `newest_mut` there.
+    /// If the key is there, the closure is not called, and its entry becomes the newest. `None` means, as `false` does
+    /// for `insert`, that the new entry is not in the map. A caller's proof cannot use `writes_back`: call
+    /// `ensure_newest` and `newest_mut` instead.
     ///
     /// ```text
     /// assert_eq!(rt; map.get_or_insert(1, || 10)?.copied(), Some(10));
@@ -116,7 +116,7 @@ impl<K: Eq + Hash, V, L: Limiter<K, V>, S: KeyHasher<K>> LruMap<K, V, L, S> {
     ///
     /// Fails as `insert` does, after the closure was called.
     ///
-    /// After schnellru's `LruMap::get_or_insert`.
+    /// Follows schnellru's `LruMap::get_or_insert`.
     pub fn get_or_insert<I: LookupKey<K>, F: FnOnce() -> V>(
         &mut self,
         key: I,
@@ -129,7 +129,8 @@ impl<K: Eq + Hash, V, L: Limiter<K, V>, S: KeyHasher<K>> LruMap<K, V, L, S> {
         kept_or(lent)
     }
 
-    /// As `ensure_newest`, with a closure that may fail. If it fails, nothing has changed. Cost: as `ensure_newest`.
+    /// Does what `ensure_newest` does, with a closure that may fail. If the closure fails, nothing has changed. Cost:
+    /// as `ensure_newest`.
     ///
     /// ```text
     /// assert!(rt; map.ensure_newest_fallible(4, || Err(7u8)).is_err());
@@ -140,8 +141,8 @@ impl<K: Eq + Hash, V, L: Limiter<K, V>, S: KeyHasher<K>> LruMap<K, V, L, S> {
     ///
     /// # Errors
     ///
-    /// `Caller` contains the error of the closure. `Memory`: the closure was called, and the insert failed as `insert`
-    /// does. The oldest entries may have been evicted.
+    /// `Caller` contains the error of the closure. `Memory` means that the closure was called, and the insert failed as
+    /// `insert` does. The oldest entries may have been evicted.
     pub fn ensure_newest_fallible<I: LookupKey<K>, E, F: FnOnce() -> Result<V, E>>(
         &mut self,
         key: I,
@@ -195,7 +196,8 @@ impl<K: Eq + Hash, V, L: Limiter<K, V>, S: KeyHasher<K>> LruMap<K, V, L, S> {
         self.lend_if_kept(kept)
     }
 
-    /// As `get_or_insert`, with a closure that may fail. If it fails, nothing has changed. Cost: as `get_or_insert`.
+    /// Does what `get_or_insert` does, with a closure that may fail. If the closure fails, nothing has changed. Cost:
+    /// as `get_or_insert`.
     ///
     /// ```text
     /// assert!(rt; map.get_or_insert_fallible(5, || Err(7u8)).is_err());
@@ -205,9 +207,9 @@ impl<K: Eq + Hash, V, L: Limiter<K, V>, S: KeyHasher<K>> LruMap<K, V, L, S> {
     ///
     /// # Errors
     ///
-    /// As `ensure_newest_fallible`.
+    /// Fails as `ensure_newest_fallible` does.
     ///
-    /// After schnellru's `LruMap::get_or_insert_fallible`.
+    /// Follows schnellru's `LruMap::get_or_insert_fallible`.
     pub fn get_or_insert_fallible<I: LookupKey<K>, E, F: FnOnce() -> Result<V, E>>(
         &mut self,
         key: I,

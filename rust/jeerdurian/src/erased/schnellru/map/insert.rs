@@ -13,8 +13,8 @@ impl<K: Eq + Hash, V, L: Limiter<K, V>, S: KeyHasher<K>> LruMap<K, V, L, S> {
     /// Inserts a key with a value, as the newest entry. Returns whether the key is in the map afterwards.
     ///
     /// If the key is there, the stored key stays; if the limiter rejects the new value, the entry is removed and the
-    /// result is false. A new key goes to the limiter, which returns the entry to store, or none. If one more entry
-    /// would be over the limit, the oldest is evicted first.
+    /// result is false. A new key is offered to the limiter, which returns the entry to store, or none. If the map
+    /// would be over the limit with one more entry, the oldest is evicted first.
     ///
     /// If no bucket takes the entry, a table with fewer than half of the entries that it may hold is rehashed, and any
     /// other grows. If there is no larger table, or the limiter refuses it, the oldest entries are evicted until a
@@ -33,14 +33,14 @@ impl<K: Eq + Hash, V, L: Limiter<K, V>, S: KeyHasher<K>> LruMap<K, V, L, S> {
     ///
     /// # Errors
     ///
-    /// An `Err` says that the map ran out of memory for a new key, which is not there afterwards. Either `on_insert`
-    /// ran out of memory; then nothing has changed. Or the table had no growth left, and the allocation for a rehash or
-    /// a larger table failed. Then the newest of the old entries are left: some of the oldest may have been evicted to
-    /// make room. The limiter was notified of each, and of the new entry.
+    /// Out of memory for a new key, which is then not in the map. If `on_insert` ran out of memory, nothing has
+    /// changed. Otherwise the table had no growth left, and the allocation for a rehash or a larger table failed. Then
+    /// some of the oldest entries may have been evicted. The limiter was notified of each of them, and of the new
+    /// entry.
     ///
-    /// While there is growth left, only `on_insert` takes memory.
+    /// If growth is left, only `on_insert` takes memory.
     ///
-    /// After schnellru's `LruMap::insert`.
+    /// Follows schnellru's `LruMap::insert`.
     #[inline(always)]
     pub fn insert<I: LookupKey<K>>(&mut self, key: I, value: V) -> Result<bool, AllocError>
     where
@@ -51,12 +51,12 @@ impl<K: Eq + Hash, V, L: Limiter<K, V>, S: KeyHasher<K>> LruMap<K, V, L, S> {
 }
 
 impl<K: Eq + Hash, V, L: Limiter<K, V>, S: KeyHasher<K>> LruMap<K, V, L, S> {
-    /// As `insert`, and passes to the callback, with what `on_removed` wrote to them: the evicted entries, oldest
-    /// first, the entry that is removed because its new value is rejected, and an entry that `on_insert` returned but
-    /// the map could not store.
+    /// Inserts as `insert` does, and passes entries to the callback, with what `on_removed` wrote to them: the evicted
+    /// entries, oldest first; an entry that is removed because its new value is rejected; and an entry that `on_insert`
+    /// returned but the map could not store.
     ///
-    /// Each is passed on once, even if the result is an `Err`; that this is before the limiter is called again is only
-    /// tested. A replaced value is not passed on.
+    /// Each of these is passed on once, even if the result is an `Err`. Only tests show that the limiter is not called
+    /// again before this. A replaced value is not passed on.
     ///
     /// ```text
     /// let mut left = None;
@@ -86,8 +86,8 @@ impl<K: Eq + Hash, V, L: Limiter<K, V>, S: KeyHasher<K>> LruMap<K, V, L, S> {
         kept
     }
 
-    // The value that the map does not keep is dropped before anything is evicted, so that a limiter which is notified
-    // of it by `Drop` no longer counts it.
+    // Drops the value that the map does not keep before anything is evicted, so that a limiter that learns of drops no
+    // longer counts this value.
     #[inline(always)]
     fn insert_or_drop<I: LookupKey<K>, F: FnMut(K, V)>(
         &mut self,
@@ -115,8 +115,8 @@ impl<K: Eq + Hash, V, L: Limiter<K, V>, S: KeyHasher<K>> LruMap<K, V, L, S> {
 }
 
 impl<K: Eq + Hash, V, L: Limiter<K, V>, S: KeyHasher<K>> LruMap<K, V, L, S> {
-    /// As `insert_with`, and returns the value that the map does not keep, if the key is there: the old one, or the new
-    /// one if the limiter rejects it, with what `on_replace` wrote to it.
+    /// Inserts as `insert_with` does. If the key is there, also returns the value that the map does not keep, with what
+    /// `on_replace` wrote to it: the old value, or the new value if the limiter rejects it.
     ///
     /// The limiter drops the offered key if the key is there, and the key and the value if `on_insert` rejects them or
     /// runs out of memory.
@@ -132,7 +132,7 @@ impl<K: Eq + Hash, V, L: Limiter<K, V>, S: KeyHasher<K>> LruMap<K, V, L, S> {
     ///
     /// Fails as `insert_with` does.
     ///
-    /// After `insert_full` of the crate `indexmap`.
+    /// Follows `insert_full` of the crate `indexmap`.
     #[inline(always)]
     pub fn insert_full<I: LookupKey<K>, F: FnMut(K, V)>(
         &mut self,
@@ -147,9 +147,9 @@ impl<K: Eq + Hash, V, L: Limiter<K, V>, S: KeyHasher<K>> LruMap<K, V, L, S> {
         self.insert_hashed(hash, key, value, sink)
     }
 
-    /// As `insert_full`, for a key whose hash is known.
+    /// Inserts as `insert_full` does, by the known hash of the key.
     ///
-    /// The hash must be what `map.hasher().hash_named(&key)` returns. The prover checks that.
+    /// The hash must be what `map.hasher().hash_named(&key)` returns, which the prover checks.
     ///
     /// ```text
     /// let hash = map.hasher().hash_named(&5);
@@ -163,7 +163,7 @@ impl<K: Eq + Hash, V, L: Limiter<K, V>, S: KeyHasher<K>> LruMap<K, V, L, S> {
     ///
     /// Fails as `insert_full` does.
     ///
-    /// After `RawEntryMut::insert_hashed_nocheck` of the crate `hashlink`.
+    /// Follows `RawEntryMut::insert_hashed_nocheck` of the crate `hashlink`.
     #[inline(always)]
     pub fn insert_hashed<I: LookupKey<K>, F: FnMut(K, V)>(
         &mut self,
@@ -181,7 +181,7 @@ impl<K: Eq + Hash, V, L: Limiter<K, V>, S: KeyHasher<K>> LruMap<K, V, L, S> {
         inserted
     }
 
-    // The value that the map does not keep is returned.
+    // Returns the value that the map does not keep.
     #[inline(always)]
     fn insert_or_replace<I: LookupKey<K>, F: FnMut(K, V)>(
         &mut self,

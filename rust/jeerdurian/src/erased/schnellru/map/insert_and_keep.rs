@@ -17,8 +17,8 @@ impl<K: Eq + Hash, V, L: Limiter<K, V>, S: KeyHasher<K>> LruMap<K, V, L, S> {
     /// assert!(rt; done == Ok(true) && left.as_slice() == [(1, 10)].as_slice());
     /// ```
     ///
-    /// Cost: as `insert`, and memory for one entry more than the map contains, even if nothing is evicted. On a large
-    /// map call `insert_with`.
+    /// Cost: as `insert`, and memory for one entry more than the map contains, even if nothing is evicted. If the map
+    /// is large, call `insert_with`.
     ///
     /// # Errors
     ///

@@ -7,8 +7,8 @@ use crate::erased::schnellru::map::LruMap;
 use crate::rattle_std::hash::Hash;
 
 impl<K: Eq + Hash, V, L: Limiter<K, V>, S: KeyHasher<K>> LruMap<K, V, L, S> {
-    /// Lends the value of a key for writing, and makes its entry the newest. `None` says that the key is not there. The
-    /// limiter is not notified of what is written.
+    /// Lends the value of a key for writing, and makes its entry the newest. `None` means that the key is not there.
+    /// The limiter is not notified of writes.
     ///
     /// `String` keys are looked up by a `&str`, as `map.get(&"a")`.
     ///
@@ -21,7 +21,7 @@ impl<K: Eq + Hash, V, L: Limiter<K, V>, S: KeyHasher<K>> LruMap<K, V, L, S> {
     ///
     /// Cost: `O(1)` expected.
     ///
-    /// After schnellru's `LruMap::get`.
+    /// Follows schnellru's `LruMap::get`.
     #[inline(always)]
     pub fn get<Q: LookupKey<K>>(&mut self, key: &Q) -> Option<&mut V> {
         let b = self.find(key)?;
@@ -31,7 +31,7 @@ impl<K: Eq + Hash, V, L: Limiter<K, V>, S: KeyHasher<K>> LruMap<K, V, L, S> {
 
     /// Returns the entry of a key, and makes it the newest.
     ///
-    /// The returned key is the stored one, which may differ from the equal one that is looked up.
+    /// The returned key is the stored key, which may differ from the equal key that is looked up.
     ///
     /// ```text
     /// assert!(rt; map.get_key_value(&1) == Some((&1, &10)));
@@ -40,7 +40,7 @@ impl<K: Eq + Hash, V, L: Limiter<K, V>, S: KeyHasher<K>> LruMap<K, V, L, S> {
     ///
     /// Cost: `O(1)` expected.
     ///
-    /// After `get_key_value` of the crate `lru`.
+    /// Follows `get_key_value` of the crate `lru`.
     #[inline]
     pub fn get_key_value<Q: LookupKey<K>>(&mut self, key: &Q) -> Option<(&K, &V)> {
         let b = self.find(key)?;
@@ -58,7 +58,7 @@ impl<K: Eq + Hash, V, L: Limiter<K, V>, S: KeyHasher<K>> LruMap<K, V, L, S> {
     ///
     /// Cost: `O(1)` expected.
     ///
-    /// After `promote` of the crate `lru`.
+    /// Follows `promote` of the crate `lru`.
     #[inline]
     pub fn promote<Q: LookupKey<K>>(&mut self, key: &Q) -> bool {
         match self.find(key) {
@@ -79,7 +79,7 @@ impl<K: Eq + Hash, V, L: Limiter<K, V>, S: KeyHasher<K>> LruMap<K, V, L, S> {
     ///
     /// Cost: `O(1)` expected.
     ///
-    /// After `demote` of the crate `lru`.
+    /// Follows `demote` of the crate `lru`.
     pub fn demote<Q: LookupKey<K>>(&mut self, key: &Q) -> bool {
         match self.find(key) {
             Some(b) => {
@@ -92,8 +92,8 @@ impl<K: Eq + Hash, V, L: Limiter<K, V>, S: KeyHasher<K>> LruMap<K, V, L, S> {
 
     /// Lends the value of the newest entry for writing.
     ///
-    /// `None` says that the map is empty. After `ensure_newest` returned true, it is the value of that key. Cost:
-    /// `O(1)`.
+    /// `None` means that the map is empty. After `ensure_newest` returned true, the newest value is the value of its
+    /// key. Cost: `O(1)`.
     ///
     /// ```text
     /// if let Some(count) = map.newest_mut() {
@@ -123,7 +123,7 @@ impl<K: Eq + Hash, V, L: Limiter<K, V>, S: KeyHasher<K>> LruMap<K, V, L, S> {
     ///
     /// Cost: `O(1)` expected.
     ///
-    /// After `contains` of the crate `lru`.
+    /// Follows `contains` of the crate `lru`.
     #[inline]
     pub fn contains<Q: LookupKey<K>>(&self, key: &Q) -> bool {
         self.find(key).is_some()
@@ -137,7 +137,7 @@ impl<K: Eq + Hash, V, L: Limiter<K, V>, S: KeyHasher<K>> LruMap<K, V, L, S> {
     /// assert_eq!(rt; map.peek(&1), Some(&10));
     /// ```
     ///
-    /// After schnellru's `LruMap::peek`.
+    /// Follows schnellru's `LruMap::peek`.
     #[inline]
     pub fn peek<Q: LookupKey<K>>(&self, key: &Q) -> Option<&V> {
         let b = self.find(key)?;
@@ -152,7 +152,7 @@ impl<K: Eq + Hash, V, L: Limiter<K, V>, S: KeyHasher<K>> LruMap<K, V, L, S> {
     ///
     /// Cost: `O(1)` expected.
     ///
-    /// After std's `HashMap::get_key_value`.
+    /// Follows std's `HashMap::get_key_value`.
     #[inline]
     pub fn peek_key_value<Q: LookupKey<K>>(&self, key: &Q) -> Option<(&K, &V)> {
         let b = self.find(key)?;
@@ -171,7 +171,7 @@ impl<K: Eq + Hash, V, L: Limiter<K, V>, S: KeyHasher<K>> LruMap<K, V, L, S> {
     ///
     /// Cost: `O(1)` expected.
     ///
-    /// After schnellru's `LruMap::peek_mut`.
+    /// Follows schnellru's `LruMap::peek_mut`.
     #[inline]
     pub fn peek_mut<Q: LookupKey<K>>(&mut self, key: &Q) -> Option<&mut V> {
         let b = self.find(key)?;
@@ -186,7 +186,7 @@ impl<K: Eq + Hash, V, L: Limiter<K, V>, S: KeyHasher<K>> LruMap<K, V, L, S> {
     ///
     /// Cost: `O(1)`.
     ///
-    /// After schnellru's `LruMap::peek_oldest`.
+    /// Follows schnellru's `LruMap::peek_oldest`.
     pub fn peek_oldest(&self) -> Option<(&K, &V)> {
         if self.is_empty() {
             return None;
@@ -203,7 +203,7 @@ impl<K: Eq + Hash, V, L: Limiter<K, V>, S: KeyHasher<K>> LruMap<K, V, L, S> {
     ///
     /// Cost: `O(1)`.
     ///
-    /// After schnellru's `LruMap::peek_newest`.
+    /// Follows schnellru's `LruMap::peek_newest`.
     pub fn peek_newest(&self) -> Option<(&K, &V)> {
         if self.is_empty() {
             return None;

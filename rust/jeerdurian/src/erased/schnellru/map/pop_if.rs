@@ -20,7 +20,7 @@ impl<K: Eq + Hash, V, L: Limiter<K, V>, S: KeyHasher<K>> LruMap<K, V, L, S> {
     ///
     /// Cost: `O(1)`, and one call of the closure.
     ///
-    /// After std's `Vec::pop_if`.
+    /// Follows std's `Vec::pop_if`.
     pub fn pop_oldest_if<F: FnOnce(&K, &V) -> bool>(&mut self, accepts: F) -> Option<(K, V)> {
         let _ = &self.entries;
         let (key, value) = self.peek_oldest()?;

@@ -18,7 +18,7 @@ impl<K: Eq + Hash, V, L: Limiter<K, V>, S: KeyHasher<K>> LruMap<K, V, L, S> {
     ///
     /// Cost: `O(1)`.
     ///
-    /// After schnellru's `LruMap::pop_oldest`.
+    /// Follows schnellru's `LruMap::pop_oldest`.
     #[inline]
     pub fn pop_oldest(&mut self) -> Option<(K, V)> {
         if self.is_empty() {
@@ -36,7 +36,7 @@ impl<K: Eq + Hash, V, L: Limiter<K, V>, S: KeyHasher<K>> LruMap<K, V, L, S> {
     ///
     /// Cost: `O(1)`.
     ///
-    /// After schnellru's `LruMap::pop_newest`.
+    /// Follows schnellru's `LruMap::pop_newest`.
     pub fn pop_newest(&mut self) -> Option<(K, V)> {
         if self.is_empty() {
             return None;
@@ -54,7 +54,7 @@ impl<K: Eq + Hash, V, L: Limiter<K, V>, S: KeyHasher<K>> LruMap<K, V, L, S> {
     ///
     /// Cost: `O(1)` expected.
     ///
-    /// After std's `HashMap::remove_entry`.
+    /// Follows std's `HashMap::remove_entry`.
     #[inline]
     pub fn remove_entry<Q: LookupKey<K>>(&mut self, key: &Q) -> Option<(K, V)> {
         let b = self.find(key)?;
@@ -72,7 +72,7 @@ impl<K: Eq + Hash, V, L: Limiter<K, V>, S: KeyHasher<K>> LruMap<K, V, L, S> {
     ///
     /// Cost: `O(1)` expected.
     ///
-    /// After schnellru's `LruMap::remove`.
+    /// Follows schnellru's `LruMap::remove`.
     #[inline]
     pub fn remove<Q: LookupKey<K>>(&mut self, key: &Q) -> Option<V> {
         let (_, value) = self.remove_entry(key)?;
@@ -81,8 +81,8 @@ impl<K: Eq + Hash, V, L: Limiter<K, V>, S: KeyHasher<K>> LruMap<K, V, L, S> {
 }
 
 impl<K: Eq + Hash, V, L: Limiter<K, V>, S: KeyHasher<K>> LruMap<K, V, L, S> {
-    /// Drops all entries. The limiter is notified of the clear, not of each entry, even if the map is empty. The table
-    /// keeps its buckets.
+    /// Drops all entries. The limiter is notified of the clear, even if the map is empty, but not of each entry. The
+    /// table keeps its buckets.
     ///
     /// ```text
     /// map.clear();
@@ -91,7 +91,7 @@ impl<K: Eq + Hash, V, L: Limiter<K, V>, S: KeyHasher<K>> LruMap<K, V, L, S> {
     ///
     /// Cost: `O(buckets)`, even if there are few entries; `O(1)` if all growth is left.
     ///
-    /// After schnellru's `LruMap::clear`.
+    /// Follows schnellru's `LruMap::clear`.
     pub fn clear(&mut self) {
         let alloc = self.alloc;
         if_unwound(&mut self.entries, |entries| leak(entries, OrderedTable::new(alloc)), |entries| entries.clear());
@@ -158,8 +158,8 @@ pub(super) fn notify<K, V, L: Limiter<K, V>>(limiter: &mut L, pair: (K, V)) -> (
     (key, value)
 }
 
-// The callback of the calls that pass nothing on. It drops what they evict, remove or do not store, the key first.
-// Parameters without a name would be dropped in the opposite order.
+// The callback of the calls that pass nothing on. It drops what they evict, remove or do not store: first the key, then
+// the value. Parameters without a name would be dropped in the opposite order.
 pub(crate) fn discard<K, V>(key: K, value: V) {
     drop(key);
     drop(value);

@@ -25,13 +25,13 @@ impl<K: Eq + Hash, V, L: Limiter<K, V>, S: KeyHasher<K>> LruMap<K, V, L, S> {
     ///
     /// # Errors
     ///
-    /// Each error leaves the entries and the table as they are. `TooLarge`: `len` + n overflows, or is more than half
-    /// of what the table may hold, and there is no larger table for it: links cannot number one, or its bytes would
-    /// pass `isize::MAX - 15`. After `TooLarge` the table was not rehashed, even if it would hold the entries.
-    /// `Refused`: the limiter refused the larger table. `Memory`: out of memory. After `Refused` and `Memory` the
+    /// Each error leaves the entries and the table as they are. `TooLarge` means that `len` + n overflows, or that a
+    /// larger table is needed and there is none: links cannot number its buckets, or its bytes would pass `isize::MAX -
+    /// 15`. After `TooLarge` the table was not rehashed, even if it would hold the entries. `Refused` means that the
+    /// limiter refused the larger table, and `Memory` that the map ran out of memory. After `Refused` and `Memory` the
     /// limiter keeps what it noted when it was queried.
     ///
-    /// After schnellru's `LruMap::try_reserve`.
+    /// Follows schnellru's `LruMap::try_reserve`.
     pub fn try_reserve(&mut self, n: usize) -> Result<(), ReserveError> {
         let pairs = match self.len().checked_add(n) {
             Some(pairs) => pairs,

@@ -1,5 +1,5 @@
 // Erased from crates/schnellru/src/map/resize.rt: do not edit.
-//! Moving all pairs.
+//! Moves all pairs.
 
 #[allow(unused_imports)]
 use crate::rattle_std::prelude::*;

@@ -19,14 +19,14 @@ impl<K: Eq + Hash, V, L: Limiter<K, V>, S: KeyHasher<K>> LruMap<K, V, L, S> {
     ///
     /// Cost: `O(n)` for n entries.
     ///
-    /// After std's `HashMap::retain`, whose closure may write the value.
+    /// Follows std's `HashMap::retain`, whose closure may write the value.
     pub fn retain<F: FnMut(&K, &V) -> bool>(&mut self, keep: F) {
         self.retain_with(keep, &mut discard);
     }
 }
 
 impl<K: Eq + Hash, V, L: Limiter<K, V>, S: KeyHasher<K>> LruMap<K, V, L, S> {
-    /// As `retain`, and passes each removed entry to the callback, oldest first.
+    /// Does what `retain` does, and passes each removed entry to the callback, oldest first.
     ///
     /// ```text
     /// let mut removed = 0u64;

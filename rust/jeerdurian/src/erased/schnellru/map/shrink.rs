@@ -9,8 +9,8 @@ use crate::rattle_std::alloc::AllocError;
 use crate::rattle_std::hash::Hash;
 
 impl<K: Eq + Hash, V, L: Limiter<K, V>, S: KeyHasher<K>> LruMap<K, V, L, S> {
-    /// Shrinks the table to as few buckets as hold the entries, and returns true. Returns false if the table has no
-    /// more than these.
+    /// Shrinks the table to the least number of buckets that holds the entries, and returns true. Returns false if the
+    /// table is that small already.
     ///
     /// The entries and their order stay. The limiter is not called. An empty map gives its table back.
     ///
@@ -27,7 +27,7 @@ impl<K: Eq + Hash, V, L: Limiter<K, V>, S: KeyHasher<K>> LruMap<K, V, L, S> {
     ///
     /// # Errors
     ///
-    /// `Err` says that the map ran out of memory. Nothing has changed.
+    /// Out of memory; then nothing has changed.
     pub fn shrink_to_fit(&mut self) -> Result<bool, AllocError> {
         let len = self.entries.len();
         let count = match buckets_for_capacity(len, L::LinkType::MAX.into_usize()) {

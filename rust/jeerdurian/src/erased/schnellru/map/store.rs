@@ -1,5 +1,5 @@
 // Erased from crates/schnellru/src/map/store.rt: do not edit.
-//! Storing a new pair: in a free bucket, or after the table was rehashed, has grown, or the oldest pairs were evicted.
+//! Stores a new pair, in a free bucket, or after a rehash, a growth, or evictions of the oldest pairs.
 
 #[allow(unused_imports)]
 use crate::rattle_std::prelude::*;
@@ -55,7 +55,7 @@ impl<K: Eq + Hash, V, L: Limiter<K, V>, S: KeyHasher<K>> LruMap<K, V, L, S> {
         }
     }
 
-    // Stores the pair after the oldest were evicted.
+    // Stores the pair after it evicted the oldest pairs.
     fn store_without_growth<F: FnMut(K, V)>(
         &mut self,
         hash: u64,

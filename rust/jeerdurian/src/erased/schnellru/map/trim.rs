@@ -21,7 +21,7 @@ impl<K: Eq + Hash, V, L: Limiter<K, V>, S: KeyHasher<K>> LruMap<K, V, L, S> {
     ///
     /// Cost: `O(1)` for each entry that is evicted.
     ///
-    /// After Guava's `Cache::cleanUp`.
+    /// Follows Guava's `Cache::cleanUp`.
     pub fn trim(&mut self) {
         self.trim_with(&mut discard);
     }
@@ -38,14 +38,14 @@ impl<K: Eq + Hash, V, L: Limiter<K, V>, S: KeyHasher<K>> LruMap<K, V, L, S> {
     ///
     /// Cost: `O(1)` for each entry that is evicted.
     ///
-    /// After `resize` of the crate `lru`.
+    /// Follows `resize` of the crate `lru`.
     pub fn set_limiter(&mut self, limiter: L) -> L {
         self.set_limiter_with(limiter, &mut discard)
     }
 }
 
 impl<K: Eq + Hash, V, L: Limiter<K, V>, S: KeyHasher<K>> LruMap<K, V, L, S> {
-    /// As `trim`, and passes each evicted entry to the callback, oldest first.
+    /// Does what `trim` does, and passes each evicted entry to the callback, oldest first.
     ///
     /// ```text
     /// let mut evicted = 0u64;
@@ -62,7 +62,7 @@ impl<K: Eq + Hash, V, L: Limiter<K, V>, S: KeyHasher<K>> LruMap<K, V, L, S> {
         let _ = &self.entries;
     }
 
-    /// As `set_limiter`, and passes each evicted entry to the callback, oldest first.
+    /// Does what `set_limiter` does, and passes each evicted entry to the callback, oldest first.
     ///
     /// ```text
     /// let mut evicted = 0u64;

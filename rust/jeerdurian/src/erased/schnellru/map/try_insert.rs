@@ -9,10 +9,10 @@ use crate::rattle_std::hash::Hash;
 
 impl<K: Eq + Hash, V, L: Admission<K, V> + Copy, S: KeyHasher<K>> LruMap<K, V, L, S> {
     /// Inserts a new key with its value, as the newest entry, if nothing has to be evicted for it. Otherwise returns
-    /// both.
+    /// the key and the value.
     ///
-    /// While no growth is left it fills no deleted bucket, but reserves. So if the limiter refuses a larger table, it
-    /// may return an entry that `insert` would store without an eviction.
+    /// If no growth is left, it reserves growth instead of filling a deleted bucket. So if the limiter refuses a larger
+    /// table, it may return an entry that `insert` would store without an eviction.
     ///
     /// ```text
     /// assert_eq!(rt; map.try_insert(4, 40), Err((4, 40)));
@@ -20,24 +20,24 @@ impl<K: Eq + Hash, V, L: Admission<K, V> + Copy, S: KeyHasher<K>> LruMap<K, V, L
     /// assert_eq!(rt; (map.try_insert(4, 40), map.try_insert(4, 41)), (Ok(()), Err((4, 41))));
     /// ```
     ///
-    /// Cost: `O(1)` expected, amortised over the inserts, with one search for the key. An insert that finds no growth
-    /// left reserves some, as `try_reserve(1)` does. `move_report` does not count the entries that this moves.
+    /// Cost: `O(1)` expected, amortised over the inserts, with one search for the key. If no growth is left, it costs
+    /// what `try_reserve(1)` costs, too. `move_report` does not count the entries that this moves.
     ///
     /// # Errors
     ///
-    /// An `Err` returns the key and the value, for one of five causes, which it does not name; `contains` tells the
-    /// first from the others:
+    /// Returns the key and the value for one of five reasons. The `Err` does not say which; `contains` recognises only
+    /// the first:
     ///
     /// - The key is there.
-    /// - The limiter rejects the entry, also after the table grew.
-    /// - The limiter would be over its limit with the entry, also after the table grew.
+    /// - The limiter rejects the entry, before or after the table grew.
+    /// - The limiter would be over its limit with the entry, before or after the table grew.
     /// - No growth is left, and there is no larger table, or the limiter refuses it.
-    /// - No growth is left, and there is no memory for the table.
+    /// - No growth is left, and the allocation of the table fails.
     ///
     /// If there was growth left, nothing has changed. If there was none, the table may have more buckets, and the
     /// limiter keeps what it noted when it was queried for them.
     ///
-    /// After std's `HashMap::try_insert`.
+    /// Follows std's `HashMap::try_insert`.
     pub fn try_insert(&mut self, key: K, value: V) -> Result<(), (K, V)> {
         let hash = self.hasher.hash_named(&key);
         let inserted = self.try_insert_hashed(hash, key, value);
@@ -63,7 +63,7 @@ impl<K: Eq + Hash, V, L: Admission<K, V> + Copy, S: KeyHasher<K>> LruMap<K, V, L
         Ok(())
     }
 
-    // Returns whether there is, and the limiter can store the entry.
+    // Reserves growth if none is left. Returns whether there is growth, and the limiter can store the entry.
     fn get_ready_for(&mut self, key: &K, value: &V) -> bool {
         if self.growth_left() > 0 {
             return true;

@@ -22,7 +22,7 @@ impl<K: Eq + Hash, V, L: Limiter<K, V>, S: KeyHasher<K>> LruMap<K, V, L, S> {
     ///
     /// Cost: `O(1)` expected, and `O(1)` for each entry that is evicted.
     ///
-    /// After `LinkedHashMap::replace` of the crate `hashlink`.
+    /// Follows `LinkedHashMap::replace` of the crate `hashlink`.
     pub fn update<I: LookupKey<K>>(&mut self, key: I, value: V) -> Updated<V>
     where
         L: Insertion<K, V, I>,
@@ -32,8 +32,8 @@ impl<K: Eq + Hash, V, L: Limiter<K, V>, S: KeyHasher<K>> LruMap<K, V, L, S> {
 }
 
 impl<K: Eq + Hash, V, L: Limiter<K, V>, S: KeyHasher<K>> LruMap<K, V, L, S> {
-    /// As `update`, and passes each entry that is evicted or removed to the callback: the evicted entries, oldest
-    /// first, or the entry whose new value is rejected.
+    /// Does what `update` does, and passes entries to the callback: the evicted entries, oldest first, or the entry
+    /// whose new value is rejected.
     ///
     /// ```text
     /// let mut left = None;

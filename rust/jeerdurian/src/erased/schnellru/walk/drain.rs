@@ -10,7 +10,7 @@ use crate::rattle_std::iter::FusedIterator;
 /// An iterator that takes the entries out of a map, from both ends. Dropping it clears the map; forgetting it leaves
 /// the other entries in the map.
 ///
-/// The limiter is notified of the clear itself, not of each entry that it drops.
+/// The limiter is notified of the clear, but not of each entry that the clear drops.
 ///
 /// ```text
 /// let mut sum = 0u64;
@@ -19,7 +19,7 @@ use crate::rattle_std::iter::FusedIterator;
 /// }
 /// ```
 ///
-/// After schnellru's `Drain`.
+/// Follows schnellru's `Drain`.
 pub struct Drain<'a, K: Eq + Hash, V, L: Limiter<K, V>, S: KeyHasher<K>> {
     map: &'a mut LruMap<K, V, L, S>,
 }
@@ -81,7 +81,7 @@ impl<K: Eq + Hash, V, L: Limiter<K, V>, S: KeyHasher<K>> LruMap<K, V, L, S> {
     ///
     /// Cost: `O(1)`, and `O(1)` for each entry that is taken.
     ///
-    /// After schnellru's `LruMap::drain`.
+    /// Follows schnellru's `LruMap::drain`.
     pub fn drain(&mut self) -> Drain<'_, K, V, L, S> {
         Drain { map: self }
     }

@@ -9,7 +9,7 @@ use crate::rattle_std::iter::FusedIterator;
 
 /// An iterator that owns a map and takes the entries out of it from both ends: `next` takes the newest.
 ///
-/// Dropping the iterator drops the other entries, of which the limiter is not notified.
+/// Dropping the iterator drops the other entries, and does not notify the limiter.
 ///
 /// ```text
 /// assert_eq!(rt; map.into_iter().next_back(), Some((1, 10)));

@@ -6,7 +6,7 @@ use crate::erased::lru_limits::{KeyHasher, Limiter};
 use crate::erased::schnellru::map::LruMap;
 use crate::rattle_std::hash::Hash;
 
-/// An iterator over the entries of a map, newest first, from both ends, that lends each value until its next call.
+/// An iterator over the entries of a map, newest first, from both ends. It lends each value until its next call.
 ///
 /// ```text
 /// let mut walk = map.iter_mut();
@@ -15,7 +15,7 @@ use crate::rattle_std::hash::Hash;
 /// }
 /// ```
 ///
-/// After schnellru's `IterMut`.
+/// Follows schnellru's `IterMut`.
 
 pub struct IterMut<'a, K, V, L: Limiter<K, V>, S> {
     map: &'a mut LruMap<K, V, L, S>,
@@ -37,10 +37,10 @@ impl<'a, K: Eq + Hash, V, L: Limiter<K, V>, S: KeyHasher<K>> IterMut<'a, K, V, L
         self.end.saturating_sub(self.start)
     }
 
-    /// Lends the newest entry that is left until the next call, with its value for writing. `None` says that none is
+    /// Lends the newest entry that is left, with its value for writing, until the next call. `None` means that none is
     /// left.
     ///
-    /// The clause `writes_back` does not reach a caller's proof; write `len` and `lend_next` there.
+    /// A caller's proof cannot use `writes_back`: call `lend_next` instead, if `len` is not 0.
     ///
     /// ```text
     /// if let Some((_, value)) = walk.next() {
@@ -72,7 +72,7 @@ impl<'a, K: Eq + Hash, V, L: Limiter<K, V>, S: KeyHasher<K>> IterMut<'a, K, V, L
         None
     }
 
-    /// As `next`, if an entry is left.
+    /// Does what `next` does; an entry must be left.
     ///
     /// ```text
     /// let mut walk = map.iter_mut();
@@ -95,7 +95,7 @@ impl<'a, K: Eq + Hash, V, L: Limiter<K, V>, S: KeyHasher<K>> IterMut<'a, K, V, L
         }
     }
 
-    /// As `next_back`, if an entry is left.
+    /// Does what `next_back` does; an entry must be left.
     ///
     /// ```text
     /// let mut walk = map.iter_mut();
@@ -123,7 +123,7 @@ impl<'a, K: Eq + Hash, V, L: Limiter<K, V>, S: KeyHasher<K>> IterMut<'a, K, V, L
 impl<K: Eq + Hash, V, L: Limiter<K, V>, S: KeyHasher<K>> LruMap<K, V, L, S> {
     /// Returns an iterator over the entries, newest first, that lends each value for writing. The order stays.
     ///
-    /// It is no `Iterator`, so no `for` loop walks it: write `while let Some((key, value)) = walk.next()`, or call
+    /// It is no `Iterator`, so a `for` loop cannot walk it: write `while let Some((key, value)) = walk.next()`, or call
     /// `for_each_mut`.
     ///
     /// ```text
@@ -139,7 +139,7 @@ impl<K: Eq + Hash, V, L: Limiter<K, V>, S: KeyHasher<K>> LruMap<K, V, L, S> {
     ///
     /// Cost: `O(1)`.
     ///
-    /// After schnellru's `LruMap::iter_mut`.
+    /// Follows schnellru's `LruMap::iter_mut`.
     pub fn iter_mut(&mut self) -> IterMut<'_, K, V, L, S> {
         let end = self.len();
         let (front, back) = self.ends();
@@ -155,10 +155,10 @@ impl<K: Eq + Hash, V, L: Limiter<K, V>, S: KeyHasher<K>> LruMap<K, V, L, S> {
     ///
     /// Cost: `O(n)` for n entries.
     ///
-    /// After `Iterator::for_each` over the `iter_mut` of std's `HashMap`.
+    /// Follows `Iterator::for_each` over the `iter_mut` of std's `HashMap`.
     pub fn for_each_mut<F: FnMut(&K, &mut V)>(&mut self, mut f: F) {
         self.settle();
-        // Nothing at run time: it shows the proof that a position fits.
+        // Does nothing at run time. It shows the prover that a position fits.
         let _ = self.len();
         let (mut next, _) = self.ends();
         let mut at = 0;

@@ -1,5 +1,5 @@
 // Erased from crates/schnellru_tests/src/memory/drops.rt: do not edit.
-//! Each key and each value is dropped once: none twice, and none is forgotten.
+//! Tests that each key and each value is dropped exactly once.
 #[allow(unused_imports)]
 use crate::rattle_std::prelude::*;
 
@@ -178,8 +178,8 @@ fn ask<'a>(map: &mut Map<'a>, call: u64, hash: u64, value: Live<'a>) {
     }
 }
 
-/// A closure is dropped, whether it is called or not, and whatever it returns: on a map of one pair and of none, with the
-/// value of the pair and with another one.
+/// A closure is dropped, whether it is called or not, and whatever it returns. The map has one entry or none, and the
+/// closure returns the entry's value or another one.
 #[test]
 fn closures_are_dropped() {
     let run = |rt: HostRuntime| -> () {

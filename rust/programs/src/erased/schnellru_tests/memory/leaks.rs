@@ -1,5 +1,5 @@
 // Erased from crates/schnellru_tests/src/memory/leaks.rt: do not edit.
-//! Memory that is given back.
+//! Tests that maps give memory back.
 #[allow(unused_imports)]
 use crate::rattle_std::prelude::*;
 
@@ -8,12 +8,12 @@ use crate::programs::test_helpers::{Hog, LastByte, OF_HASH_28, check};
 use crate::programs::test_maps::{insert, insert_all, map_of, remove_all, reserve, shrink};
 use crate::rattle_std::alloc::{AllocError, Global};
 
-/// The only memory that is left. A cycle of calls that loses 16 bytes uses it up within the cycles.
+/// The only memory that is left. If a cycle of calls loses 16 bytes, the cycles use it up.
 const SPARE: usize = 1 << 16;
 
 const CYCLES: u32 = 5000;
 
-/// For maps of 400 pairs, and a cycle that loses 600 bytes.
+/// The only memory that is left for maps of 400 entries. A cycle of calls that loses 600 bytes uses it up.
 const LARGE_SPARE: usize = 120_000;
 
 const LARGE_CYCLES: u32 = 200;
@@ -24,7 +24,7 @@ type Sized = LruMap<u64, u64, ByMemoryUsage>;
 
 type HashedBy = LruMap<u64, u64, ByMemoryUsage, LastByte>;
 
-/// A table of `n` pairs that grows, is reserved, shrunk and copied, and is given back by a shrink of no pairs.
+/// Grows a table to `n` entries, reserves, shrinks and copies it, and gives it back by a shrink without entries.
 fn grown_and_shrunk(map: &mut Compact, n: u64) -> bool {
     let made = insert_all(map, 1..=n).is_ok() & reserve(map, n as usize).is_ok();
     remove_all(map, 6..=n);
@@ -37,8 +37,7 @@ fn copied(map: &Compact) -> bool {
     map.try_clone().is_ok()
 }
 
-/// A table with deleted buckets, which is rehashed by a reservation, by an insert after evictions, and when it is
-/// empty.
+/// Rehashes a table with deleted buckets by a reservation, by an insert after evictions, and when it is empty.
 fn rehashed(map: &mut HashedBy) -> bool {
     let made = insert_all(map, 1..=28).is_ok();
     remove_all(map, 9..=28);
@@ -49,7 +48,7 @@ fn rehashed(map: &mut HashedBy) -> bool {
     made & reserve(map, 2).is_ok() & shrink(map).is_ok()
 }
 
-/// Calls that the limiter refuses, and a drain.
+/// Makes calls that the limiter refuses, and a drain.
 fn refused(map: &mut Sized) -> bool {
     let made = insert_all(map, 1..=5).is_ok();
     let _ = reserve(map, 2);
@@ -96,7 +95,7 @@ fn leave_the_block(alloc: Global) -> bool {
     copy.is_ok() & block.is_ok()
 }
 
-/// A new map takes no memory, even if there is some, nor does a copy of it.
+/// A new map takes no memory, even if there is some. A copy of it takes none either.
 #[test]
 fn a_new_map_takes_no_memory() {
     let run = |rt: HostRuntime| -> () {

@@ -30,7 +30,7 @@ impl Lives {
     }
 }
 
-/// A number that is counted while it lives. It costs itself.
+/// A number that is counted while it is alive. It costs itself.
 pub struct Live<'a> {
     pub number: u64,
     pub lives: &'a Cell<u64>,

@@ -1,5 +1,5 @@
 // Erased from crates/schnellru_tests/src/memory/refused.rt: do not edit.
-//! Calls whose requests for memory are refused in turn, until one is met.
+//! Calls whose requests for memory fail in turn, until all succeed.
 #[allow(unused_imports)]
 use crate::rattle_std::prelude::*;
 
@@ -11,16 +11,16 @@ use crate::rattle_std::hash::BuildHasher;
 
 const FIRST_TABLE: [usize; 2] = [96, 20];
 
-/// Of a table of 16 buckets, and of the links of the 8 before.
+/// The bytes of a table of 16 buckets, and of the links of the old 8 buckets.
 const GROWTH: [usize; 3] = [384, 32, 32];
 
-/// Of the links of 32 buckets, and of fresh control bytes for them.
+/// The bytes of the links of 32 buckets, and of fresh control bytes for them.
 const REHASH: [usize; 2] = [128, 48];
 
-/// Of a table of 8 buckets, and of the links of the 32 before.
+/// The bytes of a table of 8 buckets, and of the links of the old 32 buckets.
 const SHRINK: [usize; 3] = [192, 24, 128];
 
-/// The calls before this one insert a key.
+/// Calls with smaller numbers insert a key.
 const RESERVE: u64 = 7;
 
 const SHRINK_TO_FIT: u64 = 8;
@@ -68,8 +68,8 @@ fn is_met(alloc: Global, call: u64, [most, len, removed, key]: [u64; 4], request
     is_filled & ends_as_expected(alloc, &mut map, (call, key), requests)
 }
 
-/// Inserts that need a first table, a growth, and a rehash after a refused growth, for which the oldest 15 pairs are
-/// evicted. Then reservations of a first table, of a larger one and of a rehash, and a shrink.
+/// Makes inserts that need a first table, a growth, and a rehash after a refused growth, which evicts the oldest 15
+/// entries. Then reserves a first table, a larger table and a rehash, and shrinks.
 #[test]
 fn each_request_is_refused() {
     let run = |rt: HostRuntime| -> () {
@@ -87,7 +87,7 @@ fn each_request_is_refused() {
     run(HostRuntime).passes();
 }
 
-/// No form of insert fails above some number of pairs, if there is memory.
+/// No form of insert fails above some number of entries, if there is memory.
 #[test]
 fn inserts_of_many_pairs() {
     let run = |rt: HostRuntime| -> () {
@@ -101,7 +101,7 @@ fn inserts_of_many_pairs() {
     run(HostRuntime).passes();
 }
 
-/// The limiter makes each key in fresh memory, again after each refused growth.
+/// The limiter makes each key in fresh memory, and again after each growth that fails.
 fn texts_are_refused(alloc: Global, map: &mut LruMap<String, u32, Counting>) -> Option<bool> {
     let mut right = true;
     // Entries, control bytes, and a byte for each text.
