@@ -16,12 +16,12 @@ pub fn more_places_never_miss_more<K: Eq>() {}
 
 /// LRU is competitive, from any caches. Take any policy with h places, even one that knows the whole trace in advance,
 /// and an LRU cache of k ≥ h places. The policy begins with the keys `first`, and pays `paid` times. Each miss of LRU
-/// counts:
+/// counts.
 ///
-/// - If it stores each key that is referenced, and may load keys ahead, LRU misses at most k / (k + 1 - h) * paid +
-///   length first times (`loads`).
+/// - If the policy stores each key that is referenced, and may load keys ahead, LRU misses at most k / (k + 1 - h) *
+///   paid + length first times (`loads`).
 /// - The same bound holds for a demand policy, which pays only for its misses (`demands`).
-/// - If it need not store the key, LRU misses at most k / (k - h) * paid + length first times (`bypasses`).
+/// - If the policy need not store the key, LRU misses at most k / (k - h) * paid + length first times (`bypasses`).
 pub fn lru_is_competitive<K: Eq>() {}
 
 /// Loading keys ahead gains nothing: if a policy with h places that loads keys ahead pays `paid` times, some demand policy
