@@ -18,7 +18,7 @@ const FILE: &str = "blocks";
 
 const CAPACITY: usize = 3;
 
-/// Opens the file for reading and writing. It is copied first, because the given one may be read-only.
+/// Opens the file for reading and writing. The file is copied first, because the given file may be read-only.
 fn open(rt: &HostRuntime) -> io::Result<File> {
     let text = fs::read_to_string(rt, "initial")?;
     fs::write(rt, FILE, text.as_str())?;

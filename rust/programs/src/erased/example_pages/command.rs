@@ -14,7 +14,7 @@ pub enum Command<'a> {
     Stats,
 }
 
-/// The command of a line, if it is one.
+/// Returns the command of a line, if it is one.
 pub fn command_of(line: &str) -> Option<Command<'_>> {
     let (word, rest) = line.split_once(" ").unwrap_or((line, ""));
     match word {
