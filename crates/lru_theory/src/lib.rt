@@ -53,10 +53,10 @@ pub fn loading_ahead_gains_nothing<K: Eq>()
         (demanded : ℕ) × (other : List K) × Served (Demands K.eq h) other first trace demanded × (demanded ≤ paid) }
 {}
 
-/// After the same calls a smaller cache is included in a larger one, if it was before (`included`): its keys are keys
-/// of the larger cache, in the same order, and the larger cache contains at most m - n more. So what the smaller cache
-/// finds, the larger cache finds (`finds`), and it misses no more often at the references of a trace (`misses`). The
-/// calls may reference keys, make them the newest, remove them or look at them.
+/// A cache of n places is *included* in a cache of m places if its keys are keys of the larger cache, in the same
+/// order, and the larger cache contains at most m - n more. If it is included before some calls, it is included after
+/// them (`included`). So the larger cache finds what the smaller one finds (`finds`), and misses no more often at the
+/// references of a trace (`misses`). The calls may reference keys, make them the newest, remove them or look at them.
 pub fn a_smaller_cache_is_included<K: Eq>()
     ensures included { (n m : ℕ) (calls : List (KeyCall K)) (small large : List K) → n ≤ m →
         IsIncluded K.eq n m small large →
@@ -78,8 +78,8 @@ pub fn a_larger_budget_never_misses_more<K: Eq>()
         faults_within K.eq cost m keys trace ≤ faults_within K.eq cost n (take some keys) trace }
 {}
 
-/// MIN misses least often of all policies that store each key that is referenced, even if they load keys ahead and pay
-/// for them (`loads`), or load only on demand (`demands`). MIN with bypass misses least often of all policies that
+/// No policy that stores each referenced key pays for fewer loads than MIN misses, whether it loads keys ahead (`loads`)
+/// or only on demand (`demands`). MIN with bypass misses least often of all policies that
 /// contain at most n keys, whatever they leave out or load ahead (`bypasses`). All begin with no keys. MIN is itself a
 /// policy of the first kind, if it has a place (`min`), and MIN with bypass of the second kind (`bypass`).
 pub fn min_is_best<K: Eq>()
