@@ -78,10 +78,10 @@ pub fn a_larger_budget_never_misses_more<K: Eq>()
         faults_within K.eq cost m keys trace ≤ faults_within K.eq cost n (take some keys) trace }
 {}
 
-/// No policy that stores each referenced key pays for fewer loads than MIN misses, whether it loads keys ahead (`loads`)
-/// or only on demand (`demands`). MIN with bypass misses least often of all policies that
-/// contain at most n keys, whatever they leave out or load ahead (`bypasses`). All begin with no keys. MIN is itself a
-/// policy of the first kind, if it has a place (`min`), and MIN with bypass of the second kind (`bypass`).
+/// No policy that stores each referenced key pays for fewer loads than MIN misses, whether it loads keys ahead
+/// (`loads`) or only on demand (`demands`). MIN with bypass misses least often of all policies that contain at most n
+/// keys, whatever they leave out or load ahead (`bypasses`). All begin with no keys. MIN is itself a policy of the
+/// first kind, if it has a place (`min`), and MIN with bypass of the second kind (`bypass`).
 pub fn min_is_best<K: Eq>()
     ensures loads { (n : ℕ) (trace left : List K) (paid : ℕ) → Served (Loads K.eq n) left [] trace paid →
         min_misses K.eq n trace ≤ paid }
