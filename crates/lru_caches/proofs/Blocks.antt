@@ -7,7 +7,7 @@ use Rattle.std.specs.Map.{lookup}
 use Rattle.lru_caches.specs.declared.device.BlockDevice as device
 use Rattle.lru_caches.specs.declared.page_cache.pages.Page.{Page}
 use Rattle.lru_caches.specs.declared.page_cache.PageError.{PageError}
-use Rattle.lru_caches.specs.declared.page_cache.PageError.TheVariants.{Device, Memory, NoBlock, Broken}
+use Rattle.lru_caches.specs.declared.page_cache.PageError.TheVariants.{Device, Memory, NoBlock, Broken, Full}
 use Rattle.lru_caches.specs.Pages.{cleaned, block_or, block_at, IsGood, AreClean, AreThere, IsWritten, CrashAdds, IsFault, Serves}
 use Rattle.lru_caches.proofs.PageLists.{found_longer}
 use Rattle.lru_caches.proofs.TurnedEntries.{found_behind}
@@ -166,6 +166,7 @@ module _ {B D E S : Type 0} (d : device.Ghosts D B E S) where
   fault-since old between new Memory same fault = fault
   fault-since old between new NoBlock same fault = fault
   fault-since old between new Broken same fault = fault
+  fault-since old between new Full same fault = fault
 
   pub clean-read : (pages : List (ℕ × Page B)) (old new : D) → (IsGood d new → IsGood d old)
       → ((m : ℕ) (b : S) → d.blocks old m ≡ Some b → d.blocks new m ≡ Some b)
@@ -180,7 +181,7 @@ module _ {B D E S : Type 0} (d : device.Ghosts D B E S) where
     where
       go : (b : Bool)
           → block_or d (lookup (nat_eq n) (cleaned pages)) block ≡ block_or d (lookup (nat_eq n) pages) block
-          → block_or d (cond b (Some (record { block = page.1.block; is_dirty = false })) (lookup (nat_eq n) (cleaned pages))) block
+          → block_or d (cond b (Some (record page.1 { is_dirty = false })) (lookup (nat_eq n) (cleaned pages))) block
           ≡ block_or d (cond b (Some page.1) (lookup (nat_eq n) pages)) block
       go true later = refl
       go false later = later
@@ -203,6 +204,6 @@ module _ {B D E S : Type 0} (d : device.Ghosts D B E S) where
             where
               step : (b : Bool) → cond b (Some p.1) (lookup (nat_eq n) ps) ≡ None
                   → (lookup (nat_eq n) ps ≡ None → lookup (nat_eq n) (cleaned ps) ≡ None)
-                  → cond b (Some (record { block = p.1.block; is_dirty = false })) (lookup (nat_eq n) (cleaned ps)) ≡ None
+                  → cond b (Some (record p.1 { is_dirty = false })) (lookup (nat_eq n) (cleaned ps)) ≡ None
               step true e later = absurd (none-some p.1 (sym e))
               step false e later = later e

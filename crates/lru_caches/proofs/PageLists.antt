@@ -25,7 +25,7 @@ module _ {X : Type 0} where
           ap (λ b. cond b (Some x.1) (lookup (nat_eq m) xs)) (sym other)
       go false e later = ap (cond (nat_eq m x.0) (Some x.1)) later
 
-  others_front : (m n : ℕ) → m ≢ n → (xs : List (ℕ × X))
+  pub others_front : (m n : ℕ) → m ≢ n → (xs : List (ℕ × X))
       → lookup (nat_eq m) (front (nat_eq n) xs) ≡ lookup (nat_eq m) xs
   others_front m n apart xs = go (lookup_entry (nat_eq n) xs) refl
     where

@@ -14,6 +14,9 @@ pub fn refill(map: &mut Map) -> bool {
 }
 
 pub fn rewrite(cache: &mut Cache<'_>) -> bool {
+    cache.set_keeps_dirty(false);
+    cache.unpin(0);
+    cache.unpin(1);
     (cache.write(1, 11), cache.flush(), cache.write(1, 20)) == (Ok(()), Ok(()), Ok(()))
 }
 
@@ -26,12 +29,13 @@ fn of_the_errors(rt: HostRuntime) -> Result<(), Fail> {
     );
     let text = format!(in alloc; "{failed}; {damaged}")?;
     check!(rt; text.as_str() == "the device failed: the file failed; the device failed: a damaged block");
-    let others: [PageError<FileError>; 3] = [
+    let others: [PageError<FileError>; 4] = [
         PageError::Memory,
         PageError::NoBlock,
+        PageError::Full,
         PageError::Broken,
     ];
-    let text = format!(in alloc; "{}; {}; {}", others[0], others[1], others[2])?;
-    check!(rt; text.as_str() == "out of memory; no such block; a sync of the device has failed");
+    let text = format!(in alloc; "{}; {}; {}; {}", others[0], others[1], others[2], others[3])?;
+    check!(rt; text.as_str() == "out of memory; no such block; no page may be evicted; a sync of the device has failed");
     Ok(())
 }
