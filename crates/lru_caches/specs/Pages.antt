@@ -1,6 +1,6 @@
 -- A page cache: which blocks it shows, which of its pages are dirty, and what a crash may leave.
 --     d    the ghost members of the device: what contracts see of a block, the blocks, what a crash may leave of them
-use Rattle.std.specs.Prelude.{◌≡◌, ◌≢◌, ◌⊎◌, ℕ, Bool, true, false, not, ◌&&◌, ◌||◌, if◌then◌else◌, List, [], ◌∷◌, ◌++◌, map}
+use Rattle.std.specs.Prelude.{◌≡◌, ◌≢◌, ◌⊎◌, ◌+◌, ◌-◌, ◌^◌, ℕ, min, Bool, true, false, not, ◌&&◌, ◌||◌, if◌then◌else◌, List, [], ◌∷◌, ◌++◌, map}
 use Rattle.std.specs.Prelude.{length, reverse, filter, nat_eq, nat_lt, Option, Some, None, option_map, is_some, IsTrue}
 use Rattle.std.specs.Prelude.{IsPermutation}
 use Rattle.std.specs.List.{find}
@@ -8,6 +8,7 @@ use Rattle.std.specs.List.Sorted.{IsStrictlyIncreasing}
 use Rattle.std.specs.Map.{lookup, keys_of, set_value}
 use Rattle.lru_model.specs.Lists.{without}
 use Rattle.lru_caches.specs.declared.device.BlockDevice as device
+use Rattle.lru_caches.specs.declared.page_cache.pages.Counts.{Counts}
 use Rattle.lru_caches.specs.declared.page_cache.pages.Page.{Page}
 use Rattle.lru_caches.specs.declared.page_cache.PageError.{PageError}
 use Rattle.lru_caches.specs.declared.page_cache.PageError.TheVariants.{Device, Memory, NoBlock, Broken, Full}
@@ -20,6 +21,8 @@ pub record Cached (B D : Type 0) : Type 0 where
   pub capacity : ℕ
   -- whether no dirty page is evicted
   pub keeps_dirty : Bool
+  -- how many calls that succeeded found their page cached, and how many did not
+  pub counts : Counts
   pub device : D
 
 module _ {B : Type 0} where
@@ -82,6 +85,14 @@ module _ {B : Type 0} where
   abbrev pub dirty_numbers : List (ℕ × Page B) → List ℕ
   dirty_numbers pages = keys_of (filter (λ p. p.1.is_dirty) pages)
 
+-- one hit more; a count stays at the largest 64-bit number
+abbrev pub hit : Counts → Counts
+hit counts = record counts { hits = min (counts.hits + 1) (2 ^ 64 - 1) }
+
+-- one miss more
+abbrev pub missed : Counts → Counts
+missed counts = record counts { misses = min (counts.misses + 1) (2 ^ 64 - 1) }
+
 module _ {B D : Type 0} where
   -- the cache has a page of this number
   abbrev pub IsCached : ℕ → Cached B D → Type 0
@@ -100,6 +111,10 @@ module _ {B D : Type 0} where
   abbrev pub pages_after : ℕ → Page B → Cached B D → List (ℕ × Page B)
   pages_after n page cache =
       (n, page) ∷ with_room cache.capacity cache.keeps_dirty (without (nat_eq n) cache.pages)
+
+  -- the counts after a call on page n that succeeds
+  abbrev pub counted : ℕ → Cached B D → Counts
+  counted n cache = if is_some (lookup (nat_eq n) cache.pages) then hit cache.counts else missed cache.counts
 
   -- the pages after a read of page n, which has this block
   abbrev pub pages_read : ℕ → B → Cached B D → List (ℕ × Page B)

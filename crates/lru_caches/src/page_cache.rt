@@ -5,7 +5,7 @@ ghost use Rattle.lru_caches.specs.Pages.{shown, cleaned, IsCached, ShowsTheSame,
 
 use crate::device::BlockDevice;
 use crate::page_cache::flush::{list_dirty, make_clean, write_all_back};
-use crate::page_cache::pages::Pages;
+use crate::page_cache::pages::{Counts, Pages};
 use schnellru::{KeyHasher, LruMap, RandomState, UnlimitedCompact};
 use std::alloc::Global;
 use std::fmt::Display;
@@ -72,6 +72,7 @@ pub struct PageCache<B: Copy, D: BlockDevice<B>, S: KeyHasher<u64> = RandomState
     numbers: Vec<u64>,
     capacity: usize,
     keeps_dirty: bool,
+    counts: Counts,
     device: D,
 }
 
@@ -85,6 +86,7 @@ impl<B: Copy, D: BlockDevice<B>, S: KeyHasher<u64>> Model for PageCache<B, D, S>
       pages = c.map.pairs;
       capacity = c.capacity;
       keeps_dirty = c.keeps_dirty;
+      counts = c.counts;
       device = c.device;
     } };
 
@@ -109,6 +111,7 @@ impl<B: Copy, D: BlockDevice<B>> PageCache<B, D, RandomState> {
         ensures empty { result.pages ≡ [] }
         ensures capacity { result.capacity ≡ max 1 capacity }
         ensures mode { result.keeps_dirty ≡ false }
+        ensures counts { result.counts ≡ record { hits = 0; misses = 0 } }
     {
         PageCache::with_hasher(alloc, device, capacity, RandomState::default())
     }
@@ -129,12 +132,14 @@ impl<B: Copy, D: BlockDevice<B>, S: KeyHasher<u64>> PageCache<B, D, S> {
         ensures empty { result.pages ≡ [] }
         ensures capacity { result.capacity ≡ max 1 capacity }
         ensures mode { result.keeps_dirty ≡ false }
+        ensures counts { result.counts ≡ record { hits = 0; misses = 0 } }
     {
         PageCache {
             map: LruMap::with_limiter_and_hasher(alloc, UnlimitedCompact, hasher),
             numbers: Vec::new(alloc),
             capacity: capacity.max(1),
             keeps_dirty: false,
+            counts: Counts { hits: 0, misses: 0 },
             device,
         }
     }
@@ -181,6 +186,35 @@ impl<B: Copy, D: BlockDevice<B>, S: KeyHasher<u64>> PageCache<B, D, S> {
         self.map.contains(&n)
     }
 
+    /// Returns how many calls that read, write or pin a page found it cached. A call that fails counts nothing. The
+    /// count stays at `u64::MAX`.
+    ///
+    /// Cost: `O(1)`.
+    ///
+    /// ```
+    /// let hits = cache.hits();
+    /// assert!(rt; cache.read(1) == Ok(20) && cache.hits() == hits.saturating_add(1));
+    /// ```
+    pub fn hits(&self) -> u64
+        ensures { result ≡ self.now.counts.hits }
+    {
+        self.counts.hits
+    }
+
+    /// Returns how many calls that read, write or pin a page did not find it cached, as `hits` counts.
+    ///
+    /// Cost: `O(1)`.
+    ///
+    /// ```
+    /// let misses = cache.misses();
+    /// assert!(rt; cache.read(0) == Ok(10) && cache.misses() == misses.saturating_add(1));
+    /// ```
+    pub fn misses(&self) -> u64
+        ensures { result ≡ self.now.counts.misses }
+    {
+        self.counts.misses
+    }
+
     /// Lends the device. It lacks the writes that are only in dirty pages.
     ///
     /// Cost: `O(1)`.
@@ -225,6 +259,7 @@ impl<B: Copy, D: BlockDevice<B>, S: KeyHasher<u64>> PageCache<B, D, S> {
         ensures honest { D.IsHonest self.new.device → D.IsHonest self.old.device }
         ensures capacity { self.new.capacity ≡ self.old.capacity }
         ensures mode { self.new.keeps_dirty ≡ self.old.keeps_dirty }
+        ensures counts { self.new.counts ≡ self.old.counts }
         ensures order { OnOk result (IsFlush D.BlockDevice self.old.pages self.old.device self.new.device) }
         ensures cut_off { IsTrue (D.is_usable self.old.device)
             → OnErr result (IsCutOff D.BlockDevice self.old.pages self.old.device self.new.device) }
@@ -293,6 +328,7 @@ impl<B: Copy, D: BlockDevice<B>, S: KeyHasher<u64>> PageCache<B, D, S> {
             numbers: _,
             capacity: _,
             keeps_dirty: _,
+            counts: _,
             device,
         } = self;
         device

@@ -14,9 +14,6 @@ pub fn refill(map: &mut Map) -> bool {
 }
 
 pub fn rewrite(cache: &mut Cache<'_>) -> bool {
-    cache.set_keeps_dirty(false);
-    cache.unpin(0);
-    cache.unpin(1);
     (cache.write(1, 11), cache.flush(), cache.write(1, 20)) == (Ok(()), Ok(()), Ok(()))
 }
 
@@ -35,7 +32,10 @@ fn of_the_errors(rt: HostRuntime) -> Result<(), Fail> {
         PageError::Full,
         PageError::Broken,
     ];
-    let text = format!(in alloc; "{}; {}; {}; {}", others[0], others[1], others[2], others[3])?;
+    let text = format!(in alloc;
+        "{}; {}; {}; {}",
+        others[0], others[1], others[2], others[3]
+    )?;
     check!(rt; text.as_str() == "out of memory; no such block; no page may be evicted; a sync of the device has failed");
     Ok(())
 }

@@ -1,7 +1,7 @@
 //! Reads and writes of the blocks of a page cache.
 ghost use Rattle.std.specs.Prelude.{◌≡◌, ◌≢◌, ◌⊎◌, ℕ, Some, false, IsTrue, IfErr, IfOk, OnOk, OnErr, IsOk};
 ghost use Rattle.std.specs.Fn.{FnOnceReturnsAt, FnOnceReturnsAtMut};
-ghost use Rattle.lru_caches.specs.Pages.{shown, pages_read, pages_written, IsCached, IsGood, ShowsTheSame};
+ghost use Rattle.lru_caches.specs.Pages.{shown, counted, pages_read, pages_written, IsCached, IsGood, ShowsTheSame};
 ghost use Rattle.lru_caches.specs.Pages.{CrashAdds, CrashKeeps, Serves, IsCause};
 
 use crate::device::BlockDevice;
@@ -29,14 +29,16 @@ impl<B: Copy, D: BlockDevice<B>, S: KeyHasher<u64>> PageCache<B, D, S> {
         ensures serves { Serves D.BlockDevice self.old.device self.new.device }
         ensures capacity { self.new.capacity ≡ self.old.capacity }
         ensures mode { self.new.keeps_dirty ≡ self.old.keeps_dirty }
+        ensures counted { OnOk result (self.new.counts ≡ counted n self.old) }
+        ensures uncounted { OnErr result (self.new.counts ≡ self.old.counts) }
     {
-        if promote(&mut self.map, n) {
+        if promote(&mut self.map, &mut self.counts, n) {
             return Ok(());
         }
         admit(&self.device, n)?;
         reserve_number(&mut self.numbers, self.map.len())?;
         let gone = find_room(&self.map, self.capacity, self.keeps_dirty)?;
-        load(&mut self.map, &mut self.device, gone, n)
+        load(&mut self.map, &mut self.device, &mut self.counts, gone, n)
     }
 
     /// Returns a block, and makes its page the newest.
@@ -73,6 +75,8 @@ impl<B: Copy, D: BlockDevice<B>, S: KeyHasher<u64>> PageCache<B, D, S> {
         ensures serves { Serves D.BlockDevice self.old.device self.new.device }
         ensures capacity { self.new.capacity ≡ self.old.capacity }
         ensures mode { self.new.keeps_dirty ≡ self.old.keeps_dirty }
+        ensures counted { OnOk result (self.new.counts ≡ counted n self.old) }
+        ensures uncounted { OnErr result (self.new.counts ≡ self.old.counts) }
     {
         self.read_with(n, |block| *block)
     }
@@ -109,6 +113,8 @@ impl<B: Copy, D: BlockDevice<B>, S: KeyHasher<u64>> PageCache<B, D, S> {
         ensures serves { Serves D.BlockDevice self.old.device self.new.device }
         ensures capacity { self.new.capacity ≡ self.old.capacity }
         ensures mode { self.new.keeps_dirty ≡ self.old.keeps_dirty }
+        ensures counted { OnOk result (self.new.counts ≡ counted n self.old) }
+        ensures uncounted { OnErr result (self.new.counts ≡ self.old.counts) }
     {
         self.bring(n)?;
         Ok(read_newest(&self.map, read))
@@ -145,9 +151,11 @@ impl<B: Copy, D: BlockDevice<B>, S: KeyHasher<u64>> PageCache<B, D, S> {
         ensures serves { Serves D.BlockDevice self.old.device self.new.device }
         ensures capacity { self.new.capacity ≡ self.old.capacity }
         ensures mode { self.new.keeps_dirty ≡ self.old.keeps_dirty }
+        ensures counted { OnOk result (self.new.counts ≡ counted n self.old) }
+        ensures uncounted { OnErr result (self.new.counts ≡ self.old.counts) }
     {
         admit(&self.device, n)?;
-        if overwrite(&mut self.map, n, block) {
+        if overwrite(&mut self.map, &mut self.counts, n, block) {
             return Ok(());
         }
         reserve_number(&mut self.numbers, self.map.len())?;
@@ -157,7 +165,14 @@ impl<B: Copy, D: BlockDevice<B>, S: KeyHasher<u64>> PageCache<B, D, S> {
             is_dirty: true,
             is_pinned: false,
         };
-        replace(&mut self.map, &mut self.device, gone, n, page)
+        replace(
+            &mut self.map,
+            &mut self.device,
+            &mut self.counts,
+            gone,
+            n,
+            page,
+        )
     }
 
     /// Lends a closure a block for writing in place, makes its page dirty and the newest, and returns what the closure
@@ -200,6 +215,8 @@ impl<B: Copy, D: BlockDevice<B>, S: KeyHasher<u64>> PageCache<B, D, S> {
         ensures serves { Serves D.BlockDevice self.old.device self.new.device }
         ensures capacity { self.new.capacity ≡ self.old.capacity }
         ensures mode { self.new.keeps_dirty ≡ self.old.keeps_dirty }
+        ensures counted { OnOk result (self.new.counts ≡ counted n self.old) }
+        ensures uncounted { OnErr result (self.new.counts ≡ self.old.counts) }
     {
         if !self.device.is_usable() {
             return Err(PageError::Broken);

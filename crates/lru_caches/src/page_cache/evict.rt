@@ -2,13 +2,13 @@
 ghost use Rattle.std.specs.Prelude.{◌≡◌, ◌≢◌, ◌⊎◌, ◌≤◌, ◌<◌, ◌+◌, ℕ, ◌∷◌, length, nat_eq, None, Some, false};
 ghost use Rattle.std.specs.Prelude.{IsTrue, IfErr, IfOk, OnOk, OnErr};
 ghost use Rattle.std.specs.Map.{lookup};
-ghost use Rattle.lru_caches.specs.Pages.{block_at, evicted, goes_dirty, victim, with_room};
+ghost use Rattle.lru_caches.specs.Pages.{block_at, evicted, goes_dirty, missed, victim, with_room};
 ghost use Rattle.lru_caches.specs.Pages.{AreClean, AreThere, CrashAdds, IsFault, Serves};
 
 use crate::device::BlockDevice;
 use crate::page_cache::PageError;
 use crate::page_cache::flush::write_page;
-use crate::page_cache::pages::{Page, Pages, add_page};
+use crate::page_cache::pages::{Counts, Page, Pages, add_page};
 use schnellru::KeyHasher;
 
 fn find_victim<B: Copy, S: KeyHasher<u64>>(map: &Pages<B, S>, keeps_dirty: bool) -> Option<u64>
@@ -79,6 +79,7 @@ fn evict<B: Copy, D: BlockDevice<B>, S: KeyHasher<u64>>(
 pub(super) fn replace<B: Copy, D: BlockDevice<B>, S: KeyHasher<u64>>(
     map: &mut Pages<B, S>,
     device: &mut D,
+    counts: &mut Counts,
     gone: Option<u64>,
     n: u64,
     page: Page<B>,
@@ -104,7 +105,11 @@ pub(super) fn replace<B: Copy, D: BlockDevice<B>, S: KeyHasher<u64>>(
     ensures untouched { goes_dirty gone map.old.pairs ≡ false → device.new ≡ device.old }
     ensures serves { Serves D.BlockDevice device.old device.new }
     ensures cause { IfErr result (λ e. IsFault D.BlockDevice device.old device.new e ⊎ (e ≡ PageError.Memory)) }
+    ensures counted { OnOk result (counts.new ≡ missed counts.old) }
+    ensures uncounted { OnErr result (counts.new ≡ counts.old) }
 {
     evict(map, device, gone)?;
-    add_page(map, n, page)
+    add_page(map, n, page)?;
+    counts.misses = counts.misses.saturating_add(1);
+    Ok(())
 }

@@ -206,6 +206,7 @@ impl<B: Copy, D: BlockDevice<B>, S: KeyHasher<u64>> PageCache<B, D, S> {
         ensures serves { Serves D.BlockDevice self.old.device self.new.device }
         ensures capacity { self.new.capacity ≡ self.old.capacity }
         ensures mode { self.new.keeps_dirty ≡ self.old.keeps_dirty }
+        ensures counts { self.new.counts ≡ self.old.counts }
     {
         if !self.device.is_usable() {
             return Err(PageError::Broken);

@@ -1,10 +1,10 @@
 //! The steps of a page cache, over its map of pages and its device.
 ghost use Rattle.std.specs.Prelude.{◌≡◌, ◌≢◌, ◌⊎◌, ◌≤◌, ◌<◌, ◌+◌, ℕ, List, ◌∷◌, length, nat_eq, None, Some, Option};
-ghost use Rattle.std.specs.Prelude.{is_some, true, false, IsTrue, IfErr, IfOk, OnOk, OnErr};
+ghost use Rattle.std.specs.Prelude.{is_some, true, false, if◌then◌else◌, IsTrue, IfErr, IfOk, OnOk, OnErr};
 ghost use Rattle.std.specs.Fn.{FnOnceReturnsAt, FnOnceReturnsAtMut};
 ghost use Rattle.std.specs.Map.{lookup};
 ghost use Rattle.lru_model.specs.Lists.{without};
-ghost use Rattle.lru_caches.specs.Pages.{block_at, evicted, goes_dirty, is_pinned, may_go, unpinned_at};
+ghost use Rattle.lru_caches.specs.Pages.{block_at, evicted, goes_dirty, hit, is_pinned, may_go, missed, unpinned_at};
 ghost use Rattle.lru_caches.specs.Pages.{AreClean, AreThere, CrashAdds, CrashKeeps, IsFault, Serves};
 
 use crate::device::BlockDevice;
@@ -17,6 +17,22 @@ pub(super) struct Page<B> {
     pub(super) block: B,
     pub(super) is_dirty: bool,
     pub(super) is_pinned: bool,
+}
+
+#[derive(Clone, Copy)]
+pub(super) struct Counts {
+    pub(super) hits: u64,
+    pub(super) misses: u64,
+}
+
+impl Counts {
+    fn count_hit_if(&mut self, there: bool)
+        ensures { self.new ≡ (if there then hit self.old else self.old) }
+    {
+        if there {
+            self.hits = self.hits.saturating_add(1);
+        }
+    }
 }
 
 impl<B> Page<B> {
@@ -67,6 +83,7 @@ fn read_block<B: Copy, D: BlockDevice<B>>(device: &mut D, n: u64) -> Result<B, P
 pub(super) fn load<B: Copy, D: BlockDevice<B>, S: KeyHasher<u64>>(
     map: &mut Pages<B, S>,
     device: &mut D,
+    counts: &mut Counts,
     gone: Option<u64>,
     n: u64,
 ) -> Result<(), PageError<D::Error>>
@@ -89,6 +106,8 @@ pub(super) fn load<B: Copy, D: BlockDevice<B>, S: KeyHasher<u64>>(
     ensures within { (capacity : ℕ) → length map.old.pairs ≤ capacity → length (evicted gone map.old.pairs) < capacity
         → length map.new.pairs ≤ capacity }
     ensures no_more { length map.new.pairs ≤ length map.old.pairs + 1 }
+    ensures counted { OnOk result (counts.new ≡ missed counts.old) }
+    ensures uncounted { OnErr result (counts.new ≡ counts.old) }
 {
     let block = read_block(device, n)?;
     let page = Page {
@@ -96,23 +115,35 @@ pub(super) fn load<B: Copy, D: BlockDevice<B>, S: KeyHasher<u64>>(
         is_dirty: false,
         is_pinned: false,
     };
-    replace(map, device, gone, n, page)
+    replace(map, device, counts, gone, n, page)
 }
 
 /// Makes a page the newest, and returns whether it is cached.
-pub(super) fn promote<B: Copy, S: KeyHasher<u64>>(map: &mut Pages<B, S>, n: u64) -> bool
+pub(super) fn promote<B: Copy, S: KeyHasher<u64>>(
+    map: &mut Pages<B, S>,
+    counts: &mut Counts,
+    n: u64,
+) -> bool
     ensures there { result ≡ is_some (lookup (nat_eq n) map.old.pairs) }
     ensures same { (m : ℕ) → lookup (nat_eq m) map.new.pairs ≡ lookup (nat_eq m) map.old.pairs }
     ensures len { length map.new.pairs ≡ length map.old.pairs }
     ensures used { (page : Page B) → lookup (nat_eq n) map.old.pairs ≡ Some page
         → map.new.pairs ≡ (n, page) ∷ without (nat_eq n) map.old.pairs }
     ensures stays { result ≡ false → map.new.pairs ≡ map.old.pairs }
+    ensures counts { counts.new ≡ (if result then hit counts.old else counts.old) }
 {
-    map.promote(&n)
+    let there = map.promote(&n);
+    counts.count_hit_if(there);
+    there
 }
 
 /// Replaces the block of a page, makes the page dirty and the newest, and returns whether it is cached.
-pub(super) fn overwrite<B: Copy, S: KeyHasher<u64>>(map: &mut Pages<B, S>, n: u64, block: B) -> bool
+pub(super) fn overwrite<B: Copy, S: KeyHasher<u64>>(
+    map: &mut Pages<B, S>,
+    counts: &mut Counts,
+    n: u64,
+    block: B,
+) -> bool
     ensures there { result ≡ is_some (lookup (nat_eq n) map.old.pairs) }
     ensures stays { result ≡ false → map.new.pairs ≡ map.old.pairs }
     ensures others { (m : ℕ) → m ≢ n → lookup (nat_eq m) map.new.pairs ≡ lookup (nat_eq m) map.old.pairs }
@@ -130,9 +161,11 @@ pub(super) fn overwrite<B: Copy, S: KeyHasher<u64>>(map: &mut Pages<B, S>, n: u6
         is_pinned = is_pinned (lookup (nat_eq n) map.old.pairs);
       },
     ) ∷ without (nat_eq n) map.old.pairs }
+    ensures counts { counts.new ≡ (if result then hit counts.old else counts.old) }
 {
     match map.get(&n) {
         Some(page) => {
+            counts.hits = counts.hits.saturating_add(1);
             page.block = block;
             page.is_dirty = true;
             true

@@ -1,6 +1,6 @@
 //! Pages that may not be evicted: pinned ones and, if the cache keeps them, dirty ones.
-ghost use Rattle.std.specs.Prelude.{◌≡◌, ◌⊎◌, ℕ, Some, false, IsTrue, IfErr, OnOk, IsOk};
-ghost use Rattle.lru_caches.specs.Pages.{shown, pages_pinned, pinned, unpinned_at, IsCached, ShowsTheSame};
+ghost use Rattle.std.specs.Prelude.{◌≡◌, ◌⊎◌, ℕ, Some, false, IsTrue, IfErr, OnOk, OnErr, IsOk};
+ghost use Rattle.lru_caches.specs.Pages.{shown, counted, pages_pinned, pinned, unpinned_at, IsCached, ShowsTheSame};
 ghost use Rattle.lru_caches.specs.Pages.{CrashAdds, CrashKeeps, Serves, IsCause};
 
 use crate::device::BlockDevice;
@@ -35,6 +35,8 @@ impl<B: Copy, D: BlockDevice<B>, S: KeyHasher<u64>> PageCache<B, D, S> {
         ensures serves { Serves D.BlockDevice self.old.device self.new.device }
         ensures capacity { self.new.capacity ≡ self.old.capacity }
         ensures mode { self.new.keeps_dirty ≡ self.old.keeps_dirty }
+        ensures counted { OnOk result (self.new.counts ≡ counted n self.old) }
+        ensures uncounted { OnErr result (self.new.counts ≡ self.old.counts) }
     {
         self.bring(n)?;
         pin_newest(&mut self.map);

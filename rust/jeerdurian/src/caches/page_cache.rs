@@ -209,6 +209,32 @@ impl<B: Copy, D: BlockDevice<B>, S: BuildHasher> PageCache<B, D, S> {
         self.cache.contains(n)
     }
 
+    /// Returns how many calls that read, write or pin a page found it cached. A call that fails counts nothing. The count
+    /// stays at `u64::MAX`.
+    ///
+    /// ```
+    /// # use jeerdurian::caches::{FileDevice, PageCache};
+    /// # let file = std::io::Cursor::new(*b"zeroone.two.");
+    /// # let mut cache = PageCache::new(FileDevice::<_, 4>::new(file, 3), 2);
+    /// assert_eq!((cache.read(1), cache.read(1)), (Ok(*b"one."), Ok(*b"one.")));
+    /// assert_eq!((cache.hits(), cache.misses()), (1, 1));
+    /// ```
+    pub fn hits(&self) -> u64 {
+        self.cache.hits()
+    }
+
+    /// Returns how many calls that read, write or pin a page did not find it cached, as [`hits`](Self::hits) counts.
+    ///
+    /// ```
+    /// # use jeerdurian::caches::{FileDevice, PageCache};
+    /// # let file = std::io::Cursor::new(*b"zeroone.two.");
+    /// # let mut cache = PageCache::new(FileDevice::<_, 4>::new(file, 3), 2);
+    /// assert_eq!((cache.read(1), cache.read(9).is_err(), cache.misses()), (Ok(*b"one."), true, 1));
+    /// ```
+    pub fn misses(&self) -> u64 {
+        self.cache.misses()
+    }
+
     /// Returns the device. It lacks the writes that are in dirty pages alone.
     ///
     /// ```
