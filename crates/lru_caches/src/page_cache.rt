@@ -15,6 +15,7 @@ use thiserror::Error;
 mod blocks;
 mod evict;
 mod flush;
+mod laws;
 mod pages;
 mod pins;
 
@@ -32,7 +33,7 @@ pub enum PageError<E> {
     /// The device failed, with this error.
     #[error("the device failed: {0}")]
     Device(E),
-    /// Out of memory for one page more, or there are 1,879,048,192 pages, the most that the table links.
+    /// Out of memory for one more page, or there are 1,879,048,192 pages, the most that the table links.
     #[error("out of memory")]
     Memory,
     /// The device has no block of this number.
@@ -49,8 +50,8 @@ pub enum PageError<E> {
 
 /// A write-back cache of the blocks of a device.
 ///
-/// It keeps the pages that were used last, up to its capacity. A write changes only the cached page: the page is then
-/// dirty, and goes to the device when it is evicted or flushed.
+/// It keeps the pages that were used last, up to its capacity, and those that are pinned. A write changes only the
+/// cached page: the page is then dirty, and goes to the device when it is evicted or flushed.
 ///
 /// After a `flush` that returned `Ok`, a crash leaves each block as it was shown at that flush or was written later;
 /// `docs/CACHES.md` says what this supposes of a disk. After a `sync` that failed, each call but `discard`, and reads
@@ -68,7 +69,7 @@ pub enum PageError<E> {
 /// ```
 pub struct PageCache<B: Copy, D: BlockDevice<B>, S: KeyHasher<u64> = RandomState> {
     map: Pages<B, S>,
-    // memory for the number of each page
+    // reserved memory for the number of each page, for flushes
     numbers: Vec<u64>,
     capacity: usize,
     keeps_dirty: bool,
@@ -125,6 +126,7 @@ impl<B: Copy, D: BlockDevice<B>, S: KeyHasher<u64>> PageCache<B, D, S> {
     /// ```
     /// let seeded = RandomState::with_seeds([5, 6, 7, 8]);
     /// let mut cache = PageCache::with_hasher(alloc, disk, 2, seeded);
+    /// assert!(rt; cache.is_empty());
     /// cache.discard();
     /// ```
     pub fn with_hasher(alloc: Global, device: D, capacity: usize, hasher: S) -> Self
@@ -163,9 +165,7 @@ impl<B: Copy, D: BlockDevice<B>, S: KeyHasher<u64>> PageCache<B, D, S> {
     /// Cost: `O(1)`.
     ///
     /// ```
-    /// let mut cache = PageCache::new(alloc, disk, 2);
     /// assert!(rt; cache.is_empty());
-    /// cache.discard();
     /// ```
     pub fn is_empty(&self) -> bool
         ensures { result ≡ is_empty self.now.pages }
@@ -192,8 +192,8 @@ impl<B: Copy, D: BlockDevice<B>, S: KeyHasher<u64>> PageCache<B, D, S> {
     /// Cost: `O(1)`.
     ///
     /// ```
-    /// let hits = cache.hits();
-    /// assert!(rt; cache.read(1) == Ok(20) && cache.hits() == hits.saturating_add(1));
+    /// let (hits, misses) = (cache.hits(), cache.misses());
+    /// assert!(rt; cache.read(1) == Ok(20) && cache.hits() == hits.saturating_add(1) && cache.misses() == misses);
     /// ```
     pub fn hits(&self) -> u64
         ensures { result ≡ self.now.counts.hits }
@@ -206,8 +206,8 @@ impl<B: Copy, D: BlockDevice<B>, S: KeyHasher<u64>> PageCache<B, D, S> {
     /// Cost: `O(1)`.
     ///
     /// ```
-    /// let misses = cache.misses();
-    /// assert!(rt; cache.read(0) == Ok(10) && cache.misses() == misses.saturating_add(1));
+    /// let (hits, misses) = (cache.hits(), cache.misses());
+    /// assert!(rt; cache.read(1) == Ok(20) && cache.hits() == hits.saturating_add(1) && cache.misses() == misses);
     /// ```
     pub fn misses(&self) -> u64
         ensures { result ≡ self.now.counts.misses }

@@ -181,8 +181,7 @@ impl<B: Copy, D: BlockDevice<B>, S: KeyHasher<u64>> PageCache<B, D, S> {
     /// The block is read first if its page is not cached. A pin stays.
     ///
     /// ```
-    /// assert_eq!(rt; cache.write_with(1, |block| *block = 21), Ok(()));
-    /// assert_eq!(rt; cache.read(1), Ok(21));
+    /// assert_eq!(rt; (cache.write_with(1, |block| *block = 21), cache.read(1)), (Ok(()), Ok(21)));
     /// ```
     ///
     /// Cost: as `read`, and a call of the closure.

