@@ -1,15 +1,10 @@
 -- Look-ups of numbers in lists of pairs, after a pair was moved, written or removed.
-use Rattle.std.proofs.Common.{◌≡◌, ◌≢◌, ℕ, Bool, true, false, cond, nat_eq, List, [], ◌∷◌, ◌++◌, length, Option}
-use Rattle.std.proofs.Common.{Some, None, refl, sym, ap, ◌∙◌, subst, arith, ne_eqb}
-use Rattle.std.proofs.lemmas.Bool.{eqb-true, eqb-false}
+use Rattle.std.proofs.Common.{◌≡◌, ◌≢◌, ℕ, Bool, true, false, cond, nat_eq, List, [], ◌∷◌, length, Option}
+use Rattle.std.proofs.Common.{Some, None, refl, sym, ap, ◌∙◌, subst, ne_eqb}
+use Rattle.std.proofs.lemmas.Bool.{eqb-true}
 use Rattle.std.proofs.lemmas.Map.{length-set_value}
-use Rattle.std.proofs.lemmas.Option.{none-some}
-use Rattle.std.proofs.lemmas.Cmp.{nat_eq_equiv}
-use Rattle.std.proofs.lemmas.List.Elements.{Contains-push}
-use Rattle.std.proofs.lemmas.Map.Views.{lookup-from_Contains}
-use Rattle.std.specs.List.{Contains, IsDistinct}
-use Rattle.std.specs.Map.{lookup, set_value, keys_of}
-use Rattle.lru_model.specs.Lists.{lookup_entry, without, after, front, last, without_last}
+use Rattle.std.specs.Map.{lookup, set_value}
+use Rattle.lru_model.specs.Lists.{lookup_entry, without, after, front}
 use Rattle.lru_model.proofs.CallerLemmas.{found_named, length-front_pairs}
 
 module _ {X : Type 0} where

@@ -223,6 +223,11 @@ module _ {B D E S : Type 0} (d : device.Ghosts D B E S) where
   abbrev pub IsFlushCause : D → D → PageError E → Type 0
   IsFlushCause old new e = IsFault old new e ⊎ ((e ≡ Broken) × (d.is_usable old ≡ false))
 
+  -- which pages a call leaves that fails: all or, if it ran out of memory, perhaps all but the oldest that may go
+  abbrev pub Leaves : Cached B D → Cached B D → PageError E → Type 0
+  Leaves old new e = (new.pages ≡ old.pages)
+      ⊎ ((e ≡ Memory) × (new.pages ≡ with_room old.capacity old.keeps_dirty old.pages))
+
   -- why a call on page n fails
   abbrev pub IsCause : ℕ → Cached B D → D → PageError E → Type 0
   IsCause n old new e = IsFault old.device new e ⊎ ((e ≡ Broken) × (d.is_usable old.device ≡ false))

@@ -2,7 +2,7 @@
 ghost use Rattle.std.specs.Prelude.{◌≡◌, ◌≢◌, ◌⊎◌, ℕ, Some, false, IsTrue, IfErr, IfOk, OnOk, OnErr, IsOk};
 ghost use Rattle.std.specs.Fn.{FnOnceReturnsAt, FnOnceReturnsAtMut};
 ghost use Rattle.lru_caches.specs.Pages.{shown, counted, pages_read, pages_written, IsCached, IsGood, ShowsTheSame};
-ghost use Rattle.lru_caches.specs.Pages.{CrashAdds, CrashKeeps, Serves, IsCause};
+ghost use Rattle.lru_caches.specs.Pages.{CrashAdds, CrashKeeps, Serves, IsCause, Leaves};
 
 use crate::device::BlockDevice;
 use crate::page_cache::evict::{find_room, replace};
@@ -25,6 +25,7 @@ impl<B: Copy, D: BlockDevice<B>, S: KeyHasher<u64>> PageCache<B, D, S> {
         ensures untouched { IsCached n self.old → self.new.device ≡ self.old.device }
         ensures broken { D.is_usable self.old.device ≡ false → IsOk result ⊎ (result ≡ Err PageError.Broken) }
         ensures full { result ≡ Err PageError.Full → self.new ≡ self.old }
+        ensures left { IfErr result (Leaves D.BlockDevice self.old self.new) }
         ensures cause { IfErr result (IsCause D.BlockDevice n self.old self.new.device) }
         ensures serves { Serves D.BlockDevice self.old.device self.new.device }
         ensures capacity { self.new.capacity ≡ self.old.capacity }
@@ -71,6 +72,7 @@ impl<B: Copy, D: BlockDevice<B>, S: KeyHasher<u64>> PageCache<B, D, S> {
         ensures untouched { IsCached n self.old → self.new.device ≡ self.old.device }
         ensures broken { D.is_usable self.old.device ≡ false → IsOk result ⊎ (result ≡ Err PageError.Broken) }
         ensures full { result ≡ Err PageError.Full → self.new ≡ self.old }
+        ensures left { IfErr result (Leaves D.BlockDevice self.old self.new) }
         ensures cause { IfErr result (IsCause D.BlockDevice n self.old self.new.device) }
         ensures serves { Serves D.BlockDevice self.old.device self.new.device }
         ensures capacity { self.new.capacity ≡ self.old.capacity }
@@ -109,6 +111,7 @@ impl<B: Copy, D: BlockDevice<B>, S: KeyHasher<u64>> PageCache<B, D, S> {
         ensures untouched { IsCached n self.old → self.new.device ≡ self.old.device }
         ensures broken { D.is_usable self.old.device ≡ false → IsOk result ⊎ (result ≡ Err PageError.Broken) }
         ensures full { result ≡ Err PageError.Full → self.new ≡ self.old }
+        ensures left { IfErr result (Leaves D.BlockDevice self.old self.new) }
         ensures cause { IfErr result (IsCause D.BlockDevice n self.old self.new.device) }
         ensures serves { Serves D.BlockDevice self.old.device self.new.device }
         ensures capacity { self.new.capacity ≡ self.old.capacity }
@@ -147,6 +150,7 @@ impl<B: Copy, D: BlockDevice<B>, S: KeyHasher<u64>> PageCache<B, D, S> {
         ensures untouched { IsCached n self.old → self.new.device ≡ self.old.device }
         ensures broken { D.is_usable self.old.device ≡ false → result ≡ Err PageError.Broken }
         ensures full { result ≡ Err PageError.Full → self.new ≡ self.old }
+        ensures left { IfErr result (Leaves D.BlockDevice self.old self.new) }
         ensures cause { IfErr result (IsCause D.BlockDevice n self.old self.new.device) }
         ensures serves { Serves D.BlockDevice self.old.device self.new.device }
         ensures capacity { self.new.capacity ≡ self.old.capacity }
@@ -210,6 +214,7 @@ impl<B: Copy, D: BlockDevice<B>, S: KeyHasher<u64>> PageCache<B, D, S> {
         ensures untouched { IsCached n self.old → self.new.device ≡ self.old.device }
         ensures broken { D.is_usable self.old.device ≡ false → result ≡ Err PageError.Broken }
         ensures full { result ≡ Err PageError.Full → self.new ≡ self.old }
+        ensures left { IfErr result (Leaves D.BlockDevice self.old self.new) }
         ensures cause { IfErr result (IsCause D.BlockDevice n self.old self.new.device) }
         ensures serves { Serves D.BlockDevice self.old.device self.new.device }
         ensures capacity { self.new.capacity ≡ self.old.capacity }

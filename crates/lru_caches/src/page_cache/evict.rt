@@ -105,6 +105,8 @@ pub(super) fn replace<B: Copy, D: BlockDevice<B>, S: KeyHasher<u64>>(
     ensures untouched { goes_dirty gone map.old.pairs ≡ false → device.new ≡ device.old }
     ensures serves { Serves D.BlockDevice device.old device.new }
     ensures cause { IfErr result (λ e. IsFault D.BlockDevice device.old device.new e ⊎ (e ≡ PageError.Memory)) }
+    ensures left { IfErr result (λ e. (map.new.pairs ≡ map.old.pairs)
+        ⊎ ((e ≡ PageError.Memory) × (map.new.pairs ≡ evicted gone map.old.pairs))) }
     ensures counted { OnOk result (counts.new ≡ missed counts.old) }
     ensures uncounted { OnErr result (counts.new ≡ counts.old) }
 {

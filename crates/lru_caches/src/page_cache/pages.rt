@@ -106,6 +106,8 @@ pub(super) fn load<B: Copy, D: BlockDevice<B>, S: KeyHasher<u64>>(
     ensures within { (capacity : ℕ) → length map.old.pairs ≤ capacity → length (evicted gone map.old.pairs) < capacity
         → length map.new.pairs ≤ capacity }
     ensures no_more { length map.new.pairs ≤ length map.old.pairs + 1 }
+    ensures left { IfErr result (λ e. (map.new.pairs ≡ map.old.pairs)
+        ⊎ ((e ≡ PageError.Memory) × (map.new.pairs ≡ evicted gone map.old.pairs))) }
     ensures counted { OnOk result (counts.new ≡ missed counts.old) }
     ensures uncounted { OnErr result (counts.new ≡ counts.old) }
 {

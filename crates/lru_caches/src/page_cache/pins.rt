@@ -1,7 +1,7 @@
 //! Pages that may not be evicted: pinned ones and, if the cache keeps them, dirty ones.
 ghost use Rattle.std.specs.Prelude.{◌≡◌, ◌⊎◌, ℕ, Some, false, IsTrue, IfErr, OnOk, OnErr, IsOk};
 ghost use Rattle.lru_caches.specs.Pages.{shown, counted, pages_pinned, pinned, unpinned_at, IsCached, ShowsTheSame};
-ghost use Rattle.lru_caches.specs.Pages.{CrashAdds, CrashKeeps, Serves, IsCause};
+ghost use Rattle.lru_caches.specs.Pages.{CrashAdds, CrashKeeps, Serves, IsCause, Leaves};
 
 use crate::device::BlockDevice;
 use crate::page_cache::pages::{is_pinned_at, pin_newest, unpin_page};
@@ -31,6 +31,7 @@ impl<B: Copy, D: BlockDevice<B>, S: KeyHasher<u64>> PageCache<B, D, S> {
         ensures untouched { IsCached n self.old → self.new.device ≡ self.old.device }
         ensures broken { D.is_usable self.old.device ≡ false → IsOk result ⊎ (result ≡ Err PageError.Broken) }
         ensures full { result ≡ Err PageError.Full → self.new ≡ self.old }
+        ensures left { IfErr result (Leaves D.BlockDevice self.old self.new) }
         ensures cause { IfErr result (IsCause D.BlockDevice n self.old self.new.device) }
         ensures serves { Serves D.BlockDevice self.old.device self.new.device }
         ensures capacity { self.new.capacity ≡ self.old.capacity }

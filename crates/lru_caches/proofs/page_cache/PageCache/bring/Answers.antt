@@ -1,7 +1,8 @@
-use Rattle.std.proofs.Common.{◌∷◌, nat_eq, false, sym, ap, ◌∙◌}
+use Rattle.std.proofs.Common.{◌≡◌, ◌⊎◌, ◌∷◌, nat_eq, IfErr, subst, false, sym, ap, ◌∙◌}
 use Rattle.std.specs.Map.{lookup}
 use Rattle.lru_model.specs.Lists.{without}
-use Rattle.lru_caches.specs.Pages.{is_dirty, is_pinned, block_or, with_room}
+use Rattle.lru_caches.specs.Pages.{evicted, is_dirty, is_pinned, block_or, with_room}
+use Rattle.lru_caches.specs.declared.page_cache.PageError.TheVariants.{Memory}
 use Rattle.lru_caches.proofs.Outcomes.{none_there, some_there, on_ok}
 use Rattle.lru_caches.proofs.PageOrder.{used-found, used-new}
 use Rattle.lru_caches.proofs.page_cache.PageCache.bring.Goals as goal
@@ -37,3 +38,15 @@ returns-clause-page g c =
           ∙ ap (λ o. (n, record { block = block; is_dirty = is_dirty o; is_pinned = is_pinned o })
           ∷ with_room it.capacity it.keeps_dirty (without (nat_eq n) was)) (sym none)),
     )) c.load.ensures.page
+
+pub returns-clause-left : goal.returns-clause-left
+returns-clause-left g c =
+    let it = c.self.inside in
+    let was = c.promote.new.map.pairs in
+    let new = c.load.new.map.pairs in
+    let gone = c.in_ok-gone.gone in
+    let stays = c.promote.ensures.stays c.if-promote.false in
+    let room = c.in_ok-gone.ensures.room ∙ ap (with_room it.capacity it.keeps_dirty) stays in
+    rw (← c.self.view_is) (subst (λ l. IfErr c.load.result (λ e. (new ≡ it.map.pairs) ⊎ ((e ≡ Memory) × (new ≡ l))))
+    room (subst (λ l. IfErr c.load.result (λ e. (new ≡ l) ⊎ ((e ≡ Memory) × (new ≡ evicted gone was))))
+    stays c.load.ensures.left))

@@ -1,7 +1,8 @@
-use Rattle.std.proofs.Common.{◌∷◌, nat_eq, true, false, sym, ap, ◌∙◌}
+use Rattle.std.proofs.Common.{◌≡◌, ◌⊎◌, ◌∷◌, nat_eq, IfErr, subst, true, false, sym, ap, ◌∙◌}
 use Rattle.std.specs.Map.{lookup}
 use Rattle.lru_model.specs.Lists.{without}
-use Rattle.lru_caches.specs.Pages.{is_pinned, with_room}
+use Rattle.lru_caches.specs.Pages.{evicted, is_pinned, with_room}
+use Rattle.lru_caches.specs.declared.page_cache.PageError.TheVariants.{Memory}
 use Rattle.lru_caches.proofs.Outcomes.{none_there, some_there, on_ok}
 use Rattle.lru_caches.proofs.PageOrder.{used-found, used-new}
 use Rattle.lru_caches.proofs.page_cache.PageCache.write.Goals as goal
@@ -29,3 +30,15 @@ returns-clause-pages g c =
     ∙ ap (λ o. (n, record { block = c.args.block; is_dirty = true; is_pinned = is_pinned o })
     ∷ with_room it.capacity it.keeps_dirty (without (nat_eq n) was)) (sym none)))
     c.replace.ensures.stored
+
+pub returns-clause-left : goal.returns-clause-left
+returns-clause-left g c =
+    let it = c.self.inside in
+    let was = c.overwrite.new.map.pairs in
+    let new = c.replace.new.map.pairs in
+    let gone = c.in_ok-gone.gone in
+    let stays = c.overwrite.ensures.stays c.if-overwrite.false in
+    let room = c.in_ok-gone.ensures.room ∙ ap (with_room it.capacity it.keeps_dirty) stays in
+    rw (← c.self.view_is) (subst (λ l. IfErr c.replace.result (λ e. (new ≡ it.map.pairs) ⊎ ((e ≡ Memory) × (new ≡ l))))
+    room (subst (λ l. IfErr c.replace.result (λ e. (new ≡ l) ⊎ ((e ≡ Memory) × (new ≡ evicted gone was))))
+    stays c.replace.ensures.left))
