@@ -8,8 +8,6 @@ type Cache = PageCache<Block, Counted<FileDevice<File, 16>>>;
 
 pub struct Session {
     cache: Cache,
-    hits: u64,
-    misses: u64,
 }
 
 pub fn text_of(block: &[u8]) -> &str {
@@ -26,23 +24,10 @@ fn say(rt: &HostRuntime, done: Result<(), PageError<FileError>>, word: &str) -> 
 
 impl Session {
     pub fn new(cache: Cache) -> Session {
-        Session {
-            cache,
-            hits: 0,
-            misses: 0,
-        }
-    }
-
-    fn count(&mut self, n: u64) {
-        if self.cache.contains(n) {
-            self.hits = self.hits.saturating_add(1);
-        } else {
-            self.misses = self.misses.saturating_add(1);
-        }
+        Session { cache }
     }
 
     fn read(&mut self, rt: &HostRuntime, n: u64) -> io::Result<()> {
-        self.count(n);
         match self.cache.read(n) {
             Ok(block) => println!(rt; "{n}: {}", text_of(&block)),
             Err(error) => say(rt, Err(error), ""),
@@ -50,16 +35,13 @@ impl Session {
     }
 
     fn write(&mut self, n: u64, text: &str) -> Result<(), PageError<FileError>> {
-        self.count(n);
         self.cache.write(n, block_of(text))
     }
 
     fn stats(&self, rt: &HostRuntime) -> io::Result<()> {
+        let (hits, misses) = (self.cache.hits(), self.cache.misses());
         let writes = self.cache.device().writes();
-        println!(rt;
-            "hits {}, misses {}, write-backs {writes}",
-            self.hits, self.misses
-        )
+        println!(rt; "hits {hits}, misses {misses}, write-backs {writes}")
     }
 
     pub fn answer(&mut self, rt: &HostRuntime, line: &str) -> io::Result<()> {
@@ -73,11 +55,7 @@ impl Session {
     }
 
     pub fn close(self) -> bool {
-        let Session {
-            cache,
-            hits: _,
-            misses: _,
-        } = self;
+        let Session { cache } = self;
         match cache.close() {
             Ok(_) => true,
             Err(Unclosed { cache, error: _ }) => {

@@ -3,6 +3,10 @@ pub mod PageOrder
 pub mod Blocks
 pub mod DirtyPages
 pub mod SetPages
+pub mod FirstPages
+pub mod Outcomes
+pub mod Evictions
+pub mod NewestPages
 pub mod StoredAnswers
 pub mod TurnedEntries
 pub mod RetainedEntries

@@ -56,7 +56,7 @@ length-cleaned_at {B = B} pages n = go (lookup (nat_eq n) pages)
   where
     go : (o : Option (Page B)) → length (with_clean n o pages) ≡ length pages
     go None = refl
-    go (Some page) = length-set_value (nat_eq n) pages (record { block = page.block; is_dirty = false })
+    go (Some page) = length-set_value (nat_eq n) pages (record page { is_dirty = false })
 
 module _ {B D E S : Type 0} (d : device.Ghosts D B E S) (pages : List (ℕ × Page B)) (n : ℕ) where
   pub shown-cleaned_at : (m : ℕ) (block : Option S) → block_or d (lookup (nat_eq m) (cleaned_at n pages)) block
@@ -66,14 +66,14 @@ module _ {B D E S : Type 0} (d : device.Ghosts D B E S) (pages : List (ℕ × Pa
       go : (o : Option (Page B)) → lookup (nat_eq n) pages ≡ o
           → block_or d (lookup (nat_eq m) (with_clean n o pages)) block ≡ block_or d (lookup (nat_eq m) pages) block
       go None e = refl
-      go (Some page) e = shown-set d pages n page (record { block = page.block; is_dirty = false }) e refl m block
+      go (Some page) e = shown-set d pages n page (record page { is_dirty = false }) e refl m block
 
   pub there-cleaned_at : (it : D) → AreThere d pages it → AreThere d (cleaned_at n pages) it
   there-cleaned_at it has = go (lookup (nat_eq n) pages) refl
     where
       go : (o : Option (Page B)) → lookup (nat_eq n) pages ≡ o → AreThere d (with_clean n o pages) it
       go None e = has
-      go (Some page) e = there-set d pages n page (record { block = page.block; is_dirty = false }) e it has
+      go (Some page) e = there-set d pages n page (record page { is_dirty = false }) e it has
 
   pub clean-cleaned_at : (it : D) → ((page : Page B) → lookup (nat_eq n) pages ≡ Some page → page.is_dirty ≡ true
       → d.blocks it n ≡ Some (d.seen page.block)) → AreClean d pages it → AreClean d (cleaned_at n pages) it
@@ -86,5 +86,5 @@ module _ {B D E S : Type 0} (d : device.Ghosts D B E S) (pages : List (ℕ × Pa
 
       go : (o : Option (Page B)) → lookup (nat_eq n) pages ≡ o → AreClean d (with_clean n o pages) it
       go None e = clean
-      go (Some page) e = clean-set d pages n page (record { block = page.block; is_dirty = false }) e it
+      go (Some page) e = clean-set d pages n page (record page { is_dirty = false }) e it
           (λ good _. back page e good page.is_dirty refl) clean

@@ -1,21 +1,28 @@
 -- A page cache: which blocks it shows, which of its pages are dirty, and what a crash may leave.
 --     d    the ghost members of the device: what contracts see of a block, the blocks, what a crash may leave of them
-use Rattle.std.specs.Prelude.{◌≡◌, ◌≢◌, ◌⊎◌, ℕ, Bool, false, List, [], ◌∷◌, ◌++◌, map, take, nat_eq, Option, Some, None}
-use Rattle.std.specs.Prelude.{is_some, IsTrue, filter, IsPermutation}
+use Rattle.std.specs.Prelude.{◌≡◌, ◌≢◌, ◌⊎◌, ◌+◌, ◌-◌, ◌^◌, ℕ, min, Bool, true, false, not, ◌&&◌, ◌||◌, if◌then◌else◌, List, [], ◌∷◌, ◌++◌, map}
+use Rattle.std.specs.Prelude.{length, reverse, filter, nat_eq, nat_lt, Option, Some, None, option_map, is_some, IsTrue}
+use Rattle.std.specs.Prelude.{IsPermutation}
+use Rattle.std.specs.List.{find}
 use Rattle.std.specs.List.Sorted.{IsStrictlyIncreasing}
 use Rattle.std.specs.Map.{lookup, keys_of, set_value}
 use Rattle.lru_model.specs.Lists.{without}
 use Rattle.lru_caches.specs.declared.device.BlockDevice as device
+use Rattle.lru_caches.specs.declared.page_cache.pages.Counts.{Counts}
 use Rattle.lru_caches.specs.declared.page_cache.pages.Page.{Page}
 use Rattle.lru_caches.specs.declared.page_cache.PageError.{PageError}
-use Rattle.lru_caches.specs.declared.page_cache.PageError.TheVariants.{Device, Memory, NoBlock, Broken}
+use Rattle.lru_caches.specs.declared.page_cache.PageError.TheVariants.{Device, Memory, NoBlock, Broken, Full}
 
 -- what a contract sees of a cache
 pub record Cached (B D : Type 0) : Type 0 where
-  -- the cached pages by their numbers, newest first: each has a block, and is dirty or clean
+  -- the cached pages by their numbers, newest first: each has a block, and may be dirty, and pinned
   pub pages : List (ℕ × Page B)
   -- how many pages there may be
   pub capacity : ℕ
+  -- whether no dirty page is evicted
+  pub keeps_dirty : Bool
+  -- how many calls that succeeded found their page cached, and how many did not
+  pub counts : Counts
   pub device : D
 
 module _ {B : Type 0} where
@@ -24,22 +31,67 @@ module _ {B : Type 0} where
   is_dirty None = false
   is_dirty (Some page) = page.is_dirty
 
+  -- there is a page, and it is pinned
+  abbrev pub is_pinned : Option (Page B) → Bool
+  is_pinned None = false
+  is_pinned (Some page) = page.is_pinned
+
   -- the same pages, all of them clean
   abbrev pub cleaned : List (ℕ × Page B) → List (ℕ × Page B)
-  cleaned pages = map (λ p. (p.0, record { block = p.1.block; is_dirty = false })) pages
+  cleaned pages = map (λ p. (p.0, record p.1 { is_dirty = false })) pages
 
   -- the same pages, and this page n, if there is one, is clean
   abbrev pub with_clean : ℕ → Option (Page B) → List (ℕ × Page B) → List (ℕ × Page B)
   with_clean n None pages = pages
-  with_clean n (Some page) pages = set_value (nat_eq n) pages (record { block = page.block; is_dirty = false })
+  with_clean n (Some page) pages = set_value (nat_eq n) pages (record page { is_dirty = false })
 
   -- the same pages, and page n is clean, if there is one
   abbrev pub cleaned_at : ℕ → List (ℕ × Page B) → List (ℕ × Page B)
   cleaned_at n pages = with_clean n (lookup (nat_eq n) pages) pages
 
+  -- the same pages, and this page n, if there is one, has no pin
+  abbrev pub with_no_pin : ℕ → Option (Page B) → List (ℕ × Page B) → List (ℕ × Page B)
+  with_no_pin n None pages = pages
+  with_no_pin n (Some page) pages = set_value (nat_eq n) pages (record page { is_pinned = false })
+
+  -- the same pages, and page n has no pin
+  abbrev pub unpinned_at : ℕ → List (ℕ × Page B) → List (ℕ × Page B)
+  unpinned_at n pages = with_no_pin n (lookup (nat_eq n) pages) pages
+
+  -- A page may be evicted if it is not pinned, and in a cache that keeps dirty pages only if it is clean.
+  abbrev pub may_go : Bool → Page B → Bool
+  may_go keeps_dirty page = not (page.is_pinned || keeps_dirty && page.is_dirty)
+
+  -- the number of the oldest page that may go, if there is one
+  abbrev pub victim : Bool → List (ℕ × Page B) → Option ℕ
+  victim keeps_dirty pages = option_map (λ p. p.0) (find (λ p. may_go keeps_dirty p.1) (reverse pages))
+
+  -- the pages without the one of this number, if there is a number
+  abbrev pub evicted : Option ℕ → List (ℕ × Page B) → List (ℕ × Page B)
+  evicted None pages = pages
+  evicted (Some n) pages = without (nat_eq n) pages
+
+  -- there is a number, and its page is dirty
+  abbrev pub goes_dirty : Option ℕ → List (ℕ × Page B) → Bool
+  goes_dirty None pages = false
+  goes_dirty (Some n) pages = is_dirty (lookup (nat_eq n) pages)
+
+  -- the pages with room for one more: if there are as many as there may be, the oldest that may go is evicted
+  abbrev pub with_room : ℕ → Bool → List (ℕ × Page B) → List (ℕ × Page B)
+  with_room capacity keeps_dirty pages =
+      if nat_lt (length pages) capacity then pages else evicted (victim keeps_dirty pages) pages
+
   -- the numbers of the dirty pages
   abbrev pub dirty_numbers : List (ℕ × Page B) → List ℕ
   dirty_numbers pages = keys_of (filter (λ p. p.1.is_dirty) pages)
+
+-- one hit more; a count stays at the largest 64-bit number
+abbrev pub hit : Counts → Counts
+hit counts = record counts { hits = min (counts.hits + 1) (2 ^ 64 - 1) }
+
+-- one miss more
+abbrev pub missed : Counts → Counts
+missed counts = record counts { misses = min (counts.misses + 1) (2 ^ 64 - 1) }
 
 module _ {B D : Type 0} where
   -- the cache has a page of this number
@@ -50,9 +102,39 @@ module _ {B D : Type 0} where
   abbrev pub dirty : Cached B D → ℕ → Bool
   dirty cache n = is_dirty (lookup (nat_eq n) cache.pages)
 
-  -- the pages after a use of page n: this page, and then the newest others, up to the capacity
+  -- whether the page of each number is pinned; one that is not cached is not
+  abbrev pub pinned : Cached B D → ℕ → Bool
+  pinned cache n = is_pinned (lookup (nat_eq n) cache.pages)
+
+  -- the pages after a use of page n: this page, and then the others, but for the oldest that may go if they fill the
+  -- cache
   abbrev pub pages_after : ℕ → Page B → Cached B D → List (ℕ × Page B)
-  pages_after n page cache = take cache.capacity ((n, page) ∷ without (nat_eq n) cache.pages)
+  pages_after n page cache =
+      (n, page) ∷ with_room cache.capacity cache.keeps_dirty (without (nat_eq n) cache.pages)
+
+  -- the counts after a call on page n that succeeds
+  abbrev pub counted : ℕ → Cached B D → Counts
+  counted n cache = if is_some (lookup (nat_eq n) cache.pages) then hit cache.counts else missed cache.counts
+
+  -- the pages after a read of page n, which has this block
+  abbrev pub pages_read : ℕ → B → Cached B D → List (ℕ × Page B)
+  pages_read n block cache =
+      pages_after n (record { block = block; is_dirty = dirty cache n; is_pinned = pinned cache n }) cache
+
+  -- the pages after a write of this block to page n
+  abbrev pub pages_written : ℕ → B → Cached B D → List (ℕ × Page B)
+  pages_written n block cache =
+      pages_after n (record { block = block; is_dirty = true; is_pinned = pinned cache n }) cache
+
+  -- the pages after a pin of page n, which has this block
+  abbrev pub pages_pinned : ℕ → B → Cached B D → List (ℕ × Page B)
+  pages_pinned n block cache =
+      pages_after n (record { block = block; is_dirty = dirty cache n; is_pinned = true }) cache
+
+  -- page n is not cached, the cache is full, and no page may go
+  abbrev pub IsFull : ℕ → Cached B D → Type 0
+  IsFull n cache = (lookup (nat_eq n) cache.pages ≡ None) × (length cache.pages ≡ cache.capacity)
+      × (victim cache.keeps_dirty cache.pages ≡ None)
 
 module _ {B D E S : Type 0} (d : device.Ghosts D B E S) where
   -- the block of a page, if there is one, or else the device's block, if that is known
@@ -84,6 +166,10 @@ module _ {B D E S : Type 0} (d : device.Ghosts D B E S) where
   abbrev pub CrashAdds : List (ℕ × Page B) → D → D → Type 0
   CrashAdds pages old new = (n : ℕ) (block : S) → d.may_leave new n block
       → d.may_leave old n block ⊎ IsWritten (lookup (nat_eq n) pages) block
+
+  -- what a crash may leave now it might leave before
+  abbrev pub CrashKeeps : D → D → Type 0
+  CrashKeeps old new = (n : ℕ) (block : S) → d.may_leave new n block → d.may_leave old n block
 
   -- each clean page is as on the device, if that is good
   abbrev pub AreClean : List (ℕ × Page B) → D → Type 0
@@ -131,12 +217,18 @@ module _ {B D E S : Type 0} (d : device.Ghosts D B E S) where
   IsFault old new Memory = ⊥
   IsFault old new NoBlock = ⊥
   IsFault old new Broken = ⊥
+  IsFault old new Full = ⊥
 
   -- why a flush fails
   abbrev pub IsFlushCause : D → D → PageError E → Type 0
   IsFlushCause old new e = IsFault old new e ⊎ ((e ≡ Broken) × (d.is_usable old ≡ false))
 
+  -- which pages a call leaves that fails: all or, if it ran out of memory, perhaps all but the oldest that may go
+  abbrev pub Leaves : Cached B D → Cached B D → PageError E → Type 0
+  Leaves old new e = (new.pages ≡ old.pages)
+      ⊎ ((e ≡ Memory) × (new.pages ≡ with_room old.capacity old.keeps_dirty old.pages))
+
   -- why a call on page n fails
-  abbrev pub IsCause : ℕ → D → D → PageError E → Type 0
-  IsCause n old new e = IsFault old new e ⊎ ((e ≡ Broken) × (d.is_usable old ≡ false))
-      ⊎ ((e ≡ NoBlock) × (d.has old n ≡ false)) ⊎ (e ≡ Memory)
+  abbrev pub IsCause : ℕ → Cached B D → D → PageError E → Type 0
+  IsCause n old new e = IsFault old.device new e ⊎ ((e ≡ Broken) × (d.is_usable old.device ≡ false))
+      ⊎ ((e ≡ NoBlock) × (d.has old.device n ≡ false)) ⊎ (e ≡ Memory) ⊎ ((e ≡ Full) × IsFull n old)

@@ -8,8 +8,8 @@ ghost use Rattle.std.specs.Prelude.{◌≡◌, ◌≢◌, ◌⊎◌, ℕ, Bool, 
 /// only its own block, also if it fails or the machine stops in the middle of it. After a `sync` that failed, no clause
 /// says what the blocks are, and no call may be made.
 ///
-/// For most devices contracts see of a block the block itself, by `ghost seen = { λ block. block };`. They do not tell
-/// blocks apart that `seen` does not.
+/// For most devices a contract sees the block itself: `ghost seen = { λ block. block };`. Contracts do not distinguish
+/// blocks that have the same `seen`.
 ///
 /// ```
 /// let calls_left = Cell::new(2);           // the third call fails
@@ -41,14 +41,14 @@ pub trait BlockDevice<B> {
     /// No `sync` has failed.
     ghost is_usable: { Self → Bool };
 
-    /// How many calls have failed, or any other number that changes exactly if a call fails.
+    /// How many calls have failed, or another number that changes exactly when a call fails.
     ghost faults: { Self → ℕ };
 
     /// What a crash in the middle of a write may leave of its block, besides the old and the new one. By default it is
     /// anything. A device that writes a block as a whole defines it as `⊥`.
     ghost IsTorn: { Self.Seen → Type 0 } = { λ _. Unit {0} };
 
-    /// No read has returned anything but the known block: for a file a premise that no code can test.
+    /// Each read has returned the known block, if it was known. For a file no code can test this: it is a premise.
     ghost IsHonest: { Self → Type 0 } = { λ _. Unit {0} };
 
     /// A `write` of a block to this number takes the first state to the second. By default any two states.
@@ -116,6 +116,6 @@ pub trait BlockDevice<B> {
         ensures usable { is_usable self.new ≡ is_ok result }
         ensures numbers { (m : ℕ) → has self.new m ≡ has self.old m };
 
-    /// A process that dies leaves what it has written. So no impl can say that there are no crashes.
+    /// A crash may leave each known block as it is. So no impl can say that there are no crashes.
     ghost stays: { (device : Self) (n : ℕ) (b : Self.Seen) → blocks device n ≡ Some b → may_leave device n b };
 }

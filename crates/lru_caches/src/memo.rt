@@ -164,7 +164,7 @@ impl<K: Eq + Hash + Drop, V: Drop, F: Fn(&K) -> V, L: Insertion<K, V, K>, S: Key
 > {
     /// Lends a closure what `answer` would return, and returns what the closure returns. The values need not be `Copy`.
     ///
-    /// The closure is called once. It is lent a result also if that is not stored.
+    /// The closure is called once. It is lent the result even if the result is not stored.
     ///
     /// ```
     /// let mut blocks = Memo::new(alloc, ByLength::new(9), |n: &usize| vec![in alloc; 7u8; *n].ok());

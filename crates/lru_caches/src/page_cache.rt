@@ -1,21 +1,23 @@
 //! `PageCache`. A contract sees a cache as its pages, newest first, and its device.
-ghost use Rattle.std.specs.Prelude.{◌≡◌, ◌≢◌, ◌⊎◌, ◌≤◌, ℕ, [], Some, true, false, length, max, IsTrue, ◌↔◌};
-ghost use Rattle.std.specs.Prelude.{IfOk, IfErr, OnOk, OnErr, IsOk};
+ghost use Rattle.std.specs.Prelude.{◌≡◌, ◌≤◌, ℕ, [], Some, true, false, length, max, IsTrue, ◌↔◌, IfOk, IfErr, OnOk, OnErr};
 ghost use Rattle.lru_model.specs.Lists.{is_empty};
-ghost use Rattle.lru_caches.specs.Pages.{shown, dirty, cleaned, pages_after, IsCached, ShowsTheSame, CrashAdds, Serves};
-ghost use Rattle.lru_caches.specs.Pages.{IsCause, IsFlushCause, IsFlush, IsCutOff};
+ghost use Rattle.lru_caches.specs.Pages.{shown, cleaned, IsCached, ShowsTheSame, CrashAdds, IsFlushCause, IsFlush, IsCutOff};
 
 use crate::device::BlockDevice;
-use crate::page_cache::flush::{list_dirty, make_clean, reserve_number, write_all_back};
-use crate::page_cache::pages::{Page, Pages, admit, cached_block, load, overwrite, store};
+use crate::page_cache::flush::{list_dirty, make_clean, write_all_back};
+use crate::page_cache::pages::{Counts, Pages};
 use schnellru::{KeyHasher, LruMap, RandomState, UnlimitedCompact};
 use std::alloc::Global;
 use std::fmt::Display;
 use std::marker::Model;
 use thiserror::Error;
 
+mod blocks;
+mod evict;
 mod flush;
+mod laws;
 mod pages;
+mod pins;
 
 /// Why a call on a page cache failed. A call that fails changes no block that the cache shows, unless a `sync` of the
 /// device failed in it.
@@ -31,12 +33,16 @@ pub enum PageError<E> {
     /// The device failed, with this error.
     #[error("the device failed: {0}")]
     Device(E),
-    /// Out of memory for one page more, or there are 1,879,048,192 pages, the most that the table links.
+    /// Out of memory for one more page, or there are 1,879,048,192 pages, the most that the table links.
     #[error("out of memory")]
     Memory,
     /// The device has no block of this number.
     #[error("no such block")]
     NoBlock,
+    /// The cache is full, and no page may be evicted for a new one: each is pinned or, if the cache keeps dirty pages,
+    /// dirty. Nothing has changed.
+    #[error("no page may be evicted")]
+    Full,
     /// A `sync` of the device has failed, so what was written before may be lost. Discard the cache.
     #[error("a sync of the device has failed")]
     Broken,
@@ -44,8 +50,8 @@ pub enum PageError<E> {
 
 /// A write-back cache of the blocks of a device.
 ///
-/// It keeps the pages that were used last, up to its capacity. A write changes only the cached page: the page is then
-/// dirty, and goes to the device when it is evicted or flushed.
+/// It keeps the pages that were used last, up to its capacity, and those that are pinned. A write changes only the
+/// cached page: the page is then dirty, and goes to the device when it is evicted or flushed.
 ///
 /// After a `flush` that returned `Ok`, a crash leaves each block as it was shown at that flush or was written later;
 /// `docs/CACHES.md` says what this supposes of a disk. After a `sync` that failed, each call but `discard`, and reads
@@ -63,9 +69,11 @@ pub enum PageError<E> {
 /// ```
 pub struct PageCache<B: Copy, D: BlockDevice<B>, S: KeyHasher<u64> = RandomState> {
     map: Pages<B, S>,
-    // memory for the number of each page
+    // reserved memory for the number of each page, for flushes
     numbers: Vec<u64>,
     capacity: usize,
+    keeps_dirty: bool,
+    counts: Counts,
     device: D,
 }
 
@@ -78,6 +86,8 @@ impl<B: Copy, D: BlockDevice<B>, S: KeyHasher<u64>> Model for PageCache<B, D, S>
     ghost view = { λ c. record {
       pages = c.map.pairs;
       capacity = c.capacity;
+      keeps_dirty = c.keeps_dirty;
+      counts = c.counts;
       device = c.device;
     } };
 
@@ -101,6 +111,8 @@ impl<B: Copy, D: BlockDevice<B>> PageCache<B, D, RandomState> {
         ensures device { result.device ≡ device }
         ensures empty { result.pages ≡ [] }
         ensures capacity { result.capacity ≡ max 1 capacity }
+        ensures mode { result.keeps_dirty ≡ false }
+        ensures counts { result.counts ≡ record { hits = 0; misses = 0 } }
     {
         PageCache::with_hasher(alloc, device, capacity, RandomState::default())
     }
@@ -114,17 +126,22 @@ impl<B: Copy, D: BlockDevice<B>, S: KeyHasher<u64>> PageCache<B, D, S> {
     /// ```
     /// let seeded = RandomState::with_seeds([5, 6, 7, 8]);
     /// let mut cache = PageCache::with_hasher(alloc, disk, 2, seeded);
+    /// assert!(rt; cache.is_empty());
     /// cache.discard();
     /// ```
     pub fn with_hasher(alloc: Global, device: D, capacity: usize, hasher: S) -> Self
         ensures device { result.device ≡ device }
         ensures empty { result.pages ≡ [] }
         ensures capacity { result.capacity ≡ max 1 capacity }
+        ensures mode { result.keeps_dirty ≡ false }
+        ensures counts { result.counts ≡ record { hits = 0; misses = 0 } }
     {
         PageCache {
             map: LruMap::with_limiter_and_hasher(alloc, UnlimitedCompact, hasher),
             numbers: Vec::new(alloc),
             capacity: capacity.max(1),
+            keeps_dirty: false,
+            counts: Counts { hits: 0, misses: 0 },
             device,
         }
     }
@@ -148,9 +165,7 @@ impl<B: Copy, D: BlockDevice<B>, S: KeyHasher<u64>> PageCache<B, D, S> {
     /// Cost: `O(1)`.
     ///
     /// ```
-    /// let mut cache = PageCache::new(alloc, disk, 2);
     /// assert!(rt; cache.is_empty());
-    /// cache.discard();
     /// ```
     pub fn is_empty(&self) -> bool
         ensures { result ≡ is_empty self.now.pages }
@@ -171,6 +186,35 @@ impl<B: Copy, D: BlockDevice<B>, S: KeyHasher<u64>> PageCache<B, D, S> {
         self.map.contains(&n)
     }
 
+    /// Returns how many calls that read, write or pin a page found it cached. A call that fails counts nothing. The
+    /// count stays at `u64::MAX`.
+    ///
+    /// Cost: `O(1)`.
+    ///
+    /// ```
+    /// let (hits, misses) = (cache.hits(), cache.misses());
+    /// assert!(rt; cache.read(1) == Ok(20) && cache.hits() == hits.saturating_add(1) && cache.misses() == misses);
+    /// ```
+    pub fn hits(&self) -> u64
+        ensures { result ≡ self.now.counts.hits }
+    {
+        self.counts.hits
+    }
+
+    /// Returns how many calls that read, write or pin a page did not find it cached, as `hits` counts.
+    ///
+    /// Cost: `O(1)`.
+    ///
+    /// ```
+    /// let (hits, misses) = (cache.hits(), cache.misses());
+    /// assert!(rt; cache.read(1) == Ok(20) && cache.hits() == hits.saturating_add(1) && cache.misses() == misses);
+    /// ```
+    pub fn misses(&self) -> u64
+        ensures { result ≡ self.now.counts.misses }
+    {
+        self.counts.misses
+    }
+
     /// Lends the device. It lacks the writes that are only in dirty pages.
     ///
     /// Cost: `O(1)`.
@@ -184,85 +228,6 @@ impl<B: Copy, D: BlockDevice<B>, S: KeyHasher<u64>> PageCache<B, D, S> {
         &self.device
     }
 
-    /// Returns a block, and makes its page the newest.
-    ///
-    /// If the cache is full, the oldest page is evicted for it, after that page was written to the device if it is
-    /// dirty.
-    ///
-    /// ```
-    /// assert_eq!(rt; (cache.read(1), cache.len()), (Ok(20), 1));
-    /// ```
-    ///
-    /// Cost: `O(1)` expected, amortised over the growth of the table, and at most one read and one write of the device.
-    ///
-    /// # Errors
-    ///
-    /// None if the page is cached. `Broken`: a `sync` has failed. `NoBlock`: the device has no such number. `Device`:
-    /// the read failed, or the oldest page could not be written back; all pages stay. `Memory`: out of memory for one
-    /// page more; the oldest page may have been evicted.
-    pub fn read(&mut self, n: u64) -> Result<B, PageError<D::Error>>
-        ensures block { IfOk result (λ block. D.IsHonest self.new.device
-            → shown D.BlockDevice self.new n ≡ Some (D.seen block)) }
-        ensures keeps { ShowsTheSame D.BlockDevice self.old self.new }
-        ensures pages { IfOk result (λ block.
-            self.new.pages ≡ pages_after n (record { block = block; is_dirty = dirty self.old n }) self.old) }
-        ensures crash { CrashAdds D.BlockDevice self.old.pages self.old.device self.new.device }
-        ensures hit { IsCached n self.old → IsOk result }
-        ensures untouched { IsCached n self.old → self.new.device ≡ self.old.device }
-        ensures broken { D.is_usable self.old.device ≡ false → IsOk result ⊎ (result ≡ Err PageError.Broken) }
-        ensures cause { IfErr result (IsCause D.BlockDevice n self.old.device self.new.device) }
-        ensures serves { Serves D.BlockDevice self.old.device self.new.device }
-        ensures capacity { self.new.capacity ≡ self.old.capacity }
-    {
-        if let Some(block) = cached_block(&mut self.map, n) {
-            return Ok(block);
-        }
-        admit(&self.device, n)?;
-        reserve_number(&mut self.numbers, self.map.len())?;
-        load(&mut self.map, &mut self.device, self.capacity, n)
-    }
-
-    /// Replaces a block in the cache, and makes its page the newest. The device gets the block later.
-    ///
-    /// If the page is not cached and the cache is full, the oldest page is evicted for it, as by `read`.
-    ///
-    /// ```
-    /// assert_eq!(rt; cache.write(1, 20), Ok(()));
-    /// ```
-    ///
-    /// Cost: `O(1)` expected, amortised over the growth of the table, and at most one write of the device.
-    ///
-    /// # Errors
-    ///
-    /// `Broken`: a `sync` has failed. `NoBlock`: the device has no such number. Nothing else if the page is cached.
-    /// `Device` and `Memory` as for `read`. After an error the block is not replaced.
-    pub fn write(&mut self, n: u64, block: B) -> Result<(), PageError<D::Error>>
-        ensures written { OnOk result (shown D.BlockDevice self.new n ≡ Some (D.seen block)) }
-        ensures others { D.IsHonest self.new.device →
-            (m : ℕ) → m ≢ n → shown D.BlockDevice self.new m ≡ shown D.BlockDevice self.old m }
-        ensures failed { OnErr result (ShowsTheSame D.BlockDevice self.old self.new) }
-        ensures pages { OnOk result (self.new.pages
-            ≡ pages_after n (record { block = block; is_dirty = true }) self.old) }
-        ensures crash { CrashAdds D.BlockDevice self.old.pages self.old.device self.new.device }
-        ensures hit { IsCached n self.old → IsTrue (D.is_usable self.old.device) → IsOk result }
-        ensures untouched { IsCached n self.old → self.new.device ≡ self.old.device }
-        ensures broken { D.is_usable self.old.device ≡ false → result ≡ Err PageError.Broken }
-        ensures cause { IfErr result (IsCause D.BlockDevice n self.old.device self.new.device) }
-        ensures serves { Serves D.BlockDevice self.old.device self.new.device }
-        ensures capacity { self.new.capacity ≡ self.old.capacity }
-    {
-        admit(&self.device, n)?;
-        let page = Page {
-            block,
-            is_dirty: true,
-        };
-        if overwrite(&mut self.map, n, page) {
-            return Ok(());
-        }
-        reserve_number(&mut self.numbers, self.map.len())?;
-        store(&mut self.map, &mut self.device, self.capacity, n, page)
-    }
-
     /// Writes all dirty pages to the device, and then calls its `sync`. The pages stay cached, and are clean
     /// afterwards.
     ///
@@ -271,7 +236,7 @@ impl<B: Copy, D: BlockDevice<B>, S: KeyHasher<u64>> PageCache<B, D, S> {
     /// assert_eq!(rt; cache.device().blocks, [10, 20, 12, 13]);
     /// ```
     ///
-    /// Cost: `O(len)`, a write of the device for each dirty page, and a `sync`, even if no page is dirty.
+    /// Cost: `O(len + n log n)` for n dirty pages, n writes of the device, and a `sync`, even if no page is dirty.
     ///
     /// # Errors
     ///
@@ -293,6 +258,8 @@ impl<B: Copy, D: BlockDevice<B>, S: KeyHasher<u64>> PageCache<B, D, S> {
         ensures numbers { (n : ℕ) → D.has self.new.device n ≡ D.has self.old.device n }
         ensures honest { D.IsHonest self.new.device → D.IsHonest self.old.device }
         ensures capacity { self.new.capacity ≡ self.old.capacity }
+        ensures mode { self.new.keeps_dirty ≡ self.old.keeps_dirty }
+        ensures counts { self.new.counts ≡ self.old.counts }
         ensures order { OnOk result (IsFlush D.BlockDevice self.old.pages self.old.device self.new.device) }
         ensures cut_off { IsTrue (D.is_usable self.old.device)
             → OnErr result (IsCutOff D.BlockDevice self.old.pages self.old.device self.new.device) }
@@ -336,6 +303,7 @@ impl<B: Copy, D: BlockDevice<B>, S: KeyHasher<u64>> PageCache<B, D, S> {
         ensures cause { IfErr result (λ unclosed.
             IsFlushCause D.BlockDevice self.device unclosed.cache.device unclosed.error) }
         ensures capacity { IfErr result (λ unclosed. unclosed.cache.capacity ≡ self.capacity) }
+        ensures mode { IfErr result (λ unclosed. unclosed.cache.keeps_dirty ≡ self.keeps_dirty) }
     {
         match self.flush() {
             Ok(()) => Ok(self.discard()),
@@ -359,6 +327,8 @@ impl<B: Copy, D: BlockDevice<B>, S: KeyHasher<u64>> PageCache<B, D, S> {
             map: _,
             numbers: _,
             capacity: _,
+            keeps_dirty: _,
+            counts: _,
             device,
         } = self;
         device

@@ -98,19 +98,43 @@ fn on_a_map(rt: HostRuntime) {
 fn cache_1(cache: &mut Cache<'_>) -> bool {
     all!(
         rewrite(cache),
+        cache.read_with(1, |block| *block / 2) == Ok(10),
+        rewrite(cache),
+        (cache.write_with(1, |block| *block = 21), cache.read(1)) == (Ok(()), Ok(21)),
+        rewrite(cache),
         (cache.dirty_len(), cache.flush_page(1), cache.dirty_len()) == (1, Ok(()), 0),
         cache.device().blocks == [10, 20, 12, 13],
         rewrite(cache),
         cache.dirty_len() == 1,
         rewrite(cache),
-        cache.read(4) == Err(PageError::NoBlock),
-        rewrite(cache),
-        cache.contains(1) && !cache.contains(2),
-        cache.device().blocks == [10, 11, 12, 13]
+        (cache.pin(0), cache.pin(1), cache.read(2)) == (Ok(()), Ok(()), Err(PageError::Full)),
+        cache.is_pinned(0) && cache.unpin(0) && !cache.is_pinned(0)
     )
 }
 
 fn cache_2(cache: &mut Cache<'_>) -> bool {
+    let held = rewrite(cache);
+    cache.set_keeps_dirty(true);
+    let held = held
+        & all!(
+            (cache.keeps_dirty(), cache.write(0, 10), cache.read(2))
+                == (true, Ok(()), Err(PageError::Full)),
+            rewrite(cache),
+            cache.read(4) == Err(PageError::NoBlock),
+            rewrite(cache),
+            cache.contains(1) && !cache.contains(2)
+        );
+    let (hits, misses) = (cache.hits(), cache.misses());
+    held & all!(
+        cache.read(1) == Ok(20)
+            && cache.hits() == hits.saturating_add(1)
+            && cache.misses() == misses,
+        rewrite(cache),
+        cache.device().blocks == [10, 11, 12, 13]
+    )
+}
+
+fn cache_3(cache: &mut Cache<'_>) -> bool {
     all!(
         rewrite(cache),
         cache.flush() == Ok(()),
@@ -124,7 +148,11 @@ fn on_a_cache(rt: HostRuntime) {
     let calls_left = Cell::new(100);
     let disk = Disk::new([10, 11, 12, 13], [false; 4], &calls_left);
     let mut cache = PageCache::new(alloc, disk, 2);
-    let held = all!(cache_1(&mut cache), cache_2(&mut cache));
+    let held = all!(
+        cache_1(&mut cache),
+        cache_2(&mut cache),
+        cache_3(&mut cache)
+    );
     cache.discard();
     check!(rt; held);
 }
@@ -311,22 +339,13 @@ fn of_page_cache_2(rt: HostRuntime) {
     let disk = Disk::new([10, 11, 12, 13], [false; 4], &calls_left);
     let seeded = RandomState::with_seeds([5, 6, 7, 8]);
     let mut cache = PageCache::with_hasher(alloc, disk, 2, seeded);
-    cache.discard();
-}
-
-#[test]
-fn of_page_cache_3(rt: HostRuntime) {
-    let alloc = rt.alloc();
-    let calls_left = Cell::new(100);
-    let disk = Disk::new([10, 11, 12, 13], [false; 4], &calls_left);
-    let mut cache = PageCache::new(alloc, disk, 2);
     let held = cache.is_empty();
     cache.discard();
     check!(rt; held);
 }
 
 #[test]
-fn of_page_cache_4(rt: HostRuntime) {
+fn of_page_cache_3(rt: HostRuntime) {
     let alloc = rt.alloc();
     let calls_left = Cell::new(100);
     let disk = Disk::new([10, 11, 12, 13], [false; 4], &calls_left);

@@ -2,14 +2,14 @@ use std::fs::File;
 use std::io;
 use std::io::Cursor;
 
-/// A file with a call that is to make its bytes outlast a crash. A file device supposes that it does; it calls it when
-/// it syncs, and not again after an error.
+/// A file whose written bytes can be made to survive a crash. A file device assumes that `make_durable` does so. It
+/// calls `make_durable` when it syncs, and not again after an error.
 ///
 /// ```
 /// assert!(rt; Cursor::new([0u8; 4]).make_durable().is_ok());
 /// ```
 pub trait Durable {
-    /// Asks the system to make the bytes durable that were written and flushed before, and returns when it has.
+    /// Asks the system to make all bytes that were written and flushed before durable, and returns when it has.
     ///
     /// # Errors
     ///
@@ -18,14 +18,14 @@ pub trait Durable {
     fn make_durable(&mut self) -> io::Result<()>;
 }
 
-/// By `File::sync_data`, which waits for the disk.
+/// Calls `File::sync_data`, which waits for the disk.
 impl Durable for File {
     fn make_durable(&mut self) -> io::Result<()> {
         self.sync_data()
     }
 }
 
-/// Bytes in memory: does nothing.
+/// Does nothing: the bytes are in memory.
 impl<T> Durable for Cursor<T> {
     fn make_durable(&mut self) -> io::Result<()> {
         Ok(())

@@ -1,7 +1,8 @@
 //! A device over a file whose blocks have checksums.
-ghost use Rattle.std.specs.Prelude.{◌≡◌, [], ◌-◌, ◌≤◌, take, nat_lt, IsTrue, option_map};
-ghost use Rattle.lru_caches.specs.Checksums.{with_checksums};
+ghost use Rattle.std.specs.Prelude.{◌≡◌, ℕ, Bool, List, [], ◌∷◌, ◌-◌, ◌≤◌, take, nat_lt, if◌then◌else◌, IsTrue, option_map};
+ghost use Rattle.lru_caches.specs.Checksums.{with_checksums, with_checksum as checked_block};
 ghost use Rattle.lru_caches.specs.Files.{known, left, IsLeft, failures, IsHonest as AnsweredAsRecorded};
+ghost use Rattle.lru_caches.specs.Files.{written, unwritten, synced, unsynced};
 ghost use Rattle.lru_caches.specs.LeftLemma.{left_is_seen};
 
 use crate::device::BlockDevice;
@@ -13,9 +14,9 @@ use std::io::{Read, Seek, Write};
 
 /// A device of the blocks of a file, of `N` bytes each, with a checksum in the last 8 bytes of each block.
 ///
-/// A write replaces the last 8 bytes by the hash of the others and of the block's number, so contracts see of a block
-/// all bytes but these. A read returns `Ok` only if the block has its checksum: it finds blocks that are torn, damaged
-/// or of another number, after a restart too, and needs no memory for that.
+/// A write replaces the last 8 bytes by the hash of the other bytes and of the block's number, so contracts see all
+/// bytes of a block except the last 8. A read returns `Ok` only if the block has its checksum. So a read finds blocks
+/// that are torn, damaged or of another number, also after a restart, and needs no memory for that.
 ///
 /// [`FileDevice`]: crate::FileDevice
 ///
@@ -80,7 +81,7 @@ impl<F: Read + Write + Seek, const N: usize> HashedFileDevice<F, N> {
         &self.file.file
     }
 
-    /// Returns the file, as of a `FileDevice`.
+    /// Returns the file, as `FileDevice::into_file` does.
     ///
     /// ```
     /// let bytes = hashed.into_file().into_inner();
@@ -117,6 +118,13 @@ impl<F: Read + Write + Seek + Durable, const N: usize> BlockDevice<[u8; N]>
     ghost faults = { λ device. failures device.file.log.events };
 
     ghost IsHonest = { λ device. AnsweredAsRecorded device.file.log.events };
+
+    ghost write_gives = { λ old n block new. (ok : Bool) × (bytes : List ℕ) × (take (N - 8) bytes ≡ block)
+        × (new.file.log.events ≡ (if ok then written n (checked_block n bytes) else unwritten n (checked_block n bytes))
+        ∷ old.file.log.events) };
+
+    ghost sync_gives = { λ old new. (ok : Bool) × (new.file.log.events
+        ≡ (if ok then synced else unsynced) ∷ old.file.log.events) };
 
     ghost stays = { λ device n. left_is_seen (take (N - 8)) device.file.log.events n };
 

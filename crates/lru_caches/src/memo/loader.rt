@@ -50,7 +50,7 @@ impl<K: Eq + Hash, V, E, F: Fn(&K) -> Result<V, E>, L: Insertion<K, V, K>> Loade
     L,
     RandomState,
 > {
-    /// Makes a loader by a function, with no values yet.
+    /// Makes a loader of a function, with no values yet.
     ///
     /// If strangers choose the keys, call `with_hasher`. Cost: `O(1)`, and no memory.
     ///
@@ -79,7 +79,7 @@ impl<K: Eq + Hash, V, E, F: Fn(&K) -> Result<V, E>, L: Insertion<K, V, K>, S: Ke
     L,
     S,
 > {
-    /// Makes a loader by a function as `new` does, with this hasher of keys, and `entry_bytes` as for
+    /// Makes a loader of a function as `new` does, with this hasher of keys, and `entry_bytes` as for
     /// `LruMap::with_hasher`.
     ///
     /// ```

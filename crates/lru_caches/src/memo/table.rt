@@ -28,7 +28,7 @@ pub trait Question<K, V> {
 
 /// A table of the newest answers to a question, up to a limit, for a function that calls itself.
 ///
-/// Whatever a `get` returns is an answer. A caller proves that what it stores is one.
+/// Each value that `get` returns is an answer. A caller proves that each value that it stores is an answer.
 ///
 /// ```
 /// let mut squares = MemoTable::new(alloc, ByLength::new(9), Squares);
@@ -181,8 +181,8 @@ impl<
         read_stored::<K, V, Q, L, S, R, U>(&mut self.map, key, read)
     }
 
-    /// Stores an answer at a key, as the newest, and returns whether it is stored. It is not if the table runs out of
-    /// memory or its limiter rejects the answer; then no answer is stored at the key.
+    /// Stores an answer at a key, as the newest, and returns whether it is stored. If the table runs out of memory or its
+    /// limiter rejects the answer, no answer is stored at the key.
     ///
     /// ```
     /// squares.store(3, 9);

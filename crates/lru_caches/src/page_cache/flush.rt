@@ -13,7 +13,7 @@ use crate::page_cache::pages::{Page, Pages};
 use crate::page_cache::{PageCache, PageError};
 use schnellru::KeyHasher;
 
-/// Takes memory for the number of one page more, so that a flush needs none.
+/// Reserves memory for the number of one more page, so that a flush needs none.
 pub(super) fn reserve_number<E>(numbers: &mut Vec<u64>, pages: usize) -> Result<(), PageError<E>>
     ensures reserved { OnOk result (pages < vec_capacity numbers.new) }
     ensures keeps { vec_capacity numbers.old ≤ vec_capacity numbers.new }
@@ -205,6 +205,8 @@ impl<B: Copy, D: BlockDevice<B>, S: KeyHasher<u64>> PageCache<B, D, S> {
         ensures cause { IfErr result (IsFlushCause D.BlockDevice self.old.device self.new.device) }
         ensures serves { Serves D.BlockDevice self.old.device self.new.device }
         ensures capacity { self.new.capacity ≡ self.old.capacity }
+        ensures mode { self.new.keeps_dirty ≡ self.old.keeps_dirty }
+        ensures counts { self.new.counts ≡ self.old.counts }
     {
         if !self.device.is_usable() {
             return Err(PageError::Broken);

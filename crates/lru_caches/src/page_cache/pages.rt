@@ -1,20 +1,46 @@
 //! The steps of a page cache, over its map of pages and its device.
-ghost use Rattle.std.specs.Prelude.{◌≡◌, ◌≢◌, ◌⊎◌, ◌≤◌, ◌<◌, ◌+◌, ◌-◌, ℕ, ◌∷◌, length, nat_eq, None, Some, option_map};
-ghost use Rattle.std.specs.Prelude.{is_some, true, false, take, IsTrue, IfSome, IfOk, IfErr, OnOk, OnErr};
+ghost use Rattle.std.specs.Prelude.{◌≡◌, ◌≢◌, ◌⊎◌, ◌≤◌, ◌<◌, ◌+◌, ℕ, List, ◌∷◌, length, nat_eq, None, Some, Option};
+ghost use Rattle.std.specs.Prelude.{is_some, true, false, if◌then◌else◌, IsTrue, IfErr, IfOk, OnOk, OnErr};
+ghost use Rattle.std.specs.Fn.{FnOnceReturnsAt, FnOnceReturnsAtMut};
 ghost use Rattle.std.specs.Map.{lookup};
 ghost use Rattle.lru_model.specs.Lists.{without};
-ghost use Rattle.lru_caches.specs.Pages.{block_at, cleaned, is_dirty};
-ghost use Rattle.lru_caches.specs.Pages.{AreClean, AreThere, CrashAdds, IsCause, IsFault, Serves};
+ghost use Rattle.lru_caches.specs.Pages.{block_at, evicted, goes_dirty, hit, is_pinned, may_go, missed, unpinned_at};
+ghost use Rattle.lru_caches.specs.Pages.{AreClean, AreThere, CrashAdds, CrashKeeps, IsFault, Serves};
 
 use crate::device::BlockDevice;
 use crate::page_cache::PageError;
-use crate::page_cache::flush::write_back;
+use crate::page_cache::evict::replace;
 use schnellru::{KeyHasher, LruMap, UnlimitedCompact};
 
 #[derive(Clone, Copy)]
 pub(super) struct Page<B> {
     pub(super) block: B,
     pub(super) is_dirty: bool,
+    pub(super) is_pinned: bool,
+}
+
+#[derive(Clone, Copy)]
+pub(super) struct Counts {
+    pub(super) hits: u64,
+    pub(super) misses: u64,
+}
+
+impl Counts {
+    fn count_hit_if(&mut self, there: bool)
+        ensures { self.new ≡ (if there then hit self.old else self.old) }
+    {
+        if there {
+            self.hits = self.hits.saturating_add(1);
+        }
+    }
+}
+
+impl<B> Page<B> {
+    pub(super) fn is_free(&self, keeps_dirty: bool) -> bool
+        ensures { result ≡ may_go keeps_dirty self.now }
+    {
+        !(self.is_pinned || keeps_dirty && self.is_dirty)
+    }
 }
 
 pub(super) type Pages<B, S> = LruMap<u64, Page<B>, UnlimitedCompact, S>;
@@ -25,7 +51,8 @@ pub(super) fn admit<B: Copy, D: BlockDevice<B>>(
 ) -> Result<(), PageError<D::Error>>
     ensures there { OnOk result (IsTrue (D.has device.now n)) }
     ensures usable { OnOk result (IsTrue (D.is_usable device.now)) }
-    ensures cause { IfErr result (IsCause D.BlockDevice n device.now device.now) }
+    ensures cause { IfErr result (λ e. ((e ≡ PageError.Broken) × (D.is_usable device.now ≡ false))
+        ⊎ ((e ≡ PageError.NoBlock) × (D.has device.now n ≡ false))) }
     ensures broken { D.is_usable device.now ≡ false → result ≡ Err PageError.Broken }
     ensures lacking { IsTrue (D.is_usable device.now) → D.has device.now n ≡ false → result ≡ Err PageError.NoBlock }
     ensures passes { IsTrue (D.is_usable device.now) → IsTrue (D.has device.now n) → result ≡ Ok tt }
@@ -44,7 +71,7 @@ fn read_block<B: Copy, D: BlockDevice<B>>(device: &mut D, n: u64) -> Result<B, P
     requires there { IsTrue (D.has device.old n) }
     ensures block { IfOk result (λ block. D.IsHonest device.new → D.blocks device.new n ≡ Some (D.seen block)) }
     ensures keeps { (m : ℕ) (b : D.Seen) → D.blocks device.old m ≡ Some b → D.blocks device.new m ≡ Some b }
-    ensures crash { (m : ℕ) (b : D.Seen) → D.may_leave device.new m b → D.may_leave device.old m b }
+    ensures crash { CrashKeeps D.BlockDevice device.old device.new }
     ensures serves { Serves D.BlockDevice device.old device.new }
     ensures cause { IfErr result (IsFault D.BlockDevice device.old device.new) }
     ensures calm { OnOk result (D.faults device.new ≡ D.faults device.old) }
@@ -52,170 +79,104 @@ fn read_block<B: Copy, D: BlockDevice<B>>(device: &mut D, n: u64) -> Result<B, P
     device.read(n).map_err(PageError::Device)
 }
 
+/// Reads a block, and makes it the newest page in place of the page `gone`.
 pub(super) fn load<B: Copy, D: BlockDevice<B>, S: KeyHasher<u64>>(
     map: &mut Pages<B, S>,
     device: &mut D,
-    capacity: usize,
+    counts: &mut Counts,
+    gone: Option<u64>,
     n: u64,
-) -> Result<B, PageError<D::Error>>
+) -> Result<(), PageError<D::Error>>
     requires usable { IsTrue (D.is_usable device.old) }
     requires number { IsTrue (D.has device.old n) }
     requires absent { lookup (nat_eq n) map.old.pairs ≡ None }
     requires clean { AreClean D.BlockDevice map.old.pairs device.old }
     requires there { AreThere D.BlockDevice map.old.pairs device.old }
-    requires within { length map.old.pairs ≤ capacity }
-    requires some { 0 < capacity }
     ensures clean { AreClean D.BlockDevice map.new.pairs device.new }
     ensures there { AreThere D.BlockDevice map.new.pairs device.new }
-    ensures within { length map.new.pairs ≤ capacity }
-    ensures block { IfOk result (λ block. D.IsHonest device.new
-        → block_at D.BlockDevice map.new.pairs device.new n ≡ Some (D.seen block)) }
+    ensures page { OnOk result ((block : B) × (D.IsHonest device.new
+        → block_at D.BlockDevice map.new.pairs device.new n ≡ Some (D.seen block)) × (map.new.pairs
+        ≡ (n, record { block = block; is_dirty = false; is_pinned = false }) ∷ evicted gone map.old.pairs)) }
     ensures shows { D.IsHonest device.new → (m : ℕ) (b : D.Seen)
         → block_at D.BlockDevice map.old.pairs device.old m ≡ Some b → block_at D.BlockDevice map.new.pairs device.new m ≡ Some b }
     ensures crash { CrashAdds D.BlockDevice map.old.pairs device.old device.new }
+    ensures unwritten { goes_dirty gone map.old.pairs ≡ false → CrashKeeps D.BlockDevice device.old device.new }
     ensures serves { Serves D.BlockDevice device.old device.new }
     ensures cause { IfErr result (λ e. IsFault D.BlockDevice device.old device.new e ⊎ (e ≡ PageError.Memory)) }
-    ensures newest { IfOk result (λ block. map.new.pairs
-        ≡ (n, record { block = block; is_dirty = false }) ∷ take (capacity - 1) map.old.pairs) }
+    ensures within { (capacity : ℕ) → length map.old.pairs ≤ capacity → length (evicted gone map.old.pairs) < capacity
+        → length map.new.pairs ≤ capacity }
     ensures no_more { length map.new.pairs ≤ length map.old.pairs + 1 }
+    ensures left { IfErr result (λ e. (map.new.pairs ≡ map.old.pairs)
+        ⊎ ((e ≡ PageError.Memory) × (map.new.pairs ≡ evicted gone map.old.pairs))) }
+    ensures counted { OnOk result (counts.new ≡ missed counts.old) }
+    ensures uncounted { OnErr result (counts.new ≡ counts.old) }
 {
     let block = read_block(device, n)?;
     let page = Page {
         block,
         is_dirty: false,
+        is_pinned: false,
     };
-    store(map, device, capacity, n, page)?;
-    Ok(block)
+    replace(map, device, counts, gone, n, page)
 }
 
-pub(super) fn cached_block<B: Copy, S: KeyHasher<u64>>(map: &mut Pages<B, S>, n: u64) -> Option<B>
-    ensures block { result ≡ option_map (λ page. page.block) (lookup (nat_eq n) map.old.pairs) }
-    ensures same { (m : ℕ) → lookup (nat_eq m) map.new.pairs ≡ lookup (nat_eq m) map.old.pairs }
-    ensures len { length map.new.pairs ≡ length map.old.pairs }
-    ensures used { IfSome result (λ block. map.new.pairs
-        ≡ (n, record { block = block; is_dirty = is_dirty (lookup (nat_eq n) map.old.pairs) })
-        ∷ without (nat_eq n) map.old.pairs) }
-    ensures stays { result ≡ None → map.new.pairs ≡ map.old.pairs }
-{
-    match map.get(&n) {
-        Some(page) => Some(page.block),
-        None => None,
-    }
-}
-
-pub(super) fn overwrite<B: Copy, S: KeyHasher<u64>>(
+/// Makes a page the newest, and returns whether it is cached.
+pub(super) fn promote<B: Copy, S: KeyHasher<u64>>(
     map: &mut Pages<B, S>,
+    counts: &mut Counts,
     n: u64,
-    page: Page<B>,
 ) -> bool
     ensures there { result ≡ is_some (lookup (nat_eq n) map.old.pairs) }
-    ensures written { result ≡ true → lookup (nat_eq n) map.new.pairs ≡ Some page }
-    ensures others { (m : ℕ) → m ≢ n → lookup (nat_eq m) map.new.pairs ≡ lookup (nat_eq m) map.old.pairs }
-    ensures stays { result ≡ false → map.new.pairs ≡ map.old.pairs }
+    ensures same { (m : ℕ) → lookup (nat_eq m) map.new.pairs ≡ lookup (nat_eq m) map.old.pairs }
     ensures len { length map.new.pairs ≡ length map.old.pairs }
-    ensures used { result ≡ true → map.new.pairs ≡ (n, page) ∷ without (nat_eq n) map.old.pairs }
+    ensures used { (page : Page B) → lookup (nat_eq n) map.old.pairs ≡ Some page
+        → map.new.pairs ≡ (n, page) ∷ without (nat_eq n) map.old.pairs }
+    ensures stays { result ≡ false → map.new.pairs ≡ map.old.pairs }
+    ensures counts { counts.new ≡ (if result then hit counts.old else counts.old) }
+{
+    let there = map.promote(&n);
+    counts.count_hit_if(there);
+    there
+}
+
+/// Replaces the block of a page, makes the page dirty and the newest, and returns whether it is cached.
+pub(super) fn overwrite<B: Copy, S: KeyHasher<u64>>(
+    map: &mut Pages<B, S>,
+    counts: &mut Counts,
+    n: u64,
+    block: B,
+) -> bool
+    ensures there { result ≡ is_some (lookup (nat_eq n) map.old.pairs) }
+    ensures stays { result ≡ false → map.new.pairs ≡ map.old.pairs }
+    ensures others { (m : ℕ) → m ≢ n → lookup (nat_eq m) map.new.pairs ≡ lookup (nat_eq m) map.old.pairs }
+    ensures len { length map.new.pairs ≡ length map.old.pairs }
+    ensures written { result ≡ true → lookup (nat_eq n) map.new.pairs ≡ Some (record {
+      block = block;
+      is_dirty = true;
+      is_pinned = is_pinned (lookup (nat_eq n) map.old.pairs);
+    }) }
+    ensures used { result ≡ true → map.new.pairs ≡ (
+      n,
+      record {
+        block = block;
+        is_dirty = true;
+        is_pinned = is_pinned (lookup (nat_eq n) map.old.pairs);
+      },
+    ) ∷ without (nat_eq n) map.old.pairs }
+    ensures counts { counts.new ≡ (if result then hit counts.old else counts.old) }
 {
     match map.get(&n) {
-        Some(place) => {
-            *place = page;
+        Some(page) => {
+            counts.hits = counts.hits.saturating_add(1);
+            page.block = block;
+            page.is_dirty = true;
             true
         }
         None => false,
     }
 }
 
-pub(super) fn store<B: Copy, D: BlockDevice<B>, S: KeyHasher<u64>>(
-    map: &mut Pages<B, S>,
-    device: &mut D,
-    capacity: usize,
-    n: u64,
-    page: Page<B>,
-) -> Result<(), PageError<D::Error>>
-    requires usable { IsTrue (D.is_usable device.old) }
-    requires number { IsTrue (D.has device.old n) }
-    requires absent { lookup (nat_eq n) map.old.pairs ≡ None }
-    requires as_read { page.is_dirty ≡ false → D.IsHonest device.old
-        → D.blocks device.old n ≡ Some (D.seen page.block) }
-    requires clean { AreClean D.BlockDevice map.old.pairs device.old }
-    requires there { AreThere D.BlockDevice map.old.pairs device.old }
-    requires within { length map.old.pairs ≤ capacity }
-    requires some { 0 < capacity }
-    ensures clean { AreClean D.BlockDevice map.new.pairs device.new }
-    ensures there { AreThere D.BlockDevice map.new.pairs device.new }
-    ensures within { length map.new.pairs ≤ capacity }
-    ensures others { D.IsHonest device.new → (m : ℕ) → m ≢ n
-        → block_at D.BlockDevice map.new.pairs device.new m ≡ block_at D.BlockDevice map.old.pairs device.old m }
-    ensures failed { OnErr result (D.IsHonest device.new → (m : ℕ)
-        → block_at D.BlockDevice map.new.pairs device.new m ≡ block_at D.BlockDevice map.old.pairs device.old m) }
-    ensures stored { OnOk result (map.new.pairs ≡ (n, page) ∷ take (capacity - 1) map.old.pairs) }
-    ensures no_more { length map.new.pairs ≤ length map.old.pairs + 1 }
-    ensures crash { CrashAdds D.BlockDevice map.old.pairs device.old device.new }
-    ensures serves { Serves D.BlockDevice device.old device.new }
-    ensures cause { IfErr result (λ e. IsFault D.BlockDevice device.old device.new e ⊎ (e ≡ PageError.Memory)) }
-{
-    make_room(map, device, capacity)?;
-    add_page(map, n, page)
-}
-
-fn make_room<B: Copy, D: BlockDevice<B>, S: KeyHasher<u64>>(
-    map: &mut Pages<B, S>,
-    device: &mut D,
-    capacity: usize,
-) -> Result<(), PageError<D::Error>>
-    requires usable { IsTrue (D.is_usable device.old) }
-    requires clean { AreClean D.BlockDevice map.old.pairs device.old }
-    requires there { AreThere D.BlockDevice map.old.pairs device.old }
-    requires within { length map.old.pairs ≤ capacity }
-    requires some { 0 < capacity }
-    ensures clean { AreClean D.BlockDevice map.new.pairs device.new }
-    ensures there { AreThere D.BlockDevice map.new.pairs device.new }
-    ensures shows { D.IsHonest device.new → (n : ℕ) →
-        block_at D.BlockDevice map.new.pairs device.new n ≡ block_at D.BlockDevice map.old.pairs device.old n }
-    ensures crash { CrashAdds D.BlockDevice map.old.pairs device.old device.new }
-    ensures serves { Serves D.BlockDevice device.old device.new }
-    ensures cause { IfErr result (IsFault D.BlockDevice device.old device.new) }
-    ensures kept { OnErr result (map.new.pairs ≡ map.old.pairs) }
-    ensures absent { (n : ℕ) → lookup (nat_eq n) map.old.pairs ≡ None → lookup (nat_eq n) map.new.pairs ≡ None }
-    ensures growth_left { OnOk result (length map.new.pairs < capacity) }
-    ensures newest { OnOk result (map.new.pairs ≡ take (capacity - 1) map.old.pairs) }
-    ensures no_more { length map.new.pairs ≤ length map.old.pairs }
-{
-    if map.len() < capacity {
-        return Ok(());
-    }
-    evict_oldest(map, device)?;
-    Ok(())
-}
-
-fn evict_oldest<B: Copy, D: BlockDevice<B>, S: KeyHasher<u64>>(
-    map: &mut Pages<B, S>,
-    device: &mut D,
-) -> Result<(), PageError<D::Error>>
-    requires usable { IsTrue (D.is_usable device.old) }
-    requires clean { AreClean D.BlockDevice map.old.pairs device.old }
-    requires there { AreThere D.BlockDevice map.old.pairs device.old }
-    ensures clean { AreClean D.BlockDevice map.new.pairs device.new }
-    ensures there { AreThere D.BlockDevice map.new.pairs device.new }
-    ensures shows { D.IsHonest device.new → (n : ℕ) →
-        block_at D.BlockDevice map.new.pairs device.new n ≡ block_at D.BlockDevice map.old.pairs device.old n }
-    ensures crash { CrashAdds D.BlockDevice map.old.pairs device.old device.new }
-    ensures serves { Serves D.BlockDevice device.old device.new }
-    ensures cause { IfErr result (IsFault D.BlockDevice device.old device.new) }
-    ensures kept { OnErr result (map.new.pairs ≡ map.old.pairs) }
-    ensures absent { (n : ℕ) → lookup (nat_eq n) map.old.pairs ≡ None → lookup (nat_eq n) map.new.pairs ≡ None }
-    ensures left { OnOk result (length map.new.pairs ≡ length map.old.pairs - 1) }
-    ensures newest { OnOk result (map.new.pairs ≡ take (length map.old.pairs - 1) map.old.pairs) }
-{
-    let _ = map.len();
-    let Some((n, page)) = map.peek_oldest() else {
-        return Ok(());
-    };
-    write_back(device, *n, page)?;
-    map.pop_oldest();
-    Ok(())
-}
-
-fn add_page<B: Copy, E, S: KeyHasher<u64>>(
+pub(super) fn add_page<B: Copy, E, S: KeyHasher<u64>>(
     map: &mut Pages<B, S>,
     n: u64,
     page: Page<B>,
@@ -226,4 +187,71 @@ fn add_page<B: Copy, E, S: KeyHasher<u64>>(
     ensures memory { IfErr result (λ e. e ≡ PageError.Memory) }
 {
     map.try_insert(n, page).map_err(|_| PageError::Memory)
+}
+
+pub(super) fn read_newest<B: Copy, S: KeyHasher<u64>, R, U: FnOnce(&B) -> R>(
+    map: &Pages<B, S>,
+    read: U,
+) -> R
+    requires readable { U.IsAlwaysCallable read }
+    requires some { 0 < length map.now.pairs }
+    ensures { (n : ℕ) (page : Page B) (others : List (ℕ × Page B)) → map.now.pairs ≡ (n, page) ∷ others
+        → FnOnceReturnsAt U.FnOnce read page.block result }
+{
+    match map.peek_newest() {
+        Some((_, page)) => read(&page.block),
+        None => unreachable!(),
+    }
+}
+
+/// Lends the block of the newest page for writing, and makes the page dirty.
+pub(super) fn write_newest<B: Copy, S: KeyHasher<u64>, R, U: FnOnce(&mut B) -> R>(
+    map: &mut Pages<B, S>,
+    write: U,
+) -> R
+    requires writable { U.IsAlwaysCallable write }
+    requires some { 0 < length map.old.pairs }
+    ensures { (n : ℕ) (page : Page B) (others : List (ℕ × Page B)) → map.old.pairs ≡ (n, page) ∷ others
+        → (block : B) × FnOnceReturnsAtMut U.FnOnce write page.block result block
+        × (map.new.pairs ≡ (n, record { block = block; is_dirty = true; is_pinned = page.is_pinned }) ∷ others) }
+{
+    match map.newest_mut() {
+        Some(page) => {
+            page.is_dirty = true;
+            write(&mut page.block)
+        }
+        None => unreachable!(),
+    }
+}
+
+pub(super) fn pin_newest<B: Copy, S: KeyHasher<u64>>(map: &mut Pages<B, S>)
+    ensures { (n : ℕ) (page : Page B) (others : List (ℕ × Page B)) → map.old.pairs ≡ (n, page) ∷ others
+        → map.new.pairs ≡ (n, record page { is_pinned = true }) ∷ others }
+{
+    if let Some(page) = map.newest_mut() {
+        page.is_pinned = true;
+    }
+}
+
+pub(super) fn unpin_page<B: Copy, S: KeyHasher<u64>>(map: &mut Pages<B, S>, n: u64) -> bool
+    ensures was { result ≡ is_pinned (lookup (nat_eq n) map.old.pairs) }
+    ensures unpinned { map.new.pairs ≡ unpinned_at n map.old.pairs }
+{
+    match map.peek_mut(&n) {
+        Some(page) => {
+            let was_pinned = page.is_pinned;
+            page.is_pinned = false;
+            was_pinned
+        }
+        None => false,
+    }
+}
+
+pub(super) fn is_pinned_at<B: Copy, S: KeyHasher<u64>>(map: &Pages<B, S>, n: u64) -> bool
+    ensures { result ≡ is_pinned (lookup (nat_eq n) map.now.pairs) }
+{
+    match map.peek(&n) {
+        Some(page) => page.is_pinned,
+        None => false,
+    }
 }

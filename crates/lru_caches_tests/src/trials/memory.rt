@@ -1,4 +1,4 @@
-//! Caches that run out of memory, what a page cache gives back when it ends, and what an ordered map drops.
+//! Caches that run out of memory, the memory that a page cache frees when it ends, and what an ordered map drops.
 use crate::disk::Disk;
 use lru_caches::{OrderedMap, PageCache, Unclosed};
 use std::alloc::{AllocError, Global};
@@ -65,8 +65,8 @@ fn finds_memory(alloc: Global, closes: bool) -> bool {
     }
 }
 
-/// Makes a thousand caches one after another, with memory for one. Each is closed, or its pages are discarded. Returns
-/// how many found memory for their pages.
+/// Makes a thousand caches one after another, with memory for only one. Each is closed or discarded. Returns how many
+/// found memory for their pages.
 pub fn caches_that_find_memory(alloc: Global) -> u64 {
     let hog = hog(alloc, &[128, 20, 16, 32], 4);
     let mut count = 0u64;

@@ -209,6 +209,32 @@ impl<B: Copy, D: BlockDevice<B>, S: BuildHasher> PageCache<B, D, S> {
         self.cache.contains(n)
     }
 
+    /// Returns how many calls that read, write or pin a page found it cached. A call that fails counts nothing. The count
+    /// stays at `u64::MAX`.
+    ///
+    /// ```
+    /// # use jeerdurian::caches::{FileDevice, PageCache};
+    /// # let file = std::io::Cursor::new(*b"zeroone.two.");
+    /// # let mut cache = PageCache::new(FileDevice::<_, 4>::new(file, 3), 2);
+    /// assert_eq!((cache.read(1), cache.read(1)), (Ok(*b"one."), Ok(*b"one.")));
+    /// assert_eq!((cache.hits(), cache.misses()), (1, 1));
+    /// ```
+    pub fn hits(&self) -> u64 {
+        self.cache.hits()
+    }
+
+    /// Returns how many calls that read, write or pin a page did not find it cached, as [`hits`](Self::hits) counts.
+    ///
+    /// ```
+    /// # use jeerdurian::caches::{FileDevice, PageCache};
+    /// # let file = std::io::Cursor::new(*b"zeroone.two.");
+    /// # let mut cache = PageCache::new(FileDevice::<_, 4>::new(file, 3), 2);
+    /// assert_eq!((cache.read(1), cache.read(9).is_err(), cache.misses()), (Ok(*b"one."), true, 1));
+    /// ```
+    pub fn misses(&self) -> u64 {
+        self.cache.misses()
+    }
+
     /// Returns the device. It lacks the writes that are in dirty pages alone.
     ///
     /// ```
@@ -225,14 +251,18 @@ impl<B: Copy, D: BlockDevice<B>, S: BuildHasher> PageCache<B, D, S> {
     /// Returns a block, and makes its page the newest.
     ///
     /// A cached page is returned without the device. Otherwise the block is read from the device and cached. If the
-    /// cache is full, the oldest page is evicted for it, after that page was written to the device if it is dirty.
+    /// cache is full, the oldest page that may go is evicted for it, after that page was written to the device if it is
+    /// dirty. A page may go unless it is [pinned](Self::pin) or, if the cache
+    /// [keeps dirty pages](Self::set_keeps_dirty), dirty.
     ///
-    /// Cost: `O(1)` expected, amortised over the growth of the table, and at most one read and one write of the device.
+    /// Cost: `O(1)` expected, amortised over the growth of the table, and at most one read and one write of the device;
+    /// if a page is evicted, also `O(k)` for k older pages that may not go.
     ///
     /// # Errors
     ///
-    /// None if the page is cached. `Broken`: a `sync` has failed. `NoBlock`: the device has no such number. `Device`: the
-    /// read failed, or the oldest page could not be written back. `Memory`: out of memory for one page more.
+    /// None if the page is cached. `Broken`: a `sync` has failed. `NoBlock`: the device has no such number. `Full`: no
+    /// page may go. `Device`: the read failed, or a page could not be written back. `Memory`: out of memory for one page
+    /// more.
     ///
     /// ```
     /// # use jeerdurian::caches::{FileDevice, PageCache};
@@ -243,6 +273,22 @@ impl<B: Copy, D: BlockDevice<B>, S: BuildHasher> PageCache<B, D, S> {
     /// ```
     pub fn read(&mut self, n: u64) -> Result<B, PageError<D::Error>> {
         self.cache.read(n)
+    }
+
+    /// Lends a closure the block that `read` would return, and returns what the closure returns.
+    ///
+    /// # Errors
+    ///
+    /// As `read`. The closure is not called then.
+    ///
+    /// ```
+    /// # use jeerdurian::caches::{FileDevice, PageCache};
+    /// # let file = std::io::Cursor::new(*b"zeroone.two.");
+    /// # let mut cache = PageCache::new(FileDevice::<_, 4>::new(file, 3), 2);
+    /// assert_eq!(cache.read_with(1, |block| block[0]), Ok(b'o'));
+    /// ```
+    pub fn read_with<R>(&mut self, n: u64, read: impl FnOnce(&B) -> R) -> Result<R, PageError<D::Error>> {
+        self.cache.read_with(n, read)
     }
 
     /// Replaces a block in the cache, and makes its page the newest. The device gets the block later.
@@ -261,6 +307,95 @@ impl<B: Copy, D: BlockDevice<B>, S: BuildHasher> PageCache<B, D, S> {
     /// ```
     pub fn write(&mut self, n: u64, block: B) -> Result<(), PageError<D::Error>> {
         self.cache.write(n, block)
+    }
+
+    /// Lends a closure a block for writing in place, makes its page dirty and the newest, and returns what the closure
+    /// returns. The block is read first if its page is not cached. If the closure panics, the page is dirty, with what
+    /// the closure wrote.
+    ///
+    /// # Errors
+    ///
+    /// `Broken`: a `sync` has failed. Otherwise as `read`. The closure is not called then.
+    ///
+    /// ```
+    /// # use jeerdurian::caches::{FileDevice, PageCache};
+    /// # let file = std::io::Cursor::new(*b"zeroone.two.");
+    /// # let mut cache = PageCache::new(FileDevice::<_, 4>::new(file, 3), 2);
+    /// assert_eq!(cache.write_with(1, |block| block[0] = b'O'), Ok(()));
+    /// assert_eq!(cache.read(1), Ok(*b"One."));
+    /// ```
+    pub fn write_with<R>(&mut self, n: u64, write: impl FnOnce(&mut B) -> R) -> Result<R, PageError<D::Error>> {
+        self.cache.write_with(n, write)
+    }
+
+    /// Pins a page and makes it the newest, after it was read if it is not cached. It is not evicted until
+    /// [`unpin`](Self::unpin): one `unpin` ends any number of pins of a page. A flush writes pinned pages, too.
+    ///
+    /// # Errors
+    ///
+    /// As `read`.
+    ///
+    /// ```
+    /// # use jeerdurian::caches::{FileDevice, PageCache, PageError};
+    /// # let file = std::io::Cursor::new(*b"zeroone.two.");
+    /// # let mut cache = PageCache::new(FileDevice::<_, 4>::new(file, 3), 2);
+    /// assert_eq!((cache.pin(0), cache.pin(1), cache.read(2)), (Ok(()), Ok(()), Err(PageError::Full)));
+    /// assert!(cache.unpin(0) && cache.read(2) == Ok(*b"two.") && !cache.contains(0));
+    /// ```
+    pub fn pin(&mut self, n: u64) -> Result<(), PageError<D::Error>> {
+        self.cache.pin(n)
+    }
+
+    /// Ends the pin of a page, and returns whether there was one. The order of use stays.
+    ///
+    /// ```
+    /// # use jeerdurian::caches::{FileDevice, PageCache};
+    /// # let file = std::io::Cursor::new(*b"zeroone.two.");
+    /// # let mut cache = PageCache::new(FileDevice::<_, 4>::new(file, 3), 2);
+    /// assert!(cache.pin(1) == Ok(()) && cache.unpin(1) && !cache.unpin(1));
+    /// ```
+    pub fn unpin(&mut self, n: u64) -> bool {
+        self.cache.unpin(n)
+    }
+
+    /// Returns whether a page is pinned. The order of use stays.
+    ///
+    /// ```
+    /// # use jeerdurian::caches::{FileDevice, PageCache};
+    /// # let file = std::io::Cursor::new(*b"zeroone.two.");
+    /// # let mut cache = PageCache::new(FileDevice::<_, 4>::new(file, 3), 2);
+    /// assert!(!cache.is_pinned(1) && cache.pin(1) == Ok(()) && cache.is_pinned(1));
+    /// ```
+    pub fn is_pinned(&self, n: u64) -> bool {
+        self.cache.is_pinned(n)
+    }
+
+    /// Returns whether dirty pages are kept until a flush. At first they are not.
+    ///
+    /// ```
+    /// # use jeerdurian::caches::{FileDevice, PageCache};
+    /// # let file = std::io::Cursor::new(*b"zeroone.two.");
+    /// # let mut cache = PageCache::new(FileDevice::<_, 4>::new(file, 3), 2);
+    /// assert!(!cache.keeps_dirty());
+    /// ```
+    pub fn keeps_dirty(&self) -> bool {
+        self.cache.keeps_dirty()
+    }
+
+    /// Sets whether dirty pages are kept until a flush. If they are, calls write to the device only to flush, so a log of
+    /// the writes can be written and synced before. A call that needs room for a page returns `Full` if each page is
+    /// dirty or pinned.
+    ///
+    /// ```
+    /// # use jeerdurian::caches::{FileDevice, PageCache, PageError};
+    /// # let file = std::io::Cursor::new(*b"zeroone.two.");
+    /// # let mut cache = PageCache::new(FileDevice::<_, 4>::new(file, 3), 2);
+    /// cache.set_keeps_dirty(true);
+    /// assert_eq!((cache.write(0, *b"new."), cache.write(1, *b"new.")), (Ok(()), Ok(())));
+    /// assert_eq!((cache.read(2), cache.flush(), cache.read(2)), (Err(PageError::Full), Ok(()), Ok(*b"two.")));
+    /// ```
+    pub fn set_keeps_dirty(&mut self, keeps_dirty: bool) {
+        self.cache.set_keeps_dirty(keeps_dirty);
     }
 
     /// Writes each dirty page to the device, in the order of their numbers, and then calls its `sync`. The pages stay

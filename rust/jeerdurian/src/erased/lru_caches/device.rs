@@ -11,8 +11,8 @@ use crate::rattle_std::prelude::*;
 /// only its own block, also if it fails or the machine stops in the middle of it. After a `sync` that failed, no clause
 /// says what the blocks are, and no call may be made.
 ///
-/// For most devices contracts see of a block the block itself, by `ghost seen = { λ block. block };`. They do not tell
-/// blocks apart that `seen` does not.
+/// For most devices a contract sees the block itself: `ghost seen = { λ block. block };`. Contracts do not distinguish
+/// blocks that have the same `seen`.
 ///
 /// ```text
 /// let calls_left = Cell::new(2);           // the third call fails

@@ -40,8 +40,8 @@ impl ::core::fmt::Display for FileError {
 /// A device of the blocks of a file, of `N` bytes each.
 ///
 /// Nothing is proved of the bytes that an operating system returns or keeps. So contracts see the record of the calls
-/// on the file, which takes no memory (`specs/Files`). That a read returns what was written there last has the premise
-/// `IsHonest`: the file answered as the record says.
+/// on the file, which takes no memory (`specs/Files`). A read returns what was written there last under the premise
+/// `IsHonest`: each read of the file returned what the record says.
 ///
 /// [`HashedFileDevice`] also finds torn and foreign blocks.
 ///
@@ -61,8 +61,8 @@ pub struct FileDevice<F, const N: usize> {
 }
 
 impl<F: Read + Write + Seek, const N: usize> FileDevice<F, N> {
-    /// Makes a device of the first `count` blocks of a file. The file need not have them yet: a read of a block behind
-    /// its end fails, and a write there makes it longer.
+    /// Makes a device of the first `count` blocks of a file. The file may be shorter: a read of a block past its end
+    /// fails, and a write there makes the file longer.
     ///
     /// ```text
     /// let mut device: FileDevice<_, 4> = FileDevice::new(file, 3);

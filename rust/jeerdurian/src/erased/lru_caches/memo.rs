@@ -98,7 +98,7 @@ impl<K: Eq + Hash, V: Copy, F: Fn(&K) -> V, L: Insertion<K, V, K>, S: KeyHasher<
 impl<K: Eq + Hash, V, F: Fn(&K) -> V, L: Insertion<K, V, K>, S: KeyHasher<K>> Memo<K, V, F, L, S> {
     /// Lends a closure what `answer` would return, and returns what the closure returns. The values need not be `Copy`.
     ///
-    /// The closure is called once. It is lent a result also if that is not stored.
+    /// The closure is called once. It is lent the result even if the result is not stored.
     ///
     /// ```text
     /// let mut blocks = Memo::new(alloc, ByLength::new(9), |n: &usize| vec![in alloc; 7u8; *n].ok());

@@ -5,14 +5,18 @@
 use crate::rattle_std::prelude::*;
 
 use crate::erased::lru_caches::device::BlockDevice;
-use crate::erased::lru_caches::page_cache::flush::{list_dirty, make_clean, reserve_number, write_all_back};
-use crate::erased::lru_caches::page_cache::pages::{Page, Pages, admit, cached_block, load, overwrite, store};
+use crate::erased::lru_caches::page_cache::flush::{list_dirty, make_clean, write_all_back};
+use crate::erased::lru_caches::page_cache::pages::{Counts, Pages};
 use crate::erased::schnellru::{KeyHasher, LruMap, RandomState, UnlimitedCompact};
 use crate::rattle_std::alloc::Global;
 use crate::rattle_std::fmt::Display;
 
+mod blocks;
+mod evict;
 mod flush;
+mod laws;
 mod pages;
+mod pins;
 
 /// Why a call on a page cache failed. A call that fails changes no block that the cache shows, unless a `sync` of the
 /// device failed in it.
@@ -27,10 +31,13 @@ mod pages;
 pub enum PageError<E> {
     /// The device failed, with this error.
     Device(E),
-    /// Out of memory for one page more, or there are 1,879,048,192 pages, the most that the table links.
+    /// Out of memory for one more page, or there are 1,879,048,192 pages, the most that the table links.
     Memory,
     /// The device has no block of this number.
     NoBlock,
+    /// The cache is full, and no page may be evicted for a new one: each is pinned or, if the cache keeps dirty pages,
+    /// dirty. Nothing has changed.
+    Full,
     /// A `sync` of the device has failed, so what was written before may be lost. Discard the cache.
     Broken,
 }
@@ -44,6 +51,7 @@ where
             PageError::Device(value) => write!(f, "the device failed: {0}", value),
             PageError::Memory => write!(f, "out of memory"),
             PageError::NoBlock => write!(f, "no such block"),
+            PageError::Full => write!(f, "no page may be evicted"),
             PageError::Broken => write!(f, "a sync of the device has failed"),
         }
     }
@@ -51,8 +59,8 @@ where
 
 /// A write-back cache of the blocks of a device.
 ///
-/// It keeps the pages that were used last, up to its capacity. A write changes only the cached page: the page is then
-/// dirty, and goes to the device when it is evicted or flushed.
+/// It keeps the pages that were used last, up to its capacity, and those that are pinned. A write changes only the
+/// cached page: the page is then dirty, and goes to the device when it is evicted or flushed.
 ///
 /// After a `flush` that returned `Ok`, a crash leaves each block as it was shown at that flush or was written later;
 /// `docs/CACHES.md` says what this supposes of a disk. After a `sync` that failed, each call but `discard`, and reads
@@ -70,9 +78,11 @@ where
 /// ```
 pub struct PageCache<B: Copy, D: BlockDevice<B>, S = RandomState> {
     map: Pages<B, S>,
-    // memory for the number of each page
+    // reserved memory for the number of each page, for flushes
     numbers: Vec<u64>,
     capacity: usize,
+    keeps_dirty: bool,
+    counts: Counts,
     device: D,
 }
 
@@ -99,6 +109,7 @@ impl<B: Copy, D: BlockDevice<B>, S: KeyHasher<u64>> PageCache<B, D, S> {
     /// ```text
     /// let seeded = RandomState::with_seeds([5, 6, 7, 8]);
     /// let mut cache = PageCache::with_hasher(alloc, disk, 2, seeded);
+    /// assert!(rt; cache.is_empty());
     /// cache.discard();
     /// ```
     pub fn with_hasher(alloc: Global, device: D, capacity: usize, hasher: S) -> Self {
@@ -106,6 +117,8 @@ impl<B: Copy, D: BlockDevice<B>, S: KeyHasher<u64>> PageCache<B, D, S> {
             map: LruMap::with_limiter_and_hasher(alloc, UnlimitedCompact, hasher),
             numbers: Vec::new(alloc),
             capacity: capacity.max(1),
+            keeps_dirty: false,
+            counts: Counts { hits: 0, misses: 0 },
             device,
         }
     }
@@ -126,9 +139,7 @@ impl<B: Copy, D: BlockDevice<B>, S: KeyHasher<u64>> PageCache<B, D, S> {
     /// Cost: `O(1)`.
     ///
     /// ```text
-    /// let mut cache = PageCache::new(alloc, disk, 2);
     /// assert!(rt; cache.is_empty());
-    /// cache.discard();
     /// ```
     pub fn is_empty(&self) -> bool {
         self.map.is_empty()
@@ -145,6 +156,31 @@ impl<B: Copy, D: BlockDevice<B>, S: KeyHasher<u64>> PageCache<B, D, S> {
         self.map.contains(&n)
     }
 
+    /// Returns how many calls that read, write or pin a page found it cached. A call that fails counts nothing. The
+    /// count stays at `u64::MAX`.
+    ///
+    /// Cost: `O(1)`.
+    ///
+    /// ```text
+    /// let (hits, misses) = (cache.hits(), cache.misses());
+    /// assert!(rt; cache.read(1) == Ok(20) && cache.hits() == hits.saturating_add(1) && cache.misses() == misses);
+    /// ```
+    pub fn hits(&self) -> u64 {
+        self.counts.hits
+    }
+
+    /// Returns how many calls that read, write or pin a page did not find it cached, as `hits` counts.
+    ///
+    /// Cost: `O(1)`.
+    ///
+    /// ```text
+    /// let (hits, misses) = (cache.hits(), cache.misses());
+    /// assert!(rt; cache.read(1) == Ok(20) && cache.hits() == hits.saturating_add(1) && cache.misses() == misses);
+    /// ```
+    pub fn misses(&self) -> u64 {
+        self.counts.misses
+    }
+
     /// Lends the device. It lacks the writes that are only in dirty pages.
     ///
     /// Cost: `O(1)`.
@@ -156,55 +192,6 @@ impl<B: Copy, D: BlockDevice<B>, S: KeyHasher<u64>> PageCache<B, D, S> {
         &self.device
     }
 
-    /// Returns a block, and makes its page the newest.
-    ///
-    /// If the cache is full, the oldest page is evicted for it, after that page was written to the device if it is
-    /// dirty.
-    ///
-    /// ```text
-    /// assert_eq!(rt; (cache.read(1), cache.len()), (Ok(20), 1));
-    /// ```
-    ///
-    /// Cost: `O(1)` expected, amortised over the growth of the table, and at most one read and one write of the device.
-    ///
-    /// # Errors
-    ///
-    /// None if the page is cached. `Broken`: a `sync` has failed. `NoBlock`: the device has no such number. `Device`:
-    /// the read failed, or the oldest page could not be written back; all pages stay. `Memory`: out of memory for one
-    /// page more; the oldest page may have been evicted.
-    pub fn read(&mut self, n: u64) -> Result<B, PageError<D::Error>> {
-        if let Some(block) = cached_block(&mut self.map, n) {
-            return Ok(block);
-        }
-        admit(&self.device, n)?;
-        reserve_number(&mut self.numbers, self.map.len())?;
-        load(&mut self.map, &mut self.device, self.capacity, n)
-    }
-
-    /// Replaces a block in the cache, and makes its page the newest. The device gets the block later.
-    ///
-    /// If the page is not cached and the cache is full, the oldest page is evicted for it, as by `read`.
-    ///
-    /// ```text
-    /// assert_eq!(rt; cache.write(1, 20), Ok(()));
-    /// ```
-    ///
-    /// Cost: `O(1)` expected, amortised over the growth of the table, and at most one write of the device.
-    ///
-    /// # Errors
-    ///
-    /// `Broken`: a `sync` has failed. `NoBlock`: the device has no such number. Nothing else if the page is cached.
-    /// `Device` and `Memory` as for `read`. After an error the block is not replaced.
-    pub fn write(&mut self, n: u64, block: B) -> Result<(), PageError<D::Error>> {
-        admit(&self.device, n)?;
-        let page = Page { block, is_dirty: true };
-        if overwrite(&mut self.map, n, page) {
-            return Ok(());
-        }
-        reserve_number(&mut self.numbers, self.map.len())?;
-        store(&mut self.map, &mut self.device, self.capacity, n, page)
-    }
-
     /// Writes all dirty pages to the device, and then calls its `sync`. The pages stay cached, and are clean
     /// afterwards.
     ///
@@ -213,7 +200,7 @@ impl<B: Copy, D: BlockDevice<B>, S: KeyHasher<u64>> PageCache<B, D, S> {
     /// assert_eq!(rt; cache.device().blocks, [10, 20, 12, 13]);
     /// ```
     ///
-    /// Cost: `O(len)`, a write of the device for each dirty page, and a `sync`, even if no page is dirty.
+    /// Cost: `O(len + n log n)` for n dirty pages, n writes of the device, and a `sync`, even if no page is dirty.
     ///
     /// # Errors
     ///
@@ -261,7 +248,7 @@ where {
     /// Cost: `O(1)`.
     pub fn discard(self) -> D
 where {
-        let PageCache { map: _, numbers: _, capacity: _, device } = self;
+        let PageCache { map: _, numbers: _, capacity: _, keeps_dirty: _, counts: _, device } = self;
         device
     }
 }

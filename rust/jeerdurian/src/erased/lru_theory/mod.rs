@@ -28,10 +28,10 @@ pub fn lru_is_competitive<K: Eq>() {}
 /// with h places, which begins with the same keys, misses at most `paid` times.
 pub fn loading_ahead_gains_nothing<K: Eq>() {}
 
-/// After the same calls a smaller cache is included in a larger one, if it was before (`included`): its keys are keys
-/// of the larger cache, in the same order, and the larger cache contains at most m - n more. So what the smaller cache
-/// finds, the larger cache finds (`finds`), and it misses no more often at the references of a trace (`misses`). The
-/// calls may reference keys, make them the newest, remove them or look at them.
+/// A cache of n places is *included* in a cache of m places if its keys are keys of the larger cache, in the same
+/// order, and the larger cache contains at most m - n more. If it is included before some calls, it is included after
+/// them (`included`). So the larger cache finds what the smaller one finds (`finds`), and misses no more often at the
+/// references of a trace (`misses`). The calls may reference keys, make them the newest, remove them or look at them.
 pub fn a_smaller_cache_is_included<K: Eq>() {}
 
 /// A larger budget never means more misses. Take two LRU caches with limits of cost, and let the keys of the smaller
@@ -39,10 +39,10 @@ pub fn a_smaller_cache_is_included<K: Eq>() {}
 /// misses at least as often (`misses`).
 pub fn a_larger_budget_never_misses_more<K: Eq>() {}
 
-/// MIN misses least often of all policies that store each key that is referenced, even if they load keys ahead and pay
-/// for them (`loads`), or load only on demand (`demands`). MIN with bypass misses least often of all policies that
-/// contain at most n keys, whatever they leave out or load ahead (`bypasses`). All begin with no keys. MIN is itself a
-/// policy of the first kind, if it has a place (`min`), and MIN with bypass of the second kind (`bypass`).
+/// No policy that stores each referenced key pays for fewer loads than MIN misses, whether it loads keys ahead
+/// (`loads`) or only on demand (`demands`). MIN with bypass misses least often of all policies that contain at most n
+/// keys, whatever they leave out or load ahead (`bypasses`). All begin with no keys. MIN is itself a policy of the
+/// first kind, if it has a place (`min`), and MIN with bypass of the second kind (`bypass`).
 pub fn min_is_best<K: Eq>() {}
 
 /// How far LRU is from MIN, which begins with no keys. LRU with k ≥ h places misses at most k / (k + 1 - h) times as

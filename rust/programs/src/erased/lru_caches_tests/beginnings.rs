@@ -29,9 +29,13 @@ fn of_the_errors() {
             (PageError::Device(FileError::File), PageError::Device(FileError::Damaged));
         let text = format!(in alloc; "{failed}; {damaged}")?;
         check!(rt; text.as_str() == "the device failed: the file failed; the device failed: a damaged block");
-        let others: [PageError<FileError>; 3] = [PageError::Memory, PageError::NoBlock, PageError::Broken];
-        let text = format!(in alloc; "{}; {}; {}", others[0], others[1], others[2])?;
-        check!(rt; text.as_str() == "out of memory; no such block; a sync of the device has failed");
+        let others: [PageError<FileError>; 4] =
+            [PageError::Memory, PageError::NoBlock, PageError::Full, PageError::Broken];
+        let text = format!(in alloc;
+            "{}; {}; {}; {}",
+            others[0], others[1], others[2], others[3]
+        )?;
+        check!(rt; text.as_str() == "out of memory; no such block; no page may be evicted; a sync of the device has failed");
         Ok(())
     };
     run(HostRuntime).passes();

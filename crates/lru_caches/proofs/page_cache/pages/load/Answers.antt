@@ -8,8 +8,8 @@ returns-in_err-block-clause-clean g c =
     (good-before d c.args.device.now c.read_block.new.device c.read_block.ensures.serves) c.read_block.ensures.keeps
     c.requires.clean
 
-pub store-requires-clause-clean : goal.store-requires-clause-clean
-store-requires-clause-clean g c =
+pub replace-requires-clause-clean : goal.replace-requires-clause-clean
+replace-requires-clause-clean g c =
     let d = g.D.BlockDevice in
     clean-read d c.args.map.now.pairs c.args.device.now c.read_block.new.device
     (good-before d c.args.device.now c.read_block.new.device c.read_block.ensures.serves) c.read_block.ensures.keeps

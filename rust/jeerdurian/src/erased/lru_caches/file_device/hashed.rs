@@ -13,9 +13,9 @@ use crate::rattle_std::io::{Read, Seek, Write};
 
 /// A device of the blocks of a file, of `N` bytes each, with a checksum in the last 8 bytes of each block.
 ///
-/// A write replaces the last 8 bytes by the hash of the others and of the block's number, so contracts see of a block
-/// all bytes but these. A read returns `Ok` only if the block has its checksum: it finds blocks that are torn, damaged
-/// or of another number, after a restart too, and needs no memory for that.
+/// A write replaces the last 8 bytes by the hash of the other bytes and of the block's number, so contracts see all
+/// bytes of a block except the last 8. A read returns `Ok` only if the block has its checksum. So a read finds blocks
+/// that are torn, damaged or of another number, also after a restart, and needs no memory for that.
 ///
 /// [`FileDevice`]: crate::FileDevice
 ///
@@ -67,7 +67,7 @@ impl<F: Read + Write + Seek, const N: usize> HashedFileDevice<F, N> {
         &self.file.file
     }
 
-    /// Returns the file, as of a `FileDevice`.
+    /// Returns the file, as `FileDevice::into_file` does.
     ///
     /// ```text
     /// let bytes = hashed.into_file().into_inner();

@@ -29,7 +29,7 @@ pub struct Loader<K: Eq + Hash, V, F, L: Insertion<K, V, K>, S: KeyHasher<K> = R
 }
 
 impl<K: Eq + Hash, V, E, F: Fn(&K) -> Result<V, E>, L: Insertion<K, V, K>> Loader<K, V, F, L, RandomState> {
-    /// Makes a loader by a function, with no values yet.
+    /// Makes a loader of a function, with no values yet.
     ///
     /// If strangers choose the keys, call `with_hasher`. Cost: `O(1)`, and no memory.
     ///
@@ -42,7 +42,7 @@ impl<K: Eq + Hash, V, E, F: Fn(&K) -> Result<V, E>, L: Insertion<K, V, K>> Loade
 }
 
 impl<K: Eq + Hash, V, E, F: Fn(&K) -> Result<V, E>, L: Insertion<K, V, K>, S: KeyHasher<K>> Loader<K, V, F, L, S> {
-    /// Makes a loader by a function as `new` does, with this hasher of keys, and `entry_bytes` as for
+    /// Makes a loader of a function as `new` does, with this hasher of keys, and `entry_bytes` as for
     /// `LruMap::with_hasher`.
     ///
     /// ```text

@@ -7,8 +7,8 @@ use crate::erased::schnellru::KeyHasher;
 use crate::rattle_std::hash::Hash;
 use crate::rattle_std::iter::FusedIterator;
 
-/// An iterator that owns an ordered map and takes its entries out, oldest first, from both ends. A drop of the iterator
-/// drops the other entries.
+/// An iterator that owns an ordered map and takes its entries out, oldest first, from both ends. Dropping it drops the
+/// entries that are left.
 ///
 /// ```text
 /// let mut entries = map.into_iter();

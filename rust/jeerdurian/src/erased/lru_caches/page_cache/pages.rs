@@ -6,13 +6,34 @@ use crate::rattle_std::prelude::*;
 
 use crate::erased::lru_caches::device::BlockDevice;
 use crate::erased::lru_caches::page_cache::PageError;
-use crate::erased::lru_caches::page_cache::flush::write_back;
+use crate::erased::lru_caches::page_cache::evict::replace;
 use crate::erased::schnellru::{KeyHasher, LruMap, UnlimitedCompact};
 
 #[derive(Clone, Copy)]
 pub(super) struct Page<B> {
     pub(super) block: B,
     pub(super) is_dirty: bool,
+    pub(super) is_pinned: bool,
+}
+
+#[derive(Clone, Copy)]
+pub(super) struct Counts {
+    pub(super) hits: u64,
+    pub(super) misses: u64,
+}
+
+impl Counts {
+    fn count_hit_if(&mut self, there: bool) {
+        if there {
+            self.hits = self.hits.saturating_add(1);
+        }
+    }
+}
+
+impl<B> Page<B> {
+    pub(super) fn is_free(&self, keeps_dirty: bool) -> bool {
+        !(self.is_pinned || keeps_dirty && self.is_dirty)
+    }
 }
 
 pub(super) type Pages<B, S> = LruMap<u64, Page<B>, UnlimitedCompact, S>;
@@ -31,71 +52,93 @@ fn read_block<B: Copy, D: BlockDevice<B>>(device: &mut D, n: u64) -> Result<B, P
     device.read(n).map_err(PageError::Device)
 }
 
+/// Reads a block, and makes it the newest page in place of the page `gone`.
 pub(super) fn load<B: Copy, D: BlockDevice<B>, S: KeyHasher<u64>>(
     map: &mut Pages<B, S>,
     device: &mut D,
-    capacity: usize,
+    counts: &mut Counts,
+    gone: Option<u64>,
     n: u64,
-) -> Result<B, PageError<D::Error>> {
+) -> Result<(), PageError<D::Error>> {
     let block = read_block(device, n)?;
-    let page = Page { block, is_dirty: false };
-    store(map, device, capacity, n, page)?;
-    Ok(block)
+    let page = Page { block, is_dirty: false, is_pinned: false };
+    replace(map, device, counts, gone, n, page)
 }
 
-pub(super) fn cached_block<B: Copy, S: KeyHasher<u64>>(map: &mut Pages<B, S>, n: u64) -> Option<B> {
-    match map.get(&n) {
-        Some(page) => Some(page.block),
-        None => None,
-    }
+/// Makes a page the newest, and returns whether it is cached.
+pub(super) fn promote<B: Copy, S: KeyHasher<u64>>(map: &mut Pages<B, S>, counts: &mut Counts, n: u64) -> bool {
+    let there = map.promote(&n);
+    counts.count_hit_if(there);
+    there
 }
 
-pub(super) fn overwrite<B: Copy, S: KeyHasher<u64>>(map: &mut Pages<B, S>, n: u64, page: Page<B>) -> bool {
+/// Replaces the block of a page, makes the page dirty and the newest, and returns whether it is cached.
+pub(super) fn overwrite<B: Copy, S: KeyHasher<u64>>(
+    map: &mut Pages<B, S>,
+    counts: &mut Counts,
+    n: u64,
+    block: B,
+) -> bool {
     match map.get(&n) {
-        Some(place) => {
-            *place = page;
+        Some(page) => {
+            counts.hits = counts.hits.saturating_add(1);
+            page.block = block;
+            page.is_dirty = true;
             true
         }
         None => false,
     }
 }
 
-pub(super) fn store<B: Copy, D: BlockDevice<B>, S: KeyHasher<u64>>(
+pub(super) fn add_page<B: Copy, E, S: KeyHasher<u64>>(
     map: &mut Pages<B, S>,
-    device: &mut D,
-    capacity: usize,
     n: u64,
     page: Page<B>,
-) -> Result<(), PageError<D::Error>> {
-    make_room(map, device, capacity)?;
-    add_page(map, n, page)
-}
-
-fn make_room<B: Copy, D: BlockDevice<B>, S: KeyHasher<u64>>(
-    map: &mut Pages<B, S>,
-    device: &mut D,
-    capacity: usize,
-) -> Result<(), PageError<D::Error>> {
-    if map.len() < capacity {
-        return Ok(());
-    }
-    evict_oldest(map, device)?;
-    Ok(())
-}
-
-fn evict_oldest<B: Copy, D: BlockDevice<B>, S: KeyHasher<u64>>(
-    map: &mut Pages<B, S>,
-    device: &mut D,
-) -> Result<(), PageError<D::Error>> {
-    let _ = map.len();
-    let Some((n, page)) = map.peek_oldest() else {
-        return Ok(());
-    };
-    write_back(device, *n, page)?;
-    map.pop_oldest();
-    Ok(())
-}
-
-fn add_page<B: Copy, E, S: KeyHasher<u64>>(map: &mut Pages<B, S>, n: u64, page: Page<B>) -> Result<(), PageError<E>> {
+) -> Result<(), PageError<E>> {
     map.try_insert(n, page).map_err(|_| PageError::Memory)
+}
+
+pub(super) fn read_newest<B: Copy, S: KeyHasher<u64>, R, U: FnOnce(&B) -> R>(map: &Pages<B, S>, read: U) -> R {
+    match map.peek_newest() {
+        Some((_, page)) => read(&page.block),
+        None => unreachable!(),
+    }
+}
+
+/// Lends the block of the newest page for writing, and makes the page dirty.
+pub(super) fn write_newest<B: Copy, S: KeyHasher<u64>, R, U: FnOnce(&mut B) -> R>(
+    map: &mut Pages<B, S>,
+    write: U,
+) -> R {
+    match map.newest_mut() {
+        Some(page) => {
+            page.is_dirty = true;
+            write(&mut page.block)
+        }
+        None => unreachable!(),
+    }
+}
+
+pub(super) fn pin_newest<B: Copy, S: KeyHasher<u64>>(map: &mut Pages<B, S>) {
+    if let Some(page) = map.newest_mut() {
+        page.is_pinned = true;
+    }
+}
+
+pub(super) fn unpin_page<B: Copy, S: KeyHasher<u64>>(map: &mut Pages<B, S>, n: u64) -> bool {
+    match map.peek_mut(&n) {
+        Some(page) => {
+            let was_pinned = page.is_pinned;
+            page.is_pinned = false;
+            was_pinned
+        }
+        None => false,
+    }
+}
+
+pub(super) fn is_pinned_at<B: Copy, S: KeyHasher<u64>>(map: &Pages<B, S>, n: u64) -> bool {
+    match map.peek(&n) {
+        Some(page) => page.is_pinned,
+        None => false,
+    }
 }

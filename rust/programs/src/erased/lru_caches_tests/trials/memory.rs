@@ -1,5 +1,5 @@
 // Erased from crates/lru_caches_tests/src/trials/memory.rt: do not edit.
-//! Caches that run out of memory, what a page cache gives back when it ends, and what an ordered map drops.
+//! Caches that run out of memory, the memory that a page cache frees when it ends, and what an ordered map drops.
 #[allow(unused_imports)]
 use crate::rattle_std::prelude::*;
 
@@ -69,8 +69,8 @@ fn finds_memory(alloc: Global, closes: bool) -> bool {
     }
 }
 
-/// Makes a thousand caches one after another, with memory for one. Each is closed, or its pages are discarded. Returns
-/// how many found memory for their pages.
+/// Makes a thousand caches one after another, with memory for only one. Each is closed or discarded. Returns how many
+/// found memory for their pages.
 pub fn caches_that_find_memory(alloc: Global) -> u64 {
     let hog = hog(alloc, &[128, 20, 16, 32], 4);
     let mut count = 0u64;

@@ -7,3 +7,6 @@ pub returns-clause-crash : goal.returns-clause-crash
 returns-clause-crash g c = λ m b is.
     synced_leaves (take (g.row.N - 8)) c.args.self.now.file.log.events m (is_ok c.sync-synced.result) b
     (subst (λ l. IsLeft (take (g.row.N - 8)) (left l m) b) c.sync-synced.ensures is)
+
+pub returns-clause-gives : goal.returns-clause-gives
+returns-clause-gives g c = (_, c.sync-synced.ensures)

@@ -1,0 +1,231 @@
+//! Reads and writes of the blocks of a page cache.
+ghost use Rattle.std.specs.Prelude.{◌≡◌, ◌≢◌, ◌⊎◌, ℕ, Some, false, IsTrue, IfErr, IfOk, OnOk, OnErr, IsOk};
+ghost use Rattle.std.specs.Fn.{FnOnceReturnsAt, FnOnceReturnsAtMut};
+ghost use Rattle.lru_caches.specs.Pages.{shown, counted, pages_read, pages_written, IsCached, IsGood, ShowsTheSame};
+ghost use Rattle.lru_caches.specs.Pages.{CrashAdds, CrashKeeps, Serves, IsCause, Leaves};
+
+use crate::device::BlockDevice;
+use crate::page_cache::evict::{find_room, replace};
+use crate::page_cache::flush::reserve_number;
+use crate::page_cache::pages::{Page, admit, load, overwrite, promote, read_newest, write_newest};
+use crate::page_cache::{PageCache, PageError};
+use schnellru::KeyHasher;
+
+impl<B: Copy, D: BlockDevice<B>, S: KeyHasher<u64>> PageCache<B, D, S> {
+    /// Makes a page the newest, after it was read if it is not cached.
+    pub(super) fn bring(&mut self, n: u64) -> Result<(), PageError<D::Error>>
+        ensures page { OnOk result ((block : B)
+            × (D.IsHonest self.new.device → shown D.BlockDevice self.new n ≡ Some (D.seen block))
+            × (self.new.pages ≡ pages_read n block self.old)) }
+        ensures keeps { ShowsTheSame D.BlockDevice self.old self.new }
+        ensures crash { CrashAdds D.BlockDevice self.old.pages self.old.device self.new.device }
+        ensures unwritten { IsTrue self.old.keeps_dirty
+            → CrashKeeps D.BlockDevice self.old.device self.new.device }
+        ensures hit { IsCached n self.old → IsOk result }
+        ensures untouched { IsCached n self.old → self.new.device ≡ self.old.device }
+        ensures broken { D.is_usable self.old.device ≡ false → IsOk result ⊎ (result ≡ Err PageError.Broken) }
+        ensures full { result ≡ Err PageError.Full → self.new ≡ self.old }
+        ensures left { IfErr result (Leaves D.BlockDevice self.old self.new) }
+        ensures cause { IfErr result (IsCause D.BlockDevice n self.old self.new.device) }
+        ensures serves { Serves D.BlockDevice self.old.device self.new.device }
+        ensures capacity { self.new.capacity ≡ self.old.capacity }
+        ensures mode { self.new.keeps_dirty ≡ self.old.keeps_dirty }
+        ensures counted { OnOk result (self.new.counts ≡ counted n self.old) }
+        ensures uncounted { OnErr result (self.new.counts ≡ self.old.counts) }
+    {
+        if promote(&mut self.map, &mut self.counts, n) {
+            return Ok(());
+        }
+        admit(&self.device, n)?;
+        reserve_number(&mut self.numbers, self.map.len())?;
+        let gone = find_room(&self.map, self.capacity, self.keeps_dirty)?;
+        load(&mut self.map, &mut self.device, &mut self.counts, gone, n)
+    }
+
+    /// Returns a block, and makes its page the newest.
+    ///
+    /// If the cache is full, the oldest page that may go is evicted for it, after that page was written to the device
+    /// if it is dirty. Each page may go that is not pinned and, if the cache [keeps dirty pages](Self::set_keeps_dirty),
+    /// clean.
+    ///
+    /// ```
+    /// assert_eq!(rt; (cache.read(1), cache.len()), (Ok(20), 1));
+    /// ```
+    ///
+    /// Cost: `O(1)` expected, amortised over the growth of the table, and at most one read and one write of the device;
+    /// if a page is evicted, also `O(k)` for k older pages that may not go.
+    ///
+    /// # Errors
+    ///
+    /// None if the page is cached. `Broken`: a `sync` has failed. `NoBlock`: the device has no such number. `Full`: no
+    /// page may go. `Device`: the read failed, or a page could not be written back; all pages stay. `Memory`: out of
+    /// memory for one page more; a page may have been evicted.
+    pub fn read(&mut self, n: u64) -> Result<B, PageError<D::Error>>
+        ensures block { IfOk result (λ block. D.IsHonest self.new.device
+            → shown D.BlockDevice self.new n ≡ Some (D.seen block)) }
+        ensures pages { IfOk result (λ block. self.new.pages ≡ pages_read n block self.old) }
+        ensures keeps { ShowsTheSame D.BlockDevice self.old self.new }
+        ensures crash { CrashAdds D.BlockDevice self.old.pages self.old.device self.new.device }
+        ensures unwritten { IsTrue self.old.keeps_dirty
+            → CrashKeeps D.BlockDevice self.old.device self.new.device }
+        ensures hit { IsCached n self.old → IsOk result }
+        ensures untouched { IsCached n self.old → self.new.device ≡ self.old.device }
+        ensures broken { D.is_usable self.old.device ≡ false → IsOk result ⊎ (result ≡ Err PageError.Broken) }
+        ensures full { result ≡ Err PageError.Full → self.new ≡ self.old }
+        ensures left { IfErr result (Leaves D.BlockDevice self.old self.new) }
+        ensures cause { IfErr result (IsCause D.BlockDevice n self.old self.new.device) }
+        ensures serves { Serves D.BlockDevice self.old.device self.new.device }
+        ensures capacity { self.new.capacity ≡ self.old.capacity }
+        ensures mode { self.new.keeps_dirty ≡ self.old.keeps_dirty }
+        ensures counted { OnOk result (self.new.counts ≡ counted n self.old) }
+        ensures uncounted { OnErr result (self.new.counts ≡ self.old.counts) }
+    {
+        self.read_with(n, |block| *block)
+    }
+
+    /// Lends a closure the block that `read` would return, and returns what the closure returns.
+    ///
+    /// ```
+    /// assert_eq!(rt; cache.read_with(1, |block| *block / 2), Ok(10));
+    /// ```
+    ///
+    /// Cost: as `read`, and a call of the closure.
+    ///
+    /// # Errors
+    ///
+    /// As `read`. The closure is not called then.
+    pub fn read_with<R, U: FnOnce(&B) -> R>(
+        &mut self,
+        n: u64,
+        read: U,
+    ) -> Result<R, PageError<D::Error>>
+        requires { U.IsAlwaysCallable read }
+        ensures block { IfOk result (λ given. (block : B) × FnOnceReturnsAt U.FnOnce read block given
+            × (D.IsHonest self.new.device → shown D.BlockDevice self.new n ≡ Some (D.seen block))
+            × (self.new.pages ≡ pages_read n block self.old)) }
+        ensures keeps { ShowsTheSame D.BlockDevice self.old self.new }
+        ensures crash { CrashAdds D.BlockDevice self.old.pages self.old.device self.new.device }
+        ensures unwritten { IsTrue self.old.keeps_dirty
+            → CrashKeeps D.BlockDevice self.old.device self.new.device }
+        ensures hit { IsCached n self.old → IsOk result }
+        ensures untouched { IsCached n self.old → self.new.device ≡ self.old.device }
+        ensures broken { D.is_usable self.old.device ≡ false → IsOk result ⊎ (result ≡ Err PageError.Broken) }
+        ensures full { result ≡ Err PageError.Full → self.new ≡ self.old }
+        ensures left { IfErr result (Leaves D.BlockDevice self.old self.new) }
+        ensures cause { IfErr result (IsCause D.BlockDevice n self.old self.new.device) }
+        ensures serves { Serves D.BlockDevice self.old.device self.new.device }
+        ensures capacity { self.new.capacity ≡ self.old.capacity }
+        ensures mode { self.new.keeps_dirty ≡ self.old.keeps_dirty }
+        ensures counted { OnOk result (self.new.counts ≡ counted n self.old) }
+        ensures uncounted { OnErr result (self.new.counts ≡ self.old.counts) }
+    {
+        self.bring(n)?;
+        Ok(read_newest(&self.map, read))
+    }
+
+    /// Replaces a block in the cache, and makes its page the newest. The device gets the block later.
+    ///
+    /// If the page is not cached and the cache is full, a page is evicted for it, as by `read`. A pin stays.
+    ///
+    /// ```
+    /// assert_eq!(rt; cache.write(1, 20), Ok(()));
+    /// ```
+    ///
+    /// Cost: as `read`, without the read of the device.
+    ///
+    /// # Errors
+    ///
+    /// `Broken`: a `sync` has failed. `NoBlock`: the device has no such number. Nothing else if the page is cached.
+    /// `Full`, `Device` and `Memory` as for `read`. After an error the block is not replaced.
+    pub fn write(&mut self, n: u64, block: B) -> Result<(), PageError<D::Error>>
+        ensures written { OnOk result (shown D.BlockDevice self.new n ≡ Some (D.seen block)) }
+        ensures others { D.IsHonest self.new.device →
+            (m : ℕ) → m ≢ n → shown D.BlockDevice self.new m ≡ shown D.BlockDevice self.old m }
+        ensures failed { OnErr result (ShowsTheSame D.BlockDevice self.old self.new) }
+        ensures pages { OnOk result (self.new.pages ≡ pages_written n block self.old) }
+        ensures crash { CrashAdds D.BlockDevice self.old.pages self.old.device self.new.device }
+        ensures unwritten { IsTrue self.old.keeps_dirty
+            → CrashKeeps D.BlockDevice self.old.device self.new.device }
+        ensures hit { IsCached n self.old → IsTrue (D.is_usable self.old.device) → IsOk result }
+        ensures untouched { IsCached n self.old → self.new.device ≡ self.old.device }
+        ensures broken { D.is_usable self.old.device ≡ false → result ≡ Err PageError.Broken }
+        ensures full { result ≡ Err PageError.Full → self.new ≡ self.old }
+        ensures left { IfErr result (Leaves D.BlockDevice self.old self.new) }
+        ensures cause { IfErr result (IsCause D.BlockDevice n self.old self.new.device) }
+        ensures serves { Serves D.BlockDevice self.old.device self.new.device }
+        ensures capacity { self.new.capacity ≡ self.old.capacity }
+        ensures mode { self.new.keeps_dirty ≡ self.old.keeps_dirty }
+        ensures counted { OnOk result (self.new.counts ≡ counted n self.old) }
+        ensures uncounted { OnErr result (self.new.counts ≡ self.old.counts) }
+    {
+        admit(&self.device, n)?;
+        if overwrite(&mut self.map, &mut self.counts, n, block) {
+            return Ok(());
+        }
+        reserve_number(&mut self.numbers, self.map.len())?;
+        let gone = find_room(&self.map, self.capacity, self.keeps_dirty)?;
+        let page = Page {
+            block,
+            is_dirty: true,
+            is_pinned: false,
+        };
+        replace(
+            &mut self.map,
+            &mut self.device,
+            &mut self.counts,
+            gone,
+            n,
+            page,
+        )
+    }
+
+    /// Lends a closure a block for writing in place, makes its page dirty and the newest, and returns what the closure
+    /// returns.
+    ///
+    /// The block is read first if its page is not cached. A pin stays.
+    ///
+    /// ```
+    /// assert_eq!(rt; (cache.write_with(1, |block| *block = 21), cache.read(1)), (Ok(()), Ok(21)));
+    /// ```
+    ///
+    /// Cost: as `read`, and a call of the closure.
+    ///
+    /// # Errors
+    ///
+    /// `Broken`: a `sync` has failed. Otherwise as `read`. The closure is not called then.
+    pub fn write_with<R, U: FnOnce(&mut B) -> R>(
+        &mut self,
+        n: u64,
+        write: U,
+    ) -> Result<R, PageError<D::Error>>
+        requires { U.IsAlwaysCallable write }
+        ensures written { IfOk result (λ given. (was block : B) × FnOnceReturnsAtMut U.FnOnce write was given block
+            × (IsGood D.BlockDevice self.new.device → (b : D.Seen)
+            → shown D.BlockDevice self.old n ≡ Some b → b ≡ D.seen was)
+            × (shown D.BlockDevice self.new n ≡ Some (D.seen block))
+            × (self.new.pages ≡ pages_written n block self.old)) }
+        ensures others { IsGood D.BlockDevice self.new.device → (m : ℕ) (b : D.Seen) → m ≢ n
+            → shown D.BlockDevice self.old m ≡ Some b → shown D.BlockDevice self.new m ≡ Some b }
+        ensures failed { OnErr result (ShowsTheSame D.BlockDevice self.old self.new) }
+        ensures crash { CrashAdds D.BlockDevice self.old.pages self.old.device self.new.device }
+        ensures unwritten { IsTrue self.old.keeps_dirty
+            → CrashKeeps D.BlockDevice self.old.device self.new.device }
+        ensures hit { IsCached n self.old → IsTrue (D.is_usable self.old.device) → IsOk result }
+        ensures untouched { IsCached n self.old → self.new.device ≡ self.old.device }
+        ensures broken { D.is_usable self.old.device ≡ false → result ≡ Err PageError.Broken }
+        ensures full { result ≡ Err PageError.Full → self.new ≡ self.old }
+        ensures left { IfErr result (Leaves D.BlockDevice self.old self.new) }
+        ensures cause { IfErr result (IsCause D.BlockDevice n self.old self.new.device) }
+        ensures serves { Serves D.BlockDevice self.old.device self.new.device }
+        ensures capacity { self.new.capacity ≡ self.old.capacity }
+        ensures mode { self.new.keeps_dirty ≡ self.old.keeps_dirty }
+        ensures counted { OnOk result (self.new.counts ≡ counted n self.old) }
+        ensures uncounted { OnErr result (self.new.counts ≡ self.old.counts) }
+    {
+        if !self.device.is_usable() {
+            return Err(PageError::Broken);
+        }
+        self.bring(n)?;
+        Ok(write_newest(&mut self.map, write))
+    }
+}

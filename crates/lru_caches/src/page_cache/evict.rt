@@ -1,0 +1,117 @@
+//! Which page is evicted if the cache is full, and its eviction.
+ghost use Rattle.std.specs.Prelude.{◌≡◌, ◌≢◌, ◌⊎◌, ◌≤◌, ◌<◌, ◌+◌, ℕ, ◌∷◌, length, nat_eq, None, Some, false};
+ghost use Rattle.std.specs.Prelude.{IsTrue, IfErr, IfOk, OnOk, OnErr};
+ghost use Rattle.std.specs.Map.{lookup};
+ghost use Rattle.lru_caches.specs.Pages.{block_at, evicted, goes_dirty, missed, victim, with_room};
+ghost use Rattle.lru_caches.specs.Pages.{AreClean, AreThere, CrashAdds, IsFault, Serves};
+
+use crate::device::BlockDevice;
+use crate::page_cache::PageError;
+use crate::page_cache::flush::write_page;
+use crate::page_cache::pages::{Counts, Page, Pages, add_page};
+use schnellru::KeyHasher;
+
+fn find_victim<B: Copy, S: KeyHasher<u64>>(map: &Pages<B, S>, keeps_dirty: bool) -> Option<u64>
+    ensures { result ≡ victim keeps_dirty map.now.pairs }
+{
+    let mut pages = map.iter();
+    while let Some((n, page)) = pages.next_back() {
+        if page.is_free(keeps_dirty) {
+            return Some(*n);
+        }
+    }
+    None
+}
+
+/// Returns the number of the page that has to go for one page more, if the cache is full.
+pub(super) fn find_room<B: Copy, E, S: KeyHasher<u64>>(
+    map: &Pages<B, S>,
+    capacity: usize,
+    keeps_dirty: bool,
+) -> Result<Option<u64>, PageError<E>>
+    requires { length map.now.pairs ≤ capacity }
+    ensures room { IfOk result (λ gone. evicted gone map.now.pairs ≡ with_room capacity keeps_dirty map.now.pairs) }
+    ensures left { IfOk result (λ gone. length (evicted gone map.now.pairs) < capacity) }
+    ensures clean { IfOk result (λ gone. IsTrue keeps_dirty → goes_dirty gone map.now.pairs ≡ false) }
+    ensures full { IfErr result (λ e. (e ≡ PageError.Full) × (length map.now.pairs ≡ capacity)
+        × (victim keeps_dirty map.now.pairs ≡ None)) }
+{
+    if map.len() < capacity {
+        return Ok(None);
+    }
+    match find_victim(map, keeps_dirty) {
+        Some(n) => Ok(Some(n)),
+        None => Err(PageError::Full),
+    }
+}
+
+fn evict<B: Copy, D: BlockDevice<B>, S: KeyHasher<u64>>(
+    map: &mut Pages<B, S>,
+    device: &mut D,
+    gone: Option<u64>,
+) -> Result<(), PageError<D::Error>>
+    requires usable { IsTrue (D.is_usable device.old) }
+    requires clean { AreClean D.BlockDevice map.old.pairs device.old }
+    requires there { AreThere D.BlockDevice map.old.pairs device.old }
+    ensures clean { AreClean D.BlockDevice map.new.pairs device.new }
+    ensures there { AreThere D.BlockDevice map.new.pairs device.new }
+    ensures shows { D.IsHonest device.new → (m : ℕ) →
+        block_at D.BlockDevice map.new.pairs device.new m ≡ block_at D.BlockDevice map.old.pairs device.old m }
+    ensures crash { CrashAdds D.BlockDevice map.old.pairs device.old device.new }
+    ensures untouched { goes_dirty gone map.old.pairs ≡ false → device.new ≡ device.old }
+    ensures serves { Serves D.BlockDevice device.old device.new }
+    ensures cause { IfErr result (IsFault D.BlockDevice device.old device.new) }
+    ensures kept { OnErr result (map.new.pairs ≡ map.old.pairs) }
+    ensures absent { (m : ℕ) → lookup (nat_eq m) map.old.pairs ≡ None → lookup (nat_eq m) map.new.pairs ≡ None }
+    ensures evicted { OnOk result (map.new.pairs ≡ evicted gone map.old.pairs) }
+    ensures no_more { length map.new.pairs ≤ length map.old.pairs }
+{
+    let Some(n) = gone else {
+        return Ok(());
+    };
+    let _ = map.len();
+    write_page(map, device, n)?;
+    map.remove(&n);
+    Ok(())
+}
+
+/// Makes this page the newest, in place of the page `gone`.
+pub(super) fn replace<B: Copy, D: BlockDevice<B>, S: KeyHasher<u64>>(
+    map: &mut Pages<B, S>,
+    device: &mut D,
+    counts: &mut Counts,
+    gone: Option<u64>,
+    n: u64,
+    page: Page<B>,
+) -> Result<(), PageError<D::Error>>
+    requires usable { IsTrue (D.is_usable device.old) }
+    requires number { IsTrue (D.has device.old n) }
+    requires absent { lookup (nat_eq n) map.old.pairs ≡ None }
+    requires as_read { page.is_dirty ≡ false → D.IsHonest device.old
+        → D.blocks device.old n ≡ Some (D.seen page.block) }
+    requires clean { AreClean D.BlockDevice map.old.pairs device.old }
+    requires there { AreThere D.BlockDevice map.old.pairs device.old }
+    ensures clean { AreClean D.BlockDevice map.new.pairs device.new }
+    ensures there { AreThere D.BlockDevice map.new.pairs device.new }
+    ensures others { D.IsHonest device.new → (m : ℕ) → m ≢ n
+        → block_at D.BlockDevice map.new.pairs device.new m ≡ block_at D.BlockDevice map.old.pairs device.old m }
+    ensures failed { OnErr result (D.IsHonest device.new → (m : ℕ)
+        → block_at D.BlockDevice map.new.pairs device.new m ≡ block_at D.BlockDevice map.old.pairs device.old m) }
+    ensures stored { OnOk result (map.new.pairs ≡ (n, page) ∷ evicted gone map.old.pairs) }
+    ensures within { (capacity : ℕ) → length map.old.pairs ≤ capacity → length (evicted gone map.old.pairs) < capacity
+        → length map.new.pairs ≤ capacity }
+    ensures no_more { length map.new.pairs ≤ length map.old.pairs + 1 }
+    ensures crash { CrashAdds D.BlockDevice map.old.pairs device.old device.new }
+    ensures untouched { goes_dirty gone map.old.pairs ≡ false → device.new ≡ device.old }
+    ensures serves { Serves D.BlockDevice device.old device.new }
+    ensures cause { IfErr result (λ e. IsFault D.BlockDevice device.old device.new e ⊎ (e ≡ PageError.Memory)) }
+    ensures left { IfErr result (λ e. (map.new.pairs ≡ map.old.pairs)
+        ⊎ ((e ≡ PageError.Memory) × (map.new.pairs ≡ evicted gone map.old.pairs))) }
+    ensures counted { OnOk result (counts.new ≡ missed counts.old) }
+    ensures uncounted { OnErr result (counts.new ≡ counts.old) }
+{
+    evict(map, device, gone)?;
+    add_page(map, n, page)?;
+    counts.misses = counts.misses.saturating_add(1);
+    Ok(())
+}

@@ -1,0 +1,104 @@
+//! Pages that may not be evicted: pinned ones and, if the cache keeps them, dirty ones.
+ghost use Rattle.std.specs.Prelude.{◌≡◌, ◌⊎◌, ℕ, Some, false, IsTrue, IfErr, OnOk, OnErr, IsOk};
+ghost use Rattle.lru_caches.specs.Pages.{shown, counted, pages_pinned, pinned, unpinned_at, IsCached, ShowsTheSame};
+ghost use Rattle.lru_caches.specs.Pages.{CrashAdds, CrashKeeps, Serves, IsCause, Leaves};
+
+use crate::device::BlockDevice;
+use crate::page_cache::pages::{is_pinned_at, pin_newest, unpin_page};
+use crate::page_cache::{PageCache, PageError};
+use schnellru::KeyHasher;
+
+impl<B: Copy, D: BlockDevice<B>, S: KeyHasher<u64>> PageCache<B, D, S> {
+    /// Pins a page and makes it the newest, after it was read if it is not cached. It is not evicted until `unpin`.
+    ///
+    /// One `unpin` ends any number of pins of a page. A flush writes pinned pages, too.
+    ///
+    /// ```
+    /// assert_eq!(rt; (cache.pin(0), cache.pin(1), cache.read(2)), (Ok(()), Ok(()), Err(PageError::Full)));
+    /// assert!(rt; cache.is_pinned(0) && cache.unpin(0) && !cache.is_pinned(0));
+    /// ```
+    ///
+    /// Cost and `# Errors`: as `read`.
+    pub fn pin(&mut self, n: u64) -> Result<(), PageError<D::Error>>
+        ensures pages { OnOk result ((block : B)
+            × (D.IsHonest self.new.device → shown D.BlockDevice self.new n ≡ Some (D.seen block))
+            × (self.new.pages ≡ pages_pinned n block self.old)) }
+        ensures keeps { ShowsTheSame D.BlockDevice self.old self.new }
+        ensures crash { CrashAdds D.BlockDevice self.old.pages self.old.device self.new.device }
+        ensures unwritten { IsTrue self.old.keeps_dirty
+            → CrashKeeps D.BlockDevice self.old.device self.new.device }
+        ensures hit { IsCached n self.old → IsOk result }
+        ensures untouched { IsCached n self.old → self.new.device ≡ self.old.device }
+        ensures broken { D.is_usable self.old.device ≡ false → IsOk result ⊎ (result ≡ Err PageError.Broken) }
+        ensures full { result ≡ Err PageError.Full → self.new ≡ self.old }
+        ensures left { IfErr result (Leaves D.BlockDevice self.old self.new) }
+        ensures cause { IfErr result (IsCause D.BlockDevice n self.old self.new.device) }
+        ensures serves { Serves D.BlockDevice self.old.device self.new.device }
+        ensures capacity { self.new.capacity ≡ self.old.capacity }
+        ensures mode { self.new.keeps_dirty ≡ self.old.keeps_dirty }
+        ensures counted { OnOk result (self.new.counts ≡ counted n self.old) }
+        ensures uncounted { OnErr result (self.new.counts ≡ self.old.counts) }
+    {
+        self.bring(n)?;
+        pin_newest(&mut self.map);
+        Ok(())
+    }
+
+    /// Ends the pin of a page, and returns whether there was one. The order of use stays.
+    ///
+    /// ```
+    /// assert!(rt; cache.is_pinned(0) && cache.unpin(0) && !cache.is_pinned(0));
+    /// ```
+    ///
+    /// Cost: `O(1)` expected.
+    pub fn unpin(&mut self, n: u64) -> bool
+        ensures was { result ≡ pinned self.old n }
+        ensures unpinned { self.new ≡ record self.old { pages = unpinned_at n self.old.pages } }
+        ensures shows { (m : ℕ) → shown D.BlockDevice self.new m ≡ shown D.BlockDevice self.old m }
+    {
+        unpin_page(&mut self.map, n)
+    }
+
+    /// Returns whether a page is pinned. The order of use stays.
+    ///
+    /// ```
+    /// assert!(rt; cache.is_pinned(0) && cache.unpin(0) && !cache.is_pinned(0));
+    /// ```
+    ///
+    /// Cost: `O(1)` expected.
+    pub fn is_pinned(&self, n: u64) -> bool
+        ensures { result ≡ pinned self.now n }
+    {
+        is_pinned_at(&self.map, n)
+    }
+
+    /// Returns whether dirty pages are kept until a flush. They are not in a new cache.
+    ///
+    /// ```
+    /// assert_eq!(rt; (cache.keeps_dirty(), cache.write(0, 10), cache.read(2)), (true, Ok(()), Err(PageError::Full)));
+    /// ```
+    ///
+    /// Cost: `O(1)`.
+    pub fn keeps_dirty(&self) -> bool
+        ensures { result ≡ self.now.keeps_dirty }
+    {
+        self.keeps_dirty
+    }
+
+    /// Sets whether dirty pages are kept until a flush. If they are, reads, writes and pins write nothing to the device,
+    /// so a log of the writes can be written and synced before.
+    ///
+    /// A call that needs room for a page then returns `Full` if each page is dirty or pinned.
+    ///
+    /// ```
+    /// cache.set_keeps_dirty(true);
+    /// assert_eq!(rt; (cache.keeps_dirty(), cache.write(0, 10), cache.read(2)), (true, Ok(()), Err(PageError::Full)));
+    /// ```
+    ///
+    /// Cost: `O(1)`.
+    pub fn set_keeps_dirty(&mut self, keeps_dirty: bool)
+        ensures { self.new ≡ record self.old { keeps_dirty = keeps_dirty } }
+    {
+        self.keeps_dirty = keeps_dirty;
+    }
+}

@@ -1,0 +1,65 @@
+// Erased from crates/lru_caches/src/page_cache/evict.rt: do not edit.
+//! Which page is evicted if the cache is full, and its eviction.
+
+#[allow(unused_imports)]
+use crate::rattle_std::prelude::*;
+
+use crate::erased::lru_caches::device::BlockDevice;
+use crate::erased::lru_caches::page_cache::PageError;
+use crate::erased::lru_caches::page_cache::flush::write_page;
+use crate::erased::lru_caches::page_cache::pages::{Counts, Page, Pages, add_page};
+use crate::erased::schnellru::KeyHasher;
+
+fn find_victim<B: Copy, S: KeyHasher<u64>>(map: &Pages<B, S>, keeps_dirty: bool) -> Option<u64> {
+    let mut pages = map.iter();
+    while let Some((n, page)) = pages.next_back() {
+        if page.is_free(keeps_dirty) {
+            return Some(*n);
+        }
+    }
+    None
+}
+
+/// Returns the number of the page that has to go for one page more, if the cache is full.
+pub(super) fn find_room<B: Copy, E, S: KeyHasher<u64>>(
+    map: &Pages<B, S>,
+    capacity: usize,
+    keeps_dirty: bool,
+) -> Result<Option<u64>, PageError<E>> {
+    if map.len() < capacity {
+        return Ok(None);
+    }
+    match find_victim(map, keeps_dirty) {
+        Some(n) => Ok(Some(n)),
+        None => Err(PageError::Full),
+    }
+}
+
+fn evict<B: Copy, D: BlockDevice<B>, S: KeyHasher<u64>>(
+    map: &mut Pages<B, S>,
+    device: &mut D,
+    gone: Option<u64>,
+) -> Result<(), PageError<D::Error>> {
+    let Some(n) = gone else {
+        return Ok(());
+    };
+    let _ = map.len();
+    write_page(map, device, n)?;
+    map.remove(&n);
+    Ok(())
+}
+
+/// Makes this page the newest, in place of the page `gone`.
+pub(super) fn replace<B: Copy, D: BlockDevice<B>, S: KeyHasher<u64>>(
+    map: &mut Pages<B, S>,
+    device: &mut D,
+    counts: &mut Counts,
+    gone: Option<u64>,
+    n: u64,
+    page: Page<B>,
+) -> Result<(), PageError<D::Error>> {
+    evict(map, device, gone)?;
+    add_page(map, n, page)?;
+    counts.misses = counts.misses.saturating_add(1);
+    Ok(())
+}

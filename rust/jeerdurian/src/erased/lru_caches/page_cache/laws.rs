@@ -1,0 +1,17 @@
+// Erased from crates/lru_caches/src/page_cache/laws.rt: do not edit.
+//! A law of page caches: the contract of a function that does nothing.
+
+#[allow(unused_imports)]
+use crate::rattle_std::prelude::*;
+
+use crate::erased::lru_caches::device::BlockDevice;
+use crate::erased::lru_caches::page_cache::PageCache;
+use crate::erased::lru_caches::page_cache::pages::Page;
+use crate::erased::schnellru::KeyHasher;
+
+impl<B: Copy, D: BlockDevice<B>, S: KeyHasher<u64>> PageCache<B, D, S> {
+    /// Law: without pins, a cache that does not keep dirty pages keeps the pages that were used last.
+    pub fn without_pins_the_newest_stay(&self) {
+        let _ = self.map.len();
+    }
+}

@@ -1,0 +1,76 @@
+// Erased from crates/lru_caches/src/page_cache/pins.rt: do not edit.
+//! Pages that may not be evicted: pinned ones and, if the cache keeps them, dirty ones.
+
+#[allow(unused_imports)]
+use crate::rattle_std::prelude::*;
+
+use crate::erased::lru_caches::device::BlockDevice;
+use crate::erased::lru_caches::page_cache::pages::{is_pinned_at, pin_newest, unpin_page};
+use crate::erased::lru_caches::page_cache::{PageCache, PageError};
+use crate::erased::schnellru::KeyHasher;
+
+impl<B: Copy, D: BlockDevice<B>, S: KeyHasher<u64>> PageCache<B, D, S> {
+    /// Pins a page and makes it the newest, after it was read if it is not cached. It is not evicted until `unpin`.
+    ///
+    /// One `unpin` ends any number of pins of a page. A flush writes pinned pages, too.
+    ///
+    /// ```text
+    /// assert_eq!(rt; (cache.pin(0), cache.pin(1), cache.read(2)), (Ok(()), Ok(()), Err(PageError::Full)));
+    /// assert!(rt; cache.is_pinned(0) && cache.unpin(0) && !cache.is_pinned(0));
+    /// ```
+    ///
+    /// Cost and `# Errors`: as `read`.
+    pub fn pin(&mut self, n: u64) -> Result<(), PageError<D::Error>> {
+        self.bring(n)?;
+        pin_newest(&mut self.map);
+        Ok(())
+    }
+
+    /// Ends the pin of a page, and returns whether there was one. The order of use stays.
+    ///
+    /// ```text
+    /// assert!(rt; cache.is_pinned(0) && cache.unpin(0) && !cache.is_pinned(0));
+    /// ```
+    ///
+    /// Cost: `O(1)` expected.
+    pub fn unpin(&mut self, n: u64) -> bool {
+        unpin_page(&mut self.map, n)
+    }
+
+    /// Returns whether a page is pinned. The order of use stays.
+    ///
+    /// ```text
+    /// assert!(rt; cache.is_pinned(0) && cache.unpin(0) && !cache.is_pinned(0));
+    /// ```
+    ///
+    /// Cost: `O(1)` expected.
+    pub fn is_pinned(&self, n: u64) -> bool {
+        is_pinned_at(&self.map, n)
+    }
+
+    /// Returns whether dirty pages are kept until a flush. They are not in a new cache.
+    ///
+    /// ```text
+    /// assert_eq!(rt; (cache.keeps_dirty(), cache.write(0, 10), cache.read(2)), (true, Ok(()), Err(PageError::Full)));
+    /// ```
+    ///
+    /// Cost: `O(1)`.
+    pub fn keeps_dirty(&self) -> bool {
+        self.keeps_dirty
+    }
+
+    /// Sets whether dirty pages are kept until a flush. If they are, reads, writes and pins write nothing to the device,
+    /// so a log of the writes can be written and synced before.
+    ///
+    /// A call that needs room for a page then returns `Full` if each page is dirty or pinned.
+    ///
+    /// ```text
+    /// cache.set_keeps_dirty(true);
+    /// assert_eq!(rt; (cache.keeps_dirty(), cache.write(0, 10), cache.read(2)), (true, Ok(()), Err(PageError::Full)));
+    /// ```
+    ///
+    /// Cost: `O(1)`.
+    pub fn set_keeps_dirty(&mut self, keeps_dirty: bool) {
+        self.keeps_dirty = keeps_dirty;
+    }
+}
