@@ -1,5 +1,5 @@
-//! Loads on the map that a Rust program times, each inside one call. If memory runs out, an entry is missing, and the
-//! result differs from the one of the other maps.
+//! Loads on the map. A Rust program times each load inside one call. If memory runs out, an entry is missing, and the
+//! result differs from the result of the other maps.
 #![tactic(auto)]
 
 mod more;
@@ -41,7 +41,8 @@ pub extern "C" fn rattle_load(alloc: Global, length: u32, kinds: &[u8], keys: &[
     if kinds.len() != keys.len() {
         return sum;
     }
-    // One counter, as the loop over the crate is compiled to. A zip of the two slices would count twice here.
+    // One counter, because the compiled loop over the other crate also has one counter. A zip of the two slices would
+    // have two.
     for i in 0..kinds.len() {
         sum = step_of_load(&mut map, kinds[i], keys[i], sum);
     }

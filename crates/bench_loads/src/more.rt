@@ -1,4 +1,4 @@
-//! Loads on texts, large values and costs, walks and copies.
+//! Loads of texts, large values and costs, and walks and copies.
 use schnellru::{ByCost, ByLength, LruMap, UnlimitedCompact};
 use std::alloc::Global;
 
@@ -17,7 +17,8 @@ fn map_of_texts(alloc: Global, length: u32, texts: &str, width: usize) -> LruMap
     map
 }
 
-/// Inserts the texts of `width` bytes, and gets each by a `&str`, in each of `rounds` rounds. Returns a sum over the values.
+/// Inserts texts of `width` bytes, and gets each by a `&str`, in each of `rounds` rounds. Returns a sum over the
+/// values.
 #[unsafe(no_mangle)]
 pub extern "C" fn rattle_texts(
     alloc: Global,
@@ -44,8 +45,8 @@ pub extern "C" fn rattle_texts(
     sum
 }
 
-/// Inserts values of 100 bytes into a map of at most `length` entries, each a copy of a part of `bytes`, and gets each.
-/// Returns a sum over their last bytes.
+/// Inserts values of 100 bytes, which are copies of parts of `bytes`, into a map of at most `length` entries, and gets
+/// each value. Returns a sum over their last bytes.
 #[unsafe(no_mangle)]
 pub extern "C" fn rattle_large_values(
     alloc: Global,
@@ -74,8 +75,8 @@ pub extern "C" fn rattle_large_values(
     sum
 }
 
-/// Inserts a value of 1 to 64 under each key, and evicts what is over the limit of the sum. Returns 31 times the number
-/// of entries that are left, plus their cost.
+/// Inserts a value of 1 to 64 under each key, with a limit of the sum. Returns 31 times the number of entries that are
+/// left, plus their cost.
 #[unsafe(no_mangle)]
 pub extern "C" fn rattle_costs(alloc: Global, limit: u64, keys: &[u64]) -> u64 {
     let mut map: LruMap<u64, u64, ByCost> = LruMap::new(

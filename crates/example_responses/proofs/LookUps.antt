@@ -1,4 +1,4 @@
--- What a look-up of a response leaves of its host.
+-- How a look-up of a response changes its host.
 use Rattle.std.proofs.Common.{◌≡◌, ◌<◌, ◌≤◌, ℕ, arith, Result, Ok, Err, is_ok, Bool, true, false, is_some, List, []}
 use Rattle.std.proofs.Common.{◌∷◌, Option, Some, None, cond, refl, sym, ap, ◌∙◌, subst}
 use Rattle.std.specs.Cmp.{IsEquivalence}
@@ -161,7 +161,7 @@ module _ {N K S : Type 0} {eq : N → N → Bool} (equal : IsEquivalence eq) {ke
             ∙ ap (λ b. cond b left (tenant (eq host) old)) (equal.refl host) ∙ stays,
       )
 
-  -- the limiter may be notified of a removal, and keeps its limit then
+  -- if the limiter is notified of a removal, it keeps its limit
   abbrev pub KeepsLimit : Type 0
   KeepsLimit = (limiter : Budget) (k : K) (v : Response)
       → (rules.on_removed limiter k v).limiter ≡ record limiter { cost = (rules.on_removed limiter k v).limiter.cost }

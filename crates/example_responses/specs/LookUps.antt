@@ -1,5 +1,5 @@
 -- What a look-up of a response does to its host.
---     names path      whether a path is the one that is looked up
+--     names path      whether this path is looked up
 --     now             the time of the look-up
 use Rattle.std.specs.Prelude.{◌≡◌, ℕ, nat_lt, Bool, if◌then◌else◌, List, Option, Some, None, is_some, Result, Ok}
 use Rattle.lru_limits.specs.Budget.{Budget}
@@ -8,23 +8,23 @@ use Rattle.lru_model.specs.State.{State}
 use Rattle.lru_tenants.specs.declared.error.TenantError.{TenantError}
 use Rattle.example_responses.specs.declared.cache.Response.{Response}
 
--- the response that is there, if it is not stale
+-- the stored response, if it is not stale
 abbrev pub fresh_at : ℕ → Option Response → Option Response
 fresh_at now None = None
 fresh_at now (Some response) = if nat_lt now response.expires then Some response else None
 
--- what it leaves of the list: a fresh response becomes the newest, and a stale one is removed; the others stay
+-- the list after a look-up: a fresh response becomes the newest, and a stale response is removed; the others stay
 abbrev pub looked_up : {K : Type 0} → (K → Bool) → ℕ → List (K × Response) → List (K × Response)
 looked_up names now pairs =
     if is_some (fresh_at now (lookup names pairs)) then front names pairs else without names pairs
 
--- what a host is afterwards: besides its list, only the total of its limiter and its table may have changed
+-- the host afterwards: only its list, its table and the total of its limiter may have changed
 abbrev pub with_list : {K S : Type 0} → List (K × Response) → State K Response Budget S → State K Response Budget S
     → State K Response Budget S
 with_list list left old =
     record old { pairs = list; limiter = record old.limiter { cost = left.limiter.cost }; table = left.table }
 
--- It returns the response that is there, if it is fresh. A stale one is not there any more.
+-- A look-up returns the stored response, if it is fresh, and removes a stale response.
 abbrev pub LooksUp : {K S : Type 0} → (K → Bool) → ℕ → State K Response Budget S
     → Result (Option Response) TenantError → Option (State K Response Budget S) → Type 0
 LooksUp {K} {S} names now old answer new = (left : State K Response Budget S)

@@ -1,4 +1,4 @@
--- How many control bytes belong to free buckets. Each turn leaves fewer.
+-- How many control bytes belong to free buckets. Each turn of a rehash in place leaves fewer.
 use Rattle.std.proofs.Common.{◌≡◌, ℕ, ◌+◌, ◌<◌, ◌≤◌, max, cond, List, length, get_or, set}
 use Rattle.std.proofs.Common.{Option, ap, arith, count_by, nat_le}
 use Rattle.std.proofs.lemmas.Bool.{le-leb, lt-leb}

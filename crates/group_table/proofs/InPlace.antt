@@ -44,7 +44,7 @@ module _ {T N : Type 0} (number : N → ℕ) (none : N) (IsGiven : (ℕ → ℕ)
     pub hashes : (hash_at : ℕ → ℕ) → IsGiven hash_at
         → KeepsHashes number none (place_at gone) (slots_of control placed) links hash_at
 
-  -- between two turns, no entry is in hand, or one whose old place counts as free
+  -- between two turns: no entry is in hand, or the old place of the entry in hand counts as free
   abbrev pub IsInTurn : List (Option T) → List (Option T) → List ℕ → List N → ℕ → ℕ → Option T → Type 0
   IsInTurn old now control links passed b None = IsHalfway old now control links passed
   IsInTurn old now control links passed b (Some entry) =

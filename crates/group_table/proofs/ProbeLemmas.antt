@@ -1,4 +1,4 @@
--- The order in which a search visits the buckets: group by group, each bucket, and each only once.
+-- A search visits the buckets group by group, and each bucket exactly once.
 use Rattle.std.proofs.Common.{◌≡◌, ℕ, suc, ◌+◌, ◌-◌, ◌*◌, ◌/◌, ◌%◌, ◌^◌, ◌<◌, ◌≤◌, min, refl, ap, sym, ◌∙◌, subst}
 use Rattle.std.proofs.Common.{arith, pow-suc}
 use Rattle.std.proofs.Math.Nat.{mod-add-mod, add-mul-mod_self_left, mod-eq_of_lt, mod-lt, div-add-mod}

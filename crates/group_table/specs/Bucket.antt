@@ -32,25 +32,20 @@ module _ {A : Type 0} where
   is_deleted deleted = true
   is_deleted (full held) = false
 
-  -- full or deleted
   abbrev pub is_used : Bucket A → Bool
   is_used empty = false
   is_used deleted = true
   is_used (full held) = true
 
-  -- what is in a bucket
   abbrev pub bucket_at : List (Bucket A) → ℕ → Bucket A
   bucket_at buckets b = slice_index_or buckets b empty
 
-  -- the bucket is full
   abbrev pub IsFull : List (Bucket A) → ℕ → Type 0
   IsFull buckets b = IsTrue (is_full (bucket_at buckets b))
 
-  -- the bucket is empty
   abbrev pub IsEmpty : List (Bucket A) → ℕ → Type 0
   IsEmpty buckets b = bucket_at buckets b ≡ empty
 
-  -- how many buckets are full
   abbrev pub entry_count : List (Bucket A) → ℕ
   entry_count buckets = count_by is_full buckets
 
@@ -59,7 +54,6 @@ module _ {A : Type 0} where
   bucket_state deleted = deleted
   bucket_state (full held) = full tt
 
-  -- the states of the buckets
   abbrev pub bucket_states : List (Bucket A) → List BucketState
   bucket_states buckets = map bucket_state buckets
 
@@ -77,7 +71,6 @@ module _ {T : Type 0} where
   entry_of deleted = None
   entry_of (full held) = Some held.entry
 
-  -- the entry in a bucket
   abbrev pub entry_at : List (Slot T) → ℕ → Option T
   entry_at slots b = entry_of (bucket_at slots b)
 

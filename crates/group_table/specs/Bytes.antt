@@ -1,11 +1,9 @@
 -- The values of control bytes. No public clause cites this module, except the clauses of module `group`.
 use Rattle.std.specs.Prelude.{ℕ, ◌<◌, ◌≤◌}
 
--- the byte of an empty bucket
 abbrev pub empty_byte : ℕ
 empty_byte = 255
 
--- the byte of a deleted bucket
 abbrev pub deleted_byte : ℕ
 deleted_byte = 128
 

@@ -35,7 +35,7 @@ module _ (R : RattleType) where
   abbrev pub addressable : List (Option R.Denot) → Fml
   addressable held = flt (length held * type_size R) (2 ^ 63)
 
-  -- all places of a block that begins there
+  -- all places of a block that begins at this pointer
   abbrev pub owns_cells : Ptr → List (Option R.Denot) → Fml
   owns_cells (block_ptr block o) held = fsep (addressable held) (places block o held)
   owns_cells null_ptr held = ffalse

@@ -9,19 +9,15 @@ use Rattle.group_table.specs.Table.{Table, Insertions}
 abbrev pub count_up : ℕ → ℕ → ℕ
 count_up n more = min (n + more) (2 ^ 64 - 1)
 
--- before the first insertion
 abbrev pub no_insertions : Insertions
 no_insertions = record { placed = 0; moved = 0 }
 
--- one more entry was inserted
 abbrev pub one_placed : Insertions → Insertions
 one_placed c = record c { placed = count_up c.placed 1 }
 
--- n entries were moved
 abbrev pub some_moved : Insertions → ℕ → Insertions
 some_moved c n = record c { moved = count_up c.moved n }
 
--- all insertions
 abbrev pub insertion_count : Insertions → ℕ
 insertion_count c = count_up c.placed c.moved
 

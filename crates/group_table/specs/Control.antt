@@ -19,10 +19,8 @@ pub record IsCircle (control : List ℕ) : Type 0 where
 abbrev pub IsControl : List ℕ → ℕ → Type 0
 IsControl control last = ((control ≡ []) × (last ≡ 0)) ⊎ (IsCircle control × (last + 1 ≡ buckets_of control))
 
--- some bucket is empty or deleted
 abbrev pub HasFreeByte : List ℕ → Type 0
 HasFreeByte control = (b : ℕ) × (b < buckets_of control) × IsFreeByte (slice_index control b)
 
--- some bucket is empty
 abbrev pub HasEmptyByte : List ℕ → Type 0
 HasEmptyByte control = (b : ℕ) × (b < buckets_of control) × (slice_index control b ≡ empty_byte)

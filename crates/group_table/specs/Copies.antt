@@ -14,7 +14,6 @@ module _ {T F : Type 0} (closure : Shared F (Bor T × Unit {0}) (Result T AllocE
   IsCopyOf (full held) copy = (made : T) × FnReturnsAt closure f held.entry (Ok made)
       × (copy ≡ full (record held { entry = made }))
 
-  -- each bucket is copied
   abbrev pub Copies : List (Slot T) → List (Slot T) → Type 0
   Copies old new = AllZip IsCopyOf old new
 

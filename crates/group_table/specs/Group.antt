@@ -30,11 +30,10 @@ module _ {T : Type 0} (slots : List (Slot T)) where
   abbrev pub tagged_lanes : ℕ → ℕ → ℕ → List ℕ
   tagged_lanes tag start lanes = tagged slots tag (λ lane. (start + lane) % length slots) lanes
 
-  -- the bucket at the lane is empty
   abbrev pub IsEmptyLane : ℕ → ℕ → Type 0
   IsEmptyLane start lane = bucket_at (bucket_states slots) ((start + lane) % length slots) ≡ empty
 
-  -- some of the first lanes is empty
+  -- one of the first lanes is empty
   abbrev pub HasEmptyLane : ℕ → ℕ → Type 0
   HasEmptyLane start lanes = (lane : ℕ) × (lane < lanes) × IsEmptyLane start lane
 
@@ -54,7 +53,6 @@ module _ {T F : Type 0} (closure : Mut F (Bor T × Unit {0}) Bool) (slots : List
     pub refused : RejectsEach closure slots f asked between
     pub accepted : Answers closure slots between b true g
 
-  -- f rejected all buckets with the tag
   abbrev pub RejectsGroup : F → Type 0
   RejectsGroup g = RejectsEach closure slots f (tagged_lanes slots tag start (width slots)) g
 
@@ -68,7 +66,6 @@ module _ {T F : Type 0} (closure : Mut F (Bor T × Unit {0}) Bool) (slots : List
 abbrev pub full_at : List ℕ → ℕ → Bool
 full_at control b = nat_lt (slice_index control b) deleted_byte
 
--- the byte says that the bucket is empty
 abbrev pub IsEmptyAt : List ℕ → ℕ → Type 0
 IsEmptyAt control b = slice_index control b ≡ empty_byte
 

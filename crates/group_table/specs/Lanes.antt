@@ -11,7 +11,6 @@ IsMaskOf P bytes mask = (lane : ℕ) → (bit_at mask lane ≡ 1) ↔ ((lane < 1
 abbrev pub IsMaskAt : (ℕ → Type 0) → List ℕ → ℕ → ℕ → Type 0
 IsMaskAt P bytes start mask = (lane : ℕ) → (bit_at mask lane ≡ 1) ↔ ((lane < 16) × P (slice_index bytes (start + lane)))
 
--- the mask holds the lane
 abbrev pub HasLane : ℕ → ℕ → Type 0
 HasLane mask lane = bit_at mask lane ≡ 1
 

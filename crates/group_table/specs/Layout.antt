@@ -6,7 +6,6 @@ use Rattle.group_table.specs.Bytes.{empty_byte, deleted_byte, IsTag}
 use Rattle.group_table.specs.Bucket.{Slot, BucketState, empty, deleted, full, bucket_at, is_used, bucket_states}
 
 module _ {T : Type 0} where
-  -- the control byte of a bucket
   abbrev pub byte_of : Slot T → ℕ
   byte_of empty = empty_byte
   byte_of deleted = deleted_byte
@@ -23,7 +22,6 @@ module _ {T : Type 0} where
   slots_of [] (entry ∷ entries) = []
   slots_of (byte ∷ bytes) (entry ∷ entries) = slot_of byte entry ∷ slots_of bytes entries
 
-  -- the states of the buckets
   abbrev pub states_by : List ℕ → List (Option T) → List BucketState
   states_by bytes entries = bucket_states (slots_of bytes entries)
 
@@ -35,7 +33,7 @@ module _ {T : Type 0} where
       else if nat_lt position 16 then empty_byte
       else byte_of (bucket_at slots (position - max 16 (length slots)))
 
-  -- the byte is a tag if there is an entry, and else the byte of an empty or a deleted bucket
+  -- the byte is a tag if there is an entry, and otherwise the byte of an empty or a deleted bucket
   abbrev pub Agrees : ℕ → Option T → Type 0
   Agrees byte (Some entry) = IsTag byte
   Agrees byte None = (byte ≡ deleted_byte) ⊎ (byte ≡ empty_byte)

@@ -1,4 +1,4 @@
--- What the hash of an entry says: the tag in its bucket, and in which order a search visits the buckets.
+-- What the hash of an entry determines: the tag in its bucket, and in which order a search visits the buckets.
 use Rattle.std.specs.Prelude.{◌≡◌, ◌≢◌, ℕ, ◌+◌, ◌*◌, ◌/◌, ◌%◌, ◌^◌, ◌<◌, Bool, false, List, length, IsTrue}
 use Rattle.group_table.specs.Bucket.{Slot, BucketState, empty, full, bucket_at, is_full}
 
@@ -10,8 +10,8 @@ hash_tag hash = hash / 2 ^ 57
 abbrev pub filled : {T : Type 0} → ℕ → T → Slot T
 filled hash entry = full (record { tag = hash_tag hash; entry = entry })
 
--- the bucket that a search visits at a step. A search goes by groups of 16. The first begins at the hash; the next
--- begin 16, 32, 48, .. buckets after the group before them.
+-- the bucket that a search visits at a step. A search visits groups of 16 buckets. The first begins at the hash; the
+-- next begin 16, 32, 48, .. buckets after the group before them.
 abbrev pub probed : ℕ → ℕ → ℕ → ℕ
 probed buckets hash step = (hash + 8 * (step / 16) * (step / 16 + 1) + step % 16) % buckets
 
@@ -27,8 +27,7 @@ module _ (states : List BucketState) (hash : ℕ) where
   abbrev pub state_probed : ℕ → BucketState
   state_probed step = bucket_at states (probed (length states) hash step)
 
-  -- a search, which ends at a group with an empty bucket, reaches this one: no group before its group has an empty
-  -- bucket
+  -- a search reaches this bucket: no group before its group has an empty bucket, at which the search would end
   pub record Reaches (b : ℕ) : Type 0 where
     pub step : ℕ
     pub there : probed (length states) hash step ≡ b

@@ -2,7 +2,6 @@
 use Rattle.std.specs.Prelude.{◌≡◌, ◌⊎◌, ℕ, zero, suc, ◌-◌, ◌*◌, ◌/◌, ◌^◌, ◌==◌, nat_lt, nat_le, if◌then◌else◌, Option}
 use Rattle.std.specs.Prelude.{Some, None}
 
--- a power of two from 4 on
 abbrev pub IsPowerFromFour : ℕ → Type 0
 IsPowerFromFour buckets = (k : ℕ) × (buckets ≡ 4 * 2 ^ k)
 
@@ -23,7 +22,6 @@ first_power_from (suc tries) n power = if nat_le n power then power else first_p
 unfoldable pub least_power : ℕ → ℕ
 least_power n = first_power_from 64 n 1
 
--- n, if it is below the limit
 abbrev pub below : ℕ → ℕ → Option ℕ
 below limit n = if nat_lt n limit then Some n else None
 

@@ -15,7 +15,6 @@ pub(crate) const EMPTY: u8 = 0xff;
 
 pub(crate) const DELETED: u8 = 0x80;
 
-// The control bytes of a table.
 #[derive(Drop)]
 pub(crate) struct Control {
     bytes: Vec<u8>,

@@ -1,4 +1,4 @@
-//! `LinkType`: the width of a link, which is the number of a bucket.
+//! `LinkType`: the widths of links, which are numbers of buckets.
 ghost use Rattle.std.specs.Prelude.{◌≡◌, ◌<◌, ℕ};
 ghost use Rattle.group_table.specs.Link.{IsLinkType};
 

@@ -2,8 +2,8 @@
 ghost use Rattle.std.specs.Prelude.{◌≡◌, ◌<◌, ◌≤◌, IfSome};
 ghost use Rattle.group_table.specs.Sizes.{IsBucketCount, full_capacity, buckets_for};
 
-/// Returns how many entries a table of `buckets` buckets may hold: one fewer than its buckets up to 8 buckets, and
-/// seven eighths of more.
+/// Returns how many entries a table of `buckets` buckets may hold: `buckets` - 1 if `buckets` is at most 8, and
+/// otherwise seven eighths of `buckets`.
 #[inline]
 #[tactic(auto, unfolding(crate::specs::Sizes::full_capacity))]
 pub fn full_capacity(buckets: usize) -> usize

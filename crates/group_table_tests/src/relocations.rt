@@ -6,7 +6,7 @@ use std::cell::Cell;
 use std::test::Fail;
 use test_helpers::check;
 
-// Whether the keys are where the rules have them, and the hash of each entry was asked for once.
+// Returns whether the keys are where the rules put them, and whether the hash of each entry was computed once.
 fn moves(
     alloc: Global,
     table: &mut Table<u64>,
@@ -60,7 +60,7 @@ fn moves_many(alloc: Global, table: &mut Table<u64>) -> Result<bool, AllocError>
     Ok(is_rehashed && is_copied && is_relocated)
 }
 
-// A call may run out of memory, so a body that returns an error above some size is proved.
+// A call may run out of memory, so the prover accepts a body that fails above some size. This test does not.
 #[test]
 fn many_buckets(rt: HostRuntime) -> Result<(), Fail> {
     let mut table = table_of(rt.alloc(), 1 << 20)?;

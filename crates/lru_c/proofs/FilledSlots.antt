@@ -7,7 +7,7 @@ use Rattle.std.specs.Prelude.{take, drop, slice_set}
 use Rattle.lru_c.specs.Answers.{filled, fitting}
 use Rattle.lru_c.specs.declared.answers.Entry.{Entry}
 
--- n of the pairs were copied: the slots that are left, filled with the rest, make what all the pairs make
+-- n of the pairs were copied: filling the slots that are left with the other pairs gives what filling all slots gives
 pub record FillsSoFar (pairs : List (ℕ × ℕ)) (slots : List Entry) (n : ℕ) (rest : List (ℕ × ℕ))
     (now : List Entry) : Type 0 where
   pub within : n ≤ length now

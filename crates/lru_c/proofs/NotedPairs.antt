@@ -1,11 +1,11 @@
--- A callback that notes the pairs of another key than the inserted one has noted the first of them.
+-- A callback that notes pairs of other keys than the inserted one has noted the first of them.
 use Rattle.std.proofs.Common.{◌≡◌, ℕ, Bool, true, false, cond, List, [], ◌∷◌, Option, None, Some, MutBor, refl, ap, ◌∙◌}
 use Rattle.std.proofs.Common.{nat_eq, subst}
 use Rattle.std.specs.List.{FoldsTo}
 use Rattle.lru_c.specs.Answers.{noted_pair, noting_other, first_other}
 use Rattle.lru_c.specs.declared.answers.Entry.{Entry}
 
--- what a callback holds: the inserted key, whether a pair was noted, and the place of that pair
+-- what a callback holds: the inserted key, whether a pair was noted, and the place for the pair
 pub record Held : Type 0 where
   pub key : ℕ
   pub noted : MutBor Bool
@@ -14,7 +14,7 @@ pub record Held : Type 0 where
 abbrev pub pair_of : Held → Option (ℕ × ℕ)
 pair_of h = noted_pair h.noted.now h.place.now
 
--- the callback holds the same places as before, and this pair was noted; without a pair the place was left alone
+-- the callback holds the same places as before, and this pair was noted; if there is none, the place is unchanged
 pub record Notes (old new : Held) (now : Option (ℕ × ℕ)) : Type 0 where
   pub key : new.key ≡ old.key
   pub noted : new.noted.ghost_name ≡ old.noted.ghost_name

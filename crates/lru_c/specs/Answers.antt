@@ -1,4 +1,4 @@
--- What the calls of C return.
+-- What the calls from C return.
 use Rattle.std.specs.Prelude.{◌≡◌, ℕ, suc, Bool, true, false, Option, None, Some, Result, Ok, Err, List, [], ◌∷◌}
 use Rattle.std.specs.Prelude.{if◌then◌else◌, nat_eq}
 use Rattle.std.specs.declared.alloc.AllocError.{AllocError}
@@ -11,17 +11,17 @@ use Rattle.lru_c.specs.declared.answers.Found.{Found}
 use Rattle.lru_c.specs.declared.answers.Inserted.{Inserted}
 use Rattle.lru_c.specs.declared.answers.Pair.{Pair}
 
--- what is returned of a value, if there is one
+-- the returned struct of a value, if there is one
 abbrev pub found_of : Option ℕ → Found
 found_of None = record { value = 0; found = false }
 found_of (Some value) = record { value = value; found = true }
 
--- what is returned of a pair, if there is one
+-- the returned struct of a pair, if there is one
 abbrev pub pair_of : Option (ℕ × ℕ) → Pair
 pair_of None = record { key = 0; value = 0; found = false }
 pair_of (Some pair) = record { key = pair.0; value = pair.1; found = true }
 
--- what an insert returns: its code, the old value, if there was one, and whether it evicted an entry
+-- what an insert returns: its code, the old value, if there is one, and whether it evicted an entry
 abbrev pub inserted_of : ℕ → Option ℕ → Bool → Inserted
 inserted_of code None evicted = record { old_value = 0; code = code; replaced = false; evicted = evicted }
 inserted_of code (Some old_value) evicted =
@@ -31,7 +31,7 @@ inserted_of code (Some old_value) evicted =
 abbrev pub noted_pair : Bool → Entry → Option (ℕ × ℕ)
 noted_pair noted place = if noted then Some (place.key, place.value) else None
 
--- the slots after the pairs were copied into them, as many as fit
+-- the slots after as many pairs as fit were copied into them
 abbrev pub filled : List (ℕ × ℕ) → List Entry → List Entry
 filled [] slots = slots
 filled (pair ∷ pairs) [] = []
@@ -48,19 +48,18 @@ abbrev pub noting_other : ℕ → Option (ℕ × ℕ) → ℕ × ℕ → Option 
 noting_other key None pair = if nat_eq key pair.0 then None else Some pair
 noting_other key (Some noted) pair = Some noted
 
--- the first pair of another key
 abbrev pub first_other : ℕ → List (ℕ × ℕ) → Option (ℕ × ℕ)
 first_other key [] = None
 first_other key (pair ∷ pairs) = if nat_eq key pair.0 then first_other key pairs else Some pair
 
--- what a put returns: the key is there, or not, or there was no memory
+-- what a put returns: 0 if the key is there, 1 if it is not, 2 if memory ran out
 abbrev pub put_code : Result Bool AllocError → ℕ
 put_code (Ok true) = 0
 put_code (Ok false) = 1
 put_code (Err error) = 2
 
--- An insert. The first pair of another key that is passed to the callback is written to a place; if there is none, the
--- place stays as it is. The old value of the key is returned, if there was one.
+-- An insert. The first pair of another key that the callback gets is written to a place; if there is none, the place
+-- stays as it is. The old value of the key is returned, if there is one.
 pub record Inserts (key value : ℕ) (old : Map) (answer : Inserted) (place left : Entry) (new : Map) : Type 0 where
   pub result : Result Bool AllocError
   pub passed : List (ℕ × ℕ)
@@ -69,7 +68,7 @@ pub record Inserts (key value : ℕ) (old : Map) (answer : Inserted) (place left
   pub untouched : answer.evicted ≡ false → left ≡ place
   pub returned : answer ≡ inserted_of (put_code result) (lookup (nat_eq key) old.pairs) answer.evicted
 
--- A call on a handle. Without a map nothing changes, and the call returns nothing. A map makes this step.
+-- A call on a handle. If there is a map, it makes this step. Otherwise nothing changes, and the call returns nothing.
 pub data OnMap {M : Type 0} (returns_nothing : Type 0) (step : M → M → Type 0) (old new : Option M) : Type 0 where
   without : old ≡ None → new ≡ None → returns_nothing → OnMap returns_nothing step old new
   within : (before after : M) → old ≡ Some before → new ≡ Some after → step before after →

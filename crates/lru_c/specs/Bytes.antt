@@ -1,7 +1,7 @@
 -- The map from byte strings to byte strings, and what its calls do.
 --     names_bytes bytes k        the key k has these bytes
---     weight key value           what an entry weighs whose key and value have these lengths
---     poured bytes buffer        the buffer, after the bytes were copied to its front, if they fit
+--     weight key value           the weight of an entry with a key and a value of these lengths
+--     poured bytes buffer        the buffer after the bytes were copied to its front, if they fit
 use Rattle.std.specs.Prelude.{◌≡◌, ◌++◌, ◌<◌, ◌≤◌, ◌&&◌, ℕ, Bool, true, false, List, length, drop, Option, Some, None}
 use Rattle.std.specs.Prelude.{nat_le, vec_len, is_some, if◌then◌else◌, map, Ok}
 use Rattle.std.proofs.Common.{ap}
@@ -53,11 +53,10 @@ input_of_bytes k = fed.slice fed.u8 k.items
 abbrev pub hash_of_bytes : Mixer → Bytes → ℕ
 hash_of_bytes = hash_by input_of_bytes random_builds.ghosts default_hashes.ghosts
 
--- 64 bytes for the entry, and the bytes of its key and its value
+-- 64 bytes for the entry, plus the bytes of its key and its value
 abbrev pub weight : ℕ → ℕ → ℕ
 weight key value = pair_cost 64 key value
 
--- what the limiter says
 abbrev pub bytes_rules : Rules Bytes Bytes Budget
 bytes_rules = by_weight (λ k v. weight (vec_len k) (vec_len v))
 
@@ -67,7 +66,7 @@ bytes_offers = weighs (λ k v. weight (vec_len k) (vec_len v))
 abbrev pub poured : List ℕ → List ℕ → List ℕ
 poured bytes buffer = if nat_le (length bytes) (length buffer) then bytes ++ drop (length bytes) buffer else buffer
 
--- the buffer, after a value was copied, if there is one
+-- the buffer after a value was copied into it, if there is one
 abbrev pub poured_from : Option Bytes → List ℕ → List ℕ
 poured_from None buffer = buffer
 poured_from (Some value) buffer = poured value.items buffer
@@ -77,15 +76,14 @@ abbrev pub answer_of : Option Bytes → Value
 answer_of None = record { len = 0; found = false }
 answer_of (Some value) = record { len = length value.items; found = true }
 
--- a look-up that finds this value: its length is returned, and it is copied into the buffer if it fits
+-- a look-up finds this value: the length of the value is returned, and the value is copied into the buffer if it fits
 abbrev pub Reads : Option Bytes → Value → List ℕ → List ℕ → Type 0
 Reads value answer buffer left = (answer ≡ answer_of value) × (left ≡ poured_from value buffer)
 
--- no entry
 abbrev pub no_entry : Popped
 no_entry = record { key_len = 0; value_len = 0; found = false; removed = false }
 
--- the lengths of an entry, and whether it was removed
+-- the lengths of the key and the value of an entry, and whether the entry was removed
 abbrev pub lengths_of : Bytes × Bytes → Bool → Popped
 lengths_of pair removed =
     record { key_len = length pair.0.items; value_len = length pair.1.items; found = true; removed = removed }
@@ -94,7 +92,8 @@ lengths_of pair removed =
 abbrev pub fits : Bytes × Bytes → List ℕ → List ℕ → Bool
 fits pair key value = nat_le (length pair.0.items) (length key) && nat_le (length pair.1.items) (length value)
 
--- A look-up that finds this entry: its lengths are returned, and it is copied into two buffers if both parts fit.
+-- A look-up finds this entry: the lengths of its key and value are returned, and both are copied into two buffers if
+-- both fit.
 abbrev pub Shows : Option (Bytes × Bytes) → Popped → List ℕ → List ℕ → List ℕ → List ℕ → Type 0
 Shows None answer key key_left value value_left = (answer ≡ no_entry) × (key_left ≡ key) × (value_left ≡ value)
 Shows (Some pair) answer key key_left value value_left = (answer ≡ lengths_of pair false)
@@ -105,12 +104,13 @@ Shows (Some pair) answer key key_left value value_left = (answer ≡ lengths_of 
 abbrev pub texts : List (Bytes × Bytes) → List (List ℕ × List ℕ)
 texts pairs = map (λ pair. (pair.0.items, pair.1.items)) pairs
 
--- A copy of a map: its keys and values have the same bytes, in the same order, and all else is the same.
+-- A copy of a map: the keys and values have the same bytes, in the same order, and everything else is the same.
 pub record Copies (old copy : BytesMap) : Type 0 where
   pub entries : texts copy.pairs ≡ texts old.pairs
   pub rest : copy ≡ record old { pairs = copy.pairs }
 
--- The oldest entry is removed and copied into two buffers, if it fits. Otherwise only its lengths are returned.
+-- If the oldest entry fits into two buffers, it is removed and copied into them. Otherwise only its lengths are
+-- returned.
 pub data Pops (old : BytesMap) (answer : Popped) (key key_left value value_left : List ℕ)
     (new : BytesMap) : Type 0 where
   none : last old.pairs ≡ None → answer ≡ no_entry → key_left ≡ key → value_left ≡ value → new ≡ old →
@@ -126,25 +126,26 @@ pub data Pops (old : BytesMap) (answer : Popped) (key key_left value value_left 
 abbrev pub has_bytes : List ℕ → BytesMap → Bool
 has_bytes key map = is_some (lookup (names_bytes key) map.pairs)
 
--- The map that an insert of this key finds: as it was, if the key is there, or else after a reservation for one entry.
+-- The map that an insert of this key finds: the old map if the key is there, and otherwise the map after a reservation
+-- for one entry.
 pub data IsReady (key : List ℕ) (old ready : BytesMap) : Type 0 where
   there : has_bytes key old ≡ true → ready ≡ old → IsReady key old ready
   reserved : has_bytes key old ≡ false → Reserve bytes_rules 1 old (Ok tt) ready → IsReady key old ready
 
--- an insert of this key finds memory: the key is there, or there is growth left
+-- an insert of this key has memory: the key is there, or growth is left
 abbrev pub FindsMemory : List ℕ → BytesMap → Type 0
 FindsMemory key ready = has_bytes key ready ≡ false → 1 ≤ growth_left ready
 
 -- A put, and what it returns.
 pub data Puts (key value : List ℕ) (old : BytesMap) (code : ℕ) (new : BytesMap) : Type 0 where
-  -- The key by itself is over the budget: nothing changes. (Such a key is not there, if the total is the sum of the
-  -- weights and within the budget.)
+  -- The key alone is over the budget: nothing changes. (If the total is the sum of the weights and within the budget,
+  -- such a key is not there.)
   too_long : old.limiter.limit < length key → code ≡ 1 → new ≡ old → Puts key value old code new
-  -- The entry by itself is over the budget: it is not stored, and the key is removed.
+  -- The entry alone is over the budget: it is not stored, and the key is removed.
   too_heavy : old.limiter.limit < weight (length key) (length value) → code ≡ 1 →
       (value_gone : Option Bytes) → Remove bytes_rules (names_bytes key) old value_gone new →
       Puts key value old code new
-  -- There is no memory: nothing changes.
+  -- Memory runs out: nothing changes.
   no_memory : weight (length key) (length value) ≤ old.limiter.limit → code ≡ 2 → new ≡ old →
       Puts key value old code new
   -- Copies are inserted into the map, after its table was made large enough for a new key.

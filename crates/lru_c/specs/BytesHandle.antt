@@ -1,4 +1,4 @@
--- The type of a map of byte strings, as the logic holds it.
+-- The type of a map of byte strings in the logic.
 use Rattle.std.specs.Borrow.{RattleType, u8, usize}
 use Rattle.std.specs.contracts.alloc.Global as global
 use Rattle.std.specs.contracts.impls.GlobalAllocator.TheImpl as heap
@@ -14,17 +14,14 @@ use Rattle.lru_limits.specs.contracts.hasher.RandomStateBuildHasher.TheImpl as r
 use Rattle.schnellru.specs.contracts.map.LruMap as lru_map
 use Rattle.lru_c.specs.Bytes.{same_bytes, input_of_bytes, hash_of_bytes, bytes_rules}
 
--- the type `Vec<u8>`
 abbrev bytes : RattleType
 bytes = vec.the_row u8 global.the_row heap.ghosts
 
--- the type `BytesMap`
 abbrev pub bytes_row : RattleType
 bytes_row = lru_map.the_row bytes bytes (by_weight.the_row (number 64)) random_state.the_row usize
     default_hasher.the_row
     (record { eq = same_bytes }) (record { hash_input = input_of_bytes }) (record { rules = bytes_rules })
     usize_link.ghosts (record { hash_of = hash_of_bytes }) random_builds.ghosts default_hashes.ghosts
 
--- the type `Option<BytesMap>`
 abbrev pub maybe_bytes_row : RattleType
 maybe_bytes_row = option.the_row bytes_row

@@ -25,25 +25,22 @@ use Rattle.schnellru.specs.contracts.map.LruMap as lru_map
 abbrev pub Map : Type 0
 Map = State ℕ ℕ ℕ Mixer
 
--- it has at most as many entries as its maximum length
+-- the map has at most its maximum length of entries
 abbrev pub IsWithinLength : Map → Type 0
 IsWithinLength map = length map.pairs ≤ map.limiter
 
--- the hash of a key
 abbrev pub hash_of : Mixer → ℕ → ℕ
 hash_of = hash_by u64_hash.ghosts.hash_input random_builds.ghosts default_hashes.ghosts
 
--- the type `LruMap<u64, u64>`, as the logic holds it
 abbrev pub map_row : RattleType
 map_row = lru_map.the_row u64 u64 by_length.the_row random_state.the_row u32 default_hasher.the_row u64_eq.ghosts
     u64_hash.ghosts (length_limits.ghosts u64 u64) u32_link.ghosts
     (record { hash_of = hash_of }) random_builds.ghosts default_hashes.ghosts
 
--- the type `Option<LruMap<u64, u64>>`
 abbrev pub maybe_row : RattleType
 maybe_row = option.the_row map_row
 
--- the allocator `Global`, all values of which are the same
+-- the allocator `Global`, which has only one value
 abbrev pub c_heap : Global
 c_heap = record { memory = record { seal = tt } }
 

@@ -1,4 +1,4 @@
-//! What the calls return to C: plain structs, since an `Option` cannot cross.
+//! What the calls return to C: plain structs, because C has no `Option`.
 ghost use Rattle.std.specs.Prelude.{◌≡◌, false};
 ghost use Rattle.lru_c.specs.Answers.{found_of, pair_of, inserted_of, noted_pair, noting_other, put_code};
 
@@ -6,9 +6,9 @@ use std::alloc::AllocError;
 
 /// What a put returns if the key is in the map, with the value.
 pub const STORED: u32 = 0;
-/// What a put returns if the key is not there afterwards although no allocation failed.
+/// What a put returns if the key is not in the map, although no allocation failed.
 pub const REJECTED: u32 = 1;
-/// What a put returns if there was no memory.
+/// What a put returns if memory ran out.
 pub const OUT_OF_MEMORY: u32 = 2;
 /// What a put returns if the handle has no map.
 pub const NO_MAP: u32 = 3;
@@ -37,7 +37,7 @@ pub struct Entry {
     pub value: u64,
 }
 
-/// What an insert did. It fits two registers.
+/// What an insert did. It fits into two registers.
 #[repr(C)]
 #[derive(Drop)]
 pub struct Inserted {

@@ -15,7 +15,7 @@ use crate::answers::{
 use crate::handle::Map;
 use std::alloc::{AllocError, Global};
 
-/// Inserts a value, and writes the evicted entry to a place. Returns which value was replaced.
+/// Inserts a value, and writes the evicted entry, if there is one, to a place. Returns which value was replaced.
 #[inline]
 pub fn insert(map: &mut Map, key: u64, value: u64, place: &mut Entry) -> Inserted
     ensures { Inserts key value map.old result place.old place.new map.new }

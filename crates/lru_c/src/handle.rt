@@ -1,4 +1,4 @@
-//! What C keeps of a map.
+//! What C keeps for a map.
 ghost use Rattle.std.specs.Prelude.{◌≡◌, None, Some, IfSome, option_map};
 ghost use Rattle.lru_c.specs.Handle.{map_row, maybe_row, owns_boxed, IsWithinLength};
 
@@ -78,11 +78,11 @@ impl Slot {
     }
 }
 
-/// A handle: a map on the heap, or none. The map has at most as many entries as its maximum length. A contract sees the
-/// map; C sees an address, which is null if there is no map.
+/// A handle: a map on the heap, or none. The map has at most its maximum length of entries. A contract sees the map; C
+/// sees an address, which is null if there is no map.
 ///
-/// Nothing drops a handle, since its map cannot be freed without an allocator. Each call takes the map out and puts it
-/// back.
+/// Nothing drops a handle, because its map cannot be freed without an allocator. Each call takes the map out and puts
+/// it back.
 #[repr(C)]
 pub struct Lru {
     pub(crate) slot: Slot,

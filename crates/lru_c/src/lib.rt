@@ -1,9 +1,9 @@
 //! Maps for programs in C and in Rust: from numbers of 64 bits to numbers of 64 bits, and from byte strings to byte
 //! strings.
 //!
-//! [`exports`] and [`bytes::exports`] have the functions that `bindings/c/lru.h` declares. A [`Lru`](handle::Lru) or a
-//! [`LruBytes`](bytes::handle::LruBytes) is what C keeps: the address of a map on the heap, or null. `docs/FROM_C.md`
-//! says how a program is built and linked.
+//! [`exports`] and [`bytes::exports`] have the functions that `bindings/c/lru.h` declares. C keeps a
+//! [`Lru`](handle::Lru) or a [`LruBytes`](bytes::handle::LruBytes): the address of a map on the heap, or null.
+//! `docs/FROM_C.md` says how to build and link a program.
 #![tactic(auto)]
 
 mod answers;

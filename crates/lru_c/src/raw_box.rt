@@ -1,4 +1,4 @@
-//! A box by the address of its value, without its allocator.
+//! A box that is only the address of its value, without its allocator.
 ghost use Rattle.std.specs.Prelude.{◌≡◌};
 ghost use Rattle.std.specs.Box.{box_allocator};
 ghost use Rattle.std.specs.Box.Ownership.{box_owns};
@@ -34,7 +34,7 @@ impl<T: Drop, A: Allocator> RawBox<T, A> {
         ensures value { result.value ≡ self.value }
     {
         let RawBox { start, mark: _ } = self;
-        // SAFETY: `self` owns the value at `start`, whose block `alloc` gave, and is gone then.
+        // SAFETY: `self` owns the value at `start`, `alloc` gave its block, and this call consumes `self`.
         unsafe { Box::from_raw(alloc, start) }
     }
 }

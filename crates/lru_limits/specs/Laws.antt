@@ -30,7 +30,6 @@ pub record IsAccount {K V S I : Type 0} (rules : Rules K V S) (offers : Offers K
   -- an entry to store adds its cost
   pub adds : (s : S) (n : ℕ) (i : I) (v : V) (t : S) (k : K) (w : V) → offers.on_insert s n i v t (Some (k, w))
       → account t ≡ account s + cost k w
-  -- a rejected entry changes nothing
   pub refuses : (s : S) (n : ℕ) (i : I) (v : V) (t : S) → offers.on_insert s n i v t None → account t ≡ account s
   -- a replacement subtracts the cost of the old entry, and adds the cost of the stored key with the value that stays
   pub exchanges : (s : S) (n : ℕ) (k : K) (i : I) (v w : V) → cost k v ≤ account s →
@@ -40,5 +39,4 @@ pub record IsAccount {K V S I : Type 0} (rules : Rules K V S) (offers : Offers K
       ≡ account s - cost k v
   -- after a clear the running total is 0
   pub empties : (s : S) → account (rules.on_cleared s) ≡ 0
-  -- growth changes nothing
   pub keeps : (s : S) (n : ℕ) → account (rules.on_grow s n).limiter ≡ account s

@@ -1,4 +1,4 @@
--- Limits by length and by the bytes of a table, as laws of a limiter. It may do other things, too.
+-- Limits by length and by the bytes of a table, as laws of a limiter. The limiter may do other things, too.
 --     IsFixed rules offers number          no callback changes this number of the limiter
 --     LimitsLength rules offers most       a map that is not over the limit has at most `most` entries
 --     LimitsMemory rules offers most       a table that the limiter permits has at most `most` bytes

@@ -29,7 +29,6 @@ pub record Rules (K V S : Type 0) : Type 0 where
   pub is_over_the_limit : S → ℕ → Bool
   -- the limiter, key and value after it was notified of an evicted or removed entry
   pub on_removed : S → K → V → Notified K V S
-  -- the limiter after the map was cleared
   pub on_cleared : S → S
   -- the limiter after it was asked to permit a table of n bytes, and its answer
   pub on_grow : S → ℕ → Allowed S
@@ -38,7 +37,6 @@ pub record Offers (K V S I : Type 0) : Type 1 where
   -- The limiter and the entry to store, if any, that may result if an entry is offered to a map of n entries. This is a
   -- relation, because the key to store may be made in fresh memory, whose address nothing determines.
   pub on_insert : S → ℕ → I → V → S → Option (K × V) → Type 0
-  -- when an offer may run out of memory
   pub may_run_out : S → ℕ → I → V → Type 0
   -- the result for the stored key, the offered key, the old value and the new value
   pub on_replace : S → ℕ → K → I → V → V → Replaced K V S

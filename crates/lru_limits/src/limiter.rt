@@ -29,11 +29,11 @@ pub trait Limiter<K, V> {
     ///
     /// Called at two times:
     ///
-    /// - Before an insert stores a new entry in a map that is not empty, with the length that the map will have.
-    ///   `try_insert` calls it then on a copy of the limiter, in an empty map too.
+    /// - Before an insert stores a new entry in a map that is not empty, with the length that the map will have. At
+    ///   this time `try_insert` calls it on a copy of the limiter, even in an empty map.
     /// - With the length that the map has, if the map is not empty: by `trim` and `set_limiter`, and by an insert or an
-    ///   update that stored an entry or replaced a value. After each eviction they call it again, unless the map is
-    ///   empty by then.
+    ///   update that stored an entry or replaced a value. These call it again after each eviction, unless the map is
+    ///   then empty.
     fn is_over_the_limit(&self, length: usize) -> bool
         ensures { result ≡ rules.is_over_the_limit self.now length };
 

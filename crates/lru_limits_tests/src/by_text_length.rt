@@ -1,4 +1,4 @@
-//! A limiter of your own with a running total: by the length of the texts that are the values of a map.
+//! A limiter of your own with a running total: the sum of the lengths of the values, which are texts.
 //! `docs/LIMITERS.md` explains it.
 ghost use Rattle.std.specs.Prelude.{◌≡◌, ◌+◌, ◌-◌, true, Some, None, nat_lt, string_len, if◌then◌else◌, refl};
 ghost use Rattle.lru_limits.specs.Budget.{can_add};
@@ -6,7 +6,7 @@ ghost use Rattle.lru_limits.specs.Stores.{answers, given-adds, refused-keeps, re
 
 use lru_limits::{Admission, Limiter, Summing};
 
-/// Limits the bytes of all texts together. It rejects a text that is longer than the limit by itself.
+/// Limits the bytes of all texts together. It rejects a text that is longer than the limit.
 #[derive(Clone, Copy, Debug)]
 pub struct ByTextLength {
     pub limit: u64,
@@ -14,7 +14,7 @@ pub struct ByTextLength {
 }
 
 impl ByTextLength {
-    /// Returns the total with a text of `bytes` bytes, if the text is within the limit and the total fits.
+    /// Returns the total with a text of `bytes` bytes, if the text is within the limit and the total fits 64 bits.
     fn total_with(&self, total: u64, bytes: u64) -> Option<u64>
         ensures { result ≡ (if can_add self.now.limit total bytes then Some (total + bytes) else None) }
     {

@@ -6,7 +6,7 @@
 --     written-found        after a value was written through a get, a look-up finds it
 --     read-all             what holds of each pair still does after a get through which nothing is written
 --     offers_of-keeps      a limiter that stores pairs as they come keeps their values
---     offers_of-determined such a limiter leaves nothing open
+--     offers_of-determined the state and the arguments determine what such a limiter does
 --     offers_of-accepts    when such a limiter accepts a pair of a new key
 --     plain-grants, by_weight-grants, by_cost-grants                    these limiters permit every growth
 --     plain-changes_none, by_weight-changes_none, by_cost-changes_none  these limiters change no removed pair

@@ -1,9 +1,9 @@
 -- Which pairs a call passes to its callback: each pair that is evicted or removed, and each pair that the limiter
 -- returned and the map could not store. The callback gets these pairs as the limiter leaves them, in the order in which
 -- the limiter is notified.
---     rules, offers       what the limiter does (`Rules`, `Offers` of `lru_limits`)
---     names i k           the inserted key i names the key k
---     hash_of h k         the hash of the key k, by the hasher h
+--     rules, offers       the limiter's `Rules` and `Offers` (`lru_limits`)
+--     names i k           the inserted key i names k
+--     hash_of h k         the hash of k by the hasher h
 --     closure             how the callback may be called
 --     f, g                the callback before and after
 use Rattle.std.specs.Prelude.{◌≡◌, ℕ, Bool, List, [], ◌∷◌, ◌++◌, Result}

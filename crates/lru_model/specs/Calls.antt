@@ -1,5 +1,5 @@
 -- How gets, writes, removals, pops and a clear change a map. Each other kind of call has a file of its own.
---     rules      what the limiter does (`Rules` of `lru_limits`)
+--     rules      the limiter's `Rules` (`lru_limits`)
 --     names      whether a key is the one that is looked up
 use Rattle.std.specs.Prelude.{◌≡◌, Bool, List, [], Option, Some, None, option_map, replicate}
 use Rattle.std.specs.Map.{set_value}
@@ -63,11 +63,9 @@ module _ {K V S H : Type 0} (rules : Rules K V S) where
   abbrev pub RemoveEntry : (K → Bool) → State K V S H → Option (K × V) → State K V S H → Type 0
   RemoveEntry names old = TakesOut (lookup_entry names old.pairs) (without names old.pairs) old
 
-  -- the oldest pair is removed and returned
   abbrev pub PopOldest : State K V S H → Option (K × V) → State K V S H → Type 0
   PopOldest old = TakesOut (last old.pairs) (without_last old.pairs) old
 
-  -- the newest pair is removed and returned
   abbrev pub PopNewest : State K V S H → Option (K × V) → State K V S H → Type 0
   PopNewest old = TakesOut (first old.pairs) (without_first old.pairs) old
 

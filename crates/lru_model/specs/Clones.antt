@@ -11,7 +11,6 @@ module _ {K V : Type 0} (same_key : K → K → Type 0) (same_value : V → V �
     pub value : same_value pair.1 copy.1
 
   module _ {S H : Type 0} (same_limiter : S → S → Type 0) (same_hasher : H → H → Type 0) where
-    -- `new` is a clone of `old`
     pub record IsClone (old new : State K V S H) : Type 0 where
       -- each pair is cloned, in the same order
       pub pairs : AllZip IsPairClone old.pairs new.pairs

@@ -13,9 +13,9 @@ use Rattle.lru_model.specs.Inserts.{make_room, replacement, with_replaced, with_
 
 -- what the table reports when a pair is inserted into it
 pub record Report : Type 0 where
-  -- for a table of how many bytes the limiter was queried, if it was
+  -- the bytes of the table for which the limiter was queried, if it was
   pub asked : Option ℕ
-  -- how many of the oldest pairs were evicted then, because growth was refused
+  -- how many of the oldest pairs were evicted because growth was refused
   pub evicted : ℕ
   -- whether there is a bucket for the pair
   pub has_bucket : Bool
@@ -30,7 +30,7 @@ module _ {K V S : Type 0} (rules : Rules K V S) where
   abbrev pub refusal : Option ℕ → ℕ → Contents K V S → Report
   refusal asked n c = record { asked = asked; evicted = n; has_bucket = not (is_empty c.pairs) }
 
-  -- what a table that is too small reports, if it grows into this table
+  -- what a table that is too small reports, by the table that it would grow into
   abbrev pub report_of : Target → ℕ → Contents K V S → Report
   report_of no_table n c = refusal None n c
   report_of same_table n c = at_once
@@ -93,13 +93,12 @@ exchanged rules offers names i v c pair =
 module _ {K V S I : Type 0} (rules : Rules K V S) (offers : Offers K V S I) (names : I → K → Bool)
     (Tells : S → K × V → Report → Type 0) (i : I) (v : V) (old : Contents K V S) (result : Result Bool AllocError)
     (new : Contents K V S) where
-  -- the key is new
   pub data InsertsNew : Type 0 where
     -- The limiter runs out of memory, or returns no pair to store,
     not_offered : offers.may_run_out old.limiter (length old.pairs) i v → IsErr result → new ≡ old → InsertsNew
     not_admitted : (s : S) → MayGive rules offers names i v old s None →
         result ≡ Ok false → new ≡ record { pairs = old.pairs; limiter = s } → InsertsNew
-    -- or it returns a pair, which is stored as the table reports, or runs out of memory.
+    -- or it returns a pair, which is stored as the table reports, or the map runs out of memory.
     admitted : (s : S) (pair : K × V) → MayGive rules offers names i v old s (Some pair) →
         (report : Report) → Tells s pair report →
         stored rules report pair (make_room rules (record { pairs = old.pairs; limiter = s })) ≡ (result, new) →

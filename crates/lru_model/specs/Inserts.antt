@@ -1,7 +1,7 @@
 -- What an insert does.
---     rules, offers       what the limiter does (`Rules`, `Offers` of `lru_limits`)
---     names i k           the inserted key i names the key k
---     hash_of h k         the hash of the key k, by the hasher h
+--     rules, offers       the limiter's `Rules` and `Offers` (`lru_limits`)
+--     names i k           the inserted key i names k
+--     hash_of h k         the hash of k by the hasher h
 use Rattle.std.specs.Prelude.{◌≡◌, ℕ, ◌+◌, ◌⊎◌, ◌<◌, Bool, true, false, not, if◌then◌else◌, ◌∷◌, length, Option, Some}
 use Rattle.std.specs.Prelude.{None, option_map, Result, Ok, Err, IsErr}
 use Rattle.std.specs.declared.alloc.AllocError.{AllocError}
@@ -11,12 +11,12 @@ use Rattle.lru_model.specs.declared.results.Inserted.{Inserted}
 use Rattle.lru_model.specs.State.{State, buckets, growth_left, Contents, contents, Leaves, pop, trim}
 use Rattle.lru_model.specs.Place.{Place, Outcome, placed, refused, no_memory}
 
--- the value that the map does not keep after a new value was offered: the old one if the limiter accepted the new one,
--- and the new one otherwise
+-- the value that the map does not keep after a new value was offered: the old value if the limiter accepted the new
+-- one, and otherwise the new value
 abbrev pub unkept_of : {K V S : Type 0} → Replaced K V S → V
 unkept_of r = if r.taken then r.old_value else r.new_value
 
--- whether the key is in the map, from the result of an insert that also returns the value that the map does not keep
+-- whether the key is in the map, by the `Inserted` that an insert returned
 abbrev pub kept_of : {V E : Type 0} → Result (Inserted V) E → Result Bool E
 kept_of (Ok inserted) = Ok inserted.kept
 kept_of (Err e) = Err e
@@ -79,7 +79,6 @@ module _ {K V S I : Type 0} (rules : Rules K V S) (offers : Offers K V S I) (nam
   MayGive i v c s given = offers.on_insert c.limiter (length c.pairs) i v s given
 
   module _ {H : Type 0} (hash_of : H → K → ℕ) where
-    -- what an insert may return and leave
     pub data Insert (i : I) (v : V) (old : State K V S H) (result : Result Bool AllocError)
         (new : State K V S H) : Type 0 where
       -- The key is there, and the limiter accepts the new value: the pair becomes the newest with this value, and the
@@ -117,8 +116,8 @@ module _ {K V S I : Type 0} (rules : Rules K V S) (offers : Offers K V S I) (nam
       pub given : MayGive i v (contents old) s (Some pair)
       pub needed : (buckets old ≡ 0) ⊎ (0 < length (make_room rules (record { pairs = old.pairs; limiter = s })).pairs)
 
-    -- Why an insert runs out of memory: the key is new, and either `on_insert` of the limiter ran out of memory, and
-    -- nothing has changed, or the table needed memory.
+    -- Why an insert runs out of memory: the key is new, and either `on_insert` of the limiter ran out of memory, which
+    -- changed nothing, or the table needed memory.
     abbrev pub IsOutOfMemory : I → V → State K V S H → State K V S H → Type 0
     IsOutOfMemory i v old new = (lookup_entry (names i) old.pairs ≡ None)
         × ((offers.may_run_out old.limiter (length old.pairs) i v × (new ≡ old)) ⊎ NeedsMemory i v old)

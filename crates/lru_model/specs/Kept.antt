@@ -1,7 +1,7 @@
 -- What an insert keeps: it loses no pair; it evicts none if growth is left and the limiter is not over its limit with
 -- the new pair; and with `ByLength` it leaves the newest pairs.
---     rules, offers       what the limiter does (`Rules`, `Offers` of `lru_limits`)
---     names i k           the inserted key i names the key k
+--     rules, offers       the limiter's `Rules` and `Offers` (`lru_limits`)
+--     names i k           the inserted key i names k
 use Rattle.std.specs.Prelude.{◌≡◌, ◌⊎◌, ℕ, ◌+◌, ◌-◌, ◌^◌, ◌≤◌, ◌<◌, Bool, true, false, not, List, []}
 use Rattle.std.specs.Prelude.{◌∷◌, ◌++◌, length, reverse, take, fold, nat_lt, Option, Some, None, unwrap_or}
 use Rattle.std.specs.Prelude.{option_map, Result, Ok, IsOk, IsErr, OnOk, OnErr}
@@ -69,8 +69,8 @@ module _ {K V S I : Type 0} (rules : Rules K V S) (offers : Offers K V S I) (nam
 abbrev pub stored_key : {K V : Type 0} → (K → Bool) → K → List (K × V) → K
 stored_key names key pairs = unwrap_or (option_map (λ pair. pair.0) (lookup_entry names pairs)) key
 
--- what is left of the pairs `old` after the pairs `inserted` were inserted one after another, with at most `most` pairs
--- left after each insert
+-- the pairs after `inserted` were inserted into `old` one after another, with at most `most` pairs left after each
+-- insert
 abbrev pub newest_after : {K V : Type 0} → (K → K → Bool) → ℕ → List (K × V) → List (K × V) → List (K × V)
 newest_after eq most inserted old = fold
     (λ left pair. take most ((stored_key (eq pair.0) pair.0 left, pair.1) ∷ without (eq pair.0) left)) old inserted

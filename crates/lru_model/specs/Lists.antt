@@ -4,28 +4,23 @@ use Rattle.std.specs.Prelude.{None, slice_get, option_map, option_to_list}
 pub use Rattle.std.specs.Map.{lookup, lookup_entry, remove_entry as without, keys_of}
 
 module _ {X : Type 0} where
-  -- whether the list is empty
   abbrev pub is_empty : List X → Bool
   is_empty [] = true
   is_empty (x ∷ xs) = false
 
-  -- the first, if there is one
   abbrev pub first : List X → Option X
   first [] = None
   first (x ∷ xs) = Some x
 
-  -- all but the first
   abbrev pub without_first : List X → List X
   without_first [] = []
   without_first (x ∷ xs) = xs
 
-  -- the last, if there is one
   abbrev pub last : List X → Option X
   last [] = None
   last (x ∷ []) = Some x
   last (x ∷ y ∷ ys) = last (y ∷ ys)
 
-  -- all but the last
   abbrev pub without_last : List X → List X
   without_last [] = []
   without_last (x ∷ []) = []
@@ -79,7 +74,6 @@ module _ {K V : Type 0} where
   set_entry names entry [] = []
   set_entry names entry (pair ∷ pairs) = if names pair.0 then entry ∷ pairs else pair ∷ set_entry names entry pairs
 
-  -- the value of the first pair
   abbrev pub newest_value : List (K × V) → Option V
   newest_value pairs = option_map (λ p. p.1) (first pairs)
 

@@ -1,7 +1,7 @@
 -- What a call requires of its callback: if n pairs may be evicted, removed or rejected, the callback may be called n
 -- times, each time with any of them.
---     rules, offers       what the limiter does (`Rules`, `Offers` of `lru_limits`)
---     names i k           the inserted key i names the key k
+--     rules, offers       the limiter's `Rules` and `Offers` (`lru_limits`)
+--     names i k           the inserted key i names k
 --     closure             how the callback may be called
 --     f                   the callback before the call
 use Rattle.std.specs.Prelude.{◌≡◌, ℕ, ◌<◌, Bool, true, false, List, [], ◌∷◌, length, None, Some, Contains, All}

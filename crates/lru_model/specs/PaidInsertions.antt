@@ -1,7 +1,7 @@
--- What all insertions into the table cost, even those of a reservation, if no growth was left before it.
---     terms, rules        what the limiter accepts, and what it does (`Terms`, `Rules` of `lru_limits`)
+-- What all insertions into the table cost, even the insertions of a reservation, if no growth was left before it.
+--     terms, rules        the limiter's `Terms` and `Rules` (`lru_limits`)
 --     eq                  whether two keys are equal
---     hash_of h k         the hash of the key k, by the hasher h
+--     hash_of h k         the hash of k by the hasher h
 use Rattle.std.specs.Prelude.{◌≡◌, ℕ, ◌+◌, ◌-◌, ◌*◌, ◌^◌, ◌≤◌, ◌<◌, Bool, Result}
 use Rattle.lru_limits.specs.Rules.{Rules}
 use Rattle.lru_limits.specs.Admissions.{Terms, offers_of}

@@ -1,5 +1,5 @@
--- Inserting a new pair into the table: what its growth left allows, what the limiter permits, and how many entries
--- move.
+-- The insertion of a new pair into the table: what the growth left allows, what the limiter permits, and how many
+-- entries move.
 use Rattle.std.specs.Prelude.{◌≡◌, ℕ, zero, suc, ◌+◌, ◌-◌, ◌/◌, ◌≤◌, ◌<◌, ◌⊎◌, Bool, true, false, List, [], ◌∷◌}
 use Rattle.std.specs.Prelude.{length}
 use Rattle.std.specs.Prelude.{Result, Ok, Err, slice_set}
@@ -10,12 +10,11 @@ use Rattle.lru_limits.specs.Rules.{Rules}
 use Rattle.lru_model.specs.Sizes.{target, Target, no_table, new_table}
 use Rattle.lru_model.specs.State.{State, TableState, buckets, growth_left, FirstFreeIs, count_insert, contents, Leaves, pop}
 
--- How it ends: the pair is stored (`placed`), the table cannot grow and there is no pair to evict (`refused`), or the
--- map ran out of memory.
+-- How the insertion ends: the pair is stored (`placed`), the table cannot grow and there is no pair to evict
+-- (`refused`), or the map ran out of memory.
 pub data Outcome : Type 0 where
   placed refused no_memory : Outcome
 
--- the outcome that a result reports
 abbrev pub outcome_of : {E : Type 0} → Result Bool E → Outcome
 outcome_of (Ok true) = placed
 outcome_of (Ok false) = refused
@@ -40,7 +39,7 @@ pub record NoBucketTakes (hash n : ℕ) (states : List BucketState) : Type 0 whe
   pub first_empty : 0 < n → FirstFreeIs empty hash states
 
 -- No bucket takes a pair of this hash, and a rehash does not help, because with one pair more the table would be over
--- half full. Either there is no table yet, or it contains pairs.
+-- half full. Either there is no table yet, or the table contains pairs.
 pub record IsTooSmallFor (hash n : ℕ) (states : List BucketState) : Type 0 where
   pub no_bucket : NoBucketTakes hash n states
   pub above_half : full_capacity (length states) / 2 < n + 1
@@ -74,7 +73,6 @@ module _ {K V S H : Type 0} where
   abbrev pub table_for : ℕ → State K V S H → Target
   table_for n st = target st.max st.entry_bytes (buckets st) (length st.pairs + n)
 
-  -- there are pairs, and no growth is left
   abbrev pub HasPairsButNoGrowth : State K V S H → Type 0
   HasPairsButNoGrowth st = (0 < length st.pairs) × (growth_left st ≡ 0)
 
@@ -83,11 +81,9 @@ module _ {K V S H : Type 0} (rules : Rules K V S) where
   abbrev pub asked : ℕ → State K V S H → State K V S H
   asked bytes st = record st { limiter = (rules.on_grow st.limiter bytes).limiter }
 
-  -- the limiter permits a table of n bytes
   abbrev pub Grants : ℕ → State K V S H → Type 0
   Grants bytes st = (rules.on_grow st.limiter bytes).allowed ≡ true
 
-  -- the limiter refuses a table of n bytes
   abbrev pub Denies : ℕ → State K V S H → Type 0
   Denies bytes st = (rules.on_grow st.limiter bytes).allowed ≡ false
 
@@ -112,8 +108,8 @@ module _ {K V S H : Type 0} (rules : Rules K V S) where
   IsPlacedByMove pair count old =
       IsPlacedIfMemory pair count (full_capacity count - length old.pairs - 1) (length old.pairs) old
 
-  -- The table cannot grow: links or bytes do not reach a larger one, or the limiter, which was queried, refuses it.
-  -- `mid` is the map after the query, if there was one.
+  -- The table cannot grow: links or bytes do not reach a larger table, or the limiter was queried and refuses it. `mid`
+  -- is the map after the query, if there was one.
   pub data CannotGrow (old mid : State K V S H) : Type 0 where
     no_target : table_for 1 old ≡ no_table → mid ≡ old → CannotGrow old mid
     denied : (count bytes : ℕ) → table_for 1 old ≡ new_table count bytes → Denies bytes old →
@@ -146,8 +142,8 @@ module _ {K V S H : Type 0} (rules : Rules K V S) (hash_of : H → K → ℕ) wh
         FillsBucket (hash_of old.hasher pair.0) old.table new.table →
         outcome ≡ placed → IsPlacedInTable pair old new →
         Place pair old outcome new
-    -- Or no bucket takes the pair, and the table is at most half full with it: then it is rehashed, which needs no
-    -- memory without pairs.
+    -- Or no bucket takes the pair, and the table is at most half full with it: then the table is rehashed. Without
+    -- pairs this needs no memory.
     rehashed : HasNoBucket (hash_of old.hasher pair.0) old → length old.pairs + 1 ≤ full_capacity (buckets old) / 2 →
         (outcome ≡ no_memory → 0 < length old.pairs) →
         IsPlacedByMove rules pair (buckets old) old outcome new →

@@ -23,11 +23,9 @@ pub record TableState : Type 0 where
   -- the bucket of each pair, newest first
   pub places : List ℕ
 
--- a table without buckets
 abbrev pub empty_table : TableState
 empty_table = record { states = []; places = [] }
 
--- what a map counts
 pub record Counts : Type 0 where
   -- how many insertions the table has made
   pub insertions : ℕ
@@ -37,7 +35,6 @@ pub record Counts : Type 0 where
   -- how many entries shrinks rehashed
   pub shrunk : ℕ
 
--- what a contract sees of a map
 pub record State (K V S H : Type 0) : Type 0 where
   -- newest first
   pub pairs : List (K × V)
@@ -110,7 +107,6 @@ count_insert moves c = record c {
 }
 
 module _ {K V S H : Type 0} where
-  -- a map without pairs and without buckets
   abbrev pub empty_map : S → H → ℕ → ℕ → State K V S H
   empty_map limiter hasher entry_bytes max = record {
     pairs = [];
@@ -122,15 +118,13 @@ module _ {K V S H : Type 0} where
     max = max;
   }
 
-  -- the pairs and the limiter of a map
   abbrev pub contents : State K V S H → Contents K V S
   contents st = record { pairs = st.pairs; limiter = st.limiter }
 
-  -- how many buckets its table has
   abbrev pub buckets : State K V S H → ℕ
   buckets st = length st.table.states
 
-  -- the growth left: how many more pairs the table holds for sure
+  -- the growth left: how many more pairs the table is sure to hold
   abbrev pub growth_left : State K V S H → ℕ
   growth_left st = growth_left_of st.table.states
 

@@ -1,7 +1,7 @@
 -- What `try_insert` does: it inserts a new pair only if nothing has to be evicted for it.
---     terms, rules        what the limiter accepts, and what it does (`Terms`, `Rules` of `lru_limits`)
+--     terms, rules        the limiter's `Terms` and `Rules` (`lru_limits`)
 --     eq                  whether two keys are equal
---     hash_of h k         the hash of the key k, by the hasher h
+--     hash_of h k         the hash of k by the hasher h
 use Rattle.std.specs.Prelude.{◌≡◌, ℕ, ◌+◌, ◌<◌, Bool, true, false, not, if◌then◌else◌, length, Some, None}
 use Rattle.std.specs.Prelude.{Result, Ok, Err}
 use Rattle.lru_limits.specs.Rules.{Rules}
@@ -20,7 +20,7 @@ pub data IsReady {K V S H : Type 0} (rules : Rules K V S) (old ready : State K V
       IsReady rules old ready
 
 module _ {K V S : Type 0} (terms : Terms K V S) (rules : Rules K V S) where
-  -- the limiter accepts the pair of a new key, and is not over its limit once it is stored
+  -- the limiter accepts the pair of a new key, and is not over its limit once the pair is stored
   abbrev pub can_store : K → V → Contents K V S → Bool
   can_store key value c = if terms.accepts c.limiter (length c.pairs) key value
       then not (rules.is_over_the_limit (terms.admit c.limiter (length c.pairs) key value) (length c.pairs + 1))
@@ -36,7 +36,6 @@ module _ {K V S : Type 0} (terms : Terms K V S) (rules : Rules K V S) where
           IsUnready left
 
     module _ (eq : K → K → Bool) (hash_of : H → K → ℕ) where
-      -- what `try_insert` may return and leave
       pub data TryInsert (result : Result (Unit {0}) (K × V)) (new : State K V S H) : Type 0 where
         -- The key is there, or the limiter cannot store the pair, and nothing changes.
         there : (pair : K × V) → lookup_entry (eq key) old.pairs ≡ Some pair →

@@ -1,5 +1,5 @@
 -- What `update` does: it offers the limiter a new value for a key that is there.
---     rules, offers       what the limiter does (`Rules`, `Offers` of `lru_limits`)
+--     rules, offers       the limiter's `Rules` and `Offers` (`lru_limits`)
 --     names i k           the given key i names the key k
 use Rattle.std.specs.Prelude.{◌≡◌, Bool, true, false, List, [], Some, None}
 use Rattle.lru_limits.specs.Rules.{Rules, Offers}
@@ -18,7 +18,6 @@ module _ {K V S I : Type 0} (rules : Rules K V S) (offers : Offers K V S I) (nam
     limiter = (replacement rules offers names pair i v c).limiter;
   }
 
-  -- what an update returns and leaves
   pub data Update {H : Type 0} (i : I) (v : V) (old : State K V S H) (result : Updated V) (new : State K V S H)
       : Type 0 where
     -- The limiter accepts the new value. The oldest pairs are evicted while it is over its limit.

@@ -80,8 +80,8 @@ pub fn inserts_pass_few<K: Eq + Hash, V, I: LookupKey<K>, L: Insertion<K, V, I>,
         Insert L.rules L.offers I.names S.hash_of key value old result new }
 {}
 
-/// In a table of up to 16 buckets the entries, the limiter, the number of buckets and the growth left determine what the
-/// table reports of an insert (`small_report`), and so how the insert ends, unless memory runs out.
+/// In a table of up to 16 buckets the entries, the limiter, the number of buckets and the growth left determine what
+/// the table reports about an insert (`small_report`), and so how the insert ends, unless memory runs out.
 pub fn small_inserts_are_exact<
     K: Eq + Hash,
     V,
@@ -226,7 +226,7 @@ pub fn refused_growth_keeps_half<K: Eq + Hash, V, L: Limiter<K, V>, S: KeyHasher
 {}
 
 /// An insertion into the table evicts nothing if the table grows. It evicts only if the table would be more than half
-/// full and cannot grow, because the limiter refuses or there is no larger table, even if it then runs out of memory.
+/// full and cannot grow, because the limiter refuses or there is no larger table. This holds even if memory runs out.
 pub fn growth_keeps_the_list<K: Eq + Hash, V, L: Limiter<K, V>, S: KeyHasher<K>>()
     ensures grown { (pair : K × V) (old new : State K V L S) →
         buckets new ≢ buckets old →

@@ -1,4 +1,4 @@
--- One line more of a run, from a reader to a writer, and how the answers end.
+-- One more line of a run, from a reader to a writer, and how the answers end.
 use Rattle.std.proofs.Common.{◌≡◌, ℕ, ◌<◌, List, [], ◌∷◌, ◌++◌, length, sym, ap, ◌∙◌, subst, inl, inr, Option, Result}
 use Rattle.std.proofs.Common.{Ok, Err, IfSome, OnSome, nat_eq}
 use Rattle.std.proofs.lemmas.List.{append-nil}
@@ -18,8 +18,8 @@ use Rattle.lru_replay.proofs.LineLists.{takes_line_more, takes_part_more, lines_
 use Rattle.lru_replay.proofs.LineRuns.{line_run-append, line_run-one}
 use Rattle.lru_replay.proofs.WrittenTexts.{begins_after}
 
--- From the map old, some lines were read whole, and the text of a run over them was written, which left the map now.
--- The reader's bytes were r₀ and are r₁, and the writer's were w₀ and are w₁.
+-- Some lines were read whole, and the text of a run over them, from the map `old` to the map `now`, was written. The
+-- reader's bytes were r₀ and are r₁, and the writer's bytes were w₀ and are w₁.
 pub record RunsSoFar {S : Type 0} (rules : Rules ℕ ℕ S) (offers : Offers ℕ ℕ S ℕ) (reported : S → Option ℕ)
     (old : Map S)
     (r₀ r₁ w₀ w₁ : Option (List ℕ)) (now : Map S) : Type 0 where

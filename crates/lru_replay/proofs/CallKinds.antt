@@ -1,4 +1,4 @@
--- What a call of a run is to the map: a step of it, a write, another limiter, or a look that changes nothing.
+-- What a call of a run is for the map: a step, a write, another limiter, or a call that changes nothing.
 use Rattle.std.proofs.Common.{◌≡◌, ℕ, Bool, Some, None, option_map, refl, subst, inl, inr, ◌⊎◌}
 use Rattle.lru_limits.specs.Rules.{Rules, Offers}
 use Rattle.lru_model.proofs.CallerLemmas.{value_removed}
@@ -17,7 +17,7 @@ use Rattle.lru_replay.specs.declared.calls.Call.TheVariants as calls
 
 module _ {K V S H : Type 0} (rules : Rules K V S) (offers : Offers K V S K) (eq : K → K → Bool)
     (hash_of : H → K → ℕ) (old new : State K V S H) where
-  -- a step names no keys but those that the call names
+  -- a step names only keys that the call names
   abbrev pub Names : Call K V S → AnyStep rules offers eq hash_of old new → Type 0
   Names call step = (test : K → Bool) → NamesAmong eq test call → NamesOnly rules offers eq hash_of test old new step
 

@@ -1,4 +1,4 @@
--- Lists of pairs under a limit of cost: what a trim leaves of them, and their keys.
+-- Lists of pairs under a limit of cost: which pairs a trim leaves, and their keys.
 use Rattle.std.proofs.Common.{◌≡◌, ℕ, zero, suc, ◌+◌, ◌-◌, ◌<◌, Bool, true, false, cond, List, [], ◌∷◌, length}
 use Rattle.std.proofs.Common.{Some, sum_by, refl, sym, ap, ◌∙◌, arith, inl, inr}
 use Rattle.std.proofs.lemmas.Bool.{lt-ltb, le-ltb, lt-leb, le-leb, cases_lt}
@@ -12,7 +12,7 @@ use Rattle.lru_model.specs.State.{Contents, notified_of, pop, trim, trim_from}
 use Rattle.lru_theory.specs.Budgets.{affordable}
 use Rattle.lru_theory.proofs.Affordable.{spent, affords_all}
 
--- if the items cost more than n, the last one is not afforded
+-- if the items cost more than n, dropping the last one does not change which are affordable
 pub fewer : {X : Type 0} (cost : X → ℕ) (n : ℕ) (xs : List X) → n < spent cost xs
     → affordable cost n (without_last xs) ≡ affordable cost n xs
 fewer cost n [] over = refl
@@ -30,7 +30,7 @@ module _ {K V : Type 0} (weight : K → V → ℕ) where
   abbrev pub worth : K × V → ℕ
   worth pair = weight pair.0 pair.1
 
-  -- what the pair of a key costs, the others do not
+  -- all pairs cost what the pair of a key costs, plus what the others cost
   pub spent_without : (test : K → Bool) (pairs : List (K × V)) (p : K × V) → lookup_entry test pairs ≡ Some p
       → spent worth pairs ≡ worth p + spent worth (without test pairs)
   spent_without test [] p e = absurd cc
@@ -46,7 +46,7 @@ module _ {K V : Type 0} (weight : K → V → ℕ) where
     abbrev pub spending : ℕ → Budget
     spending sum = record { limit = n; cost = sum }
 
-    -- these pairs, and what they cost
+    -- the contents with these pairs, and a limiter that counts what they cost
     abbrev pub holding : List (K × V) → Contents K V Budget
     holding pairs = record { pairs = pairs; limiter = spending (spent worth pairs) }
 
@@ -59,7 +59,7 @@ module _ {K V : Type 0} (weight : K → V → ℕ) where
         ∙ told_last (more + worth pair) next pairs
         ∙ ap spending (omega arith)
 
-    -- the oldest leaves
+    -- a pop removes the oldest pair
     pub popped : (more sum rest : ℕ) (pair : K × V) (pairs : List (K × V)) → sum ≡ more + spent worth (pair ∷ pairs)
         → more + spent worth (without_last (pair ∷ pairs)) ≡ rest
         → pop (by_weight weight) (record { pairs = pair ∷ pairs; limiter = spending sum })
@@ -84,7 +84,7 @@ module _ {K V : Type 0} (weight : K → V → ℕ) where
           (ap holding (sym (affords_all worth n (x ∷ pairs) within)))
     ]
 
-    -- the oldest leave while they cost too much
+    -- a trim removes the oldest pairs while all cost too much
     pub trimmed_is : (pairs : List (K × V)) → trim (by_weight weight) (holding pairs) ≡ holding (affordable worth n pairs)
     unfolding trim
     trimmed_is pairs = trimmed_from (length pairs) pairs refl

@@ -1,4 +1,4 @@
--- What makes a reference on a map with a limit of cost.
+-- Which calls make a reference on a map with a limit of cost.
 use Rattle.std.proofs.Common.{◌≡◌, ℕ, ◌+◌, ◌*◌, ◌≤◌, Bool, true, List, ◌∷◌}
 use Rattle.std.proofs.Common.{Some, Ok, sum_by, refl, sym, ap, ◌∙◌, subst, arith}
 use Rattle.std.proofs.lemmas.Map.{length-set_value}
@@ -51,7 +51,7 @@ module _ {K V H : Type 0} {eq : K → K → Bool} (laws : IsEquivalence eq) (wei
       )) in
       has_tables (8 * (keeps.most + 1)) st keeps.tables (omega (arith, few, length-keys_of st.pairs)) keeps.sized
 
-  -- A map that was so, and now has these pairs, and counts what they cost.
+  -- `new` keeps to its cost, if `old` does, and if `new` has these pairs and counts what they cost.
   module _ (old new : State K V Budget H) (keeps : Keeps old) (pairs : List (K × V))
       (is : contents new ≡ holding weight old.limiter.limit pairs) (each : Each weight cost pairs)
       (few : spent (worth weight) pairs ≤ old.limiter.limit) (sized : IsSized new) (max : new.max ≡ old.max)
@@ -79,7 +79,7 @@ module _ {K V H : Type 0} {eq : K → K → Bool} (laws : IsEquivalence eq) (wei
       sized = sized;
     }
 
-  -- a pair of an equal key in front, and the others as far as the limit goes
+  -- `new` has a pair of an equal key in front, and then the others as far as the limit goes
   module _ (old new : State K V Budget H) (keeps : Keeps old) (key x : K) (v : V) (same : eq x key ≡ true)
       (priced : weight key v ≡ cost key) (is : contents new ≡ holding weight old.limiter.limit
       (affordable (worth weight) old.limiter.limit ((x, v) ∷ without (eq key) old.pairs)))
@@ -130,7 +130,6 @@ module _ {K V H : Type 0} {eq : K → K → Bool} (laws : IsEquivalence eq) (wei
             refl ends.says h;
       }
 
-  -- a value that is stored costs what its key costs
   stored_cost : (key : K) (w : V) (old : State K V Budget H) → Keeps old → lookup (eq key) old.pairs ≡ Some w
       → weight key w ≡ cost key
   stored_cost key w old keeps found =

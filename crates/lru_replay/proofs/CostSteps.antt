@@ -1,4 +1,4 @@
--- What an insert makes of a list of pairs under a limit of cost.
+-- How an insert changes a list of pairs under a limit of cost.
 use Rattle.std.proofs.Common.{◌≡◌, ℕ, ◌+◌, ◌-◌, ◌^◌, ◌≤◌, ◌<◌, Bool, true, false, cond, List, [], ◌∷◌}
 use Rattle.std.proofs.Common.{Option, Some, None, Result, Ok, refl, sym, ap, ◌∙◌, arith, inl, inr}
 use Rattle.std.proofs.lemmas.Option.{same_Some}
@@ -22,7 +22,6 @@ use Rattle.lru_replay.proofs.StoredCounts.{clash}
 nothing : {A : Type 0} {x : A} → None ≡ Some x → ⊥
 nothing e = cc
 
--- an offer that is accepted
 accepted : {K V S : Type 0} (accepts : Bool) (s more : S) (key : K) (v : V) (t : S) (given : Option (K × V))
     → accepts ≡ true → ReturnsPairIf accepts (cond accepts more s) key v t given → (t ≡ more) × (given ≡ Some (key, v))
 accepted true s more key v t given e h = (h.limiter, h.pair)
@@ -39,7 +38,7 @@ module _ {K V : Type 0} (weight : K → V → ℕ) (n : ℕ) (fits : n < 2 ^ 63)
   abbrev Left : Type 0
   Left = Contents K V Budget
 
-  -- the new pair first, and the others as far as the limit goes
+  -- the contents after the insert: the new pair first, and then the others as far as the limit goes
   abbrev pub left : Left
   left = holding weight n (affordable costs n ((stored_key (eq key) key pairs, v) ∷ without (eq key) pairs))
 
@@ -53,7 +52,7 @@ module _ {K V : Type 0} (weight : K → V → ℕ) (n : ℕ) (fits : n < 2 ^ 63)
       ap (λ s. trim (by_weight weight) (record { pairs = x ∷ rest; limiter = spending weight n s })) is
       ∙ trimmed_is weight n (x ∷ rest)
 
-  -- the key is there
+  -- how the insert ends if the key is there
   there_ends : (p : K × V) → lookup_entry (eq key) pairs ≡ Some p
       → (exchanged (by_weight weight) (weighs weight) eq key v (holding weight n pairs) p).1 ≡ left
   there_ends p found =
@@ -64,7 +63,7 @@ module _ {K V : Type 0} (weight : K → V → ℕ) (n : ℕ) (fits : n < 2 ^ 63)
       ∙ ap (λ o. holding weight n (affordable costs n
       ((unwrap_or (option_map (λ q. q.0) o) key, v) ∷ without (eq key) pairs))) (sym found)
 
-  -- a new pair, before room is made for it
+  -- the contents after the limiter accepted a new pair, before `make_room`
   abbrev offering : Left
   offering = record { pairs = pairs; limiter = spending weight n (spent costs pairs + weight key v) }
 
@@ -99,7 +98,7 @@ module _ {K V : Type 0} (weight : K → V → ℕ) (n : ℕ) (fits : n < 2 ^ 63)
       (spending weight n (spent costs pairs + weight key v)) key v s given (can (spent costs pairs) (weight key v) few cheap)
       gives
 
-  -- The insert leaves this, and returns true if the key is new.
+  -- The insert leaves `left`, and returns true if the key is new.
   pub record Ends (flag : Bool) (new : Left) : Type 0 where
     pub leaves : new ≡ left
     pub says : lookup_entry (eq key) pairs ≡ None → ◌≡◌ {A = Result Bool AllocError} (Ok flag) (Ok true)

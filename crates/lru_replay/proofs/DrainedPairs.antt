@@ -1,4 +1,4 @@
--- What pops of the newest pair take out, one after another, and the text of what they took.
+-- The pairs that pops of the newest pair take out, one after another, and the text of these pairs.
 use Rattle.std.proofs.Common.{◌≡◌, ℕ, Bool, not, List, [], ◌∷◌, ◌++◌, Option, Some, None}
 use Rattle.std.proofs.Common.{option_to_list, refl, sym, ap, ◌∙◌, append_assoc, codes}
 use Rattle.std.specs.Prelude.{◌||◌, is_some, if◌then◌else◌}
@@ -7,7 +7,7 @@ use Rattle.lru_model.specs.Lists.{is_empty}
 use Rattle.lru_replay.specs.Output.{pair_text, rest_text, pairs_text, taken_text}
 use Rattle.lru_replay.proofs.WrittenTexts.{rest_text-append}
 
--- the pairs with one space between them, and nothing for none
+-- the pairs with one space between them, or nothing if there are none
 abbrev pub spaced : List (ℕ × ℕ) → List ℕ
 spaced [] = []
 spaced (p ∷ pairs) = pair_text p ++ rest_text pairs

@@ -1,4 +1,4 @@
--- A line says what is held of it, since the longest that says something is shorter.
+-- A line means what its held bytes mean, because the longest line with a meaning has fewer bytes than are held.
 use Rattle.std.proofs.Common.{◌≡◌, ℕ, ◌≤◌, List, length, take, refl, sym, ap, ◌∙◌, subst, inl, inr, arith, Option, Result}
 use Rattle.std.proofs.lemmas.List.{take_all}
 use Rattle.lru_replay.specs.declared.calls.Call.{Call}

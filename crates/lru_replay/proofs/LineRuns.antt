@@ -1,4 +1,4 @@
--- Runs of lines, one after the other, and that each list of lines has one.
+-- Runs of lines, one after the other; each list of lines has a run.
 use Rattle.std.proofs.Common.{ℕ, List, [], ◌∷◌, ◌++◌, refl, sym, ap, ◌∙◌, subst, inl, inr, ◌⊎◌, Option, flat_map}
 use Rattle.std.proofs.lemmas.Grind.{flat_map-append}
 use Rattle.std.proofs.lemmas.List.{append-nil}
@@ -43,7 +43,7 @@ module _ {S : Type 0} (rules : Rules ℕ ℕ S) (offers : Offers ℕ ℕ S ℕ) 
       run_holds (LineStep rules offers reported) (IsMap nat_eq) a lines texts b map run
 
 module _ {S : Type 0} (rules : Rules ℕ ℕ S) (terms : Terms ℕ ℕ S) (reported : S → Option ℕ) where
-  -- what answers a call leaves a map, if the table is sound
+  -- after a call `IsMap` holds, if the table is sound
   answered_map : (old new : Map S) (call : Call ℕ ℕ S) (reply : Reply ℕ ℕ)
       → AnswersCall rules (offers_of terms) old call reply new → IsMap nat_eq old → IsSized new → IsMap nat_eq new
   answered_map old new call reply (inl step) map sized =

@@ -1,4 +1,4 @@
--- Pops at one end of a map, one after another: with n pairs, n pops do what more pops do.
+-- Pops at one end of a map, one after another: if there are n pairs, more than n pops do what n pops do.
 use Rattle.std.proofs.Common.{◌≡◌, ℕ, zero, suc, ◌+◌, ◌-◌, ◌<◌, ◌≤◌, List, [], ◌∷◌, ◌++◌, length, option_to_list}
 use Rattle.std.proofs.Common.{refl, sym, ap, ◌∙◌, subst, arith, add-one, append_assoc}
 use Rattle.std.proofs.lemmas.List.{append-nil}
@@ -10,7 +10,7 @@ use Rattle.lru_model.specs.Drains.{pops_first, newest_given, oldest_given}
 use Rattle.lru_model.proofs.CallerLemmas.{leaves_trans, length-without_last}
 
 module _ {K V S : Type 0} where
-  -- one takes a pair out and returns it; many does so n times, and all is what they return
+  -- `one` takes out the pair that `gives` returns; `many` does this n times, and `all` returns these pairs
   pub record ArePops (one : Contents K V S → Contents K V S) (gives : Contents K V S → List (K × V))
       (many : ℕ → Contents K V S → Contents K V S) (all : ℕ → Contents K V S → List (K × V)) : Type 0 where
     pub none : (c : Contents K V S) → many 0 c ≡ c
@@ -70,7 +70,7 @@ module _ {K V S : Type 0} {one : Contents K V S → Contents K V S} {gives : Con
 module _ {K V S H : Type 0} {one : Contents K V S → Contents K V S} {gives : Contents K V S → List (K × V)}
     {many : ℕ → Contents K V S → Contents K V S} {all : ℕ → Contents K V S → List (K × V)}
     (p : ArePops one gives many all) (start : List (K × V)) (old mid new : State K V S H) (k : ℕ) where
-  -- of a map, one pop more after k of them
+  -- a map after k pops and one more
   pub one_popped : (done taken : List (K × V)) → done ≡ start ++ all k (contents old) → taken ≡ gives (contents mid)
       → Leaves old (many k (contents old)) mid → Leaves mid (one (contents mid)) new
       → (done ++ taken ≡ start ++ all (k + 1) (contents old)) × Leaves old (many (k + 1) (contents old)) new
@@ -84,7 +84,7 @@ module _ {K V S H : Type 0} {one : Contents K V S → Contents K V S} {gives : C
       )
 
 module _ {K V S : Type 0} (rules : Rules K V S) where
-  -- what a pop of the newest pair gives, and one of the oldest
+  -- what a pop of the newest pair returns; below, what a pop of the oldest returns
   abbrev pub newest_pair : Contents K V S → List (K × V)
   newest_pair c = option_to_list (left_of rules c.limiter (first c.pairs))
 

@@ -15,7 +15,7 @@ use Rattle.lru_replay.specs.References.{Cache, Reference, Referenced, begins, re
 use Rattle.lru_replay.proofs.StoredCounts.{there, absent, value_there, keys_taken, keys_without}
 
 module _ {K V : Type 0} (eq : K → K → Bool) (key : K) where
-  -- whether a look-up found a key, as a number of misses
+  -- if a look-up finds the key, there is no miss
   pub fault_found : (pairs : List (K × V)) (value : V) → lookup (eq key) pairs ≡ Some value
       → 0 ≡ fault eq key (keys_of pairs)
   fault_found pairs value found =
@@ -35,7 +35,7 @@ module _ {K V S H : Type 0} {cache : Cache K V S H} {old : State K V S H} {trace
   pub loop_begins : cache.Keeps old → Loops cache old trace 0 0 old
   loop_begins keeps = record { run = begins; limit = refl; keeps = keeps; few = omega arith }
 
-  -- one reference more, which missed so often
+  -- one more reference, which missed `more` times
   pub loop_goes_on : {i missed : ℕ} {key : K} {mid new : State K V S H} (more : ℕ) → Loops cache old trace i missed mid
       → i < length trace → key ≡ get_or trace i key → Reference cache key mid new
       → more ≡ fault cache.eq key (keys_of mid.pairs) → Loops cache old trace (i + 1) (missed + more) new

@@ -1,4 +1,4 @@
--- The same references, or calls, on two maps.
+-- Two maps with the same references or calls.
 use Rattle.std.proofs.Common.{◌≡◌, ℕ, ◌≤◌, Bool, true, List, length, take, sym, subst, arith, ◌∙◌}
 use Rattle.std.proofs.lemmas.Map.Entries.{length-keys_of}
 use Rattle.std.specs.Cmp.{IsEquivalence}
@@ -15,8 +15,9 @@ use Rattle.lru_theory.proofs.Lists.{cached_taken}
 use Rattle.lru_replay.specs.References.{Cache, Referenced, Did, of_cost, of_length}
 use Rattle.lru_replay.proofs.ReferenceRuns.{IsCache, after, length_is, cost_is, did_keys}
 
--- What holds of two caches holds of two maps: `first` are the first keys of the larger cache, before, and the smaller
--- cache that begins with them contains the first l keys of the larger one, after the trace.
+-- What holds of two caches holds of two maps. `first` are the first keys of the larger cache before the trace. If a
+-- smaller cache that begins with `first` contains the first l keys of the larger cache after the trace, so does the
+-- smaller map.
 module _ {K V S H : Type 0} {cache : Cache K V S H} (is : IsCache cache) (old other : State K V S H) (trace first : List K)
     (missed more : ℕ) (small large : State K V S H) (run : Referenced cache old trace missed small)
     (others : Referenced cache other trace more large) (begin : AreEqual cache.eq (keys_of old.pairs) first) where
@@ -76,7 +77,7 @@ module _ {K V H : Type 0} {eq : K → K → Bool} (laws : IsEquivalence eq) (old
       (did_keys laws old calls small run).0 (did_keys laws other calls large others).0
       (all_calls laws n m few calls (keys_of old.pairs) (keys_of other.pairs) before)
 
--- under limits of cost
+-- two maps with limits of cost
 module _ {K V H : Type 0} {eq : K → K → Bool} (laws : IsEquivalence eq) (weight : K → V → ℕ) (cost : K → ℕ)
     (same : (key other : K) → eq key other ≡ true → cost key ≡ cost other) (trace : List K) (missed more : ℕ)
     (old small other large : State K V Budget H) (run : Referenced (of_cost eq weight cost) old trace missed small)

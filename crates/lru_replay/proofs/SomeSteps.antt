@@ -1,5 +1,4 @@
--- From every map with a sound table each call that has a line can end: there is a reply that it may give, and a map that
--- it may leave.
+-- From every map with a sound table each call that has a line can end: some reply and some map after it are permitted.
 use Rattle.std.proofs.Common.{ℕ, zero, suc, ◌+◌, ◌≤◌}
 use Rattle.std.proofs.Common.{[], ◌++◌, length, option_map, inl, inr, refl, sym, subst, arith}
 use Rattle.std.specs.Prelude.{nat_eq, is_some}

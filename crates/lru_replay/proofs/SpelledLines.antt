@@ -1,4 +1,4 @@
--- What a line says is read off it: its word, and the numbers after it. So it is decided whether it says something.
+-- What a line means follows from its word and the numbers after it. So it is decided whether the line means something.
 use Rattle.std.proofs.Common.{◌≡◌, ℕ, ◌<◌, ◌^◌, Bool, true, false, List, [], ◌∷◌, ◌++◌, refl, sym, ap, ◌∙◌, subst, inl}
 use Rattle.std.proofs.Common.{inr, ◌⊎◌, decimal, ◌==◌, Option, Some, None, IfSome, IfNone}
 use Rattle.std.proofs.lemmas.Bool.{ne_eqb}
@@ -23,7 +23,7 @@ use Rattle.lru_replay.specs.Grammar.{pair_spelling, said_of, call_words, limit_w
 use Rattle.lru_replay.specs.Lines.{Lacks}
 use Rattle.lru_replay.proofs.Numbers.{decimal_lacks_space}
 
--- the word and the numbers of a line that spaces cut into these parts
+-- the word and the numbers of a line that consists of these parts, with spaces between them
 abbrev pub read : List (List ℕ) → List ℕ × Numbers
 read [] = ([], numbers.Zero)
 read (word ∷ []) = (word, numbers.Zero)

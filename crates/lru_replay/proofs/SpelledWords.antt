@@ -1,4 +1,4 @@
--- What holds of each row of words holds of what a line means.
+-- If each row of `Words` has a property, what a line means has it.
 use Rattle.std.proofs.Common.{◌≡◌, ℕ, ◌<◌, ◌≤◌, ◌^◌, Bool, true, false, List, [], ◌∷◌, ◌++◌, length, refl, sym, subst}
 use Rattle.std.proofs.Common.{arith, rules, Option, Some, None, option_map, decimal}
 use Rattle.std.proofs.lemmas.Fmt.{length-decimal-le}
@@ -17,11 +17,11 @@ use Rattle.lru_replay.specs.declared.lines.words.Numbers.TheVariants as numbers
 use Rattle.lru_replay.specs.Grammar.{Words, Fit, SpellsCall, SpellsLimit, pair_spelling, numbers_text, said_of}
 use Rattle.lru_replay.specs.Grammar.{call_words, limit_words}
 
--- the word has at least one byte, and at most this many
+-- the word has at least one byte, and at most `most`
 abbrev pub IsWithin : ℕ → List ℕ → Type 0
 IsWithin most word = (0 < length word) × (length word ≤ most)
 
--- the line is not empty, and not longer than the longest
+-- the line is not empty, and not longer than the longest line with a meaning
 abbrev pub IsShort : List ℕ → Type 0
 IsShort line = IsWithin LONGEST line
 
@@ -63,7 +63,7 @@ module _ {X : Type 0} (words : Words X) where
       let (make, found, same) = from_map (λ make. make k v) (lookup (bytes_eq word) words.two) x is in
       subst P same (found_row (λ w make. (k v : ℕ) → P (make k v)) word words.two rows.2 make found k v)
 
-  -- each word has at least one byte, and leaves enough for its numbers
+  -- each word has at least one byte, and is short enough for its numbers
   abbrev pub AreShort : Type 0
   AreShort = AllByRecursion (λ row. IsWithin LONGEST row.0) words.alone
       × AllByRecursion (λ row. IsWithin 27 row.0) words.one × AllByRecursion (λ row. IsWithin 6 row.0) words.two

@@ -1,4 +1,4 @@
--- Calls that keep the cost keep the running total the sum of the costs.
+-- If calls keep the cost, the running total stays the sum of the costs.
 use Rattle.std.proofs.Common.{ℕ, Bool, inl, inr, sym, ◌∙◌, subst}
 use Rattle.lru_limits.specs.Rules.{Rules, Offers}
 use Rattle.lru_model.specs.Runs.{StepOrKeptWrite, Run, ends, goes_on}

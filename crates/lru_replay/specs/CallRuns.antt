@@ -1,4 +1,4 @@
--- Runs of calls: a step for each call, each from the state that the one before left.
+-- Runs of calls: a step for each call, from the state that the call before it left.
 use Rattle.std.specs.Prelude.{◌≡◌, ℕ, Bool, List, [], ◌∷◌, ◌⊎◌, MatchOption}
 use Rattle.std.specs.List.{AllByRecursion}
 use Rattle.lru_limits.specs.Rules.{Rules, Offers}
@@ -10,7 +10,7 @@ use Rattle.lru_replay.specs.declared.calls.Call.TheVariants as calls
 use Rattle.lru_replay.specs.Replies.{Reply, no_memory, cost_differs}
 use Rattle.lru_replay.specs.Steps.{ReplyStep}
 
--- Steps one after another, one reply a call. What holds of each state in between is Holds.
+-- Steps one after another, with one reply for each call. `Holds` is true of the state after each step.
 module _ {S C R : Type 0} (IsStep : S → C → R → S → Type 0) (Holds : S → Type 0) where
   abbrev pub IsRun : S → List C → List R → S → Type 0
   IsRun old [] [] new = new ≡ old
@@ -20,14 +20,14 @@ module _ {S C R : Type 0} (IsStep : S → C → R → S → Type 0) (Holds : S �
   IsRun old (call ∷ calls) [] new = ⊥
 
 module _ {K V S : Type 0} where
-  -- the pairs that the call gives are stored, which takes memory
+  -- the call returns a list of pairs, which takes memory
   abbrev pub StoresPairs : Call K V S → Type 0
   StoresPairs (calls.InsertWith key v) = Unit {0}
   StoresPairs calls.List = Unit {0}
   StoresPairs (calls.Drain front back) = Unit {0}
   StoresPairs call = ⊥
 
-  -- a step, or no memory is found to store pairs, and nothing changes
+  -- a step; or there is no memory for the returned pairs, and nothing changes
   abbrev pub StepIfMemory : {A : Type 0} → (A → Call K V S → Reply K V → A → Type 0) → A → Call K V S → Reply K V → A
       → Type 0
   StepIfMemory IsStep old call reply new = IsStep old call reply new
@@ -49,7 +49,6 @@ module _ {K V S : Type 0} where
   NamesAmong eq test calls.PopNewest = ⊥
   NamesAmong eq test call = Unit {0}
 
-  -- the call sets no other limiter
   abbrev pub SetsNoLimiter : Call K V S → Type 0
   SetsNoLimiter (calls.SetLimiter s) = ⊥
   SetsNoLimiter call = Unit {0}
@@ -64,20 +63,20 @@ module _ {K V S : Type 0} (eq : K → K → Bool) (cost : K → V → ℕ) (acco
 
 module _ {K V S H : Type 0} (rules : Rules K V S) (offers : Offers K V S K) (eq : K → K → Bool)
     (hash_of : H → K → ℕ) where
-  -- a step of a map, or no memory is found to store pairs
+  -- a step of a map, or there is no memory for the returned pairs
   abbrev pub CallStep : State K V S H → Call K V S → Reply K V → State K V S H → Type 0
   CallStep = StepIfMemory (ReplyStep rules offers eq hash_of)
 
   module _ (cost : K → V → ℕ) (account : S → ℕ) where
-    -- such a step that keeps the cost, or the reply that the cost differs, and nothing changes
+    -- a step that keeps the cost; or the reply is that the cost differs, and nothing changes
     abbrev pub SummingStep : State K V S H → Call K V S → Reply K V → State K V S H → Type 0
     SummingStep old call reply new = (KeepsCost eq cost account (contents old) call × CallStep old call reply new)
         ⊎ ((KeepsCost eq cost account (contents old) call → ⊥) × (reply ≡ cost_differs) × (new ≡ old))
 
-  -- What a list of these calls is to the map: a run of steps. Calls that change nothing are left out.
+  -- A list of these calls is a run of steps of the map. Calls that change nothing are left out.
   pub record AreSteps (calls : List (Call K V S)) (old new : State K V S H) : Type 0 where
     pub any : Run (AnyStep rules offers eq hash_of) new old
-    -- no step names another key, if no call does
+    -- the steps name only keys that pass a test, if the calls do
     pub among : (test : K → Bool) → AllByRecursion (NamesAmong eq test) calls
         → Run (StepAmong rules offers eq hash_of test) new old
     -- no step sets a limiter, if no call does

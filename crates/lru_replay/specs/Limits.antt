@@ -1,5 +1,5 @@
 -- The rules and the offers of `ByCost` over numbers, and which running total a limiter of a replay reports. `Limiters`
--- has those of the other limiters.
+-- has the rules and offers of the other limiters.
 use Rattle.std.specs.Prelude.{ℕ, Option, Some, None}
 use Rattle.lru_limits.specs.Rules.{Rules, Offers}
 use Rattle.lru_limits.specs.Budget.{Budget, by_cost, charges}
@@ -12,10 +12,9 @@ cost_rules = by_cost (λ value. value)
 abbrev pub cost_offers : Offers ℕ ℕ Budget ℕ
 cost_offers = charges (λ value. value)
 
--- the cost that it keeps
+-- the cost that the limiter keeps
 abbrev pub cost_reported : Budget → Option ℕ
 cost_reported b = Some b.cost
 
--- no cost is kept
 abbrev pub no_cost : {S : Type 0} → S → Option ℕ
 no_cost s = None

@@ -15,13 +15,13 @@ use Rattle.lru_replay.specs.Output.{reply_text, bad_text, Writes, Begins}
 use Rattle.lru_replay.specs.Replies.{Reply, no_memory}
 use Rattle.lru_replay.specs.Steps.{ReplyStep}
 
--- The line of the call lists the pairs that its insert passes on before it writes them. The list takes memory.
+-- Before the line of the call writes the pairs that its insert passes on, it stores them in a list, which takes memory.
 abbrev pub StoresFirst : {S : Type 0} → Call ℕ ℕ S → Type 0
 StoresFirst (calls.InsertWith k v) = Unit {0}
 StoresFirst call = ⊥
 
 module _ {S : Type 0} (rules : Rules ℕ ℕ S) (offers : Offers ℕ ℕ S ℕ) where
-  -- the call is carried out, or no memory is found to store pairs, and nothing changes
+  -- the call is carried out; or there is no memory for the list of pairs, and nothing changes
   abbrev pub AnswersCall : Map S → Call ℕ ℕ S → Reply ℕ ℕ → Map S → Type 0
   AnswersCall old call reply new = ReplyStep rules offers nat_eq hash_of old call reply new
       ⊎ (StoresFirst call × (reply ≡ no_memory) × (new ≡ old))
@@ -32,19 +32,20 @@ module _ {S : Type 0} (rules : Rules ℕ ℕ S) (offers : Offers ℕ ℕ S ℕ) 
   TextStep old call text new = (reply : Reply ℕ ℕ) × AnswersCall rules offers old call reply new
       × (text ≡ reply_text (reported old.limiter) reply)
 
-  -- The line spells a call, which is carried out, or it spells none, is bad, and changes nothing.
+  -- If the line spells a call, the call is carried out. Otherwise the text says that the line is bad, and nothing
+  -- changes.
   abbrev pub LineStep : Map S → List ℕ → List ℕ → Map S → Type 0
   LineStep old line text new = ((call : Call ℕ ℕ S) × SpellsCall line call × TextStep old call text new)
       ⊎ (((call : Call ℕ ℕ S) → SpellsCall line call → ⊥) × (text ≡ bad_text) × (new ≡ old))
 
-  -- The line is answered, and its text is written with a line feed, or a beginning of that if a write failed.
+  -- The line is answered, and its text and a line feed are written, or a beginning of these if a write failed.
   abbrev pub AnswersLine : Map S → List ℕ → Map S → Option (List ℕ) → Option (List ℕ) → Result (Unit {0}) ReplayError
       → Type 0
   AnswersLine before line after old new result =
       (text : List ℕ) × LineStep before line text after × Writes old new result (fed text)
 
-  -- A run over the lines, in which each line leaves a map. The text contains what each line writes, with a line feed, one
-  -- after another.
+  -- A run over the lines, in which `IsMap` holds after each line. The text is what the lines write, each with a line
+  -- feed, one after another.
   abbrev pub IsLineRun : Map S → List (List ℕ) → List ℕ → Map S → Type 0
   IsLineRun old lines text new =
       (texts : List (List ℕ)) × IsRun LineStep (IsMap nat_eq) old lines texts new × (text ≡ flat_map fed texts)
@@ -53,20 +54,20 @@ module _ {S : Type 0} (rules : Rules ℕ ℕ S) (offers : Offers ℕ ℕ S ℕ) 
   abbrev pub IsTextOf : Map S → List (List ℕ) → List ℕ → Type 0
   IsTextOf old lines text = (new : Map S) × IsLineRun old lines text new
 
--- Below, IsText says which texts lines have, and Wrote what was written of a text. A reader had the bytes `from` left,
--- if they are known, and has `to` left now. A writer's bytes were `old` and are `new`.
+-- Below, `IsText` says which texts lines have, and `Wrote` how much of a text was written. A reader had the bytes
+-- `from` left, if they are known, and has `to` left now. A writer's bytes were `old` and are `new`.
 module _ (IsText : List (List ℕ) → List ℕ → Type 0) (from : Option (List ℕ)) where
-  -- of a text of all the lines
+  -- `Wrote` holds of a text of all the lines
   abbrev pub OfAll : (List ℕ → Type 0) → Type 0
   OfAll Wrote = IfSome from (λ input. (text : List ℕ) × IsText (lines_of input) text × Wrote text)
 
-  -- some lines were read whole, and a part of the next: of a text of the whole ones
+  -- some lines were read whole, and a part of the next; `Wrote` holds of a text of the whole lines
   abbrev pub OfRead : Option (List ℕ) → (List ℕ → Type 0) → Type 0
   OfRead to Wrote = (lines : List (List ℕ)) × (text part : List ℕ)
       × IsText lines text × TakesLines from to lines part × Wrote text
 
 module _ (IsText IsTextSoFar : List (List ℕ) → List ℕ → Type 0) (from to old new : Option (List ℕ)) where
-  -- a beginning was written of a text of all the lines, which were read, or of those that were read whole
+  -- a beginning of a text was written: a text of all the lines, if all were read, or of the lines that were read whole
   abbrev pub BeginsText : Type 0
   BeginsText = (OfAll IsText from (Begins old new) × OnSome from (IsAtEnd to))
       ⊎ OfRead IsTextSoFar from to (Begins old new)

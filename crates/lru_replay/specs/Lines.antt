@@ -1,4 +1,4 @@
--- The lines of an input: each is ended by a line feed, which the last may lack.
+-- The lines of an input: each ends with a line feed, except perhaps the last.
 use Rattle.std.specs.Prelude.{◌≡◌, ◌≢◌, ℕ, ◌<◌, List, [], ◌∷◌, ◌++◌, ◌==◌, if◌then◌else◌, length, flat_map, Option}
 use Rattle.std.specs.Prelude.{OnSome, ◌⊎◌}
 use Rattle.std.specs.List.{AllByRecursion}
@@ -8,11 +8,11 @@ use Rattle.lru_replay.specs.declared.lines.line.Piece.TheVariants as pieces
 use Rattle.lru_replay.specs.declared.lines.line.Ending.{Ending}
 use Rattle.lru_replay.specs.declared.lines.line.Ending.TheVariants as endings
 
--- the byte is not among them
+-- the bytes do not contain this byte
 abbrev pub Lacks : ℕ → List ℕ → Type 0
 Lacks byte bytes = AllByRecursion (λ b. b ≢ byte) bytes
 
--- a byte in front of the first line
+-- the lines with a byte in front of the first line
 abbrev pub onto_first : ℕ → List (List ℕ) → List (List ℕ)
 onto_first b [] = (b ∷ []) ∷ []
 onto_first b (line ∷ lines) = (b ∷ line) ∷ lines
@@ -26,9 +26,8 @@ lines_of (b ∷ bytes) = if b == 10 then [] ∷ lines_of bytes else onto_first b
 abbrev pub fed : List ℕ → List ℕ
 fed line = line ++ 10 ∷ []
 
--- What a reader had left, and has left now.
+-- `old` is what a reader had left, and `new` what it has left now.
 module _ (old new : Option (List ℕ)) where
-  -- a part of a line was read
   abbrev pub TakesPart : List ℕ → Type 0
   TakesPart bytes = Lacks 10 bytes × Consumes old new bytes
 
@@ -36,7 +35,7 @@ module _ (old new : Option (List ℕ)) where
   abbrev pub TakesFed : List ℕ → Type 0
   TakesFed line = Lacks 10 line × Consumes old new (fed line)
 
-  -- what stands after the last line feed was read, and nothing is left
+  -- the bytes after the last line feed were read, and nothing is left
   abbrev pub TakesRest : List ℕ → Type 0
   TakesRest bytes = Lacks 10 bytes × Consumes old new bytes × OnSome old (IsAtEnd new)
 
@@ -46,13 +45,13 @@ module _ (old new : Option (List ℕ)) where
   TakesPiece pieces.Last bytes = TakesFed bytes
   TakesPiece pieces.End bytes = TakesRest bytes
 
-  -- a line was read, and ended so
+  -- a line was read, and ended in this way
   abbrev pub TakesLine : Ending → List ℕ → Type 0
   TakesLine endings.Feed line = TakesFed line
   TakesLine endings.InputEnd line = TakesRest line × (0 < length line)
   TakesLine endings.Nothing line = TakesRest line × (line ≡ [])
 
-  -- the first line was read, and no more
+  -- only the first line was read
   abbrev pub TakesFirst : Type 0
   TakesFirst = (line : List ℕ) × (TakesFed line ⊎ TakesRest line)
 

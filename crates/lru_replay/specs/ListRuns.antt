@@ -1,4 +1,4 @@
--- Calls on a list of pairs under a limiter, newest first: what each says and leaves if there is no table.
+-- Calls on a list of pairs under a limiter, newest first: what each returns and leaves if there is no table.
 --     rules, offers, eq   as in `Steps`
 --     hash_of k           the hash of the key k
 use Rattle.std.specs.Prelude.{◌≡◌, ℕ, ◌++◌, Bool, List, [], Option, Some, None, Result, MatchOption, is_some, length}
@@ -26,32 +26,32 @@ use Rattle.lru_replay.specs.Replies.{insert_reply, made_reply}
 use Rattle.lru_replay.specs.Steps.{FindsByHash}
 
 module _ {K V S : Type 0} (eq : K → K → Bool) where
-  -- the pair of the key comes first
+  -- the contents with the pair of the key, if it is there, as the newest
   abbrev pub fronted : K → Contents K V S → Contents K V S
   fronted key c = record c { pairs = front (eq key) c.pairs }
 
 module _ {K V S : Type 0} (rules : Rules K V S) (offers : Offers K V S K) (eq : K → K → Bool) (key : K) (v : V)
     (c : Contents K V S) where
-  -- what an update of this pair does, and what it leaves
+  -- what an update of this pair returns and leaves
   abbrev pub updates_pair : K × V → Updated V × Contents K V S
   updates_pair there = let r = replacement rules offers eq there key v c in
       if r.taken then (Replaced r.old_value, trim rules (with_updated rules offers eq there key v c))
       else (Rejected r.new_value, with_removed rules offers eq there key v c)
 
-  -- or of the key, if it is there
+  -- what an update of the key returns and leaves
   abbrev pub updated_in_list : Updated V × Contents K V S
   updated_in_list = unwrap_or (option_map updates_pair (lookup_entry (eq key) c.pairs)) (Absent v, c)
 
--- without pairs, and the limiter is notified of the clear
+-- the contents without pairs, after the limiter was notified of the clear
 abbrev pub emptied : {K V S : Type 0} → Rules K V S → Contents K V S → Contents K V S
 emptied rules c = record { pairs = []; limiter = rules.on_cleared c.limiter }
 
--- the same pairs, and the limiter with a list
+-- the contents with this list as a part of the limiter's state
 abbrev pub beside : {K V S : Type 0} → List (K × V) → Contents K V S → Contents K V (S × List (K × V))
 beside list c = record { pairs = c.pairs; limiter = (c.limiter, list) }
 
 module _ {K V S : Type 0} (rules : Rules K V S) (offers : Offers K V S K) (eq : K → K → Bool) where
-  -- what the call says and leaves, if the list alone determines it
+  -- what the call returns and leaves, if the list and the limiter determine it
   abbrev pub determined : Contents K V S → Call K V S → Option (Reply K V × Contents K V S)
   determined c (calls.Update key v) =
       let ended = updated_in_list rules offers eq key v c in Some (updated ended.0, ended.1)
@@ -79,8 +79,8 @@ module _ {K V S : Type 0} (rules : Rules K V S) (offers : Offers K V S K) (eq : 
   determined c (calls.SetLimiter s) = Some (done, record c { limiter = s })
   determined c call = None
 
-  -- From the list c, the call may say this and leave d. Only a table says what growth is reserved, whether it shrinks,
-  -- and all figures but the number of pairs, so of these nothing is said.
+  -- From the list c, the call may return this and leave d. Nothing is said about reserved growth, a shrink, and all
+  -- figures except the number of pairs, because only a table determines these.
   module _ (hash_of : K → ℕ) where
     abbrev pub ListStep : Contents K V S → Call K V S → Reply K V → Contents K V S → Type 0
     ListStep c (calls.Insert key v) reply d = (result : Result Bool AllocError)
@@ -104,6 +104,6 @@ module _ {K V S : Type 0} (rules : Rules K V S) (offers : Offers K V S K) (eq : 
         (figures : Figures) × (figures.len ≡ length c.pairs) × (reply ≡ stats figures) × (d ≡ c)
     ListStep c call reply d = determined c call ≡ Some (reply, d)
 
-    -- so it does, or no memory is found to store pairs, and nothing changes
+    -- a `ListStep`; or there is no memory for the returned pairs, and nothing changes
     abbrev pub ListCallStep : Contents K V S → Call K V S → Reply K V → Contents K V S → Type 0
     ListCallStep = StepIfMemory ListStep

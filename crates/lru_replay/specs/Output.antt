@@ -18,7 +18,7 @@ use Rattle.lru_replay.specs.Replies.{no_memory, cost_differs}
 abbrev pub Begins : Option (List ℕ) → Option (List ℕ) → List ℕ → Type 0
 Begins old new text = (part : List ℕ) × IsFront part text × Appends old new part
 
--- so it was, and a write failed
+-- a beginning of the text was written, and then a write failed
 abbrev pub Fails : ReplayError → Option (List ℕ) → Option (List ℕ) → List ℕ → Type 0
 Fails e old new text = (e ≡ errors.Write) × Begins old new text
 
@@ -27,22 +27,22 @@ abbrev pub Writes : {A : Type 0} → Option (List ℕ) → Option (List ℕ) →
 Writes old new (Ok _) text = Appends old new text
 Writes old new (Err e) text = Fails e old new text
 
--- as `3:30`
+-- a pair, such as `3:30`
 abbrev pub pair_text : ℕ × ℕ → List ℕ
 pair_text p = decimal p.0 ++ 58 ∷ decimal p.1
 
--- each with a space before it
+-- pairs, each with a space before it
 abbrev pub rest_text : List (ℕ × ℕ) → List ℕ
 rest_text [] = []
 rest_text (p ∷ pairs) = 32 ∷ pair_text p ++ rest_text pairs
 
--- the pair after others, if there is one
+-- the next pair, if there is one, with a space before it if others precede it
 abbrev pub taken_text : Bool → Option (ℕ × ℕ) → List ℕ
 taken_text any None = []
 taken_text false (Some p) = pair_text p
 taken_text true (Some p) = 32 ∷ pair_text p
 
--- as `3:30 2:20 1:10`, and `-` for none
+-- pairs, such as `3:30 2:20 1:10`, or `-` if there are none
 abbrev pub pairs_text : List (ℕ × ℕ) → List ℕ
 pairs_text [] = codes "-"
 pairs_text (p ∷ pairs) = pair_text p ++ rest_text pairs
@@ -51,7 +51,7 @@ abbrev pub value_text : Option ℕ → List ℕ
 value_text None = codes "none"
 value_text (Some v) = decimal v
 
--- as `3:30`, and `none` for none
+-- a pair, such as `3:30`, or `none`
 abbrev pub left_text : Option (ℕ × ℕ) → List ℕ
 left_text None = codes "none"
 left_text (Some p) = pair_text p
@@ -60,13 +60,13 @@ abbrev pub flag_text : Bool → List ℕ
 flag_text true = codes "true"
 flag_text false = codes "false"
 
--- what an update did, and the value that the map does not have then
+-- what an update did, and the value that it returned
 abbrev pub updated_text : Updated ℕ → List ℕ
 updated_text (Replaced v) = codes "replaced " ++ decimal v
 updated_text (Rejected v) = codes "rejected " ++ decimal v
 updated_text (Absent v) = codes "absent " ++ decimal v
 
--- whether the key is there, or that no memory was found
+-- whether the key is there, or that memory ran out
 abbrev pub insert_text : Result Bool AllocError → List ℕ
 insert_text (Ok there) = flag_text there
 insert_text (Err e) = codes "no memory"
@@ -82,27 +82,26 @@ shrink_text (Ok true) = codes "ok"
 shrink_text (Ok false) = codes "kept"
 shrink_text (Err e) = codes "no memory"
 
--- a name and its number
 abbrev pub named_text : List ℕ → ℕ → List ℕ
 named_text name n = name ++ decimal n
 
--- as ` cost 3` after the figures, and nothing if no cost is kept
+-- the cost after the figures, such as ` cost 3`, or nothing if the limiter keeps no cost
 abbrev pub cost_text : Option ℕ → List ℕ
 cost_text None = []
 cost_text (Some cost) = named_text (codes " cost ") cost
 
--- as ` placed 15 shrunk 5`, and ` placed 15` if no shrink rehashed an entry
+-- such as ` placed 15 shrunk 5`, or ` placed 15` if no shrink rehashed an entry
 abbrev pub placed_text : ℕ → ℕ → List ℕ
 placed_text placed anew =
     named_text (codes " placed ") placed ++ (if anew == 0 then [] else named_text (codes " shrunk ") anew)
 
--- as `len 1 capacity 3 memory 148 moved 0 placed 3`
+-- such as `len 1 capacity 3 memory 148 moved 0 placed 3`
 abbrev pub figures_text : Figures → List ℕ
 figures_text figures = named_text (codes "len ") figures.len ++ (named_text (codes " capacity ") figures.capacity
     ++ (named_text (codes " memory ") figures.memory ++ (named_text (codes " moved ") figures.moved
     ++ placed_text figures.placed figures.shrunk)))
 
--- The text of a reply, if the limiter keeps this cost, or none. No line gets the reply that a cost differs.
+-- The text of a reply, if the limiter keeps this cost or no cost. No line gets the reply that a cost differs.
 abbrev pub reply_text : Option ℕ → Reply ℕ ℕ → List ℕ
 reply_text cost (flag there) = flag_text there
 reply_text cost (given result out) = insert_text result ++ rest_text out

@@ -21,18 +21,18 @@ pub record Cache (K V S H : Type 0) : Type 1 where
   pub limit : S → ℕ
   -- the keys after a reference to the key, with this limit
   pub refer : ℕ → K → List K → List K
-  -- with this limit each key that is missed is stored
+  -- with this limit each missed key is stored
   pub Stores : ℕ → Type 0
   -- what holds of the map before and after each reference
   pub Keeps : State K V S H → Type 0
 
--- equal keys cost the same, alone and with a value
+-- equal keys cost the same, alone and in an entry
 pub record CostsAlike {K V : Type 0} (eq : K → K → Bool) (weight : K → V → ℕ) (cost : K → ℕ) : Type 0 where
   pub keys : (key other : K) → eq key other ≡ true → cost key ≡ cost other
   pub pairs : (key other : K) (value : V) → eq key other ≡ true → weight key value ≡ weight other value
 
 -- Each pair costs what its key costs, and the total is their sum, at most the limit. Keys that cost at most the limit
--- together are at most `most`, and there is a table for 8 * (most + 1) pairs.
+-- together are at most `most` in number, and there is a table for 8 * (most + 1) pairs.
 pub record KeepsToCost {K V H : Type 0} (weight : K → V → ℕ) (cost : K → ℕ) (st : State K V Budget H) : Type 0 where
   pub each : AllByRecursion (λ pair. weight pair.0 pair.1 ≡ cost pair.0) st.pairs
   pub summed : IsSummed weight (λ budget. budget.cost) st
@@ -44,11 +44,11 @@ pub record KeepsToCost {K V H : Type 0} (weight : K → V → ℕ) (cost : K →
   pub sized : IsSized st
 
 module _ {K V H : Type 0} (eq : K → K → Bool) where
-  -- a map with a maximum length, which stores nothing if that is 0
+  -- a map with a maximum length, which stores nothing if the length is 0
   abbrev pub of_length : Cache K V ℕ H
   of_length = record { eq = eq; limit = λ n. n; refer = refer eq; Stores = λ n. 0 < n; Keeps = KeepsToLength }
 
-  -- a map with a limit of cost, if each pair costs `weight` of its key and value, which is `cost` of its key
+  -- a map with a limit of cost, if the `weight` of each pair is the `cost` of its key
   abbrev pub of_cost : (K → V → ℕ) → (K → ℕ) → Cache K V Budget H
   of_cost weight cost = record {
     eq = eq;
@@ -59,7 +59,7 @@ module _ {K V H : Type 0} (eq : K → K → Bool) where
   }
 
 module _ {K V S H : Type 0} (cache : Cache K V S H) where
-  -- The map has these keys now, and still its limit.
+  -- The map has these keys now, and the same limit.
   pub record LeavesKeys (left : List K) (old new : State K V S H) : Type 0 where
     pub keys : AreEqual cache.eq (keys_of new.pairs) left
     pub limit : cache.limit new.limiter ≡ cache.limit old.limiter
@@ -77,8 +77,8 @@ module _ {K V S H : Type 0} (cache : Cache K V S H) where
     pub does : LeavesKeys (keys_of old.pairs) old new
     pub stored : new.counts.placed ≡ old.counts.placed
 
-  -- From the map `old` the program made the references of a trace, one after another, and left the map `new`. The number
-  -- `missed` counts those that did not find their key. Between references it may have read.
+  -- From the map `old` the program made the references of a trace, one after another, and left the map `new`. `missed`
+  -- of these did not find their key. Between references the program may have read.
   pub data Referenced (old : State K V S H) : (trace : List K) (missed : ℕ) (new : State K V S H) → Type 0 where
     begins : Referenced old [] 0 old
     refers : (key : K) (trace : List K) (missed : ℕ) (mid new : State K V S H) → Referenced old trace missed mid →
@@ -87,7 +87,7 @@ module _ {K V S H : Type 0} (cache : Cache K V S H) where
     reads : (trace : List K) (missed : ℕ) (mid new : State K V S H) → Referenced old trace missed mid →
         Reads mid new → Referenced old trace missed new
 
-  -- A loop made the references of the first i keys of a trace, and missed this often.
+  -- A loop made the references of the first i keys of a trace, and missed `missed` times.
   pub record Loops (old : State K V S H) (trace : List K) (i missed : ℕ) (new : State K V S H) : Type 0 where
     pub run : Referenced old (take i trace) missed new
     pub limit : cache.limit new.limiter ≡ cache.limit old.limiter
@@ -95,11 +95,11 @@ module _ {K V S H : Type 0} (cache : Cache K V S H) where
     pub few : missed ≤ i
 
 module _ {K V H : Type 0} (eq : K → K → Bool) where
-  -- the keys of a map with a maximum length are what this call leaves of them
+  -- this call changes the keys of a map with a maximum length
   abbrev pub Does : KeyCall K → State K V ℕ H → State K V ℕ H → Type 0
   Does call old = LeavesKeys (of_length eq) (after_call eq old.limiter call (keys_of old.pairs)) old
 
-  -- From the map `old` the program did this to the keys, one call after another, and left the map `new`.
+  -- From the map `old` the program made these calls, one after another, and left the map `new`.
   pub data Did (old : State K V ℕ H) : (calls : List (KeyCall K)) (new : State K V ℕ H) → Type 0 where
     nothing : Did old [] old
     does_more : (call : KeyCall K) (calls : List (KeyCall K)) (mid new : State K V ℕ H) → Did old calls mid →

@@ -1,4 +1,4 @@
--- A whole replay: what is written of an input, at its end and if a read or a write fails.
+-- A whole replay: what is written for an input, at its end, and if a read or a write fails.
 use Rattle.std.specs.Prelude.{◌≡◌, ℕ, List, [], ◌∷◌, ◌⊎◌, Option, OnSome, IfSome, Result, Ok, Err}
 use Rattle.std.specs.Io.KnownBytes.{Appends, IsAtEnd}
 use Rattle.lru_limits.specs.Limiters.{length_rules, length_offers, memory_rules, no_rules, all_offers}
@@ -21,7 +21,7 @@ use Rattle.lru_replay.specs.LineRuns.{IsTextOf, OfAll, OfRead, BeginsText}
 abbrev pub plain_entry_bytes : ℕ
 plain_entry_bytes = 32
 
--- The lines are answered by this text, from the empty map under the limit.
+-- This text answers the lines, from the empty map under the limit.
 abbrev pub IsTextUnder : Limit → List (List ℕ) → List ℕ → Type 0
 IsTextUnder (limits.Length most) =
     IsTextOf length_rules length_offers no_cost (empty most plain_entry_bytes max_of_32_bits)
@@ -33,21 +33,21 @@ IsTextUnder (limits.Cost most) =
 IsTextUnder limits.Compact =
     IsTextOf {S = UnlimitedCompact} no_rules all_offers no_cost (empty (record {}) plain_entry_bytes max_of_32_bits)
 
--- The first line names a limit, and the others are answered by this text, from the empty map under that limit.
+-- The first line names a limit, and this text answers the others, from the empty map under that limit.
 abbrev pub IsReplay : List (List ℕ) → List ℕ → Type 0
 IsReplay lines text = (limit : Limit) × (first : List ℕ) × (others : List (List ℕ))
     × (lines ≡ first ∷ others) × SpellsLimit first limit × IsTextUnder limit others text
 
--- The first line names no limit, or there is none.
+-- The first line names no limit, or there is no line.
 abbrev pub NamesNoLimit : List (List ℕ) → Type 0
 NamesNoLimit lines = (limit : Limit) (first : List ℕ) (others : List (List ℕ)) → lines ≡ first ∷ others
     → SpellsLimit first limit → ⊥
 
--- what is written of these lines if nothing fails
+-- what is written for these lines if nothing fails
 abbrev pub IsOutput : List (List ℕ) → List ℕ → Type 0
 IsOutput lines text = IsReplay lines text ⊎ (NamesNoLimit lines × (text ≡ no_limiter_text))
 
--- what is written of some of the lines: nothing if there are none, and else what `IsText` says
+-- what is written for some of the lines: nothing if there are none, and otherwise what `IsText` says
 abbrev pub SoFar : (List (List ℕ) → List ℕ → Type 0) → List (List ℕ) → List ℕ → Type 0
 SoFar IsText [] text = text ≡ []
 SoFar IsText (first ∷ others) text = IsText (first ∷ others) text
@@ -61,7 +61,7 @@ module _ (from to old new : Option (List ℕ)) where
     pub replay : OfAll IsReplay from (Appends old new)
     pub at_end : OnSome from (IsAtEnd to)
 
-  -- The first line names no limit, or there is none. It alone was read, and that was written.
+  -- The first line names no limit, or there is no line. At most that line was read, and `no limiter` was written.
   pub record HasNoLimit : Type 0 where
     pub unnamed : IfSome from (λ input. NamesNoLimit (lines_of input))
     pub reads : TakesFirst from to
@@ -71,8 +71,8 @@ module _ (from to old new : Option (List ℕ)) where
   abbrev pub ReadFailed : Type 0
   ReadFailed = OfRead (SoFar IsReplay) from to (Appends old new)
 
-  -- A write failed: a beginning was written of what a replay of these lines writes, and of what a replay of all lines
-  -- writes, or of those that were read whole.
+  -- A write failed: what was written is a beginning of the output for all lines. It is also a beginning of the output
+  -- for the lines that were read.
   pub record WriteFailed : Type 0 where
     pub cut : OfAll IsOutput from (Begins old new)
     pub reads : BeginsText IsOutput (SoFar IsOutput) from to old new
@@ -83,7 +83,7 @@ module _ (from to old new : Option (List ℕ)) where
   Replays (Err errors.Read) = ReadFailed
   Replays (Err errors.Write) = WriteFailed
 
--- 0 if the lines were carried out, 1 if none names a limit, and 2 if a read or a write failed
+-- 0 if the lines were carried out, 1 if the first line names no limit, and 2 if a read or a write failed
 abbrev pub status_of : Result ReplayEnd ReplayError → ℕ
 status_of (Ok ends.Done) = 0
 status_of (Ok ends.NoLimiter) = 1

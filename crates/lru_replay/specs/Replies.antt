@@ -1,4 +1,4 @@
--- What a call says, as the logic has it.
+-- The replies to calls, as contracts see them.
 use Rattle.std.specs.Prelude.{Bool, true, false, List, [], ◌∷◌, Option, None, Result, Ok, Err}
 use Rattle.std.specs.declared.alloc.AllocError.{AllocError}
 use Rattle.lru_model.specs.Lists.{newest_value}
@@ -12,39 +12,35 @@ use Rattle.lru_replay.specs.declared.lines.figures.Figures.{Figures}
 pub data Reply (K V : Type 0) : Type 0 where
   -- whether the key of an insert, a write, a promotion, a demotion or a `Contains` is there
   flag : Bool → Reply K V
-  -- how an insert ended, and what it passed to its callback, in that order
+  -- how an insert ended, and the pairs that it passed to its callback, in order
   given : Result Bool AllocError → List (K × V) → Reply K V
-  -- what an update did
   updated : Updated V → Reply K V
   -- the value of a key, if it is there
   value : Option V → Reply K V
-  -- a pair, if there is one
   pair : Option (K × V) → Reply K V
-  -- pairs, in the order in which they were given
+  -- pairs, in the order in which they were returned
   listed : List (K × V) → Reply K V
-  -- whether growth is reserved
   reserved : Result (Unit {0}) ReserveError → Reply K V
   -- whether the table has fewer buckets
   shrunk : Result Bool AllocError → Reply K V
-  -- the figures of the map
   stats : Figures → Reply K V
-  -- it is done, and there is nothing to say of it
+  -- the call is done, and returns nothing
   done : Reply K V
   no_memory : Reply K V
   -- the running total would be wrong after the call, so it was not made
   cost_differs : Reply K V
 
--- what a reply says of memory
+-- what a reply says about memory
 pub data MemoryReport : Type 0 where
-  -- that all was found
+  -- nothing ran out of memory
   found_all : MemoryReport
-  -- that the call ran out of memory
+  -- the call ran out of memory
   runs_out : MemoryReport
-  -- that an insert ran out of memory, and the reply also lists the pairs that were passed to its callback
+  -- an insert ran out of memory, and the reply also lists the pairs that were passed to its callback
   runs_out_with_pairs : MemoryReport
 
 module _ {K V : Type 0} where
-  -- what it says of memory
+  -- what a reply says about memory
   abbrev pub memory_report : Reply K V → MemoryReport
   memory_report no_memory = runs_out
   memory_report (reserved (Err Memory)) = runs_out
@@ -52,7 +48,7 @@ module _ {K V : Type 0} where
   memory_report (given (Err e) out) = runs_out_with_pairs
   memory_report reply = found_all
 
-  -- what an answer says
+  -- the reply that an answer is
   abbrev pub said : Answer K V → Reply K V
   said (answers.Flag b) = flag b
   said (answers.Given result out) = given result out.items
@@ -74,17 +70,16 @@ module _ {K V : Type 0} where
   said answers.Memory = no_memory
   said answers.CostDiffers = cost_differs
 
-  -- what each answer says
+  -- the reply that each answer is
   abbrev pub all_said : List (Answer K V) → List (Reply K V)
   all_said [] = []
   all_said (answer ∷ answers) = said answer ∷ all_said answers
 
-  -- how an insert says its answer
   abbrev pub insert_reply : Result Bool AllocError → Reply K V
   insert_reply (Ok there) = flag there
   insert_reply (Err e) = no_memory
 
-  -- how a get that inserts says its answer, if these are the pairs after it
+  -- the reply to a get that inserts, if these are the pairs after it
   abbrev pub made_reply : Result Bool AllocError → List (K × V) → Reply K V
   made_reply (Ok true) pairs = value (newest_value pairs)
   made_reply (Ok false) pairs = value None

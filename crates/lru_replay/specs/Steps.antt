@@ -1,7 +1,7 @@
--- What each call says, and what it leaves of the map.
---     rules, offers       what the limiter says (`Rules`, `Offers` of `lru_limits`)
+-- What each call returns, and the map that it leaves.
+--     rules, offers       the limiter's `Rules` and `Offers` (`lru_limits`)
 --     eq                  when two keys are equal
---     hash_of h k         the hash of the key k, by the hasher h
+--     hash_of h k         the hash of k by the hasher h
 use Rattle.std.specs.Prelude.{◌≡◌, ℕ, Bool, List, Option, Some, None, Result, is_some}
 use Rattle.std.specs.Prelude.{if◌then◌else◌}
 use Rattle.std.specs.declared.alloc.AllocError.{AllocError}
@@ -27,7 +27,7 @@ use Rattle.lru_replay.specs.Replies.{Reply, flag, given, updated, value, pair, l
 use Rattle.lru_replay.specs.Replies.{insert_reply, made_reply}
 
 module _ {K V : Type 0} (eq : K → K → Bool) (hash_of : K → ℕ) where
-  -- What a search by a hash finds of a key: its pair, whose hash has the tag of the hash, or nothing, if the key is
+  -- What a search by a hash finds for a key: its pair, whose hash has the tag of the hash; or nothing, if the key is
   -- not there or has another hash.
   pub data FindsByHash (hash : ℕ) (key : K) (pairs : List (K × V)) (result : Option V) : Type 0 where
     found : (there : K × V) → lookup_entry (eq key) pairs ≡ Some there → hash_tag (hash_of there.0) ≡ hash_tag hash
@@ -37,7 +37,7 @@ module _ {K V : Type 0} (eq : K → K → Bool) (hash_of : K → ℕ) where
 
 module _ {K V S H : Type 0} (rules : Rules K V S) (offers : Offers K V S K) (eq : K → K → Bool)
     (hash_of : H → K → ℕ) where
-  -- from old, the call may say this and leave new
+  -- from `old`, the call may reply this and leave `new`
   abbrev pub ReplyStep : State K V S H → Call K V S → Reply K V → State K V S H → Type 0
   ReplyStep old (calls.Insert key v) reply new = (result : Result Bool AllocError)
       × Insert rules offers eq hash_of key v old result new × (reply ≡ insert_reply result)

@@ -1,5 +1,5 @@
-//! Programs that make references on a map with a limit of cost, as `ByCost` and `ByWeight` are: the theorems of
-//! `references`, for any `weight` of a pair. The functions do nothing: their contracts are the theorems.
+//! Programs that make references on a map with a limit of cost, such as `ByCost` and `ByWeight`: the theorems of
+//! `references`, for any `weight` of an entry. The functions do nothing: their contracts are the theorems.
 ghost use Rattle.std.specs.Prelude.{◌≡◌, ℕ, ◌-◌, ◌*◌, ◌^◌, ◌≤◌, ◌<◌, Bool, List, length, take, true};
 ghost use Rattle.std.specs.Prelude.{Some, Ok, Result, IsOk};
 ghost use Rattle.std.specs.declared.alloc.AllocError.{AllocError};
@@ -29,8 +29,8 @@ pub fn maps_keep_to_their_cost<K: Eq + Hash + Drop, V: Drop, S: KeyHasher<K>>()
         max) }
 {}
 
-/// Each of these calls makes a reference if it returns `Ok`. The pair that it inserts costs what its key costs, which is
-/// within the limit, and a value that is written through a get costs what the value before it costs.
+/// Each of these calls makes a reference if it returns `Ok`. The premises: an inserted entry costs what its key costs,
+/// which is within the limit, and a value that is written through a get costs what the old value costs.
 pub fn calls_make_references<K: Eq + Hash + Drop, V: Drop, S: KeyHasher<K>>()
     ensures inserts { (weight : K → V → ℕ) (cost : K → ℕ) (key : K) (value : V) (kept : Bool)
         (old new : State K V Budget S) →
@@ -64,7 +64,7 @@ pub fn calls_make_references<K: Eq + Hash + Drop, V: Drop, S: KeyHasher<K>>()
         Reference (of_cost K.eq weight cost) key old new }
 {}
 
-/// So do `ensure_newest` and `get_or_insert`, whose closure is `make`.
+/// `ensure_newest` and `get_or_insert`, whose closure is `make`, make references, too.
 pub fn gets_that_insert_make_references<
     K: Eq + Hash + Drop,
     V: Drop,
@@ -78,7 +78,7 @@ pub fn gets_that_insert_make_references<
         Reference (of_cost K.eq weight cost) key old new }
 {}
 
-/// And so do their fallible forms.
+/// The fallible forms of `ensure_newest` and `get_or_insert` make references, too.
 pub fn gets_that_insert_if_made_make_references<
     K: Eq + Hash + Drop,
     V: Drop,
@@ -93,9 +93,9 @@ pub fn gets_that_insert_if_made_make_references<
         Reference (of_cost K.eq weight cost) key old new }
 {}
 
-/// A program that makes the references of a trace leaves the keys of an LRU cache with this limit of cost (`keys`), misses
-/// as often (`misses`), and has counted its misses (`stored`): `placed`, the count of entries that inserts stored, rises
-/// by as many. Equal keys cost the same.
+/// A program that makes the references of a trace leaves the keys of an LRU cache with this limit of cost (`keys`), and
+/// misses as often (`misses`). The map counts the misses (`stored`): `placed`, the count of entries that inserts
+/// stored, rises by their number. Equal keys cost the same.
 pub fn references_keep_the_newest<K: Eq + Hash + Drop, V: Drop, S: KeyHasher<K>>()
     ensures keys { (weight : K → V → ℕ) (cost : K → ℕ) (trace : List K) (missed : ℕ) (old new : State K V Budget S) →
         CostsAlike K.eq weight cost → Referenced (of_cost K.eq weight cost) old trace missed new →
@@ -108,9 +108,9 @@ pub fn references_keep_the_newest<K: Eq + Hash + Drop, V: Drop, S: KeyHasher<K>>
         new.counts.placed ≡ count_up old.counts.placed missed }
 {}
 
-/// More capacity never means more misses, whichever calls make the references of one trace on two maps, if the keys of
-/// the map with the smaller limit are the newest keys of the other. Then they are so after the trace (`front`), and that
-/// map misses at least as often (`misses`).
+/// More capacity never means more misses, whichever calls make the references of one trace on two maps. If the keys of
+/// the map with the smaller limit are the newest keys of the other map, they are also after the trace (`front`), and
+/// the map with the smaller limit misses at least as often (`misses`).
 pub fn more_capacity_never_misses_more<K: Eq + Hash + Drop, V: Drop, S: KeyHasher<K>>()
     ensures front { (weight : K → V → ℕ) (cost : K → ℕ) (trace : List K) (missed other_missed : ℕ)
         (old small other large : State K V Budget S) →

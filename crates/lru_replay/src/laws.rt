@@ -1,4 +1,4 @@
-//! What is proved of runs of calls, in addition to what `run_calls` and `run_summing` say of each. The functions do
+//! What is proved about runs of calls, in addition to the contracts of `run_calls` and `run_summing`. The functions do
 //! nothing: their contracts are the theorems.
 ghost use Rattle.std.specs.Prelude.{ℕ, ◌+◌, ◌*◌, length, List};
 ghost use Rattle.std.specs.List.{AllByRecursion, IsDistinct};
@@ -16,7 +16,7 @@ use lru_model::laws;
 use std::hash::Hash;
 
 /// A list of calls is a run of steps of the map, so the laws on runs hold of it (`calls`). So is a list under a limiter
-/// with a running total, whose writes also keep the cost (`summing`).
+/// with a running total, if its writes keep the cost (`summing`).
 pub fn lists_are_runs<K: Eq + Hash, V, L: Insertion<K, V, K>, S: KeyHasher<K>>()
     ensures calls { (old new : State K V L S) (calls : List (Call K V L)) (replies : List (Reply K V)) →
         IsRun (CallStep L.rules L.offers K.eq S.hash_of) (IsMap K.eq) old calls replies new →
@@ -29,8 +29,8 @@ pub fn lists_are_runs<K: Eq + Hash, V, L: Insertion<K, V, K>, S: KeyHasher<K>>()
 {}
 
 /// If the limiter permits every growth, as `ByLength`, `ByCost` and the unlimited ones do, and the tables that the
-/// pairs may need are within the reach of links and bytes, a run is one on a list of pairs with distinct keys that has
-/// no table: `ListCallStep` says of each answer and each state what the list and the limiter make of it (`exact`). With
+/// pairs may need are within the reach of links and bytes, a run does what it would do to a list of pairs with distinct
+/// keys, without a table: `ListCallStep` says which answers and states the list and the limiter lead to (`exact`). With
 /// n pairs and m calls, those tables are within reach if a table for 8 * (n + m + 1) pairs is (`reached`).
 pub fn granted_calls_are_exact<K: Eq + Hash, V, L: Insertion<K, V, K>, S: KeyHasher<K>>()
     ensures exact { (old new : State K V L S) (calls : List (Call K V L)) (replies : List (Reply K V)) →

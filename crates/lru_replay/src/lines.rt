@@ -1,4 +1,4 @@
-//! Runs of calls, as lines from a reader to a writer: what lines say, and the texts of answers.
+//! Runs of calls, as lines from a reader to a writer: what lines mean, and the texts of answers.
 
 mod bytes;
 mod drain;

@@ -41,8 +41,8 @@ fn load<F: Fn(&String) -> Result<u64, u64>>(
     Ok(value)
 }
 
-/// Reads a block through a page cache. The pages are those of an LRU cache after a reference to the number (`refers`). So
-/// if they were those of the numbers that were read last, they are so afterwards (`newest`).
+/// Reads a block through a page cache. The pages change as the keys of an LRU cache do at a reference to the number
+/// (`refers`). So if they were the pages of the numbers that were read last, they still are (`newest`).
 fn read<D: BlockDevice<u8>>(cache: &mut PageCache<u8, D>, n: u64) -> Result<u8, PageError<D::Error>>
     ensures refers { IfOk result
         (λ block. keys_of cache.new.pages ≡ refer nat_eq cache.old.capacity n (keys_of cache.old.pages)) }

@@ -24,7 +24,7 @@ use std::alloc::{AllocError, Global};
 use std::test::Fail;
 use test_helpers::check;
 
-/// Where values come from. The text determines of how many bytes its value is.
+/// Where values come from. The text determines how many bytes its value has.
 trait Source {
     ghost size: { String Global → ℕ };
 
@@ -55,7 +55,8 @@ fn load_at_miss<L: Source>(
     Ok(1)
 }
 
-/// Looks up each text so, and returns how often it loaded a value: exactly as often as a cache with this limit misses.
+/// Looks up each text by `load_at_miss`, and returns how often this loaded a value: exactly as often as a cache with
+/// this limit misses.
 fn read_through<L: Source>(
     map: &mut LruMap<String, Vec<u8>, ByCost>,
     texts: &[String],
@@ -87,7 +88,7 @@ fn map_within<L: Source>(alloc: Global, limit: u64) -> LruMap<String, Vec<u8>, B
     LruMap::new(alloc, ByCost::new(limit), [1, 2, 3, 4], 40)
 }
 
-/// Reads the texts through two new maps. The one with the larger limit loads no more values.
+/// Reads the texts through two new maps. The map with the larger limit loads no more values.
 fn compare<L: Source>(
     alloc: Global,
     texts: &[String],

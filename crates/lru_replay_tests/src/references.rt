@@ -33,7 +33,8 @@ fn compute_at_miss<F: Fn(&String) -> u64>(
     Ok(1)
 }
 
-/// Looks up each text so, and returns how often it computed a value: exactly at the misses of the trace.
+/// Looks up each text by `compute_at_miss`, and returns how often this computed a value: exactly at the misses of the
+/// trace.
 pub fn read_through<F: Fn(&String) -> u64>(
     map: &mut LruMap<String, u64>,
     texts: &[String],
@@ -54,9 +55,9 @@ pub fn read_through<F: Fn(&String) -> u64>(
     Ok(count)
 }
 
-/// Computes the values of the texts with two new maps. The larger one computes no more often, and no policy with h
-/// places, which may know the texts in advance and load them ahead, pays less than (length + 1 - h) / length times as
-/// often as the smaller one.
+/// Computes the values of the texts with two new maps. The larger map computes no more often. No policy with h places
+/// pays less than (length + 1 - h) / length times as often as the smaller map computes, even if the policy knows the
+/// texts in advance and loads them ahead.
 fn compare<F: Fn(&String) -> u64>(
     alloc: Global,
     texts: &[String],

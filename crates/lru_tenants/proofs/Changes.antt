@@ -1,4 +1,4 @@
--- What a call leaves of the tenant that it names is what it leaves of the cache.
+-- What a call does to the tenant that it names determines what it does to the cache.
 use Rattle.std.proofs.Common.{◌≡◌, ℕ, Bool, true, false, cond, Option, Some, None, is_some, Err, sym, ap}
 use Rattle.std.proofs.Common.{refl, subst, ◌∙◌}
 use Rattle.std.proofs.lemmas.Bool.{true≢false}

@@ -1,4 +1,4 @@
--- The answer of a get that puts, if the tenant is not open or the key is there.
+-- A get that puts, if the tenant is not open or the key is there.
 use Rattle.std.proofs.Common.{◌≡◌, ℕ, Bool, List, Option, Some, None, Result, Ok, Err, refl, sym, ap, ◌∙◌, subst}
 use Rattle.std.proofs.lemmas.Option.{none-some}
 use Rattle.std.specs.HashMap.{HashMap, WritesThrough, get_by}
@@ -45,7 +45,7 @@ module _ {K V L S : Type 0} (rules : Rules K V L) (offers : Offers K V L K) (bud
       go left (Some w) e result (inserted none v may step) said = absurd (none-some w (sym none ∙ e))
 
   module _ {N : Type 0} (same : N → N → Bool) (name : N) where
-    -- what is left of the cache, and the answer
+    -- the cache afterwards, and the answer
     pub record Ends (old new : Cache N K V L S) : Type 0 where
       pub on : On same name (OfOpen (GetsOrPuts rules offers budget_of eq hash_of makes key)) old answer new
       pub not_open : tenant (same name) old ≡ None → answer ≡ Err NotOpen

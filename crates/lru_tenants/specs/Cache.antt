@@ -1,4 +1,4 @@
--- A cache of tenants: a map for each that is open.
+-- A cache of tenants: a map for each open tenant.
 use Rattle.std.specs.Prelude.{◌≡◌, ℕ, ◌≤◌, ◌<◌, ◌+◌, ◌-◌, ◌^◌, nat_lt, Bool, false, List, cond, Option, Some, None}
 use Rattle.std.specs.Prelude.{sum_by}
 use Rattle.std.specs.Option.{option_map, unwrap_or}
@@ -27,14 +27,13 @@ abbrev pub is_above : Option ℕ → ℕ → Bool
 is_above None sum = false
 is_above (Some limit) sum = nat_lt limit sum
 
--- what a contract sees of a cache
 pub record Cache (N K V L S : Type 0) : Type 0 where
   -- the open tenants by their names, in an order that means nothing
   pub tenants : List (N × State K V L S)
   -- what builds the hashers of names and keys, and the bytes of an entry
   pub hasher : S
   pub entry_bytes : ℕ
-  -- what the budgets of all tenants add up to at most, if there is a limit
+  -- the greatest sum of all budgets that is permitted, if there is a limit
   pub total_limit : Option ℕ
 
 module _ {N K V L S : Type 0} where
@@ -42,7 +41,7 @@ module _ {N K V L S : Type 0} where
   abbrev pub tenant : (N → Bool) → Cache N K V L S → Option (State K V L S)
   tenant named cache = lookup named cache.tenants
 
-  -- the empty map with which a tenant opens, if the limiter is made so, and a link is a number below max
+  -- the empty map with which a tenant opens, if `made` makes the limiter, and links are below `max`
   abbrev pub fresh : (ℕ → L) → ℕ → Cache N K V L S → ℕ → State K V L S
   fresh made max cache budget = empty_map (made budget) cache.hasher cache.entry_bytes max
 
@@ -54,13 +53,12 @@ module _ {N K V L S : Type 0} where
     pub entry_bytes : new.entry_bytes ≡ old.entry_bytes
     pub total_limit : new.total_limit ≡ old.total_limit
 
-  -- what a call does to the tenant of a name it does to the cache, in which the others stay
+  -- a call does to the cache what `Does` says of the tenant with the name, and leaves the other tenants as they are
   abbrev pub On : {R : Type 0} → (N → N → Bool) → N → (Option (State K V L S) → R → Option (State K V L S) → Type 0)
       → Cache N K V L S → R → Cache N K V L S → Type 0
   On eq name Does old answer new =
       (left : Option (State K V L S)) × Does (tenant (eq name) old) answer left × Leaves eq name left old new
 
-  -- `IsTenant` holds of the map of each tenant
   abbrev pub AreTenants : (K → K → Bool) → (K → V → ℕ) → (L → ℕ) → (L → ℕ) → Cache N K V L S → Type 0
   AreTenants eq cost account budget cache = All (IsTenant eq cost account budget) (values_of cache.tenants)
 
@@ -68,11 +66,11 @@ module _ {N K V L S : Type 0} where
   abbrev pub budgets : (L → ℕ) → Cache N K V L S → ℕ
   budgets budget cache = sum_by (λ map. budget map.limiter) (values_of cache.tenants)
 
-  -- the sum of the budgets, once the tenant whose name passes the test has this one
+  -- the sum of the budgets, once the tenant whose name passes the test has the budget `own`
   abbrev pub budgets_with : (L → ℕ) → (N → Bool) → ℕ → Cache N K V L S → ℕ
   budgets_with budget named own cache =
       budgets budget cache - unwrap_or (option_map (λ map. budget map.limiter) (tenant named cache)) 0 + own
 
-  -- that sum would be above the total limit, if there is one
+  -- `budgets_with` would be above the total limit, if there is one
   abbrev pub is_over : (L → ℕ) → (N → Bool) → ℕ → Cache N K V L S → Bool
   is_over budget named own cache = is_above cache.total_limit (budgets_with budget named own cache)

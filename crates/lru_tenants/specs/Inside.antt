@@ -1,4 +1,4 @@
--- What is true of the fields of a cache. No public contract cites it.
+-- What holds of the fields of a cache. No public contract cites this module.
 use Rattle.std.specs.Prelude.{◌≡◌, ℕ, Bool, false, Option, sum_by}
 use Rattle.std.specs.HashMap.{HashMap, hasher_of, values}
 use Rattle.std.specs.List.{All}
@@ -9,6 +9,6 @@ pub record Holds {N K V L S : Type 0} (eq : K → K → Bool) (cost : K → V �
     (table : HashMap N (State K V L S) S) (builder : S) (total : ℕ) (limit : Option ℕ) : Type 0 where
   pub tenants : All (IsTenant eq cost account budget) (values table)
   pub hasher : hasher_of table ≡ builder
-  -- the sum that is kept is the sum of the budgets, and within the limit
+  -- the stored sum is the sum of the budgets, and within the limit
   pub sum : total ≡ sum_by (λ map. budget map.limiter) (values table)
   pub within : is_above limit total ≡ false

@@ -1,24 +1,24 @@
--- Calls of any kind on a cache, one after another, and what they are to one tenant.
+-- Calls of any kind on a cache, one after another, and what they do to one tenant.
 --     named call                    the tenant that the call names
---     Does call old answer new      what the call may do to that tenant, and what it may answer
+--     Does call old answer new      what the call may do to this tenant, and may answer
 use Rattle.std.specs.Prelude.{◌≡◌, ◌⊎◌, Bool, true, false, List, [], ◌∷◌, Option}
 use Rattle.lru_model.specs.State.{State}
 use Rattle.lru_tenants.specs.Cache.{Cache, tenant, Leaves}
 
--- what a call did: what it found of the tenant that it names, and what it left of it
+-- what a call did: the tenant that it names, before and after the call
 pub record Did (N K V L S : Type 0) : Type 0 where
   pub name : N
   pub found : Option (State K V L S)
   pub left : Option (State K V L S)
 
 module _ {N K V L S : Type 0} where
-  -- Calls that take the cache from old to new. Each leaves the other tenants as they are.
+  -- Calls that take the cache from old to new. Each call leaves the tenants that it does not name as they are.
   abbrev pub CacheRun : (N → N → Bool) → Cache N K V L S → List (Did N K V L S) → Cache N K V L S → Type 0
   CacheRun eq old [] new = new ≡ old
   CacheRun eq old (did ∷ more) new = (mid : Cache N K V L S) × (did.found ≡ tenant (eq did.name) old)
       × Leaves eq did.name did.left old mid × CacheRun eq mid more new
 
-  -- Each call that names the tenant found what the one before it left. The last one left the new state.
+  -- Each call that names the tenant found it as the call before left it. The last call left the new state.
   abbrev pub Chain : (N → Bool) → Option (State K V L S) → List (Did N K V L S) → Option (State K V L S) → Type 0
   Chain own old [] new = new ≡ old
   Chain own old (did ∷ more) new = ((own did.name ≡ true) × (did.found ≡ old) × Chain own did.left more new)
@@ -26,7 +26,8 @@ module _ {N K V L S : Type 0} where
 
 module _ {N K V L S C R : Type 0} (named : C → N)
     (Does : C → Option (State K V L S) → R → Option (State K V L S) → Type 0) where
-  -- The calls that name the tenant, and their answers, take it from old to new. Calls of others leave it as it is.
+  -- The calls that name the tenant, and their answers, take it from old to new. Calls that name others leave it as it
+  -- is.
   abbrev pub OwnRun : (N → Bool) → Option (State K V L S) → List C → List R → Option (State K V L S) → Type 0
   OwnRun own old [] [] new = new ≡ old
   OwnRun own old (call ∷ calls) (answer ∷ answers) new =

@@ -1,4 +1,4 @@
--- What a cache ends as, once a value that was lent of it has been given back.
+-- What becomes of a cache once the loan of one of its values has ended.
 use Rattle.std.specs.Prelude.{ℕ, Bool, Option, Result, Ok, Err, ⊤}
 use Rattle.std.specs.Borrow.{Fml, RattleType, Bor, MutBor, follows_so}
 use Rattle.std.specs.HashMap.Lent.{HashMembers}
@@ -12,7 +12,7 @@ use Rattle.lru_tenants.specs.Cache.{Cache}
 use Rattle.lru_tenants.specs.contracts.cache.TenantCache.{the_row}
 use mathlib.Core.Option.{none}
 
--- what `L.Budgeted` gives a clause
+-- what a clause may use of `L.Budgeted`
 abbrev pub BudgetMembers : Type 0 → Type 0 → Type 0 → Type 0
 BudgetMembers K V L = record {
   rules : Rules K V L;
@@ -29,7 +29,7 @@ module _ (N K V L S M H : RattleType) (name : HashMembers N.Denot) (key : HashMe
     (limits : BudgetMembers K.Denot V.Denot L.Denot)
     (links : link_type.Ghosts M.Denot)
     (hashed : HasherMembers S.Denot K.Denot H.Denot) (hash : hasher.Ghosts H.Denot) where
-  -- the cache's type, as the logic holds it
+  -- the cache's type in the logic
   abbrev pub cache_row : RattleType
   cache_row = the_row N K V L S M H (record { eq = name.eq }) (record { hash_input = name.hash_input })
       (record { eq = key.eq }) (record { hash_input = key.hash_input })
@@ -42,12 +42,12 @@ module _ (N K V L S M H : RattleType) (name : HashMembers N.Denot) (key : HashMe
       (record { rules = limits.rules }) links
       (record { hash_of = hashed.hash_of }) (record { build_hasher = hashed.build_hasher }) hash
 
-  -- it ends as one of which this holds
+  -- `Ends` holds of the cache once the loan has ended
   abbrev pub ends_so : MutBor (Cache N.Denot K.Denot V.Denot L.Denot S.Denot)
       → (Cache N.Denot K.Denot V.Denot L.Denot S.Denot → Type 0) → Fml
   ends_so m Ends = follows_so cache_row cache_row m.ghost_name none (λ _ _. ⊤) Ends
 
--- the answer, with the value that is lent
+-- the answer, with the lent value instead of the reference
 abbrev pub read : {V E : Type 0} → Result (Option (Bor V)) E → Result (Option V) E
 read (Ok lent) = Ok (option_copied lent)
 read (Err e) = Err e

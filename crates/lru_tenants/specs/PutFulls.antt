@@ -1,4 +1,4 @@
--- What comes back from a put.
+-- The value that a `put_full` returns.
 --     accepts s k v       whether the limiter s accepts the entry of a new key
 use Rattle.std.specs.Prelude.{Bool, Option, Some, is_some, not, ◌&&◌, if◌then◌else◌}
 use Rattle.lru_limits.specs.Rules.{Rules, Offers}
@@ -11,7 +11,7 @@ module _ {K V L S : Type 0} (accepts : L → K → V → Bool) (eq : K → K →
   abbrev pub rejects : State K V L S → Bool
   rejects map = not (accepts map.limiter key value) && not (is_some (lookup (eq key) map.pairs))
 
-  -- the value that the map does not keep: of a new key the rejected one, else what an insert does not keep
+  -- the value that the map does not keep: the value of a rejected new key, or else what an insert does not keep
   abbrev pub comes_back : Rules K V L → Offers K V L K → State K V L S → Option V
   comes_back rules offers map =
       if rejects map then Some value else unkept_value rules offers eq key value (contents map)

@@ -1,7 +1,7 @@
 -- What a call does to the tenant that it names, and what a run of calls does to each tenant.
---     rules, offers       what the limiter says (`Rules`, `Offers` of `lru_limits`)
+--     rules, offers       the limiter's `Rules` and `Offers` (`lru_limits`)
 --     fresh budget        the empty map with which a tenant opens
---     hash_of h k         the hash of the key k, by the hasher h
+--     hash_of h k         the hash of k by the hasher h
 use Rattle.std.specs.Prelude.{◌≡◌, ◌≤◌, ◌⊎◌, ℕ, Bool, true, false, List, [], length, reverse, Option, Some, None}
 use Rattle.std.specs.Prelude.{option_map, IfSome}
 use Rattle.std.specs.Prelude.{Result, Ok, Err}
@@ -22,7 +22,6 @@ use Rattle.lru_tenants.specs.declared.call.TenantCall.{TenantCall}
 use Rattle.lru_tenants.specs.declared.call.TenantCall.TheVariants as calls
 
 module _ {N K V : Type 0} where
-  -- the tenant that the call names
   abbrev pub named : TenantCall N K V → N
   named (calls.Open name budget) = name
   named (calls.Put name key value) = name
@@ -30,72 +29,73 @@ module _ {N K V : Type 0} where
   named (calls.Cost name) = name
   named (calls.Close name) = name
 
--- how a put returns what an insert returns
+-- the answer of a put, by the result of its insert
 abbrev pub put_answer : {R : Type 0} → Result R AllocError → Result R TenantError
 put_answer (Ok inserted) = Ok inserted
 put_answer (Err e) = Err Memory
 
--- what each call may answer, and what it leaves of its tenant; `None` is a tenant that is not open
+-- below, what each call may answer, and how it leaves its tenant; `None` is a tenant that is not open
 module _ {K V L S : Type 0} where
-  -- one that is not open opens with this map, if the total limit lets it and there is memory
+  -- a tenant that is not open opens with this map, if the total limit permits it and there is memory
   abbrev pub Opens : Bool → State K V L S → Option (State K V L S) → Result (Unit {0}) TenantError
       → Option (State K V L S) → Type 0
   Opens over fresh (Some map) answer new = (answer ≡ Err AlreadyOpen) × (new ≡ Some map)
   Opens true fresh None answer new = (answer ≡ Err OverTotal) × (new ≡ None)
   Opens false fresh None answer new = ((answer ≡ Ok tt) × (new ≡ Some fresh)) ⊎ ((answer ≡ Err Memory) × (new ≡ None))
 
-  -- what is read of a tenant that is open
+  -- the answer of a call that reads an open tenant
   abbrev pub read_of : {R : Type 0} → (State K V L S → R) → Option (State K V L S) → Result R TenantError
   read_of reads None = Err NotOpen
   read_of reads (Some map) = Ok (reads map)
 
-  -- what a call does to a tenant that is open; of any other it returns `NotOpen`, and the tenant stays closed
+  -- a call does what `does` says to an open tenant; for any other tenant it returns `NotOpen`, and the tenant stays
+  -- closed
   abbrev pub OfOpen : {R : Type 0} → (State K V L S → Result R TenantError → Option (State K V L S) → Type 0)
       → Option (State K V L S) → Result R TenantError → Option (State K V L S) → Type 0
   OfOpen does None answer new = (answer ≡ Err NotOpen) × (new ≡ None)
   OfOpen does (Some map) answer new = does map answer new
 
-  -- a call that never fails on a tenant that is open, and leaves it open
+  -- a call that never fails on an open tenant, and leaves it open
   abbrev pub IfOpen : {R : Type 0} → (State K V L S → R → State K V L S → Type 0) → Option (State K V L S)
       → Result R TenantError → Option (State K V L S) → Type 0
   IfOpen {R} does = OfOpen (λ map answer new.
       (result : R) × (left : State K V L S) × does map result left × (answer ≡ Ok result) × (new ≡ Some left))
 
-  -- it gets a budget, if the total limit lets it, and what is over it is evicted
+  -- the tenant gets a budget, if the total limit permits it, and entries over the budget are evicted
   abbrev pub SetsBudget : Rules K V L → (L → L) → Bool → State K V L S → Result (Unit {0}) TenantError
       → Option (State K V L S) → Type 0
   SetsBudget rules rebudgeted true map answer new = (answer ≡ Err OverTotal) × (new ≡ Some map)
   SetsBudget rules rebudgeted false map answer new = (left : State K V L S)
       × Trims rules (with_limiter (rebudgeted map.limiter) map) left × (answer ≡ Ok tt) × (new ≡ Some left)
 
-  -- what is passed to the callback of a tenant that is open; of any other nothing is
+  -- what a call on an open tenant passes to its callback; on any other tenant it passes nothing
   abbrev pub PassesOn : (State K V L S → List (K × V) → Option (State K V L S) → Type 0) → Option (State K V L S)
       → List (K × V) → Option (State K V L S) → Type 0
   PassesOn does None passed new = (passed ≡ []) × (new ≡ None)
   PassesOn does (Some map) passed new = does map passed new
 
-  -- its pair becomes the newest
+  -- a get: the pair of the key becomes the newest
   abbrev pub Gets : (K → Bool) → Option (State K V L S) → Result (Option V) TenantError → Option (State K V L S) →
       Type 0
   Gets names old answer new =
       (answer ≡ read_of (λ map. lookup names map.pairs) old) × (new ≡ option_map (promoted names) old)
 
-  -- its limiter gets a budget, if the total limit lets it, and what is over it is passed on
+  -- `SetsBudget` passes on the entries over the budget
   abbrev pub BudgetPasses : Rules K V L → (L → L) → Bool → State K V L S → List (K × V)
       → Option (State K V L S) → Type 0
   BudgetPasses rules rebudgeted true old passed new = (passed ≡ []) × (new ≡ Some old)
   BudgetPasses rules rebudgeted false old passed new = (left : State K V L S)
       × TrimPasses rules (with_limiter (rebudgeted old.limiter) old) passed left × (new ≡ Some left)
 
-  -- it closes, and passes on its pairs, oldest first
+  -- the tenant closes, and its pairs are passed on, oldest first
   abbrev pub ClosePasses : State K V L S → List (K × V) → Option (State K V L S) → Type 0
   ClosePasses old passed new = (passed ≡ reverse old.pairs) × (new ≡ None)
 
-  -- it closes, and n pairs are dropped
+  -- the tenant closes, and its pairs are dropped; the answer is their number
   abbrev pub Closes : State K V L S → Result ℕ TenantError → Option (State K V L S) → Type 0
   Closes map answer new = (answer ≡ Ok (length map.pairs)) × (new ≡ None)
 
-  -- a put inserts into its map, whose budget stays
+  -- a put inserts into the tenant's map, whose budget stays
   module _ (rules : Rules K V L) (offers : Offers K V L K) (budget_of : L → ℕ) (eq : K → K → Bool)
       (hash_of : S → K → ℕ) (key : K) (value : V) where
     pub record Puts (old : State K V L S) (answer : Result Bool TenantError) (new : Option (State K V L S))
@@ -107,7 +107,7 @@ module _ {K V L S : Type 0} where
       pub said : answer ≡ put_answer result
       pub is : new ≡ Some left
 
-    -- and passes on each pair that is evicted or removed, and the new one if it could not be stored
+    -- a put passes on each pair that is evicted or removed, and the new pair if it could not be stored
     pub record PutPasses (old : State K V L S) (passed : List (K × V)) (new : Option (State K V L S)) : Type 0 where
       pub left : State K V L S
       pub result : Result Bool AllocError
@@ -117,9 +117,9 @@ module _ {K V L S : Type 0} where
 module _ {N K V L S : Type 0} (rules : Rules K V L) (offers : Offers K V L K) (cost : K → V → ℕ)
     (account budget_of : L → ℕ) (eq : K → K → Bool) (hash_of : S → K → ℕ) (fresh : ℕ → State K V L S)
     (total_limit : Option ℕ) where
-  -- The call may answer this and leave the tenant that it names so. `sum` is the sum of all budgets with the new one:
-  -- the other tenants decide it, so only that it is at least this budget is said. No call is over the total if there is
-  -- no limit.
+  -- The call may answer this, and leave the tenant that it names as `new`. `sum` is the sum of all budgets with the new
+  -- one. The other tenants decide it, so nothing is said of it except that it is at least the new budget. No call is
+  -- over the total if there is no limit.
   abbrev pub TenantStep : TenantCall N K V → Option (State K V L S) → TenantAnswer V → Option (State K V L S) → Type 0
   TenantStep (calls.Open name budget) old answer new = (result : Result (Unit {0}) TenantError) × (sum : ℕ)
       × (budget ≤ sum) × Opens (is_above total_limit sum) (fresh budget) old result new
@@ -137,7 +137,8 @@ module _ {N K V L S : Type 0} (rules : Rules K V L) (offers : Offers K V L K) (c
   abbrev pub KeptStep : TenantCall N K V → Option (State K V L S) → TenantAnswer V → Option (State K V L S) → Type 0
   KeptStep call old answer new = TenantStep call old answer new × IfSome new (IsTenant eq cost account budget_of)
 
-  -- The calls that name the tenant, and their answers, take it from old to new. Calls of others leave it as it is.
+  -- The calls that name the tenant, and their answers, take it from old to new. Calls that name others leave it as it
+  -- is.
   abbrev pub IsOwnRun : (N → Bool) → Option (State K V L S) → List (TenantCall N K V) → List (TenantAnswer V)
       → Option (State K V L S) → Type 0
   IsOwnRun = OwnRun named KeptStep

@@ -188,8 +188,8 @@ impl<
     ///
     /// # Errors
     ///
-    /// `AlreadyOpen`; `OverTotal`: the sum of all budgets would be above the total limit; or `Memory`: out of memory
-    /// for one tenant more.
+    /// `AlreadyOpen`. `OverTotal`: the sum of all budgets would be above the total limit. `Memory`: out of memory for
+    /// one more tenant.
     pub fn open(&mut self, name: N, budget: u64) -> Result<(), TenantError>
         ensures opens { On N.eq name (Opens (is_over L.budget_of (N.eq name) budget self.old)
             (fresh L.made (L.LinkType.number L.LinkType.MAX) self.old budget)) self.old result self.new }
@@ -226,9 +226,9 @@ impl<
 
     /// Inserts a key with a value, as the newest entry of the tenant. Returns whether the key is there afterwards.
     ///
-    /// It is an `insert` into the map of the tenant. The limiter rejects an entry that by itself costs more than the
-    /// budget, or that would take the tenant's total past `u64::MAX`; if the key is there, its entry is removed then.
-    /// Otherwise its oldest entries are evicted until the total is within the budget.
+    /// It inserts into the map of the tenant. The limiter rejects an entry that alone costs more than the budget, or
+    /// that would take the tenant's total past `u64::MAX`; if the key is there, its entry is then removed. Otherwise
+    /// the tenant's oldest entries are evicted until the total is within the budget.
     ///
     /// ```
     /// assert_eq!(rt; cache.put(&1, 8, 1), Ok(true));
@@ -239,8 +239,8 @@ impl<
     ///
     /// # Errors
     ///
-    /// `NotOpen`: nothing has changed. `Memory`: out of memory for the entry. The newest of the tenant's entries are
-    /// left, as after an `Err` of `LruMap::insert`.
+    /// `NotOpen`: nothing has changed. `Memory`: out of memory for the entry. Some of the tenant's oldest entries may
+    /// have been evicted, as after an `Err` of `LruMap::insert`.
     pub fn put(&mut self, name: &N, key: K, value: V) -> Result<bool, TenantError>
         ensures puts { On N.eq name.now (OfOpen (Puts L.rules (offers_of L.terms) L.budget_of K.eq S.hash_of key value))
             self.old result self.new }
@@ -306,7 +306,7 @@ impl<
     ///
     /// # Errors
     ///
-    /// `NotOpen`, or `OverTotal`: the sum of all budgets would be above the total limit. Both change nothing.
+    /// `NotOpen`. `OverTotal`: the sum of all budgets would be above the total limit. Both change nothing.
     pub fn set_budget(&mut self, name: &N, budget: u64) -> Result<(), TenantError>
         ensures sets { On N.eq name.now
             (OfOpen (SetsBudget L.rules (L.rebudgeted budget) (is_over L.budget_of (N.eq name.now) budget self.old)))
@@ -319,7 +319,7 @@ impl<
         self.set_budget_with(name, budget, &mut |_, _| {})
     }
 
-    /// Closes a tenant and drops its entries. Returns how many these were.
+    /// Closes a tenant and drops its entries. Returns how many there were.
     ///
     /// ```
     /// assert_eq!(rt; (cache.len(), cache.close(&1), cache.len()), (1, Ok(1), 0));

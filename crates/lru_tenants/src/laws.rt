@@ -1,4 +1,4 @@
-//! Laws about calls. A caller that needs one calls the function, which does nothing.
+//! Laws about calls. A caller that needs a law calls its function, which does nothing.
 ghost use Rattle.std.specs.Prelude.{◌≡◌, ◌≤◌, false, List, IfSome, sum_by};
 ghost use Rattle.std.specs.List.{All};
 ghost use Rattle.std.specs.Map.{values_of};
@@ -10,11 +10,11 @@ use lru_limits::Budgeted;
 use schnellru::KeyHasher;
 use std::hash::Hash;
 
-/// In any list of calls of any kind, for names, keys and values of any types, each call finds of its tenant what the
-/// last call of that tenant left, whatever calls of others come between (`own`). If each call names another tenant, a
-/// tenant's map stays as it is (`others`).
+/// In any list of calls, of any kind and for any types, each call finds its tenant as the last call of that tenant left
+/// it, whatever calls of other tenants come between (`own`). If each call names another tenant, a tenant's map stays as
+/// it is (`others`).
 ///
-/// The premise: each call leaves every tenant but the one that it names, as each clause with `On` says.
+/// The premise: each call leaves every tenant as it is, except the one that it names, as each clause with `On` says.
 ///
 /// ```
 /// each_tenant_has_its_own_run::<u64, u64, u64, ByCost, RandomState>();
@@ -33,8 +33,8 @@ pub fn each_tenant_has_its_own_run<
         tenant (N.eq name) new ≡ tenant (N.eq name) old }
 {}
 
-/// The costs of the entries of all tenants add up to at most the total limit, if there is one. It holds of every cache,
-/// so after any list of calls.
+/// The costs of the entries of all tenants add up to at most the total limit, if there is one. This holds of every
+/// cache, so after any list of calls.
 ///
 /// ```
 /// costs_are_within_the_total_limit(&cache);

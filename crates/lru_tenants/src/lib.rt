@@ -1,7 +1,7 @@
 //! A cache for many tenants: each has its own map, limited by its own budget.
 //!
 //! [`TenantCache`] is the cache, and [`run_tenants`] carries out a list of calls on it. `docs/TENANTS.md` shows how to
-//! use it, and what is proved of it.
+//! use it, and what is proved about it.
 #![tactic(auto)]
 
 mod cache;

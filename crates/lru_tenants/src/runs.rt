@@ -32,7 +32,7 @@ use std::hash::Hash;
 ///
 /// # Errors
 ///
-/// `Err` says that there was no memory for the answers.
+/// Out of memory for the answers.
 pub fn run_tenants<
     N: Copy + Eq + Hash + Drop,
     K: Copy + Eq + Hash + Drop,

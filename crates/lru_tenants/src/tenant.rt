@@ -1,4 +1,5 @@
-//! What calls do to the map of a tenant. Each keeps the running total the sum of the costs, and within the budget.
+//! What calls do to the map of a tenant. After each call the running total is still the sum of the costs, and within
+//! the budget.
 ghost use Rattle.std.specs.Prelude.{◌≡◌, true, false, List, length, reverse, Some, None, option_map, Ok, IfOk};
 ghost use Rattle.std.specs.Option.{option_copied};
 ghost use Rattle.lru_limits.specs.Admissions.{offers_of};

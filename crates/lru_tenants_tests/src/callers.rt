@@ -1,4 +1,4 @@
-//! A function that calls the cache, with its own contract, as docs/TENANTS.md shows it.
+//! A function that calls the cache, with a contract of its own: the code of docs/TENANTS.md.
 ghost use Rattle.std.specs.Prelude.{◌≡◌, ℕ, nat_eq, false};
 ghost use Rattle.lru_tenants.specs.Cache.{tenant};
 

@@ -1,4 +1,4 @@
--- Caches with a limit of cost: the smaller is the front of the larger.
+-- Caches with a limit of cost: the smaller cache is the front of the larger one.
 use Rattle.std.proofs.Common.{◌≡◌, ℕ, zero, suc, ◌+◌, ◌-◌, ◌≤◌, Bool, true, false, cond, List, [], ◌∷◌, length, take}
 use Rattle.std.proofs.Common.{refl, ap, arith, inl, inr}
 use Rattle.std.proofs.lemmas.Bool.{lt-leb, le-leb, cases_lt}
@@ -9,7 +9,7 @@ use Rattle.lru_theory.specs.Traces.{is_in, AreEqual}
 use Rattle.lru_theory.specs.Budgets.{affordable, refer_within, cached_within, faults_within}
 use Rattle.lru_theory.proofs.EqualKeys.{head_equal, tail_equal, both_equal, without_equal}
 
--- xs is ys as far as it goes
+-- ys begins with xs
 pub data Front {K : Type 0} : List K → List K → Type 0 where
   none : (ys : List K) → Front [] ys
   both : (x : K) (xs ys : List K) → Front xs ys → Front (x ∷ xs) (x ∷ ys)
@@ -104,7 +104,7 @@ module _ {K : Type 0} (cost : K → ℕ) where
     | inr cheap ↦ rw (le-leb (cost key) n cheap) (omega (arith, cheap, affords_within (n - cost key) keys))
   ]
 
--- if equal keys cost the same, equal lists are afforded as far, and references leave equal lists
+-- if equal keys cost the same, equal lists are affordable up to the same key, and references leave equal lists
 module _ {K : Type 0} {eq : K → K → Bool} (laws : IsEquivalence eq) (cost : K → ℕ)
     (same : (x y : K) → eq x y ≡ true → cost x ≡ cost y) where
   pub affords_equal : (n : ℕ) (xs ys : List K) → AreEqual eq xs ys

@@ -1,4 +1,4 @@
--- No policy pays less often than MIN misses.
+-- Every policy pays at least as often as MIN misses.
 use Rattle.std.proofs.Common.{◌≡◌, ℕ, zero, suc, ◌+◌, ◌-◌, ◌≤◌, Bool, true, false, cond, List, [], ◌∷◌, length, take}
 use Rattle.std.proofs.Common.{refl, arith}
 use Rattle.std.specs.Cmp.{IsEquivalence}
@@ -40,11 +40,11 @@ pays_for_all false false false a m b f o p c new before few stored bypassed has 
     omega (arith, before, few, bypassed refl, has)
 
 module _ {K : Type 0} {eq : K → K → Bool} (laws : IsEquivalence eq) where
-  -- For each d: of the keys whose next reference is among the first d, the other cache contains at most c more.
+  -- For each d, the other cache contains at most c more keys whose next reference is among the first d.
   abbrev pub IsAhead : ℕ → List K → List K → List K → Type 0
   IsAhead c trace keys old = (d : ℕ) → near eq d trace (λ z. is_in eq z old) ≤ due eq d trace keys + c
 
-  -- What one reference makes of this, if the policy pays p times.
+  -- `IsAhead` after one reference, if the policy pays p times.
   pub record Step (c p : ℕ) (key : K) (trace keys new next : List K) : Type 0 where
     pub misses : fault eq key keys ≤ c + p
     pub ordered : Ordered eq trace next

@@ -1,4 +1,5 @@
--- LRU against other policies: from the end of the trace backwards, each k misses of LRU cost the other policy k + b - h.
+-- LRU against other policies: the other policy pays k + b - h times for each k misses of LRU, counted from the end of
+-- the trace.
 use Rattle.std.proofs.Common.{◌≡◌, ℕ, zero, suc, ◌+◌, ◌-◌, ◌*◌, ◌≤◌, ◌<◌, Bool, true, false, cond, List, [], ◌∷◌}
 use Rattle.std.proofs.Common.{length, sym, ap, ◌∙◌, subst, arith, ◌⊎◌, inl, inr}
 use Rattle.std.proofs.lemmas.Bool.{cases_lt}

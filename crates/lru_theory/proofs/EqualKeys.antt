@@ -78,7 +78,7 @@ module _ {K : Type 0} {eq : K → K → Bool} (laws : IsEquivalence eq) where
       taken_equal eq n (key ∷ remove_key (eq key) xs) (key ∷ remove_key (eq key) ys)
       (both_equal eq key (remove_key (eq key) xs) key (remove_key (eq key) ys) (laws.refl key) (without_equal key xs ys e))
 
-  -- A reference makes equal lists of equal lists, and so does a trace. Both caches miss as often.
+  -- A reference, and so a trace, turns equal lists into equal lists. Both caches miss equally often.
   module _ (change : K → List K → List K)
       (alike : (key : K) (xs ys : List K) → AreEqual eq xs ys → AreEqual eq (change key xs) (change key ys)) where
     pub cached_equal : (trace xs ys : List K) → AreEqual eq xs ys

@@ -30,7 +30,7 @@ module _ {K : Type 0} {eq : K → K → Bool} (laws : IsEquivalence eq) where
       go true ih e = refl
       go false ih e = ih (omega (arith, e))
 
-  -- one of the keys can be evicted, so that all that are among fewer others stay
+  -- a key can be evicted that is not among `others`, because these are fewer
   record Spare (others keys : List K) : Type 0 where
     evicted : K
     fewer : length (remove_key (eq evicted) keys) + 1 ≡ length keys
@@ -81,12 +81,12 @@ module _ {K : Type 0} {eq : K → K → Bool} (laws : IsEquivalence eq) where
                   (rest.kept x (is_in_without laws x key others other ∙ in_others) (rw other at here))
 
   module _ (h : ℕ) (left : List K) where
-    -- a demand policy served this with at most `most` misses
+    -- a demand policy served the trace with at most `most` misses
     abbrev Demanded : List K → List K → ℕ → Type 0
     Demanded keys trace most = (demanded : ℕ) × (other : List K) × Served (Demands eq h) other keys trace demanded
         × (demanded ≤ most)
 
-    -- it contains the keys of the other policy, but for some that it owes
+    -- it contains the keys of the other policy, except for some that it owes
     abbrev Follows : List K → List K → ℕ → Type 0
     Follows ahead trace paid = (keys owed : List K) → length keys ≤ h → Within eq ahead (owed ++ keys)
         → Demanded keys trace (length owed + paid)

@@ -1,4 +1,4 @@
--- How many different keys of another cache come next, among the first references of a trace.
+-- How many different keys of another cache are among the first references of a trace.
 use Rattle.std.proofs.Common.{◌≡◌, ℕ, zero, suc, ◌+◌, ◌≤◌, Bool, true, false, cond, List, [], ◌∷◌, length}
 use Rattle.std.proofs.Common.{refl, sym, ap, ◌∙◌, arith, ◌<◌, inl, inr, ◌⊎◌}
 use Rattle.std.proofs.lemmas.Bool.{lt-ltb, le-ltb, cases_lt, and_parts}
@@ -14,7 +14,7 @@ use Rattle.lru_theory.proofs.EqualKeys.{named_alike}
 use Rattle.lru_theory.proofs.Nexts.{soon}
 
 module _ {K : Type 0} (eq : K → K → Bool) where
-  -- how many of the first d references of the trace are the first to a key that passes the test
+  -- how many of the first d references of the trace are the first reference to a key that passes the test
   abbrev pub near : ℕ → List K → (K → Bool) → ℕ
   near zero trace test = 0
   near (suc d) [] test = 0

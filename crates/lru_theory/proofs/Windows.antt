@@ -1,5 +1,5 @@
--- While LRU misses at most k times, each miss is a reference to another key, and no policy has more keys than it began
--- with and paid for.
+-- While LRU misses at most k times, each miss is a reference to another key. No policy has more keys than it began with
+-- and paid for.
 use Rattle.std.proofs.Common.{◌≡◌, ℕ, zero, suc, ◌+◌, ◌≤◌, ◌<◌, Bool, true, false, cond, List, [], ◌∷◌, ◌++◌}
 use Rattle.std.proofs.Common.{length, take, refl, sym, ap, ◌∙◌, arith, ◌⊎◌, inl, inr}
 use Rattle.std.proofs.lemmas.Bool.{cases_lt, or_parts}
@@ -118,8 +118,8 @@ module _ {K : Type 0} {eq : K → K → Bool} (laws : IsEquivalence eq) where
 
 module _ {K : Type 0} {eq : K → K → Bool} (laws : IsEquivalence eq) (k h b : ℕ)
     (IsStep : K → List K → ℕ → List K → Type 0) where
-  -- What a policy may do at a reference: which keys it paid for, `extra`. It began with the keys `old`. After the
-  -- reference a window may begin that counts the keys `start` as referenced.
+  -- What a policy may do at a reference, from the keys `old`: it pays for the keys `extra`. After the reference a
+  -- window may begin that counts the keys `start` as referenced.
   pub record Gains (key : K) (old : List K) (one : ℕ) (new : List K) : Type 0 where
     pub fits : length new ≤ h
     pub room : b ≤ h
@@ -135,7 +135,7 @@ module _ {K : Type 0} {eq : K → K → Bool} (laws : IsEquivalence eq) (k h b :
 
   module _ (gains : (key : K) (old : List K) (one : ℕ) (new : List K) → IsStep key old one new
       → Gains key old one new) where
-    -- how many different keys were referenced at the end of a window
+    -- `count` different keys were referenced up to the end of a window
     pub record Ends (seen : ℕ) (missed paid : ℕ) (known : List K) : Type 0 where
       pub count : ℕ
       pub grows : seen ≤ count

@@ -10,7 +10,7 @@ module _ {K : Type 0} (eq : K → K → Bool) where
   until key [] = 0
   until key (other ∷ trace) = if eq key other then 0 else suc (until key trace)
 
-  -- The key among keys, which are in the order of their next references in the trace.
+  -- Puts the key among others, in the order of their next references in the trace.
   abbrev pub put : List K → K → List K → List K
   put trace key [] = key ∷ []
   put trace key (other ∷ keys) = if nat_le (until key trace) (until other trace) then key ∷ (other ∷ keys)
@@ -22,16 +22,16 @@ module _ {K : Type 0} (eq : K → K → Bool) where
   min_refer zero key trace keys = []
   min_refer (suc n) key trace keys = put trace key (take n (remove_key (eq key) keys))
 
-  -- The keys of MIN with bypass: of the key and the others it contains the n whose next references come first.
+  -- The keys of MIN with bypass: the n of these keys whose next references come first.
   abbrev pub bypass_refer : ℕ → K → List K → List K → List K
   bypass_refer n key trace keys = take n (put trace key (remove_key (eq key) keys))
 
-  -- how many references of the trace do not find their key, if a reference changes the keys so
+  -- how many references of the trace do not find their key, if `refer` changes the keys
   abbrev pub faults_ahead : (K → List K → List K → List K) → List K → List K → ℕ
   faults_ahead refer keys [] = 0
   faults_ahead refer keys (key ∷ trace) = fault eq key keys + faults_ahead refer (refer key trace keys) trace
 
-  -- how often MIN with n places misses, from no keys, and MIN with bypass
+  -- how often MIN with n places misses, from no keys; below, MIN with bypass
   abbrev pub min_misses : ℕ → List K → ℕ
   min_misses n trace = faults_ahead (min_refer n) [] trace
 

@@ -6,18 +6,18 @@ use Rattle.std.specs.Set.{remove_key}
 use Rattle.lru_theory.specs.Traces.{cached_by, faults_by}
 
 module _ {K : Type 0} (cost : K → ℕ) where
-  -- the first keys, up to the last with which they cost at most n together
+  -- as many of the first keys as cost at most n together
   abbrev pub affordable : ℕ → List K → List K
   affordable n [] = []
   affordable n (key ∷ keys) = if nat_le (cost key) n then key ∷ affordable (n - cost key) keys else []
 
 module _ {K : Type 0} (eq : K → K → Bool) (cost : K → ℕ) where
-  -- The keys of an LRU cache whose keys cost at most n together after a reference, the newest first, if no key alone
-  -- costs more than n: the key is the newest, and the oldest are evicted while the keys cost more than n.
+  -- The keys of an LRU cache with the limit n after a reference, the newest first: the key is the newest, and the
+  -- oldest are evicted while the keys cost more than n. No key alone may cost more than n.
   abbrev pub refer_within : ℕ → K → List K → List K
   refer_within n key keys = affordable cost n (key ∷ remove_key (eq key) keys)
 
-  -- its keys after a trace, and how many references of the trace did not find their key
+  -- its keys after a trace; below, how many references of the trace did not find their key
   abbrev pub cached_within : ℕ → List K → List K → List K
   cached_within n = cached_by (refer_within n)
 

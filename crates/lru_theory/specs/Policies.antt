@@ -1,4 +1,4 @@
--- Other policies of eviction. The order of the keys of their caches says nothing.
+-- Other policies of eviction. The order of the keys of their caches means nothing.
 --     eq        when two keys are equal
 use Rattle.std.specs.Prelude.{◌≡◌, ℕ, ◌+◌, ◌≤◌, Bool, true, false, List, [], ◌∷◌, length}
 use Rattle.std.specs.Set.{remove_key}
@@ -11,29 +11,29 @@ module _ {K : Type 0} (eq : K → K → Bool) where
   outside others (key ∷ keys) = fault eq key others + outside others keys
 
 module _ {K : Type 0} (eq : K → K → Bool) (places : ℕ) where
-  -- What a demand policy may make of its cache at a reference, and whether it missed (1) or not (0). It changes nothing
-  -- if the key is there. If it is not, the policy stores the key, and evicts one key or none, whichever it likes.
+  -- How a demand policy may change its cache at a reference, and whether it missed (1) or not (0). If the key is there,
+  -- the policy changes nothing. Otherwise it stores the key, and evicts any one key or none.
   pub data Demands (key : K) (old : List K) : ℕ → List K → Type 0 where
     finds : is_in eq key old ≡ true → Demands key old 0 old
     stores : is_in eq key old ≡ false → length old + 1 ≤ places → Demands key old 1 (key ∷ old)
     replaces : is_in eq key old ≡ false → (evicted : K) → length (remove_key (eq evicted) old) + 1 ≤ places →
         Demands key old 1 (key ∷ remove_key (eq evicted) old)
 
-  -- What a policy may make of its cache at a reference if it loads any keys, also ahead of their references, and evicts
-  -- any. It pays for each key that it loads. The key of the reference is in its cache then.
+  -- How a policy may change its cache at a reference, if it may load any keys, even ahead of their references, and
+  -- evict any. It pays for each key that it loads. The key of the reference is in its cache afterwards.
   pub record Loads (key : K) (old : List K) (paid : ℕ) (new : List K) : Type 0 where
     pub fits : length new ≤ places
     pub stores : is_in eq key new ≡ true
     pub pays : outside eq old new ≤ paid
 
-  -- The same, for a policy that need not store the key of the reference: if the key was not in its cache, and is not
-  -- stored, it pays for this key, too.
+  -- `Loads` for a policy that need not store the key of the reference. If the key was not in its cache, and is not
+  -- stored, the policy pays for this key, too.
   pub record Bypasses (key : K) (old : List K) (paid : ℕ) (new : List K) : Type 0 where
     pub fits : length new ≤ places
     pub stored : is_in eq key new ≡ true → outside eq old new ≤ paid
     pub bypassed : is_in eq key new ≡ false → outside eq old new + fault eq key old ≤ paid
 
--- Such a policy served a trace from the cache `old`, paid this number of times, and left the cache `new`.
+-- A policy with these steps served a trace from the cache `old`, paid this number of times, and left the cache `new`.
 pub data Served {K : Type 0} (IsStep : K → List K → ℕ → List K → Type 0) (new : List K) : List K → List K → ℕ → Type 0
   where
     ends : Served IsStep new new [] 0

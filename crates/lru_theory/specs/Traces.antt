@@ -1,4 +1,4 @@
--- Words on traces. A trace is the list of the keys that were referenced, in order of time.
+-- Definitions for traces. A trace is the list of the keys that were referenced, in order of time.
 --     eq        when two keys are equal
 --     past      the keys that were referenced before, the last one first. The keys of a map are such a list.
 use Rattle.std.specs.Prelude.{◌≡◌, ℕ, ◌+◌, Bool, true, not, ◌||◌, nat_le, if◌then◌else◌, List, [], ◌∷◌, length, take}
@@ -6,17 +6,16 @@ use Rattle.std.specs.Cmp.Lexicographic.{pointwise}
 use Rattle.std.specs.List.{list_any}
 use Rattle.std.specs.Set.{remove_key}
 
--- The keys of a cache after a trace, if these were its keys before, and a reference changes the keys so.
+-- The keys of a cache after a trace, from these keys, if `refer` changes them at each reference.
 abbrev pub cached_by : {K : Type 0} → (K → List K → List K) → List K → List K → List K
 cached_by refer keys [] = keys
 cached_by refer keys (key ∷ trace) = cached_by refer (refer key keys) trace
 
 module _ {K : Type 0} (eq : K → K → Bool) where
-  -- the key is one of these
   abbrev pub is_in : K → List K → Bool
   is_in key keys = list_any (eq key) keys
 
-  -- the lists are as long, and equal key by key
+  -- the lists have the same length, and are equal key by key
   abbrev pub AreEqual : List K → List K → Type 0
   AreEqual keys others = pointwise eq keys others ≡ true
 
@@ -52,12 +51,12 @@ module _ {K : Type 0} (eq : K → K → Bool) where
   abbrev pub fault : K → List K → ℕ
   fault key keys = if is_in key keys then 0 else 1
 
-  -- how many references of the trace did not find their key in that cache
+  -- how many references of the trace did not find their key in a cache that `refer` changes
   abbrev pub faults_by : (K → List K → List K) → List K → List K → ℕ
   faults_by refer keys [] = 0
   faults_by refer keys (key ∷ trace) = fault key keys + faults_by refer (refer key keys) trace
 
-  -- both for an LRU cache of n places
+  -- `cached_by` for an LRU cache of n places; below, `faults_by`
   abbrev pub cached : ℕ → List K → List K → List K
   cached n = cached_by (refer n)
 

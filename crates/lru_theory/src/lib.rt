@@ -1,6 +1,6 @@
 //! Traces of references to keys: recency lists, reuse distances, and how often an LRU cache of n places misses.
 //!
-//! The functions do nothing: their contracts are the theorems. `docs/THEORY.md` says each in words.
+//! The functions do nothing: their contracts are the theorems. `docs/THEORY.md` explains each theorem.
 #![tactic(auto)]
 
 ghost use Rattle.std.specs.Prelude.{◌≡◌, ℕ, ◌+◌, ◌-◌, ◌*◌, ◌≤◌, ◌<◌, List, [], length, take, true};
@@ -10,8 +10,9 @@ ghost use Rattle.lru_theory.specs.Policies.{Loads, Demands, Bypasses, Served};
 ghost use Rattle.lru_theory.specs.Best.{min_misses, bypass_misses};
 ghost use Rattle.lru_theory.specs.Inclusion.{KeyCall, after_calls, IsIncluded, IsSubsequence};
 
-/// An LRU cache of n places that contains the n keys that were referenced last contains them after any trace (`keys`). It
-/// misses exactly at the references whose reuse distance is at least n, and at the first to each key (`misses`).
+/// An LRU cache of n places that contains the n keys that were referenced last contains them after any trace (`keys`).
+/// It misses exactly at the references whose reuse distance is at least n, and at the first reference to each key
+/// (`misses`).
 pub fn a_cache_is_the_newest<K: Eq>()
     ensures keys { (n : ℕ) (past trace : List K) →
         cached K.eq n (take n (recency K.eq past)) trace ≡ take n (recency K.eq (past_after past trace)) }
@@ -24,14 +25,14 @@ pub fn more_places_never_miss_more<K: Eq>()
     ensures { (n m : ℕ) (past trace : List K) → n ≤ m → misses K.eq m past trace ≤ misses K.eq n past trace }
 {}
 
-/// LRU is competitive, from any caches. Take any policy with h places, one that knows the whole trace in advance, and
-/// an LRU cache of k ≥ h places. The policy begins with the keys `first`, pays `paid` times, and each miss of LRU
-/// counts:
+/// LRU is competitive, from any caches. Take any policy with h places, even one that knows the whole trace in advance,
+/// and an LRU cache of k ≥ h places. The policy begins with the keys `first`, and pays `paid` times. Each miss of LRU
+/// counts.
 ///
-/// - If it stores each key that is referenced, and may load keys ahead, LRU misses at most k / (k + 1 - h) * paid +
-///   length first times (`loads`).
-/// - So it is for a demand policy, which pays only for its misses (`demands`).
-/// - If it need not store the key, LRU misses at most k / (k - h) * paid + length first times (`bypasses`).
+/// - If the policy stores each key that is referenced, and may load keys ahead, LRU misses at most k / (k + 1 - h) *
+///   paid + length first times (`loads`).
+/// - The same bound holds for a demand policy, which pays only for its misses (`demands`).
+/// - If the policy need not store the key, LRU misses at most k / (k - h) * paid + length first times (`bypasses`).
 pub fn lru_is_competitive<K: Eq>()
     ensures loads { (k h : ℕ) (past trace first left : List K) (paid : ℕ) → h ≤ k →
         Served (Loads K.eq h) left first trace paid →
@@ -66,9 +67,9 @@ pub fn a_smaller_cache_is_included<K: Eq>()
         faults K.eq m large trace ≤ faults K.eq n small trace }
 {}
 
-/// A larger budget never means more misses. Take two LRU caches with limits of cost, and let the keys of the one with
-/// the smaller limit be the newest keys of the other. Then they are after any trace (`front`), and it misses at least
-/// as often (`misses`).
+/// A larger budget never means more misses. Take two LRU caches with limits of cost, and let the keys of the smaller
+/// cache be the newest keys of the larger one. Then they still are after any trace (`front`), and the smaller cache
+/// misses at least as often (`misses`).
 pub fn a_larger_budget_never_misses_more<K: Eq>()
     ensures front { (cost : K → ℕ) (n m some : ℕ) (keys trace : List K) → n ≤ m →
         let small = cached_within K.eq cost n (take some keys) trace in
@@ -77,10 +78,10 @@ pub fn a_larger_budget_never_misses_more<K: Eq>()
         faults_within K.eq cost m keys trace ≤ faults_within K.eq cost n (take some keys) trace }
 {}
 
-/// MIN misses least often of all policies that store each key that is referenced, also of those that load keys ahead
-/// and pay for them (`loads`), and so of the demand policies (`demands`). MIN with bypass misses least often of all
-/// policies that contain at most n keys, whatever they leave out or load ahead (`bypasses`). All begin with no keys. MIN is
-/// such a policy itself, if it has a place (`min`), and so is MIN with bypass (`bypass`).
+/// MIN misses least often of all policies that store each key that is referenced, even if they load keys ahead and pay
+/// for them (`loads`), or load only on demand (`demands`). MIN with bypass misses least often of all policies that
+/// contain at most n keys, whatever they leave out or load ahead (`bypasses`). All begin with no keys. MIN is itself a
+/// policy of the first kind, if it has a place (`min`), and MIN with bypass of the second kind (`bypass`).
 pub fn min_is_best<K: Eq>()
     ensures loads { (n : ℕ) (trace left : List K) (paid : ℕ) → Served (Loads K.eq n) left [] trace paid →
         min_misses K.eq n trace ≤ paid }
@@ -94,9 +95,9 @@ pub fn min_is_best<K: Eq>()
         (left : List K) × Served (Bypasses K.eq n) left [] trace (bypass_misses K.eq n trace) }
 {}
 
-/// How far LRU is from MIN, from no keys. LRU with k ≥ h places misses at most k / (k + 1 - h) times as often as MIN with
-/// h (`min`), and at most k / (k - h) times as often as MIN with bypass (`bypass`), whatever keys LRU begins with. With
-/// the same places it misses at least as often as MIN (`least`).
+/// How far LRU is from MIN, which begins with no keys. LRU with k ≥ h places misses at most k / (k + 1 - h) times as
+/// often as MIN with h (`min`), and at most k / (k - h) times as often as MIN with bypass (`bypass`), whatever keys LRU
+/// begins with. With the same places it misses at least as often as MIN (`least`).
 pub fn lru_is_near_min<K: Eq>()
     ensures min { (k h : ℕ) (past trace : List K) → 0 < h → h ≤ k →
         (k + 1 - h) * misses K.eq k past trace ≤ k * min_misses K.eq h trace }

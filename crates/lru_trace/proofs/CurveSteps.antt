@@ -1,4 +1,4 @@
--- What one reference changes of a curve.
+-- How one reference changes a curve.
 use Rattle.std.proofs.Common.{◌≡◌, ℕ, zero, suc, ◌+◌, ◌≤◌, ◌<◌, Bool, true, false, cond, List, [], ◌∷◌, length}
 use Rattle.std.proofs.Common.{take, map, ◌++◌}
 use Rattle.std.specs.Option.{option_map}

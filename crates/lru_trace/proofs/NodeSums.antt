@@ -1,4 +1,4 @@
--- A tree of sums: what the nodes behind one add up to, and what one leaf more or less changes.
+-- A tree of sums: the sum of the nodes behind a node, and how a change of one leaf changes the tree.
 use Rattle.std.proofs.Common.{◌≡◌, ◌≢◌, ℕ, zero, suc, ◌+◌, ◌-◌, ◌*◌, ◌/◌, ◌%◌, ◌^◌, ◌≤◌, ◌<◌, List, length}
 use Rattle.std.proofs.Common.{get_or, set, drop, sum, replicate, refl, sym, ap, ◌∙◌, subst, arith, inl, inr}
 use Rattle.std.proofs.Math.Nat.{mod-eq_of_lt, pow-suc, mul-le-mul_right, le-mul_of_pos_right}
@@ -88,7 +88,7 @@ module _ {slots levels : ℕ} {t : List ℕ} (tree : IsTree slots levels t) wher
 pub behind_root : (t : List ℕ) (node : ℕ) → 1 ≤ node → node < 2 * 1 → behind t node 1 ≡ 0
 behind_root t node low high = ap (span t (node + 1)) (let e : 2 * 1 - 1 - node ≡ 0 = omega (arith, low) in e)
 
--- Each node is the sum of its children, except that one lacks `up`, or has `down` too much.
+-- Each node is the sum of its children, except one, which is `up` too small or `down` too large.
 pub record IsOff (slots up down : ℕ) (t : List ℕ) (node : ℕ) : Type 0 where
   pub len : length t ≡ 2 * slots
   pub sums : (i : ℕ) → 0 < i → i < slots → i ≢ node → get_or t i 0 ≡ get_or t (2 * i) 0 + get_or t (2 * i + 1) 0

@@ -1,4 +1,4 @@
--- Lines, one after another, from what is left of an input.
+-- Lines that are read one after another from what is left of an input.
 use Rattle.std.proofs.Common.{◌≡◌, ℕ, ◌+◌, ◌<◌, Bool, true, false, cond, List, [], ◌∷◌, ◌++◌, length}
 use Rattle.std.proofs.Common.{take, get_or, ◌==◌, ◌≤◌, ◌-◌, IfSome, zero, suc, Option, Some, None, OnSome, refl, sym, ap, ◌∙◌, subst, arith, append_assoc}
 use Rattle.std.specs.Prelude.{not, Result, Ok, Err, OnErr}

@@ -8,7 +8,6 @@ use Rattle.lru_theory.specs.Traces.{recency, misses, past_after}
 use Rattle.lru_trace.specs.Slots.{Recent}
 
 pub record Counted : Type 0 where
-  -- the keys and their numbers
   pub names : List (String Global × ℕ)
   -- the numbers of the keys, the last referenced first
   pub recency : List ℕ
@@ -18,16 +17,14 @@ pub record Counted : Type 0 where
   -- the number of the key of each reference, if the curve keeps them
   pub kept : Option (List ℕ)
 
--- the number of a key
 abbrev pub number_in : List (String Global × ℕ) → List ℕ → Option ℕ
 number_in names key = lookup (λ name. bytes_eq key (string_bytes name)) names
 
--- no two keys have one number, and numbers are below n
+-- no two keys have the same number, and numbers are below n
 pub record AreNumbered (names : List (String Global × ℕ)) (n : ℕ) : Type 0 where
   pub small : (key : List ℕ) (number : ℕ) → number_in names key ≡ Some number → number < n
   pub apart : (a b : List ℕ) (number : ℕ) → number_in names a ≡ Some number → number_in names b ≡ Some number → a ≡ b
 
--- this is the curve of the trace
 pub record IsOf (trace : List (List ℕ)) (curve : Counted) : Type 0 where
   pub numbers : List ℕ
   pub named : map (number_in curve.names) trace ≡ map Some numbers

@@ -1,4 +1,4 @@
--- The lines of a trace: each spells a key, or none.
+-- The lines of a trace: each spells a key or no key.
 use Rattle.std.specs.Prelude.{◌≡◌, ◌≢◌, ℕ, ◌<◌, Bool, not, ◌&&◌, nat_lt, nat_le, List, [], ◌∷◌, ◌++◌, length, ◌==◌}
 use Rattle.std.specs.Prelude.{if◌then◌else◌, zero, suc, map, Option, OnSome, Some, None}
 use Rattle.std.specs.List.{filter, AllByRecursion}
@@ -8,7 +8,7 @@ use Rattle.lru_trace.specs.declared.options.Column.{Column}
 use Rattle.lru_trace.specs.declared.lines.Ending.{Ending}
 use Rattle.lru_trace.specs.declared.lines.Ending.TheVariants as endings
 
--- the first of these lines begins with the byte b
+-- the lines with the byte b in front of the first line
 abbrev pub onto_first : ℕ → List (List ℕ) → List (List ℕ)
 onto_first b [] = (b ∷ []) ∷ []
 onto_first b (line ∷ lines) = (b ∷ line) ∷ lines
@@ -22,11 +22,10 @@ lines_of (b ∷ bytes) = if b == 10 then [] ∷ lines_of bytes else onto_first b
 abbrev pub fed : List ℕ → List ℕ
 fed line = line ++ 10 ∷ []
 
--- no byte is a line feed
 abbrev pub LacksFeed : List ℕ → Type 0
 LacksFeed bytes = AllByRecursion (λ b. b ≢ 10) bytes
 
--- what a line is without what ended it
+-- `line` is what was read without its ending
 abbrev pub EndsSo : Ending → List ℕ → List ℕ → Type 0
 EndsSo endings.Feed bytes line = bytes ≡ fed line
 EndsSo endings.InputEnd bytes line = (line ≡ bytes) × (0 < length line) × ((front : List ℕ) → bytes ≡ fed front → ⊥)
@@ -38,13 +37,13 @@ module _ (from to : Option (List ℕ)) where
   abbrev pub TakesRest : List ℕ → Type 0
   TakesRest bytes = LacksFeed bytes × Consumes from to bytes × OnSome from (IsAtEnd to)
 
-  -- a line was read, and ended so
+  -- a line was read, and ended in this way
   abbrev pub TakesLine : Ending → List ℕ → Type 0
   TakesLine endings.Feed line = LacksFeed line × Consumes from to (fed line)
   TakesLine endings.InputEnd line = TakesRest line × (0 < length line)
   TakesLine endings.Nothing line = TakesRest line × (line ≡ [])
 
--- what stands before the first separator, and behind it
+-- the bytes before the first separator; below, the bytes behind it
 abbrev pub before : ℕ → List ℕ → List ℕ
 before separator [] = []
 before separator (b ∷ line) = if b == separator then [] else b ∷ before separator line
@@ -58,12 +57,12 @@ abbrev pub cell : ℕ → ℕ → List ℕ → List ℕ
 cell separator zero line = before separator line
 cell separator (suc n) line = cell separator n (behind separator line)
 
--- what of a line is to spell the key
+-- the part of a line that must spell the key
 abbrev pub text_in : Option Column → List ℕ → List ℕ
 text_in None line = line
 text_in (Some column) line = cell column.separator column.index line
 
--- these texts of the lines
+-- this part of each line
 abbrev pub texts_of : Option Column → List (List ℕ) → List (List ℕ)
 texts_of column lines = map (text_in column) lines
 
@@ -71,7 +70,6 @@ texts_of column lines = map (text_in column) lines
 abbrev pub is_key : List ℕ → Bool
 is_key text = nat_lt 0 (length text) && (nat_le (length text) 64 && is_utf8 text)
 
--- the trace that the texts spell
 abbrev pub trace_of : List (List ℕ) → List (List ℕ)
 trace_of texts = filter is_key texts
 

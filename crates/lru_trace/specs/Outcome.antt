@@ -1,4 +1,4 @@
--- How a trace ends: what was read and written then.
+-- How a trace ends: what was read and written.
 use Rattle.std.specs.Prelude.{◌≡◌, ℕ, ◌≤◌, List, [], ◌∷◌, ◌++◌, length, Option, OnSome, Some, None, is_some, Result, Ok, Err}
 use Rattle.std.specs.Io.KnownBytes.{Consumes, IsAtEnd, Appends, Keeps}
 use Rattle.lru_trace.specs.declared.options.Column.{Column}
@@ -35,14 +35,13 @@ pub record TraceRead (from to : Option (List ℕ)) (options : Options) (sizes : 
   pub keeps : is_some curve.kept ≡ options.best
   pub count : malformed ≡ malformed_in (texts_of options.column others)
 
--- One line was read, or none, and it names no sizes, so nothing is determined in any form.
+-- At most one line was read, and it names no sizes, so no options determine an output.
 pub record NoSizesRead (from to : Option (List ℕ)) : Type 0 where
   pub input : List ℕ
   pub reads : Consumes from to input
   pub one : length (lines_of input) ≤ 1
   pub none : (options : Options) → output options (lines_of input) ≡ None
 
--- some bytes were read
 abbrev pub SomeRead : Option (List ℕ) → Option (List ℕ) → Type 0
 SomeRead from to = (part : List ℕ) × Consumes from to part
 
@@ -50,8 +49,8 @@ SomeRead from to = (part : List ℕ) × Consumes from to part
 abbrev pub Begins : Option (List ℕ) → Option (List ℕ) → List ℕ → Type 0
 Begins old new text = (begun rest : List ℕ) × (text ≡ begun ++ rest) × Appends old new begun
 
--- All was read, and of the text that the lines determine was written what `IsWritten` says. If a reader does not say what
--- it has left, this says of `input` only that there is one.
+-- All was read. `IsWritten` says which part of the text that the lines determine was written. If a reader does not say
+-- what it has left, `input` may be any input.
 pub record Reported (from to : Option (List ℕ)) (options : Options) (IsWritten : List ℕ → Type 0) : Type 0 where
   pub input : List ℕ
   pub text : List ℕ
@@ -69,7 +68,6 @@ Ends options from to old new (Err errors.Read) = SomeRead from to × Keeps old n
 Ends options from to old new (Err errors.Memory) = SomeRead from to × Keeps old new
 Ends options from to old new (Err errors.Write) = Reported from to options (Begins old new)
 
--- the exit status of each end
 abbrev pub status_of : Result TraceEnd TraceError → ℕ
 status_of (Ok ends.Done) = 0
 status_of (Ok ends.NoSizes) = 1

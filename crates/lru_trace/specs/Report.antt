@@ -1,4 +1,4 @@
--- What is written of a trace, in each form.
+-- What is written for a trace, in each form.
 use Rattle.std.specs.Prelude.{ℕ, ◌+◌, ◌-◌, ◌/◌, ◌%◌, if◌then◌else◌, List, [], ◌∷◌, ◌++◌, length, map}
 use Rattle.std.specs.Prelude.{flat_map, replicate, decimal, codes, Bool, false, Option, Some, None}
 use Rattle.std.specs.Option.{option_map}
@@ -22,7 +22,7 @@ abbrev pub ratio_text : ℕ → List ℕ
 ratio_text n = decimal (n / 10000) ++ (codes "." ++ (decimal (n / 1000 % 10) ++ (decimal (n / 100 % 10)
     ++ (decimal (n / 10 % 10) ++ decimal (n % 10)))))
 
--- how often MIN misses, and MIN with bypass, if that is asked
+-- how often MIN misses, and MIN with bypass, if `--best` is given
 abbrev pub best_text : Option BestMisses → List ℕ
 best_text None = []
 best_text (Some best) = codes " min " ++ (decimal best.min ++ (codes " bypass " ++ decimal best.bypass))
@@ -33,12 +33,10 @@ size_text row = codes "places " ++ (decimal row.size ++ (codes " hits " ++ (deci
     ++ (codes " misses " ++ (decimal row.misses ++ (codes " ratio "
     ++ (ratio_text (missed_part row 10000) ++ (best_text row.best ++ codes "\n"))))))))
 
--- the bar of a size
 abbrev pub bar_text : Row → List ℕ
 bar_text row = replicate (12 - length (decimal row.size)) 32 ++ (decimal row.size ++ (codes " |"
     ++ (replicate (missed_part row 50) 35 ++ codes "\n")))
 
--- the first line
 abbrev pub head_text : Counts → List ℕ
 head_text counts = codes "references " ++ (decimal counts.references ++ (codes " keys " ++ (decimal counts.keys
     ++ (codes " malformed " ++ (decimal counts.malformed ++ codes "\n")))))
@@ -68,17 +66,17 @@ module _ (trace : List (List ℕ)) (sizes : List ℕ) (malformed : ℕ) where
   abbrev pub counts_of : Counts
   counts_of = record { references = length trace; keys = keys trace; malformed = malformed }
 
-  -- the rows of the named sizes and of the powers of two, with the misses of the best possible policies, if they are asked
+  -- the rows of the named sizes and of the powers of two, with the misses of the best possible policies if `best` is
+  -- true
   abbrev pub point_rows : Bool → List Row
   point_rows best = map (row_of trace best) (points sizes (powers_in trace))
 
-  -- what is written in each form
   abbrev pub written : Form → Bool → List ℕ
   written forms.Text best = text_of counts_of (map (row_of trace best) sizes) (map (row_of trace false) (powers_in trace))
   written forms.Csv best = csv_of best (point_rows best)
   written forms.Svg best = svg_text counts_of best (powers_in trace) (point_rows best)
 
--- What is written of these lines: nothing unless the first names sizes.
+-- What is written for these lines: nothing unless the first line names sizes.
 abbrev pub output : Options → List (List ℕ) → Option (List ℕ)
 output options [] = None
 output options (first ∷ lines) =

@@ -1,4 +1,4 @@
--- The numbers that are written of each size.
+-- The numbers that are written for each size.
 use Rattle.std.specs.Prelude.{ℕ, zero, suc, ◌-◌, ◌^◌, nat_lt, nat_le, ◌==◌, if◌then◌else◌, List, [], ◌∷◌, length}
 use Rattle.std.specs.Prelude.{Bool, true, false, Option, Some, None}
 use Rattle.std.specs.List.{fold}
@@ -13,21 +13,19 @@ module _ (trace : List (List ℕ)) where
   abbrev pub missed : ℕ → ℕ
   missed n = misses bytes_eq n [] trace
 
-  -- how many keys there are
   abbrev pub keys : ℕ
   keys = length (recency bytes_eq (past_after [] trace))
 
-  -- how often the best possible policies miss in n places, if that is asked
+  -- how often the best possible policies miss in n places, if `best` is true
   abbrev pub best_in : Bool → ℕ → Option BestMisses
   best_in false n = None
   best_in true n = Some (record { min = min_misses bytes_eq n trace; bypass = bypass_misses bytes_eq n trace })
 
-  -- the row of the size n
   abbrev pub row_of : Bool → ℕ → Row
   row_of best n =
       record { size = n; hits = length trace - missed n; misses = missed n; best = best_in best n }
 
--- the powers of two from 2 ^ level on, up to the first that is at least `most`, and n of them at the latest
+-- the powers of two from 2 ^ level on, up to the first that is at least `most`, but at most n of them
 unfoldable pub powers : ℕ → ℕ → ℕ → List ℕ
 powers most zero level = []
 powers most (suc n) level = 2 ^ level ∷ (if nat_le most (2 ^ level) then [] else powers most n (suc level))
@@ -36,7 +34,7 @@ powers most (suc n) level = 2 ^ level ∷ (if nat_le most (2 ^ level) then [] el
 abbrev pub powers_in : List (List ℕ) → List ℕ
 powers_in trace = powers (keys trace) 64 0
 
--- sizes in rising order, and n among them
+-- sizes in rising order, with n among them
 abbrev pub with_size : List ℕ → ℕ → List ℕ
 with_size [] n = n ∷ []
 with_size (size ∷ sizes) n =

@@ -1,4 +1,4 @@
--- The sizes that a line names: numbers below 2 ^ 64 in decimal digits, with a space between each two.
+-- The sizes that a line names: numbers below 2 ^ 64 in decimal digits, separated by single spaces.
 use Rattle.std.specs.Prelude.{ℕ, ◌+◌, ◌-◌, ◌*◌, ◌^◌, ◌&&◌, nat_lt, nat_le, ◌==◌, if◌then◌else◌, List, [], ◌∷◌, ◌++◌}
 use Rattle.std.specs.Prelude.{Option, Some, None}
 use Rattle.std.specs.Option.{option_and_then}
@@ -8,7 +8,7 @@ abbrev pub with_digit : ℕ → ℕ → Option ℕ
 with_digit number b = if nat_le 48 b && (nat_le b 57 && nat_lt (10 * number + (b - 48)) (2 ^ 64))
     then Some (10 * number + (b - 48)) else None
 
--- The sizes that the bytes name, after the sizes `before`, and after a number that has begun, if one has.
+-- The sizes that the bytes name, after the sizes `before` and the first digits of a number, if there are any.
 abbrev pub sizes_from : List ℕ → Option ℕ → List ℕ → Option (List ℕ)
 sizes_from before None [] = None
 sizes_from before (Some number) [] = Some (before ++ number ∷ [])

@@ -1,4 +1,4 @@
--- The slots of a log, each of which contains a key or is free.
+-- The slots of a log; each contains a key or is free.
 use Rattle.std.specs.Prelude.{◌≡◌, ℕ, ◌^◌, ◌≤◌, ◌<◌, if◌then◌else◌, List, [], ◌∷◌, ◌++◌, length}
 use Rattle.std.specs.Prelude.{get_or, Option, Some, None, is_some, nat_eq, Vec, vec_len, vec_capacity}
 use Rattle.std.specs.Option.{option_to_list}

@@ -1,5 +1,5 @@
--- The picture of the curves, in tenths of a pixel: the sizes 1 to 2 ^ octaves stand from 900 to 7300, and the parts of
--- the references from 3900, for none, up to 700, for all.
+-- The picture of the curves, in tenths of a pixel. The sizes 1 to 2 ^ octaves are at 900 to 7300 from the left. The
+-- part of the references that miss is at 3900 from the top if none miss, and at 700 if all do.
 use Rattle.std.specs.Prelude.{ℕ, zero, suc, ◌+◌, ◌-◌, ◌*◌, ◌/◌, ◌%◌, ◌^◌, max, nat_le, ◌==◌, if◌then◌else◌}
 use Rattle.std.specs.Prelude.{List, [], ◌++◌, length, flat_map, decimal, codes, Bool, Option, Some, None}
 use Rattle.lru_trace.specs.declared.svg.TheConstants.{START, LRU, MIN, BYPASS}
@@ -18,14 +18,15 @@ unfoldable pub level_of : ℕ → ℕ → ℕ
 level_of zero n = 0
 level_of (suc most) n = if nat_le (2 ^ suc most) n then suc most else level_of most n
 
--- a thousand logarithms of n to the base 2, within 9: exact at a power of two, and a parabola between two
+-- a thousand times the logarithm of n to the base 2, within 9: exact at a power of two, and a parabola between two
+-- powers
 abbrev pub log_of : ℕ → ℕ
 log_of n =
     let level : ℕ = level_of 63 n in
     let behind : ℕ = part (n - 2 ^ level) (2 ^ level) 1000 in
     1000 * level + (behind + behind * (1000 - behind) * 353 / 1000000)
 
--- where a size stands
+-- the place of a size
 abbrev pub x_of : ℕ → ℕ → ℕ
 x_of octaves size = 900 + log_of size * 6400 / (1000 * octaves)
 
@@ -33,13 +34,12 @@ abbrev pub of_best : (BestMisses → ℕ) → Option BestMisses → ℕ
 of_best f None = 0
 of_best f (Some best) = f best
 
--- how often a policy misses
 abbrev pub missed_by : Policy → Row → ℕ
 missed_by policies.Lru row = row.misses
 missed_by policies.Min row = of_best (λ best. best.min) row.best
 missed_by policies.Bypass row = of_best (λ best. best.bypass) row.best
 
--- where the misses of a policy stand
+-- the height of the misses of a policy
 abbrev pub y_of : Policy → Row → ℕ
 y_of policy row = 3900 - part (missed_by policy row) (row.hits + row.misses) 3200
 
@@ -71,16 +71,14 @@ abbrev pub title_text : Counts → List ℕ
 title_text counts = codes "<text x='900' y='290'>" ++ (decimal counts.references ++ (codes " references to "
     ++ (decimal counts.keys ++ (codes " keys, " ++ (decimal counts.malformed ++ codes " malformed lines</text>\n")))))
 
--- how many octaves the axis has
 abbrev pub octaves_of : List ℕ → ℕ
 octaves_of powers = max (length powers - 1) 1
 
--- the curves: of LRU, and of the best possible policies, if they are asked
+-- the curves of LRU, and of the best possible policies if `best` is true
 abbrev pub curves_text : Bool → ℕ → List Row → List ℕ
 curves_text best octaves rows = curve_text octaves rows policies.Lru
     ++ (if best then curve_text octaves rows policies.Min ++ curve_text octaves rows policies.Bypass else [])
 
--- the picture
 abbrev pub svg_text : Counts → Bool → List ℕ → List Row → List ℕ
 svg_text counts best powers rows = START.now ++ (title_text counts
     ++ (flat_map (tick_text (octaves_of powers)) powers ++ (curves_text best (octaves_of powers) rows ++ codes "</svg>\n")))

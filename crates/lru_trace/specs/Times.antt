@@ -1,4 +1,4 @@
--- The times of next references: what a policy knows that knows the rest of the trace. A reference at time i is that
+-- The times of next references, which a policy knows if it knows the rest of the trace. A reference at time i comes
 -- after i others.
 use Rattle.std.specs.Prelude.{◌≡◌, ℕ, suc, ◌+◌, nat_lt, Bool, if◌then◌else◌, List, [], ◌∷◌, Option, IfSome}
 use Rattle.std.specs.Ordering.{nat_cmp}
@@ -12,10 +12,10 @@ abbrev pub next_times : {K : Type 0} (eq : K → K → Bool) → ℕ → List K 
 next_times eq i [] = []
 next_times eq i (key ∷ trace) = (suc i + until eq key trace) ∷ next_times eq (suc i) trace
 
--- the times in rising order, and this one among them, if it comes before the end
+-- the times in rising order, with this one among them if it comes before the end
 abbrev pub with_time : ℕ → ℕ → List ℕ → List ℕ
 with_time end time times = if nat_lt time end then insert_key nat_cmp times time else times
 
--- the times of the next references of the trace, if there are times
+-- if times are known, they are the times of the next references of the trace
 abbrev pub KnowsRest : List (List ℕ) → Option (List ℕ) → Type 0
 KnowsRest trace best = IfSome best (λ times. times ≡ next_times bytes_eq 0 trace)

@@ -9,8 +9,8 @@ use std::alloc::{AllocError, Global};
 use std::collections::BTreeSet;
 use std::marker::Model;
 
-/// What a policy knows that knows the whole trace: the time of each next reference. So it counts how often the best
-/// possible policies miss. `docs/THEORY.md` says what they are.
+/// What a policy knows if it knows the whole trace: the time of each next reference. So `Best` counts how often the
+/// best possible policies miss, which `docs/THEORY.md` explains.
 ///
 /// It takes 8 bytes for each reference.
 #[derive(Drop)]
@@ -49,15 +49,15 @@ impl Best {
         self.nexts[now]
     }
 
-    /// Returns how often MIN misses in this many places, from no keys. It stores each key that is referenced, and evicts
-    /// the key whose next reference comes last: no policy that stores each key misses less often.
+    /// Returns how often MIN with `places` places misses, from no keys. MIN stores each key that is referenced, and
+    /// evicts the key whose next reference comes last. No policy that stores each key misses less often.
     ///
-    /// Cost: `O(log n)` for each reference and n places; the memory is in proportion to n, and to the number of keys at
-    /// most.
+    /// Cost: `O(log n)` for each reference and n places; the memory is in proportion to the smaller of n and the number
+    /// of keys.
     ///
     /// # Errors
     ///
-    /// `Err`: out of memory.
+    /// Out of memory.
     pub fn min_misses(&self, places: usize) -> Result<usize, AllocError>
         ensures { IfOk result (λ misses. (trace : List (List ℕ)) → self.now ≡ next_times bytes_eq 0 trace →
             misses ≡ min_misses bytes_eq places trace) }
@@ -76,14 +76,14 @@ impl Best {
         Ok(misses)
     }
 
-    /// Returns how often MIN with bypass misses in this many places, from no keys. It may leave out the key that is
-    /// referenced: no policy at all misses less often.
+    /// Returns how often MIN with bypass and `places` places misses, from no keys. It may leave out the key that is
+    /// referenced. No policy at all misses less often.
     ///
     /// Cost: as `min_misses`.
     ///
     /// # Errors
     ///
-    /// `Err`: out of memory.
+    /// Out of memory.
     pub fn bypass_misses(&self, places: usize) -> Result<usize, AllocError>
         ensures { IfOk result (λ misses. (trace : List (List ℕ)) → self.now ≡ next_times bytes_eq 0 trace →
             misses ≡ bypass_misses bytes_eq places trace) }
@@ -122,7 +122,7 @@ fn add(times: &mut BTreeSet<usize>, time: usize, end: usize) -> Result<(), Alloc
     }
 }
 
-/// Returns a number above all of these. `Err` also if one is `usize::MAX`, which no vector is long enough for.
+/// Returns a number above all of these. Fails, too, if one is `usize::MAX`, because no vector is that long.
 fn bound_of(numbers: &[usize]) -> Result<usize, AllocError>
     ensures { IfOk result (λ bound. All (λ n. n < bound) numbers.now) }
 {

@@ -66,8 +66,8 @@ impl Curve {
         Curve::make(alloc, None)
     }
 
-    /// As `new`, and the curve keeps the references, 8 bytes for each, so that `best` can count what the best possible
-    /// policies miss.
+    /// Makes a curve that also keeps the references, 8 bytes for each, so that `best` can count how often the best
+    /// possible policies miss.
     ///
     /// ```
     /// let mut curve = Curve::keeping_references(alloc)?;
@@ -178,7 +178,7 @@ impl Curve {
     ///
     /// # Errors
     ///
-    /// `Err`: out of memory. The reference is not counted.
+    /// Out of memory. The reference is not counted.
     pub fn refer(&mut self, key: &str) -> Result<(), AllocError>
         requires { self.old.references < 2 ^ 64 - 1 }
         ensures ok { OnOk result ((trace : List (List ℕ)) → IsOf trace self.old →
@@ -206,7 +206,7 @@ impl Curve {
     ///
     /// # Errors
     ///
-    /// `Err`: out of memory.
+    /// Out of memory.
     pub fn best(&self) -> Result<Option<Best>, AllocError>
         ensures some { IfOk result (λ best. is_some best ≡ is_some self.now.kept) }
         ensures all { IfOk result (λ best. (trace : List (List ℕ)) → IsOf trace self.now → KnowsRest trace best) }
@@ -233,9 +233,9 @@ impl Curve {
         self.firsts
     }
 
-    /// Returns how many references miss in an LRU cache of this many places.
+    /// Returns how many references miss in an LRU cache of `places` places.
     ///
-    /// Cost: `O(places)`, and at most in proportion to the number of keys.
+    /// Cost: in proportion to the smaller of `places` and the number of keys.
     pub fn misses(&self, places: usize) -> u64
         ensures all { (trace : List (List ℕ)) → IsOf trace self.now →
             result ≡ misses bytes_eq places [] trace }

@@ -11,7 +11,7 @@ use std::marker::Model;
 /// A new log has 2 ^ `FIRST_LEVELS` slots.
 const FIRST_LEVELS: u32 = 3;
 
-/// No log has 2 ^ `MOST_LEVELS` slots: no memory has room for them.
+/// No log has 2 ^ `MOST_LEVELS` slots, because no memory is that large.
 const MOST_LEVELS: u32 = 59;
 
 /// The keys of a trace, by the time of their last reference.
@@ -136,13 +136,13 @@ impl Distances {
     }
 
     /// References a key, and returns its reuse distance: how many other keys were referenced after its last reference.
-    /// `None` says that the key was not referenced before.
+    /// `None` means that the key was not referenced before.
     ///
     /// Cost: `O(log n)` for n keys, amortised over the references.
     ///
     /// # Errors
     ///
-    /// `Err`: there was no memory for a larger log. The key was not referenced.
+    /// Out of memory for a larger log. The reference is not counted.
     pub fn refer(&mut self, key: usize) -> Result<Option<usize>, AllocError>
         requires { key < self.old.keys }
         ensures distance { IfOk result (λ distance. distance ≡ position key self.old.recency) }

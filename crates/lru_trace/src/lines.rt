@@ -64,7 +64,7 @@ fn key_of(line: &[u8]) -> Option<&str>
     }
 }
 
-/// References the key that the line spells in this column, if it spells one, and returns whether it does.
+/// References the key that the line spells in this column, if there is one, and returns whether there is.
 fn refer_line(curve: &mut Curve, column: Option<Column>, line: &[u8]) -> Result<bool, AllocError>
     requires { curve.old.references < 2 ^ 64 - 1 }
     ensures key { IfOk result (λ is. is ≡ is_key (text_in column line.now)) }

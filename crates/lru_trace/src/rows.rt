@@ -8,7 +8,7 @@ use crate::best::Best;
 use crate::curve::Curve;
 use std::alloc::{AllocError, Global};
 
-/// What the head of a report says of a trace.
+/// What the head of a report says about a trace.
 #[derive(Clone, Copy)]
 pub struct Counts {
     pub references: u64,

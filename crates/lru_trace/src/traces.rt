@@ -65,19 +65,19 @@ fn read_trace<R: BufRead, P: Write>(
     }))
 }
 
-/// Reads a trace, and writes how often LRU caches of each size miss at it. What is written is a function of the bytes
-/// that were read: `docs/TRACE.md` shows it.
+/// Reads a trace, and writes how often LRU caches of each size miss at it. The bytes that were read determine what is
+/// written: `docs/TRACE.md` shows it.
 ///
 /// The first line names sizes, and each other line, or a column of it, is a key that is referenced: text of 1 to 64
 /// bytes. Other lines are counted as malformed. If `best` is true, the misses of the best possible policies are
-/// written, too: in text for each named size, and in the other forms also for each power of two.
+/// written, too: in the text form for each named size, and in the other forms also for each power of two.
 ///
 /// Cost: `O(log n)` expected for each line and n keys. The memory is in proportion to the number of keys and the
 /// longest line. With `best` it is in proportion to the number of lines, and each size costs `O(log n)` for each line.
 ///
 /// # Errors
 ///
-/// `Read` or `Memory`: a read failed, or there was no memory; nothing was written. `Write`: a write or the flush
+/// `Read`: a read failed. `Memory`: out of memory. In both cases nothing was written. `Write`: a write or the flush
 /// failed; a beginning of the report was written.
 pub fn trace<R: BufRead, W: Write, P: Write>(
     alloc: Global,

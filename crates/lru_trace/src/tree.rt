@@ -1,10 +1,10 @@
-//! Marks on slots, with a count of those behind each slot.
+//! Slots with marks, and the number of marked slots behind each slot.
 ghost use Rattle.std.specs.Prelude.{◌≡◌, ◌+◌, ◌^◌, ◌<◌, IfOk, length, get_or, set, drop, replicate, sum};
 
 use std::alloc::{AllocError, Global};
 use std::marker::Model;
 
-/// Slots, each of which is marked or not. A contract sees a 1 for each marked slot and a 0 for the others.
+/// Slots that may be marked. A contract sees a 1 for each marked slot and a 0 for each other slot.
 ///
 /// The slots are the leaves of a binary tree, and each inner node contains the sum of its two children. Node 1 is the
 /// root, and the children of node i are 2i and 2i + 1.

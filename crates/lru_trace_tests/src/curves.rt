@@ -1,4 +1,4 @@
-//! The texts of errors.
+//! Tests the texts of errors.
 use lru_trace::TraceError;
 use std::test::Fail;
 use test_helpers::check;

@@ -1,4 +1,4 @@
-//! Traces of lines: the progress, and a flush that fails.
+//! Tests the progress of traces, and a flush that fails.
 use lru_trace::{Form, Options, Progress, TraceEnd, TraceError, trace};
 use std::io::{self, ErrorKind, Write};
 use std::test::Fail;

@@ -3,12 +3,12 @@ use lru_limits::{ByCost, ByLength, ByMemoryUsage, LinkType, Storing, Unlimited, 
 use std::marker::PhantomData;
 use test_helpers::{Alternating, Blanking, LinkedBy};
 
-/// A limiter that a number makes, which `number_of` finds in its words.
+/// A limiter that is made from a number, which `number_of` finds in the words of the limiter.
 pub trait Numbered: Sized {
     fn of(number: u64) -> Self;
 }
 
-/// The number of a limiter that words name: the one at their end, or one that stands for the words.
+/// Returns the number of the limiter that words name: the number at their end, or a number that stands for the words.
 pub fn number_of(words: &str) -> u64 {
     match words {
         "no growth at first" | "blank values" => 0,

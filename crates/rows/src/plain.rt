@@ -1,4 +1,4 @@
-//! A plain list of pairs under a limit, which carries out calls as the documents of the map describe them.
+//! A plain list of entries under a limit, which carries out calls as the documentation of the map describes them.
 use crate::table::Table;
 use lru_model::{ReserveError, Updated};
 use std::alloc::Global;
@@ -11,7 +11,7 @@ pub enum Limit {
     Unlimited,
 }
 
-/// Out of memory its pairs are wrong, and no trial agrees.
+/// If memory runs out, its entries are wrong, and no trial agrees with them.
 #[derive(Drop)]
 pub(crate) struct Plain {
     pub(crate) limit: Limit,

@@ -1,4 +1,4 @@
-//! What is printed of a row that does not hold.
+//! What is printed about a row that fails.
 use std::io;
 
 pub fn agrees(rt: &HostRuntime, name: &str, got: &[u8], expected: &[u8]) -> io::Result<bool> {

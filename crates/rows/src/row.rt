@@ -1,4 +1,4 @@
-//! Rows of a data file. `docs/ROWS.md` has their form.
+//! Rows of a data file. `docs/ROWS.md` explains their form.
 use crate::escapes::unescape;
 use std::alloc::Global;
 use std::fmt::Write;
@@ -24,7 +24,7 @@ impl<'a> Row<'a> {
         }
     }
 
-    /// A malformed one expects a text that no row has.
+    /// Reads a row. A malformed row expects a text that no row gives.
     pub fn of(alloc: Global, lines: &'a str) -> Row<'a> {
         let mut row = Row::new(alloc, "");
         let mut is_good = true;
@@ -42,7 +42,7 @@ impl<'a> Row<'a> {
         row
     }
 
-    /// Adds what a line of the file says. Returns `false` if the line is malformed.
+    /// Adds a line of the file to the row. Returns `false` if the line is malformed.
     fn add(&mut self, line: &str) -> bool {
         if let Some(rest) = line.strip_prefix("each ") {
             return self.add_each(rest);

@@ -1,8 +1,8 @@
-//! Readers and writers in memory that give and take few bytes a call, and fail at one call.
+//! Readers and writers in memory that give and take few bytes in each call, and fail at one call.
 use std::alloc::Global;
 use std::io::{self, Error, ErrorKind, Read, Write};
 
-/// Gives at most `most` bytes a read, and fails at the read with the number `fails_at`, counted from 0.
+/// Gives at most `most` bytes in each read, and fails at read `fails_at`, counted from 0.
 #[derive(Drop)]
 pub struct Slow<'a> {
     bytes: &'a [u8],
@@ -54,8 +54,8 @@ pub enum Failure {
     NoBytes,
 }
 
-/// Takes at most `most` bytes a write, fails `times` times from the write with the number `fails_at` on, counted from
-/// 0, and counts its flushes.
+/// Takes at most `most` bytes in each write, fails `times` times from write `fails_at` on, counted from 0, and counts
+/// its flushes.
 #[derive(Drop)]
 pub struct Narrow {
     bytes: Vec<u8>,
@@ -128,7 +128,7 @@ pub fn error_at(at: usize) -> ErrorKind {
     }
 }
 
-/// The front of a text, up to the end of this many lines.
+/// Returns the first `lines` lines of a text.
 pub fn front_lines(text: &[u8], lines: usize) -> &[u8] {
     let mut left = lines;
     for (i, byte) in text.iter().enumerate() {

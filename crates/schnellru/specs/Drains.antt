@@ -14,7 +14,6 @@ module _ {K V L S N H : Type 0} where
   abbrev pub drain_lender : Drain K V L S N H → GName
   drain_lender d = d.map.ghost_name
 
-  -- how many pairs are left
   abbrev pub drain_left : Drain K V L S N H → Count
   drain_left d = at_most (length (drain_map d).pairs)
 

@@ -1,4 +1,4 @@
-//! Callers of a map whose own contracts rest on those of its calls: the code of docs/CALLING.md.
+//! Callers of a map, whose contracts follow from the contracts of its calls: the code of docs/CALLING.md.
 ghost use Rattle.std.specs.Prelude.{◌≡◌, ◌≤◌, ◌<◌, ◌⊎◌, ℕ, ◌+◌, ◌*◌, ◌/◌, ◌∷◌, ◌++◌, List, length, reverse, take, nat_eq};
 ghost use Rattle.std.specs.Prelude.{Some, None, Ok, IfOk, OnOk, OnErr, true, is_some, sum_by, string_len};
 ghost use Rattle.std.specs.List.{All, IsDistinct};
@@ -37,7 +37,7 @@ fn put(map: &mut LruMap<u64, u64>, key: u64, value: u64) -> Result<bool, AllocEr
     Ok(kept)
 }
 
-/// For any types, under a limiter that stores each value as it comes.
+/// Puts a value as `put` does, for any types, under a limiter that stores each value as it comes.
 fn put_any<K: Eq + Hash + Drop, V: Drop, L: Insertion<K, V, K>>(
     map: &mut LruMap<K, V, L>,
     key: K,
@@ -56,7 +56,7 @@ fn touch(map: &mut LruMap<u64, u64>, key: u64) -> bool
     map.promote(&key)
 }
 
-/// Writes a value under a key that is there, and returns whether it is. Then a look-up returns the value.
+/// Writes a value under a key if the key is there, and returns whether it is. Then a look-up returns the value.
 fn overwrite(map: &mut LruMap<u64, u64>, key: u64, value: u64) -> bool
     ensures { result ≡ true → lookup (nat_eq key) map.new.pairs ≡ Some value }
 {
@@ -69,8 +69,8 @@ fn overwrite(map: &mut LruMap<u64, u64>, key: u64, value: u64) -> bool
     }
 }
 
-/// Returns what the closure returns at a key, from the map if the key is there. Each pair of the map must be a key with
-/// what the closure returns for it, and is one afterwards.
+/// Returns what the closure returns for a key, from the map if the key is there. Before and after the call, the value
+/// of each key of the map is what the closure returns for the key.
 fn memo<F: Fn(u64) -> u64>(
     map: &mut LruMap<u64, u64>,
     answers: F,
@@ -90,7 +90,7 @@ fn memo<F: Fn(u64) -> u64>(
     Ok(value)
 }
 
-/// Returns the text of a key, from the map if the key is there, and else from the closure.
+/// Returns the text of a key, from the map if the key is there, and otherwise from the closure.
 fn fetch<F: Fn(&String) -> String>(
     map: &mut LruMap<String, String>,
     key: String,
@@ -108,7 +108,7 @@ fn fetch<F: Fn(&String) -> String>(
     Ok(text)
 }
 
-/// Puts a number under each text into a new map. On average, growth moved each stored entry at most twice.
+/// Puts a number under each text into a new map. Growth moved each stored entry at most twice on average.
 fn count_all(alloc: Global, texts: &[String]) -> Result<MoveReport, AllocError>
     ensures { IfOk result (λ report. report.moved ≤ 2 * report.placed) }
 {
@@ -135,7 +135,7 @@ fn keep_all(alloc: Global, texts: &[String]) -> Result<LruMap<String, u64>, Allo
     Ok(map)
 }
 
-/// Puts a pair into a map that is within its length, and leaves it so.
+/// Puts an entry into a map that is within its length, and leaves it within its length.
 fn put_within(map: &mut LruMap<String, u64>, key: String, value: u64) -> Result<bool, AllocError>
     requires { length map.old.pairs ≤ map.old.limiter }
     ensures { length map.new.pairs ≤ map.new.limiter }
@@ -144,7 +144,7 @@ fn put_within(map: &mut LruMap<String, u64>, key: String, value: u64) -> Result<
     map.insert(key, value)
 }
 
-/// Under two limits, by length and by the bytes of the table.
+/// Puts an entry as `put_within` does, under two limits, by length and by the bytes of the table.
 fn put_within_both(
     map: &mut LruMap<String, u64, Both<ByLength, ByMemoryUsage>>,
     key: String,
@@ -177,8 +177,8 @@ fn exchange(
     map.insert(new, text)
 }
 
-/// Inserts a pair, pops it, and inserts another one. Each of the inserts evicts only from the old end, all of them pay
-/// for the entries that they move, and no two keys are equal afterwards.
+/// Inserts an entry, pops it, and inserts another entry. Each insert evicts only from the old end, both pay for the
+/// entries that they move, and no two keys are equal afterwards.
 fn put_two(
     map: &mut LruMap<String, u64>,
     first: String,
@@ -226,8 +226,8 @@ fn put_and_keep_half(
     map.insert(key, value)
 }
 
-/// Puts a pair of a new key into a full table, in which a search for the key first meets a bucket whose entry was
-/// removed. The entry fills that bucket, and all the others stay.
+/// Puts an entry of a new key into a full table, in which a search for the key first meets a bucket whose entry was
+/// removed. The new entry fills that bucket, and all other entries stay.
 fn put_into_deleted(
     map: &mut LruMap<String, u64>,
     key: String,
@@ -304,7 +304,7 @@ fn put_and_show<F: FnMut(u64, u64)>(
     map.insert_with(key, value, callback)
 }
 
-/// Evicts what is over the limit, and returns how many entries these were.
+/// Evicts the entries over the limit, and returns how many there were.
 fn trim_and_count(map: &mut LruMap<u64, u64>) -> usize {
     let _len = map.len();
     let mut count = 0usize;
@@ -312,7 +312,7 @@ fn trim_and_count(map: &mut LruMap<u64, u64>) -> usize {
     count
 }
 
-/// Adds a pair of a new key to all the others, or returns why the table has no growth left. It evicts nothing.
+/// Adds an entry of a new key to all others, or returns why the table has no growth left. Evicts nothing.
 fn put_and_keep_all(
     map: &mut LruMap<u64, u64, UnlimitedCompact>,
     key: u64,

@@ -1,4 +1,4 @@
-//! Tests of the memory of a map: what no contract of it says.
+//! Tests of the memory of a map, of which no contract speaks.
 mod clones;
 mod live;
 mod refused;

@@ -1,4 +1,4 @@
-//! Keys and values of 4 KiB.
+//! Tests keys and values of 4 KiB.
 use schnellru::{LruMap, UnlimitedCompact};
 use test_helpers::check;
 

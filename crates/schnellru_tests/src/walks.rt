@@ -1,4 +1,4 @@
-//! Printed texts, and the numbers of the refusals.
+//! Tests printed texts, and the numbers of errors.
 use schnellru::{ByCost, GetOrInsertError, LruMap, ReserveError};
 use std::alloc::Global;
 use test_helpers::check;

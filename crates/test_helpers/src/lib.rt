@@ -1,7 +1,7 @@
 //! What tests share.
 //!
-//! - [`check`], [`all`]: ends a test that does not hold, and joins conditions.
-//! - [`Hog`]: takes all memory, so that the requests of others are refused.
+//! - [`check`], [`all`]: end a test if a condition is false, and join conditions.
+//! - [`Hog`]: takes all memory, so that the requests of others fail.
 //! - [`LinkedBy`], [`Alternating`], [`Blanking`]: limiters of maps from numbers to numbers.
 //! - [`InsertKey`] and [`Counting`]: texts that become a `String` when they are stored, and a limiter for them.
 //! - [`Random`]: random numbers, the same in each run.
@@ -30,7 +30,7 @@ macro_rules! check {
     };
 }
 
-/// Whether all conditions hold.
+/// Returns whether all conditions hold.
 #[macro_export]
 macro_rules! all {
     ($($holds:expr),+) => {

@@ -28,7 +28,7 @@ impl<N: LinkType> Limiter<u64, u64> for LinkedBy<N> {
     }
 }
 
-/// Is over the limit at every length or at none, permits every second growth, and keeps what it was called with.
+/// Is over the limit at every length or at none, permits every second growth, and keeps the arguments of its calls.
 #[derive(Clone, Copy, Debug)]
 pub struct Alternating {
     pub over: bool,
@@ -89,8 +89,8 @@ impl Limiter<u64, u64> for Alternating {
     }
 }
 
-/// Limits nothing, writes 0 into each value that is removed, and into its key if a flag says so, and keeps the last
-/// pair as it was.
+/// Limits nothing, writes 0 into each removed value, and into its key if a flag is set, and keeps the last removed
+/// entry as it was.
 #[derive(Clone, Copy, Debug, Default)]
 pub struct Blanking {
     pub keys: bool,

@@ -31,7 +31,7 @@ Exit status: 0 after the output, 1 if the first line has no sizes, 2 if a read o
 4 if an argument is unknown, lacks its value or cannot be read.
 ";
 
-/// What the next argument is.
+/// What the next argument must be.
 #[derive(Clone, Copy, PartialEq, Eq)]
 enum Next {
     Word,
@@ -39,7 +39,7 @@ enum Next {
     Separator,
 }
 
-/// What the arguments up to here ask for.
+/// What the arguments so far ask for.
 #[derive(Clone, Copy)]
 struct Asked {
     best: bool,

@@ -11,7 +11,7 @@ use crate::bytes::handle::{BytesMap, OVERHEAD};
 use crate::bytes::keys::Named;
 use std::alloc::Global;
 
-// Returns what an entry with a key and a value of these lengths weighs.
+// Returns the weight of an entry with a key and a value of these lengths.
 #[inline]
 fn weight_of(key: usize, value: usize) -> u64
     ensures { result ≡ weight key value }
@@ -21,13 +21,13 @@ fn weight_of(key: usize, value: usize) -> u64
         .saturating_add(OVERHEAD)
 }
 
-/// Inserts a copy of the value under a copy of the key. Takes all memory before it changes an entry. A key that is
-/// there needs memory only for the copies.
+/// Inserts a copy of the value under a copy of the key. Takes all memory before it changes an entry. If the key is
+/// there, it needs memory only for the copies.
 pub fn put(alloc: Global, map: &mut BytesMap, key: &[u8], value: &[u8]) -> u32
     ensures { Puts key.now value.now map.old result map.new }
 {
     let limit = map.limiter().limit();
-    // Not even hashed, so that a length far too great reads no memory.
+    // The key is not hashed, so that a length that is far too great reads no memory.
     if key.len() as u64 > limit {
         return REJECTED;
     }
@@ -51,7 +51,7 @@ pub fn put(alloc: Global, map: &mut BytesMap, key: &[u8], value: &[u8]) -> u32
     }
 }
 
-// Returns whether there was enough.
+// Reserves growth for the key, if it is not there. Returns whether there was enough memory.
 fn get_ready_for(map: &mut BytesMap, key: &[u8]) -> bool
     ensures ready { result ≡ true → IsReady key.now map.old map.new }
     ensures finds { result ≡ true → FindsMemory key.now map.new }
@@ -93,7 +93,7 @@ pub fn get(map: &mut BytesMap, key: &[u8], buffer: &mut [u8]) -> Value
     }
 }
 
-/// The order stays.
+/// Copies the value of a key into the buffer, if it fits, and returns its length. The order stays.
 pub fn peek(map: &BytesMap, key: &[u8], buffer: &mut [u8]) -> Value
     ensures { Reads (lookup (names_bytes key.now) map.now.pairs) result buffer.old buffer.new }
 {
@@ -143,7 +143,7 @@ pub fn show(pair: Option<(&Vec<u8>, &Vec<u8>)>, key: &mut [u8], value: &mut [u8]
     }
 }
 
-/// Returns a copy of the map, or none if there was no memory.
+/// Returns a copy of the map, or none if memory ran out.
 pub fn copied(alloc: Global, map: &BytesMap) -> Option<Box<BytesMap>>
     ensures { IfSome result (λ copy. Copies map.now copy.value) }
 {

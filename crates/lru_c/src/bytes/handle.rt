@@ -1,4 +1,4 @@
-//! What C keeps of a map of byte strings.
+//! What C keeps for a map of byte strings.
 ghost use Rattle.std.specs.Prelude.{◌≡◌, None, Some, option_map};
 ghost use Rattle.lru_c.specs.BytesHandle.{bytes_row, maybe_bytes_row};
 ghost use Rattle.lru_c.specs.Handle.{owns_boxed};
@@ -11,13 +11,14 @@ use std::marker::{Model, PhantomData};
 use std::mem::replace;
 use std::ptr::null_mut;
 
-/// What an entry weighs besides its key and its value: the bytes of a bucket, which contains two vectors and two links.
+/// The weight of an entry in addition to its key and its value: the bytes of a bucket, which contains two vectors and
+/// two links.
 pub const OVERHEAD: u64 = 64;
 
 /// The map of a handle.
 pub type BytesMap = LruMap<Vec<u8>, Vec<u8>, ByWeight<64>>;
 
-/// A handle: a map of byte strings on the heap, or none, as `Lru` is for numbers.
+/// A handle: a map of byte strings on the heap, or none.
 #[repr(C)]
 pub struct LruBytes {
     start: *mut u8,

@@ -1,4 +1,4 @@
-//! What a byte string is looked up by.
+//! A look-up key for byte strings.
 ghost use Rattle.lru_c.specs.Bytes.{names_bytes, names_bytes-lawful};
 
 use lru_limits::LookupKey;

@@ -13,7 +13,7 @@ use Rattle.lru_model.specs.Sizes.{usage}
 use Rattle.lru_model.specs.State.{State, Counts, buckets, IsSound, IsSized}
 use Rattle.lru_model.proofs.TableSizes.Growth.{full_capacity-at_most}
 
--- this number of full buckets, then of deleted ones, and then of empty ones
+-- `fulls` full buckets, then `deletions` deleted buckets, and then `empties` empty buckets
 abbrev pub row : ℕ → ℕ → ℕ → List BucketState
 row fulls deletions empties = replicate fulls (full tt) ++ (replicate deletions deleted ++ replicate empties empty)
 

@@ -94,7 +94,8 @@ module _ {K V : Type 0} (bytes_of : K → V → ℕ) where
       (notified_frees (Some pair) (retained rules older b).limiter)
 
   module _ {H : Type 0} (most : ℕ) where
-    -- the limit is most, and the limiter counts a table within it that is no smaller than the table of the map
+    -- the limit is `most`, and the limiter counts a table that is within the limit and no smaller than the table of the
+    -- map
     pub record Counts (st : State K V Bytes H) : Type 0 where
       pub limit : st.limiter.limit ≡ most
       pub table : UsesAtMost st.limiter.table st

@@ -64,7 +64,7 @@ module _ {K V S H I : Type 0} (rules : Rules K V S) (offers : Offers K V S I) (n
   abbrev Ready : S → State K V S H → Type 0
   Ready s ready = Leaves (record old { limiter = s }) (make_room rules (record { pairs = old.pairs; limiter = s })) ready
 
-  -- the report has the same effect as no table
+  -- with this report an insert does what it would do without a table
   abbrev Comes : S → Report → Type 0
   Comes s report = let c = make_room rules (record { pairs = old.pairs; limiter = s }) in
       (report.has_bucket ≡ true) × (met rules report c ≡ c)

@@ -40,7 +40,7 @@ module _ {K V S : Type 0} (rules : Rules K V S) where
     pub cleared : (c : Contents K V S) → R c (record { pairs = []; limiter = rules.on_cleared c.limiter })
 
 module _ {K V S I : Type 0} (rules : Rules K V S) (offers : Offers K V S I) (names : I → K → Bool) where
-  -- the pair is rewritten by a replacement, and comes first
+  -- a replacement rewrites the pair, which becomes the newest
   abbrev pub exchange : K × V → I → V → Contents K V S → Contents K V S
   exchange pair i v c = let r = offers.on_replace c.limiter (length c.pairs) pair.0 i pair.1 v in
       record { pairs = (r.key, kept_value r) ∷ without (names i) c.pairs; limiter = r.limiter }

@@ -1,4 +1,4 @@
-//! The calls of a run that return pairs. The memory for these is taken before the map changes.
+//! The calls of a run that return pairs. The memory for these pairs is taken before the map changes.
 ghost use Rattle.std.specs.Prelude.{◌≡◌, ◌++◌, ◌+◌, ◌≤◌, ◌<◌, option_to_list};
 ghost use Rattle.std.specs.Vec.{vec_len, vec_capacity};
 ghost use Rattle.lru_model.specs.Drains.{newest_given, oldest_given, pops_first};

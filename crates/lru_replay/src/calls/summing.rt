@@ -16,8 +16,8 @@ use std::hash::Hash;
 
 /// Carries out the calls on the map as `run_calls` does, except for those that would make the limiter's total wrong.
 ///
-/// A write that would change the cost of its pair, and a setting of a limiter with another total, are answered
-/// `CostDiffers`, and change nothing. So a total that is the sum of the costs is their sum after every call.
+/// A write that would change the cost of its entry, or a call that sets a limiter with another total, is answered
+/// `CostDiffers`, and changes nothing. So a total that is the sum of the costs stays their sum.
 ///
 /// ```
 /// let mut costs: LruMap<u64, u64, ByCost> = LruMap::new(alloc, ByCost::new(10), [1, 2, 3, 4], 16);
@@ -27,11 +27,11 @@ use std::hash::Hash;
 /// assert!(rt; refuses && answers.get(2) == Some(&Answer::Value(Some(2))));
 /// ```
 ///
-/// Cost: as `run_calls`, and one look-up more for each `Write`.
+/// Cost: as `run_calls`, and one more look-up for each `Write`.
 ///
 /// # Errors
 ///
-/// `Err` says that there was no memory for the answers. No call was made.
+/// Out of memory for the answers. No call was made.
 pub fn run_summing<K, V, L, S>(
     alloc: Global,
     map: &mut LruMap<K, V, L, S>,

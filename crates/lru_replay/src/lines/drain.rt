@@ -1,4 +1,4 @@
-//! The line `drain`: pairs are taken out, and written as they go.
+//! The line `drain`: takes pairs out, and writes each at once.
 ghost use Rattle.std.specs.Prelude.{ℕ, List};
 ghost use Rattle.lru_model.specs.Drains.{Drained};
 ghost use Rattle.lru_replay.specs.Output.{Writes, pairs_text};
@@ -9,7 +9,7 @@ use schnellru::{Insertion, LruMap};
 use std::io::Write;
 
 /// Takes out at most `most` of the newest pairs, and writes each. Then it drops the others. If a write fails, nothing
-/// more is written, and the map ends as it would have.
+/// more is written, and the map ends as without the failure.
 pub fn write_drain<L: Insertion<u64, u64, u64>, W: Write>(
     writer: &mut W,
     map: &mut LruMap<u64, u64, L>,

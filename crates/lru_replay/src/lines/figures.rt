@@ -1,4 +1,4 @@
-//! What `stats` reports of a map.
+//! What `stats` reports about a map.
 ghost use Rattle.std.specs.Prelude.{◌≡◌, ℕ, Option, Some, None};
 
 use lru_limits::{ByCost, ByLength, ByMemoryUsage, UnlimitedCompact};

@@ -17,7 +17,7 @@ pub enum ReplayEnd {
     NoLimiter,
 }
 
-/// What cuts a replay off. As a number, a failed read is 1 and a failed write 2.
+/// Why a replay stops early. As a number, a failed read is 1 and a failed write 2.
 ///
 /// ```
 /// let (read, write) = (ReplayError::Read, ReplayError::Write);
@@ -30,7 +30,7 @@ pub enum ReplayError {
     /// A read failed, or the reader gave `u64::MAX` reads without an end.
     #[error("read failed")]
     Read = 1,
-    /// A write or the flush failed; a write that takes 0 bytes is one.
+    /// A write or the flush failed; a write that takes 0 bytes has failed.
     #[error("write failed")]
     Write = 2,
 }

@@ -1,4 +1,4 @@
-//! What a line says: a call on the map, or, the first line, what limits the map. Both are a word and at most two
+//! What a line means: a call on the map, or, for the first line, the limit of the map. Each is a word and at most two
 //! numbers.
 ghost use Rattle.std.specs.Prelude.{◌≡◌, ℕ, List, IfSome, IfNone, true, false};
 ghost use Rattle.lru_replay.specs.declared.lines.words.Numbers.TheVariants as numbers;
@@ -15,7 +15,7 @@ pub enum Numbers {
     Two(u64, u64),
 }
 
-/// What limits the map.
+/// The limit of the map.
 #[derive(Clone, Copy)]
 pub enum Limit {
     /// `length N`: at most N pairs.

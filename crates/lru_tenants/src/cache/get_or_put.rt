@@ -24,10 +24,10 @@ impl<
 > TenantCache<N, K, V, L, S> {
     ghost use Rattle.lru_tenants.specs.Lending.{ends_so};
 
-    /// Returns a tenant's value of a key. Else puts it with the value that the closure returns.
+    /// Returns a tenant's value of a key. If the key is not there, puts it with the value that the closure returns.
     ///
-    /// If the key is there, the closure is not called, and its entry becomes the tenant's newest. `None` says that the
-    /// new entry is not there, as `false` says it of `put`.
+    /// If the key is there, the closure is not called, and its entry becomes the tenant's newest. `None` means, as
+    /// `false` does for `put`, that the new entry is not there.
     ///
     /// ```
     /// assert_eq!(rt; cache.get_or_put(&1, 7, || 3), Ok(Some(&2)));
@@ -38,7 +38,7 @@ impl<
     ///
     /// # Errors
     ///
-    /// As `put`. If the error is `Memory`, the closure was called.
+    /// Fails as `put` does. If the error is `Memory`, the closure was called.
     pub fn get_or_put<F: FnOnce() -> V>(
         &mut self,
         name: &N,

@@ -25,9 +25,9 @@ impl<
     L: Budgeted<K, V> + Drop,
     S: KeyHasher<K> + Copy,
 > TenantCache<N, K, V, L, S> {
-    /// As `put`, and passes to the callback the entries that are evicted, oldest first, the entry that is removed
-    /// because its new value is rejected, and the new entry if it could not be stored. A value that is replaced is not
-    /// passed on, nor is the entry of a new key that the limiter rejects.
+    /// Does what `put` does, and passes entries to the callback: the evicted entries, oldest first; an entry that is
+    /// removed because its new value is rejected; and the new entry if it could not be stored. A replaced value is not
+    /// passed on. A rejected entry of a new key is not passed on either.
     ///
     /// ```
     /// let mut left = 0u64;
@@ -39,7 +39,7 @@ impl<
     ///
     /// # Errors
     ///
-    /// As `put`.
+    /// Fails as `put` does.
     pub fn put_with<F: FnMut(K, V)>(
         &mut self,
         name: &N,
@@ -62,12 +62,12 @@ impl<
         put_answer(insert(own, key, value, sink))
     }
 
-    /// As `put_with`, and returns the value that the tenant does not keep, as [`Inserted`] says, but also the rejected
-    /// value of a new key: then `kept` is false, the tenant stays as it is, the callback gets nothing, and the key is
-    /// dropped.
+    /// Does what `put_with` does, and returns the value that the tenant does not keep, as [`Inserted`] says. It also
+    /// returns the rejected value of a new key: then `kept` is false, the tenant stays as it is, the callback gets
+    /// nothing, and the key is dropped.
     ///
-    /// If the entry of a key that was there is not kept, the callback got it: with the new value if it was evicted,
-    /// with the old value if the limiter rejected the new one.
+    /// If a key was there and is not kept, the callback got its entry: with the new value if it was evicted, and with
+    /// the old value if the limiter rejected the new one.
     ///
     /// ```
     /// let replaced = cache.put_full(&1, 7, 3, &mut |_, _| {})?;
@@ -80,7 +80,7 @@ impl<
     ///
     /// # Errors
     ///
-    /// As `put`. After `NotOpen` key and value are dropped; after `Memory` the callback got both.
+    /// Fails as `put` does. After `NotOpen` the key and the value are dropped; after `Memory` the callback got both.
     pub fn put_full<F: FnMut(K, V)>(
         &mut self,
         name: &N,
@@ -109,7 +109,7 @@ impl<
         put_answer(insert_full(own, key, value, sink))
     }
 
-    /// As `set_budget`, and passes each evicted entry to the callback, oldest first.
+    /// Does what `set_budget` does, and passes each evicted entry to the callback, oldest first.
     ///
     /// ```
     /// let mut evicted = 0u64;
@@ -121,7 +121,7 @@ impl<
     ///
     /// # Errors
     ///
-    /// As `set_budget`.
+    /// Fails as `set_budget` does.
     pub fn set_budget_with<F: FnMut(K, V)>(
         &mut self,
         name: &N,
@@ -154,7 +154,7 @@ impl<
         Ok(())
     }
 
-    /// As `close`, and passes each entry to the callback, oldest first.
+    /// Does what `close` does, and passes each entry to the callback, oldest first.
     ///
     /// ```
     /// let mut last = 0u64;

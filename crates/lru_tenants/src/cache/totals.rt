@@ -17,7 +17,7 @@ impl<N: Eq + Hash, K: Eq + Hash, V, L: Budgeted<K, V>, S: KeyHasher<K> + Copy> T
     L,
     S,
 > {
-    /// Sets what the budgets of all tenants add up to at most, or that nothing limits their sum.
+    /// Sets the greatest sum that the budgets of all tenants may have, or that nothing limits their sum.
     ///
     /// ```
     /// assert_eq!(rt; cache.set_total_limit(Some(5)), Ok(()));
@@ -42,7 +42,7 @@ impl<N: Eq + Hash, K: Eq + Hash, V, L: Budgeted<K, V>, S: KeyHasher<K> + Copy> T
         Ok(())
     }
 
-    /// Returns what the budgets of all tenants add up to at most, if there is a limit.
+    /// Returns the greatest sum that the budgets of all tenants may have, if there is a limit.
     ///
     /// ```
     /// assert_eq!(rt; cache.set_total_limit(Some(5)), Ok(()));

@@ -18,8 +18,7 @@ use std::alloc::AllocError;
 use std::hash::Hash;
 
 impl<K, V, N: LinkType> OrderedTable<K, V, N> {
-    /// Lets the links show the last promotion. If several calls that change the order follow, the compiler then knows
-    /// that none of them has to.
+    /// Lets the links show the last promotion. Then the compiler knows that the calls after it need not do this.
     #[inline(always)]
     pub fn settle(&mut self)
         ensures { self.new ≡ self.old }
@@ -111,7 +110,7 @@ impl<K, V, N: LinkType> OrderedTable<K, V, N> {
         self.linked.take(b, false)
     }
 
-    /// Takes the oldest pair out of a table that is not empty. Its older link is not read.
+    /// Takes the oldest pair out of a table that is not empty. The older link of this pair is not read.
     ///
     /// Cost: `O(1)`.
     #[inline(always)]

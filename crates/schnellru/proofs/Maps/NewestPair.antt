@@ -20,7 +20,6 @@ use Rattle.ordered_table.proofs.Tables.BucketPairs.{pair_found, others_are, plac
 use Rattle.schnellru.proofs.Maps.HeldMaps.{alike_holds}
 use Rattle.schnellru.proofs.Maps.Writes.{written_first, kept_holds}
 
--- an empty list has no newest pair
 pub record HasNoNewest {K V : Type 0} (pairs : List (K × V)) : Type 0 where
   pub first : first_pair pairs ≡ None
   pub value : newest_value pairs ≡ None

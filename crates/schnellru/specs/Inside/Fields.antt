@@ -2,7 +2,6 @@
 use Rattle.std.specs.Prelude.{ℕ}
 use Rattle.schnellru.specs.declared.map.LruMap.TheInside.{Inside}
 
--- the fields of a map except its entries
 pub record Fields (S H : Type 0) : Type 0 where
   pub limiter : S
   pub hasher : H
@@ -11,7 +10,7 @@ pub record Fields (S H : Type 0) : Type 0 where
   pub entry_bytes : ℕ
   pub max : ℕ
 
--- these fields, by all fields and the number of the link `MAX`
+-- the `Fields` of a map, by all its fields and the number of the link `MAX`
 abbrev pub fields_of : {K V S H Link Hasher : Type 0} → Inside K V S H Link Hasher → ℕ → Fields S H
 fields_of m max = record {
   limiter = m.limiter;

@@ -17,11 +17,9 @@ module _ {V E : Type 0} where
   is_kept (Ok o) = Ok (is_some o)
   is_kept (Err e) = Err e
 
-  -- a value is lent
   abbrev pub IsLent : Result (Option (MutBor V)) E → Type 0
   IsLent r = is_kept r ≡ Ok true
 
-  -- no value is lent
   abbrev pub NoneLent : Result (Option (MutBor V)) E → Type 0
   NoneLent r = is_kept r ≡ Ok true → ⊥
 

@@ -13,7 +13,8 @@ impl<
     L: Limiter<K, V> + Clone,
     S: KeyHasher<K> + Clone + Drop,
 > LruMap<K, V, L, S> {
-    /// Clones the entries in order, the limiter and the hasher, into a table of the same buckets and counts.
+    /// Clones the entries, in order, the limiter and the hasher. The table of the clone has the same buckets and
+    /// counts.
     ///
     /// ```
     /// let mut copy = map.clone()?;

@@ -69,7 +69,7 @@ impl<K: Eq + Hash, V: Drop, L: Limiter<K, V>, S: KeyHasher<K>> LruMap<K, V, L, S
     /// returned but the map could not store.
     ///
     /// Each of these is passed on once, even if the result is an `Err`. Only tests show that the limiter is not called
-    /// before that. A replaced value is not passed on.
+    /// again before this. A replaced value is not passed on.
     ///
     /// ```
     /// let mut left = None;

@@ -106,8 +106,8 @@ impl<K: Eq + Hash + Drop, V, L: Limiter<K, V>, S: KeyHasher<K>> LruMap<K, V, L, 
 }
 
 impl<K: Eq + Hash + Drop, V: Drop, L: Limiter<K, V>, S: KeyHasher<K>> LruMap<K, V, L, S> {
-    /// Drops all entries. The limiter is notified of the clear, not of each entry, even if the map is empty. The table
-    /// keeps its buckets.
+    /// Drops all entries. The limiter is notified of the clear, even if the map is empty, but not of each entry. The
+    /// table keeps its buckets.
     ///
     /// ```
     /// map.clear();

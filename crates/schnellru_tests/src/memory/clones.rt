@@ -1,4 +1,4 @@
-//! Copies: whole, and refused.
+//! Clones of maps, with and without enough memory.
 ghost use Rattle.std.specs.Prelude.{◌≡◌};
 ghost use Rattle.lru_limits.specs.Limiters.{no_rules};
 
@@ -7,7 +7,7 @@ use schnellru::{Limiter, LruMap, Storing};
 use std::hash::BuildHasher;
 use test_helpers::{LastByte, check};
 
-/// Limits nothing, and writes into `clones` how many keys live when it is notified of a clear.
+/// Limits nothing, and writes into `clones` how many keys are alive when it is notified of a clear.
 impl<K, V> Limiter<K, V> for Live<'_> {
     type LinkType = u32;
 
@@ -41,8 +41,8 @@ impl BuildHasher for Live<'_> {
 
 type Map<'a> = LruMap<Live<'a>, Live<'a>, Storing<Live<'a>>, Live<'a>>;
 
-/// Copies a map of seven pairs while this number of clones is allowed. Returns whether the copy takes a clone for each
-/// key, each value, the limiter and the hasher, and whether a copy drops what it made if a clone fails.
+/// Copies a map of seven entries with at most `allowed` clones. Returns whether the copy clones each key, each value,
+/// the limiter and the hasher, and whether it drops these clones if one fails.
 fn is_cloned_once(map: &Map, lives: &Lives, allowed: u64) -> bool {
     lives.clones.set(allowed);
     let is_made = map.clone().is_ok();
@@ -50,7 +50,7 @@ fn is_cloned_once(map: &Map, lives: &Lives, allowed: u64) -> bool {
     (is_made == (allowed >= 16)) & (left == allowed.saturating_sub(16)) & lives.are(8)
 }
 
-/// A clear is reported after the pairs were dropped.
+/// The limiter is notified of a clear after the entries were dropped.
 #[test]
 fn each_key_and_value_is_cloned_once(rt: HostRuntime) {
     let lives = Lives::new();

@@ -1,4 +1,4 @@
--- What is gone from the rest was written.
+-- The bytes before `rest` were written.
 use Rattle.std.proofs.Common.{◌≡◌, ℕ, List, ◌++◌}
 use Rattle.std.specs.Io.KnownBytes.{Appends}
 use Rattle.lru_trace.proofs.output.write_bytes.Given as goal

@@ -1,4 +1,4 @@
--- What is left of the powers.
+-- The powers that are left.
 use Rattle.std.proofs.Common.{◌≡◌, ◌-◌, ◌<◌, ◌++◌}
 use Rattle.std.specs.List.{All}
 use Rattle.lru_trace.specs.Rows.{powers}

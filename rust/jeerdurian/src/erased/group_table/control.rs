@@ -12,8 +12,6 @@ pub(crate) const EMPTY: u8 = 0xff;
 
 pub(crate) const DELETED: u8 = 0x80;
 
-// The control bytes of a table.
-
 pub(crate) struct Control {
     bytes: Vec<u8>,
     last: usize,

@@ -1,5 +1,5 @@
 // Erased from crates/group_table/src/link.rt: do not edit.
-//! `LinkType`: the width of a link, which is the number of a bucket.
+//! `LinkType`: the widths of links, which are numbers of buckets.
 
 #[allow(unused_imports)]
 use crate::rattle_std::prelude::*;

@@ -28,7 +28,7 @@ fn ones_if_less(low: u32, high: u16) -> usize {
 #[inline]
 pub(crate) fn ones_if_empty_neighbours(control: &Control, b: usize) -> usize {
     // `used` has a bit for each used bucket from this one up to the next empty one. It is less than the mask of the
-    // empty buckets before exactly if fewer than 16 used buckets adjoin: these and those directly before this one.
+    // empty buckets before exactly if these used buckets and those directly before this one are fewer than 16 together.
     // Comparing the masks takes fewer instructions than two counts and their sum.
     let used = lanes_below(empty_from(control, b));
     ones_if_less(used, empty_before(control, b))

@@ -4,8 +4,8 @@
 #[allow(unused_imports)]
 use crate::rattle_std::prelude::*;
 
-/// Returns how many entries a table of `buckets` buckets may hold: one fewer than its buckets up to 8 buckets, and
-/// seven eighths of more.
+/// Returns how many entries a table of `buckets` buckets may hold: `buckets` - 1 if `buckets` is at most 8, and
+/// otherwise seven eighths of `buckets`.
 #[inline]
 
 pub fn full_capacity(buckets: usize) -> usize {

@@ -142,7 +142,7 @@ impl<T> Table<T> {
         b
     }
 
-    /// Does what `place` does, also without growth left: then only a deleted bucket may take the entry.
+    /// Does what `place` does, but growth need not be left: if none is, only a deleted bucket may take the entry.
     ///
     /// # Errors
     ///

@@ -37,8 +37,8 @@ pub fn inserts_evict_the_oldest<K: Eq + Hash, V, I: LookupKey<K>, L: Insertion<K
 /// there were.
 pub fn inserts_pass_few<K: Eq + Hash, V, I: LookupKey<K>, L: Insertion<K, V, I>, S: KeyHasher<K>>() {}
 
-/// In a table of up to 16 buckets the entries, the limiter, the number of buckets and the growth left determine what the
-/// table reports of an insert (`small_report`), and so how the insert ends, unless memory runs out.
+/// In a table of up to 16 buckets the entries, the limiter, the number of buckets and the growth left determine what
+/// the table reports about an insert (`small_report`), and so how the insert ends, unless memory runs out.
 pub fn small_inserts_are_exact<K: Eq + Hash, V, I: LookupKey<K>, L: Insertion<K, V, I>, S: KeyHasher<K>>() {}
 
 /// An insert changes the list of entries as the table reports (`exact`). The report says whether the limiter was
@@ -71,7 +71,7 @@ pub fn inserts_pay_for_moves<K: Eq + Hash, V, I: LookupKey<K>, L: Insertion<K, V
 pub fn refused_growth_keeps_half<K: Eq + Hash, V, L: Limiter<K, V>, S: KeyHasher<K>>() {}
 
 /// An insertion into the table evicts nothing if the table grows. It evicts only if the table would be more than half
-/// full and cannot grow, because the limiter refuses or there is no larger table, even if it then runs out of memory.
+/// full and cannot grow, because the limiter refuses or there is no larger table. This holds even if memory runs out.
 pub fn growth_keeps_the_list<K: Eq + Hash, V, L: Limiter<K, V>, S: KeyHasher<K>>() {}
 
 /// After a removal the key is not there.

@@ -116,8 +116,8 @@ impl<N: Eq + Hash, K: Eq + Hash, V, L: Budgeted<K, V>, S: KeyHasher<K> + Copy> T
     ///
     /// # Errors
     ///
-    /// `AlreadyOpen`; `OverTotal`: the sum of all budgets would be above the total limit; or `Memory`: out of memory
-    /// for one tenant more.
+    /// `AlreadyOpen`. `OverTotal`: the sum of all budgets would be above the total limit. `Memory`: out of memory for
+    /// one more tenant.
     pub fn open(&mut self, name: N, budget: u64) -> Result<(), TenantError> {
         if self.tenants.contains_key(&name) {
             return Err(TenantError::AlreadyOpen);
@@ -145,9 +145,9 @@ impl<N: Eq + Hash, K: Eq + Hash, V, L: Budgeted<K, V>, S: KeyHasher<K> + Copy> T
 
     /// Inserts a key with a value, as the newest entry of the tenant. Returns whether the key is there afterwards.
     ///
-    /// It is an `insert` into the map of the tenant. The limiter rejects an entry that by itself costs more than the
-    /// budget, or that would take the tenant's total past `u64::MAX`; if the key is there, its entry is removed then.
-    /// Otherwise its oldest entries are evicted until the total is within the budget.
+    /// It inserts into the map of the tenant. The limiter rejects an entry that alone costs more than the budget, or
+    /// that would take the tenant's total past `u64::MAX`; if the key is there, its entry is then removed. Otherwise
+    /// the tenant's oldest entries are evicted until the total is within the budget.
     ///
     /// ```text
     /// assert_eq!(rt; cache.put(&1, 8, 1), Ok(true));
@@ -158,8 +158,8 @@ impl<N: Eq + Hash, K: Eq + Hash, V, L: Budgeted<K, V>, S: KeyHasher<K> + Copy> T
     ///
     /// # Errors
     ///
-    /// `NotOpen`: nothing has changed. `Memory`: out of memory for the entry. The newest of the tenant's entries are
-    /// left, as after an `Err` of `LruMap::insert`.
+    /// `NotOpen`: nothing has changed. `Memory`: out of memory for the entry. Some of the tenant's oldest entries may
+    /// have been evicted, as after an `Err` of `LruMap::insert`.
     pub fn put(&mut self, name: &N, key: K, value: V) -> Result<bool, TenantError> {
         self.put_with(name, key, value, &mut |_, _| {})
     }
@@ -211,12 +211,12 @@ impl<N: Eq + Hash, K: Eq + Hash, V, L: Budgeted<K, V>, S: KeyHasher<K> + Copy> T
     ///
     /// # Errors
     ///
-    /// `NotOpen`, or `OverTotal`: the sum of all budgets would be above the total limit. Both change nothing.
+    /// `NotOpen`. `OverTotal`: the sum of all budgets would be above the total limit. Both change nothing.
     pub fn set_budget(&mut self, name: &N, budget: u64) -> Result<(), TenantError> {
         self.set_budget_with(name, budget, &mut |_, _| {})
     }
 
-    /// Closes a tenant and drops its entries. Returns how many these were.
+    /// Closes a tenant and drops its entries. Returns how many there were.
     ///
     /// ```text
     /// assert_eq!(rt; (cache.len(), cache.close(&1), cache.len()), (1, Ok(1), 0));

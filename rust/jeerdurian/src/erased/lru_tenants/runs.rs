@@ -30,7 +30,7 @@ use crate::rattle_std::hash::Hash;
 ///
 /// # Errors
 ///
-/// `Err` says that there was no memory for the answers.
+/// Out of memory for the answers.
 pub fn run_tenants<N: Copy + Eq + Hash, K: Copy + Eq + Hash, V: Copy, L: Budgeted<K, V>, S: KeyHasher<K> + Copy>(
     alloc: Global,
     cache: &mut TenantCache<N, K, V, L, S>,

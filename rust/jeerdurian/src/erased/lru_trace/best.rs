@@ -7,8 +7,8 @@ use crate::rattle_std::prelude::*;
 use crate::rattle_std::alloc::{AllocError, Global};
 use crate::rattle_std::collections::BTreeSet;
 
-/// What a policy knows that knows the whole trace: the time of each next reference. So it counts how often the best
-/// possible policies miss. `docs/THEORY.md` says what they are.
+/// What a policy knows if it knows the whole trace: the time of each next reference. So `Best` counts how often the
+/// best possible policies miss, which `docs/THEORY.md` explains.
 ///
 /// It takes 8 bytes for each reference.
 
@@ -32,15 +32,15 @@ impl Best {
         (*at!(self.nexts, now))
     }
 
-    /// Returns how often MIN misses in this many places, from no keys. It stores each key that is referenced, and evicts
-    /// the key whose next reference comes last: no policy that stores each key misses less often.
+    /// Returns how often MIN with `places` places misses, from no keys. MIN stores each key that is referenced, and
+    /// evicts the key whose next reference comes last. No policy that stores each key misses less often.
     ///
-    /// Cost: `O(log n)` for each reference and n places; the memory is in proportion to n, and to the number of keys at
-    /// most.
+    /// Cost: `O(log n)` for each reference and n places; the memory is in proportion to the smaller of n and the number
+    /// of keys.
     ///
     /// # Errors
     ///
-    /// `Err`: out of memory.
+    /// Out of memory.
     pub fn min_misses(&self, places: usize) -> Result<usize, AllocError> {
         let end = self.end();
         if places == 0 {
@@ -56,14 +56,14 @@ impl Best {
         Ok(misses)
     }
 
-    /// Returns how often MIN with bypass misses in this many places, from no keys. It may leave out the key that is
-    /// referenced: no policy at all misses less often.
+    /// Returns how often MIN with bypass and `places` places misses, from no keys. It may leave out the key that is
+    /// referenced. No policy at all misses less often.
     ///
     /// Cost: as `min_misses`.
     ///
     /// # Errors
     ///
-    /// `Err`: out of memory.
+    /// Out of memory.
     pub fn bypass_misses(&self, places: usize) -> Result<usize, AllocError> {
         let end = self.end();
         let mut times = BTreeSet::new(self.alloc);
@@ -93,7 +93,7 @@ fn add(times: &mut BTreeSet<usize>, time: usize, end: usize) -> Result<(), Alloc
     }
 }
 
-/// Returns a number above all of these. `Err` also if one is `usize::MAX`, which no vector is long enough for.
+/// Returns a number above all of these. Fails, too, if one is `usize::MAX`, because no vector is that long.
 fn bound_of(numbers: &[usize]) -> Result<usize, AllocError> {
     let mut bound = 0;
     for number in numbers {

@@ -41,8 +41,8 @@ impl Curve {
         Curve::make(alloc, None)
     }
 
-    /// As `new`, and the curve keeps the references, 8 bytes for each, so that `best` can count what the best possible
-    /// policies miss.
+    /// Makes a curve that also keeps the references, 8 bytes for each, so that `best` can count how often the best
+    /// possible policies miss.
     ///
     /// ```text
     /// let mut curve = Curve::keeping_references(alloc)?;
@@ -119,7 +119,7 @@ impl Curve {
     ///
     /// # Errors
     ///
-    /// `Err`: out of memory. The reference is not counted.
+    /// Out of memory. The reference is not counted.
     pub fn refer(&mut self, key: &str) -> Result<(), AllocError> {
         let number = self.number_of(key)?;
         self.make_count()?;
@@ -140,7 +140,7 @@ impl Curve {
     ///
     /// # Errors
     ///
-    /// `Err`: out of memory.
+    /// Out of memory.
     pub fn best(&self) -> Result<Option<Best>, AllocError> {
         match &self.kept {
             Some(kept) => Ok(Some(Best::new(self.alloc, kept)?)),
@@ -158,9 +158,9 @@ impl Curve {
         self.firsts
     }
 
-    /// Returns how many references miss in an LRU cache of this many places.
+    /// Returns how many references miss in an LRU cache of `places` places.
     ///
-    /// Cost: `O(places)`, and at most in proportion to the number of keys.
+    /// Cost: in proportion to the smaller of `places` and the number of keys.
     pub fn misses(&self, places: usize) -> u64 {
         let mut misses = self.references;
         let places = places.min(self.counts.len());

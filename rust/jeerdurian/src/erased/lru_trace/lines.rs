@@ -54,7 +54,7 @@ fn key_of(line: &[u8]) -> Option<&str> {
     }
 }
 
-/// References the key that the line spells in this column, if it spells one, and returns whether it does.
+/// References the key that the line spells in this column, if there is one, and returns whether there is.
 fn refer_line(curve: &mut Curve, column: Option<Column>, line: &[u8]) -> Result<bool, AllocError> {
     let Some(key) = key_of(text_in(line, column)) else {
         return Ok(false);

@@ -23,7 +23,7 @@ pub struct Column {
 /// What a trace reads and writes.
 #[derive(Clone, Copy, Debug, PartialEq, Eq)]
 pub struct Options {
-    /// The column that is the key. Without one the whole line is.
+    /// The column that is the key. Without a column the whole line is the key.
     pub column: Option<Column>,
     /// The form of what is written.
     pub form: Form,

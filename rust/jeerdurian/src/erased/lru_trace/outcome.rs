@@ -11,7 +11,7 @@ pub enum TraceEnd {
     NoSizes,
 }
 
-/// What cuts a trace off.
+/// Why a trace stops early.
 #[derive(Clone, Copy, Debug, PartialEq, Eq)]
 pub enum TraceError {
     Read = 1,

@@ -13,12 +13,12 @@ pub struct Progress<P> {
 }
 
 impl<P: Write> Progress<P> {
-    /// Makes progress that is written to this writer, if there is one.
+    /// Makes a `Progress` that writes to this writer, if there is one.
     pub const fn new(alloc: Global, writer: Option<P>) -> Self {
         Progress { alloc, writer }
     }
 
-    /// A write that fails, or memory that runs out, changes nothing else.
+    /// Writes the number after each million. If the write fails or memory runs out, nothing else changes.
     pub fn note(&mut self, lines: u64) {
         if lines == 0 || lines % STEP != 0 {
             return;

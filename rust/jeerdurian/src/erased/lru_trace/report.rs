@@ -1,5 +1,5 @@
 // Erased from crates/lru_trace/src/report.rt: do not edit.
-//! What is written of a curve: text for people, csv for programs, or a picture.
+//! Writes a curve: as text for people, csv for programs, or a picture.
 
 #[allow(unused_imports)]
 use crate::rattle_std::prelude::*;

@@ -6,7 +6,7 @@ use crate::erased::lru_trace::best::Best;
 use crate::erased::lru_trace::curve::Curve;
 use crate::rattle_std::alloc::{AllocError, Global};
 
-/// What the head of a report says of a trace.
+/// What the head of a report says about a trace.
 #[derive(Clone, Copy)]
 pub struct Counts {
     pub references: u64,

@@ -9,7 +9,7 @@ use crate::erased::schnellru::RandomState;
 use crate::rattle_std::alloc::Global;
 use crate::rattle_std::collections::BTreeMap;
 
-/// What an entry costs beside the bytes of its path and of its response.
+/// What an entry costs in addition to the bytes of its path and of its response.
 const OVERHEAD: u64 = 64;
 
 /// A response of some bytes, which is stale from `expires` on.
@@ -26,7 +26,7 @@ impl Costed for Response {
 }
 
 /// How many look-ups of a host found a fresh response, how many did not, and how many entries were evicted, or removed
-/// because their new response was rejected.
+/// because a new response was rejected.
 #[derive(Clone, Copy, Default)]
 pub struct Counts {
     pub hits: u64,
@@ -90,7 +90,7 @@ impl ResponseCache {
     fn open(&mut self, name: String, budget: u64) -> Result<(), TenantError> {
         let counted = owned(self.alloc, name.as_str())?;
         self.entries.open(name, budget)?;
-        // Out of memory, the host is open and its calls are not counted.
+        // If memory runs out, the host is open, but its calls are not counted.
         let _ = self.counts.insert(counted, Counts::default());
         Ok(())
     }
@@ -109,13 +109,13 @@ impl ResponseCache {
         Ok(("budget set", evicted))
     }
 
-    /// Stores a response. Returns whether it is there afterwards, in a word, and how many entries were evicted, or
-    /// removed because their new response was rejected.
+    /// Stores a response. Returns a word that says whether it is there afterwards, and how many entries were evicted,
+    /// or removed because a new response was rejected.
     pub fn put(&mut self, host: &str, path: &str, response: Response) -> Result<(&'static str, u64), TenantError> {
         let (name, path) = (owned(self.alloc, host)?, owned(self.alloc, path)?);
         let mut evicted = 0u64;
         let stored = self.entries.put_with(&name, path, response, &mut |_, _| evicted = evicted.saturating_add(1));
-        // Without memory the callback got the new entry too.
+        // If memory ran out, the callback got the new entry, too.
         let evicted = evicted.saturating_sub(stored.is_err() as u64);
         self.count(&name, 0, 0, evicted);
         Ok((if stored? { "stored" } else { "rejected" }, evicted))

@@ -10,7 +10,7 @@ use crate::rattle_std::alloc::{AllocError, Global};
 use crate::rattle_std::cell::Cell;
 use crate::rattle_std::test::Fail;
 
-// Whether the keys are where the rules have them, and the hash of each entry was asked for once.
+// Returns whether the keys are where the rules put them, and whether the hash of each entry was computed once.
 fn moves(alloc: Global, table: &mut Table<u64>, buckets: usize, factor: u64) -> Result<bool, AllocError> {
     let expected = keys_after(alloc, &keys_of(alloc, table)?, buckets, factor)?;
     let asked = Cell::new(0usize);
@@ -58,7 +58,7 @@ fn moves_many(alloc: Global, table: &mut Table<u64>) -> Result<bool, AllocError>
     Ok(is_rehashed && is_copied && is_relocated)
 }
 
-// A call may run out of memory, so a body that returns an error above some size is proved.
+// A call may run out of memory, so the prover accepts a body that fails above some size. This test does not.
 #[test]
 fn many_buckets() {
     let run = |rt: HostRuntime| -> Result<(), Fail> {

@@ -1,5 +1,5 @@
 // Erased from crates/group_table_tests/src/tables.rt: do not edit.
-//! Tables to be tested, and the rules of docs/TABLE.md over a list with the key of each bucket.
+//! Tables for tests, and the rules of docs/TABLE.md over a list with the key of each bucket.
 #[allow(unused_imports)]
 use crate::rattle_std::prelude::*;
 
@@ -10,7 +10,7 @@ use crate::rattle_std::mem;
 
 const MOST: usize = 1 << 21;
 
-/// A factor for scattered hashes. The hashes of factor 0 are all equal, and those of factor 1 count up.
+/// A factor for scattered hashes. The hashes of factor 0 are all equal, and the hashes of factor 1 count up.
 pub(super) const SCATTERED: u64 = 0x9e37_79b9_7f4a_7c15;
 
 pub(super) fn hash_of(factor: u64, key: u64) -> u64 {
@@ -97,9 +97,8 @@ pub(super) fn exchange(keys: &mut [Option<u64>], b: usize, key: Option<u64>) -> 
     }
 }
 
-/// The old buckets are gone through in their order, and each key goes into the first free bucket. In a rehash a key
-/// stays if its search reads its bucket among the first 16, and a bucket whose key waits counts as free: that key comes
-/// next.
+/// Each key of the old buckets, in their order, moves into the first free bucket. In a rehash a key stays if its search
+/// reads its bucket among the first 16. A bucket whose key waits counts as free, and its key comes next.
 pub(super) fn keys_after(
     alloc: Global,
     old: &[Option<u64>],

@@ -1,5 +1,5 @@
 // Erased from crates/lru_limits_tests/src/by_text_length.rt: do not edit.
-//! A limiter of your own with a running total: by the length of the texts that are the values of a map.
+//! A limiter of your own with a running total: the sum of the lengths of the values, which are texts.
 //! `docs/LIMITERS.md` explains it.
 
 #[allow(unused_imports)]
@@ -7,7 +7,7 @@ use crate::rattle_std::prelude::*;
 
 use crate::erased::lru_limits::{Admission, Limiter, Summing};
 
-/// Limits the bytes of all texts together. It rejects a text that is longer than the limit by itself.
+/// Limits the bytes of all texts together. It rejects a text that is longer than the limit.
 #[derive(Clone, Copy, Debug)]
 pub struct ByTextLength {
     pub limit: u64,
@@ -15,7 +15,7 @@ pub struct ByTextLength {
 }
 
 impl ByTextLength {
-    /// Returns the total with a text of `bytes` bytes, if the text is within the limit and the total fits.
+    /// Returns the total with a text of `bytes` bytes, if the text is within the limit and the total fits 64 bits.
     fn total_with(&self, total: u64, bytes: u64) -> Option<u64> {
         if bytes <= self.limit { total.checked_add(bytes) } else { None }
     }

@@ -13,7 +13,7 @@ pub struct Name {
     pub text: String,
 }
 
-/// What names it, without a `String`.
+/// Names a `Name` without a `String`.
 #[derive(Clone, Copy, PartialEq, Eq, Hash)]
 pub struct Naming<'a> {
     pub tenant: u64,

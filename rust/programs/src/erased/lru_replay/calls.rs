@@ -11,7 +11,7 @@ pub(crate) mod summing;
 use crate::erased::lru_model::{MoveReport, ReserveError, Updated};
 use crate::rattle_std::alloc::AllocError;
 
-/// A call of a run. It does what the call of the map with its name does, except `SetLimiter`: that one writes through
+/// A call of a run. It does what the call of the map with the same name does, except `SetLimiter`, which writes through
 /// `limiter_mut` and evicts nothing, while `LruMap::set_limiter` trims. `docs/RUNS.md` has the other special cases.
 ///
 /// ```text
@@ -20,7 +20,7 @@ use crate::rattle_std::alloc::AllocError;
 #[derive(Debug)]
 pub enum Call<K, V, L> {
     Insert(K, V),
-    /// As `insert`, and returns the pairs that the map loses.
+    /// Does what `insert` does, and returns the pairs that the map loses.
     InsertWith(K, V),
     /// `get_or_insert`: returns the value of the key, which is inserted with this value if it is not there.
     GetOrInsert(K, V),
@@ -68,7 +68,7 @@ pub enum Answer<K, V> {
     Flag(bool),
     /// To `InsertWith`: what the insert returned, and what it passed to its callback.
     Given {
-        /// Whether the key is in the map, or out of memory.
+        /// Whether the key is in the map, or that memory ran out.
         done: Result<bool, AllocError>,
         /// The pairs that the callback got, in that order.
         out: Vec<(K, V)>,
@@ -84,7 +84,7 @@ pub enum Answer<K, V> {
     Done,
     /// To `Reserve`: that there is growth left, or why not.
     Reserved(Result<(), ReserveError>),
-    /// To `Shrink`: whether the table has fewer buckets now, or out of memory, and nothing has changed.
+    /// To `Shrink`: whether the table has fewer buckets now. After an `Err`, out of memory, nothing has changed.
     Shrunk(Result<bool, AllocError>),
     /// To `Stats`: the figures of the map.
     Stats {
@@ -94,7 +94,7 @@ pub enum Answer<K, V> {
         report: MoveReport,
     },
     /// To `Insert` and `GetOrInsert`: out of memory. To `InsertWith`, `List` and `Drain`: out of memory for the pairs
-    /// to return, and nothing has changed. A reservation reports it in `Reserved`, a shrink in `Shrunk`.
+    /// to return, and nothing has changed. A reservation reports this in `Reserved`, a shrink in `Shrunk`.
     Memory,
     /// To `Write` and `SetLimiter`, under a limiter with a running total: the total would be wrong, and nothing has
     /// changed.

@@ -1,5 +1,5 @@
 // Erased from crates/lru_replay/src/lines.rt: do not edit.
-//! Runs of calls, as lines from a reader to a writer: what lines say, and the texts of answers.
+//! Runs of calls, as lines from a reader to a writer: what lines mean, and the texts of answers.
 
 #[allow(unused_imports)]
 use crate::rattle_std::prelude::*;

@@ -1,6 +1,6 @@
 // Erased from crates/lru_replay/src/references.rt: do not edit.
-//! Programs that make references: what they leave of a map with `ByLength`, and how often they miss. The functions do
-//! nothing: their contracts are the theorems. `docs/THEORY.md` says each in words.
+//! Programs that make references: how they leave a map with `ByLength`, and how often they miss. The functions do
+//! nothing: their contracts are the theorems. `docs/THEORY.md` explains each theorem.
 
 #[allow(unused_imports)]
 use crate::rattle_std::prelude::*;
@@ -11,22 +11,22 @@ use crate::rattle_std::hash::Hash;
 
 /// Each of these calls makes a reference if it returns `Ok`: an insert (`inserts`), an insert that evicts nothing
 /// (`tries`), a get that finds the key, whatever is written through the loan (`gets`), a promotion of a key that is
-/// there (`promotes`), and what a memo remembers (`remembers`). So if a get returns `None`, an insert makes the reference.
-/// A reference to a key is one to each key that is equal (`equal`).
+/// there (`promotes`), and a memo that remembers a value (`remembers`). So if a get returns `None`, an insert makes the
+/// reference. A reference to a key is also a reference to each equal key (`equal`).
 pub fn calls_make_references<K: Eq + Hash, V, S: KeyHasher<K>>() {
     laws::inserts_leave_the_newest::<K, V, S>();
     laws::maps_keep_to_their_length::<K, V, S>();
     laws::calls_keep_the_length::<K, V, ByLength, S>();
 }
 
-/// So do `ensure_newest` and `get_or_insert`, whose closure is `make`.
+/// `ensure_newest` and `get_or_insert`, whose closure is `make`, make references, too.
 pub fn gets_that_insert_make_references<K: Eq + Hash, V, F: FnOnce() -> V, S: KeyHasher<K>>() {
     laws::inserts_leave_the_newest::<K, V, S>();
     laws::maps_keep_to_their_length::<K, V, S>();
     laws::calls_keep_the_length::<K, V, ByLength, S>();
 }
 
-/// And so do their fallible forms.
+/// The fallible forms of `ensure_newest` and `get_or_insert` make references, too.
 pub fn gets_that_insert_if_made_make_references<K: Eq + Hash, V, E, F: FnOnce() -> Result<V, E>, S: KeyHasher<K>>() {
     laws::inserts_leave_the_newest::<K, V, S>();
     laws::maps_keep_to_their_length::<K, V, S>();
@@ -42,19 +42,19 @@ pub fn calls_change_the_keys<K: Eq + Hash, V, S: KeyHasher<K>>() {
     laws::calls_keep_the_length::<K, V, ByLength, S>();
 }
 
-/// A reference more in a program that made those of a trace: one that found its key (`hits`), and one that did not
+/// One more reference of a program that made the references of a trace: it finds its key (`hits`), or does not
 /// (`misses`). The map still keeps to its length (`keeps`).
 pub fn programs_make_references<K: Eq + Hash, V, S: KeyHasher<K>>() {}
 
 /// A program that makes the references of a trace leaves the keys that were referenced last, `max_length` of them
-/// (`keys`). It misses exactly at the references whose reuse distance is at least `max_length`, and at the first to each
-/// key (`misses`); the keys before count as referenced, the oldest first. The map counts the misses (`stored`): `placed`,
-/// the count of entries that inserts stored, rises by as many.
+/// (`keys`). It misses exactly at the references whose reuse distance is at least `max_length`, and at the first
+/// reference to each key (`misses`). The keys that were in the map before count as referenced, the oldest first. The
+/// map counts the misses (`stored`): `placed`, the count of entries that inserts stored, rises by their number.
 pub fn references_keep_the_newest<K: Eq + Hash, V, S: KeyHasher<K>>() {}
 
 /// More capacity never means more misses, whichever calls make the references of one trace on two maps. If the keys of
-/// the smaller map are the newest keys of the larger one, they are so after the trace (`front`). If the smaller map is
-/// included in the larger one, which is less, it misses at least as often (`misses`).
+/// the smaller map are the newest keys of the larger one, they are also after the trace (`front`). Even if the smaller
+/// map is only included in the larger one, it misses at least as often (`misses`).
 pub fn more_capacity_never_misses_more<K: Eq + Hash, V, S: KeyHasher<K>>() {}
 
 /// After the same calls a smaller map is included in a larger map, if it was before: its keys are keys of the larger
@@ -62,11 +62,11 @@ pub fn more_capacity_never_misses_more<K: Eq + Hash, V, S: KeyHasher<K>>() {}
 /// reference keys, get, promote, look, write, remove, clear, reserve and shrink, in any order.
 pub fn a_smaller_map_is_included<K: Eq + Hash, V, S: KeyHasher<K>>() {}
 
-/// LRU is competitive, whichever calls make the references. Take any policy with h places, one that knows the whole
-/// trace in advance. It begins with the keys `first`, and pays `paid` times for the same references. A map with
+/// LRU is competitive, whichever calls make the references. Take any policy with h places, even one that knows the
+/// whole trace in advance. It begins with the keys `first`, and pays `paid` times for the same references. A map with
 /// `ByLength(k)`, h ≤ k, whatever it contains before, misses at most k / (k + 1 - h) * paid + length first times if the
-/// policy stores each key, and may load keys ahead (`loads`) or loads only on demand (`demands`), and at most k / (k -
-/// h) * paid + length first times if it need not store a key (`bypasses`).
+/// policy stores each key, whether it may load keys ahead (`loads`) or loads only on demand (`demands`). The map misses
+/// at most k / (k - h) * paid + length first times if the policy need not store a key (`bypasses`).
 pub fn maps_are_competitive<K: Eq + Hash, V, S: KeyHasher<K>>() {
     references_keep_the_newest::<K, V, S>();
     crate::erased::lru_theory::lru_is_competitive::<K>();

@@ -10,8 +10,8 @@ use crate::programs::lru_replay::laws::{granted_calls_are_exact, lists_are_runs}
 use crate::programs::lru_replay::{Answer, Call, run_calls, run_summing};
 use crate::rattle_std::alloc::{AllocError, Global};
 
-/// Inserts two pairs by a list of calls, into a map that is within its limits, and leaves it so. Of the pairs of other
-/// keys the newest are left, in their order, and the inserts pay for the entries that they move.
+/// Inserts two entries by a list of calls, into a map that is within its limits, and leaves it within them. Of the
+/// entries of other keys the newest are left, in their order, and the inserts pay for the entries that they move.
 fn put_both(
     alloc: Global,
     map: &mut LruMap<u64, u64, Both<ByLength, ByMemoryUsage>>,
@@ -31,7 +31,7 @@ fn put_both(
     run_calls(alloc, map, calls)
 }
 
-/// Inserts two pairs by a list of calls, into a map that is within its total cost, and leaves it so.
+/// Inserts two entries by a list of calls, into a map that is within its total cost, and leaves it within that cost.
 fn charge_both(
     alloc: Global,
     map: &mut LruMap<u64, u64, ByCost>,
@@ -48,8 +48,8 @@ fn charge_both(
     run_summing(alloc, map, calls)
 }
 
-/// Makes calls on a map with a maximum length as on a list without a table, if a table for 8 times the pairs is within
-/// reach.
+/// Makes calls on a map with a maximum length. They do what they would do to a list without a table, if links and bytes
+/// reach a table for 8 times the entries.
 fn call_on_list<S: KeyHasher<u64>>(
     alloc: Global,
     map: &mut LruMap<u64, u64, ByLength, S>,

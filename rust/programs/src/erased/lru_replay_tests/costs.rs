@@ -13,7 +13,7 @@ use crate::programs::test_helpers::check;
 use crate::rattle_std::alloc::{AllocError, Global};
 use crate::rattle_std::test::Fail;
 
-/// Where values come from. The text determines of how many bytes its value is.
+/// Where values come from. The text determines how many bytes its value has.
 trait Source {
     fn load(&self, text: &String) -> Result<Vec<u8>, AllocError>;
 }
@@ -33,7 +33,8 @@ fn load_at_miss<L: Source>(
     Ok(1)
 }
 
-/// Looks up each text so, and returns how often it loaded a value: exactly as often as a cache with this limit misses.
+/// Looks up each text by `load_at_miss`, and returns how often this loaded a value: exactly as often as a cache with
+/// this limit misses.
 fn read_through<L: Source>(
     map: &mut LruMap<String, Vec<u8>, ByCost>,
     texts: &[String],
@@ -52,7 +53,7 @@ fn map_within<L: Source>(alloc: Global, limit: u64) -> LruMap<String, Vec<u8>, B
     LruMap::new(alloc, ByCost::new(limit), [1, 2, 3, 4], 40)
 }
 
-/// Reads the texts through two new maps. The one with the larger limit loads no more values.
+/// Reads the texts through two new maps. The map with the larger limit loads no more values.
 fn compare<L: Source>(
     alloc: Global,
     texts: &[String],

@@ -1,5 +1,5 @@
 // Erased from crates/lru_replay_tests/src/refused.rt: do not edit.
-//! Runs of calls, as lists and as lines, in which the first requests for memory are met and the next one is refused.
+//! Runs of calls, as lists and as lines, in which the first requests for memory succeed and the next one fails.
 #[allow(unused_imports)]
 use crate::rattle_std::prelude::*;
 
@@ -47,8 +47,8 @@ fn hog_that_meets(alloc: Global, requests: &[usize], met: usize) -> Result<Hog, 
     Ok(hog)
 }
 
-/// Makes three calls on a map of seven pairs, of which the first requests for memory are met: an insert for which a
-/// table of 8 buckets grows, a list, and a drain.
+/// Makes three calls on a map of seven entries: an insert that grows a table of 8 buckets, a list, and a drain. The
+/// first `met` requests for memory succeed.
 fn is_as_expected(alloc: Global, met: usize, sums: bool) -> Result<bool, AllocError> {
     let mut map = map_of(alloc, ByCost::new(1000));
     insert_all(&mut map, 1..=7)?;
@@ -125,7 +125,7 @@ fn lines() {
     run(HostRuntime).passes();
 }
 
-/// Many replays run in the memory of a few.
+/// Many replays run in the memory that a few replays need.
 #[test]
 fn replays_give_their_memory_back() {
     let run = |rt: HostRuntime| -> Result<(), Fail> {

@@ -1,5 +1,5 @@
 // Erased from crates/lru_tenants_tests/src/callers.rt: do not edit.
-//! A function that calls the cache, with its own contract, as docs/TENANTS.md shows it.
+//! A function that calls the cache, with a contract of its own: the code of docs/TENANTS.md.
 
 #[allow(unused_imports)]
 use crate::rattle_std::prelude::*;

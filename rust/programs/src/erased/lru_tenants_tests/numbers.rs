@@ -1,6 +1,6 @@
 // Erased from crates/lru_tenants_tests/src/numbers.rt: do not edit.
-//! The cache of numbers that the examples of the docs begin with, and what they leave out: texts of errors, and keys that
-//! are texts.
+//! The cache of numbers that the examples of the docs begin with, and tests of the texts of errors and of keys that are
+//! texts.
 #[allow(unused_imports)]
 use crate::rattle_std::prelude::*;
 

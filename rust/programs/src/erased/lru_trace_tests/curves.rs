@@ -1,5 +1,5 @@
 // Erased from crates/lru_trace_tests/src/curves.rt: do not edit.
-//! The texts of errors.
+//! Tests the texts of errors.
 #[allow(unused_imports)]
 use crate::rattle_std::prelude::*;
 

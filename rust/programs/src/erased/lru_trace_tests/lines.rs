@@ -1,5 +1,5 @@
 // Erased from crates/lru_trace_tests/src/lines.rt: do not edit.
-//! Traces of lines: the progress, and a flush that fails.
+//! Tests the progress of traces, and a flush that fails.
 #[allow(unused_imports)]
 use crate::rattle_std::prelude::*;
 

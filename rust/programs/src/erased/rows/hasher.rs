@@ -6,7 +6,8 @@ use crate::rattle_std::prelude::*;
 
 use crate::rattle_std::hash::{BuildHasher, Hasher};
 
-/// Hashes to a polynomial of the bytes in a factor: with the factor 0 the last byte, with 1 the sum of the bytes.
+/// Hashes to a polynomial in a factor, whose coefficients are the bytes. With factor 0 this is the last byte, with
+/// factor 1 the sum of the bytes.
 #[derive(Clone, Copy)]
 pub struct Polynomial {
     pub factor: u64,

@@ -1,5 +1,5 @@
 // Erased from crates/rows/src/plain.rt: do not edit.
-//! A plain list of pairs under a limit, which carries out calls as the documents of the map describe them.
+//! A plain list of entries under a limit, which carries out calls as the documentation of the map describes them.
 #[allow(unused_imports)]
 use crate::rattle_std::prelude::*;
 
@@ -15,7 +15,7 @@ pub enum Limit {
     Unlimited,
 }
 
-/// Out of memory its pairs are wrong, and no trial agrees.
+/// If memory runs out, its entries are wrong, and no trial agrees with them.
 
 pub(crate) struct Plain {
     pub(crate) limit: Limit,

@@ -1,5 +1,5 @@
 // Erased from crates/rows/src/report.rt: do not edit.
-//! What is printed of a row that does not hold.
+//! What is printed about a row that fails.
 #[allow(unused_imports)]
 use crate::rattle_std::prelude::*;
 

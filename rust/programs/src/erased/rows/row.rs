@@ -1,5 +1,5 @@
 // Erased from crates/rows/src/row.rt: do not edit.
-//! Rows of a data file. `docs/ROWS.md` has their form.
+//! Rows of a data file. `docs/ROWS.md` explains their form.
 #[allow(unused_imports)]
 use crate::rattle_std::prelude::*;
 
@@ -22,7 +22,7 @@ impl<'a> Row<'a> {
         Row { name, input: Vec::new(alloc), text: Vec::new(alloc), status: 0, alloc }
     }
 
-    /// A malformed one expects a text that no row has.
+    /// Reads a row. A malformed row expects a text that no row gives.
     pub fn of(alloc: Global, lines: &'a str) -> Row<'a> {
         let mut row = Row::new(alloc, "");
         let mut is_good = true;
@@ -40,7 +40,7 @@ impl<'a> Row<'a> {
         row
     }
 
-    /// Adds what a line of the file says. Returns `false` if the line is malformed.
+    /// Adds a line of the file to the row. Returns `false` if the line is malformed.
     fn add(&mut self, line: &str) -> bool {
         if let Some(rest) = line.strip_prefix("each ") {
             return self.add_each(rest);

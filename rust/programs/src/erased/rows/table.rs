@@ -6,7 +6,7 @@ use crate::rattle_std::prelude::*;
 
 use crate::erased::lru_model::ReserveError;
 
-/// The most buckets that links of 32 bits reach.
+/// The greatest number of buckets that links of 32 bits reach.
 const MOST_BUCKETS: u64 = 1 << 31;
 
 #[derive(Clone, Copy, Default)]
@@ -17,7 +17,7 @@ pub(crate) struct Table {
     pub(crate) shrunk: u64,
 }
 
-/// The buckets for this many pairs: at least 4, and then twice as many until they take the pairs.
+/// Returns the number of buckets for `pairs` pairs: 0 for none, and otherwise 4, doubled until it holds the pairs.
 fn buckets_for(pairs: u64) -> u64 {
     match pairs {
         0 => 0,

@@ -6,7 +6,7 @@ use crate::rattle_std::prelude::*;
 use crate::rattle_std::alloc::Global;
 use crate::rattle_std::fmt::{Debug, Write};
 
-/// A text. Out of memory, it lacks what was added, and differs from the text that it is compared with.
+/// A text. If memory runs out, the text lacks what was added, and differs from the text that it is compared with.
 
 pub struct Text(String);
 

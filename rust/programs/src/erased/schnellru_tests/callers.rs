@@ -1,5 +1,5 @@
 // Erased from crates/schnellru_tests/src/callers.rt: do not edit.
-//! Callers of a map whose own contracts rest on those of its calls: the code of docs/CALLING.md.
+//! Callers of a map, whose contracts follow from the contracts of its calls: the code of docs/CALLING.md.
 
 #[allow(unused_imports)]
 use crate::rattle_std::prelude::*;
@@ -21,7 +21,7 @@ fn put(map: &mut LruMap<u64, u64>, key: u64, value: u64) -> Result<bool, AllocEr
     Ok(kept)
 }
 
-/// For any types, under a limiter that stores each value as it comes.
+/// Puts a value as `put` does, for any types, under a limiter that stores each value as it comes.
 fn put_any<K: Eq + Hash, V, L: Insertion<K, V, K>>(
     map: &mut LruMap<K, V, L>,
     key: K,
@@ -34,7 +34,7 @@ fn touch(map: &mut LruMap<u64, u64>, key: u64) -> bool {
     map.promote(&key)
 }
 
-/// Writes a value under a key that is there, and returns whether it is. Then a look-up returns the value.
+/// Writes a value under a key if the key is there, and returns whether it is. Then a look-up returns the value.
 fn overwrite(map: &mut LruMap<u64, u64>, key: u64, value: u64) -> bool {
     match map.get(&key) {
         Some(place) => {
@@ -45,8 +45,8 @@ fn overwrite(map: &mut LruMap<u64, u64>, key: u64, value: u64) -> bool {
     }
 }
 
-/// Returns what the closure returns at a key, from the map if the key is there. Each pair of the map must be a key with
-/// what the closure returns for it, and is one afterwards.
+/// Returns what the closure returns for a key, from the map if the key is there. Before and after the call, the value
+/// of each key of the map is what the closure returns for the key.
 fn memo<F: Fn(u64) -> u64>(map: &mut LruMap<u64, u64>, answers: F, key: u64) -> Result<u64, AllocError> {
     laws::inserts_evict_the_oldest::<u64, u64, u64, ByLength, RandomState>();
     if let Some(value) = map.get(&key) {
@@ -57,7 +57,7 @@ fn memo<F: Fn(u64) -> u64>(map: &mut LruMap<u64, u64>, answers: F, key: u64) -> 
     Ok(value)
 }
 
-/// Returns the text of a key, from the map if the key is there, and else from the closure.
+/// Returns the text of a key, from the map if the key is there, and otherwise from the closure.
 fn fetch<F: Fn(&String) -> String>(
     map: &mut LruMap<String, String>,
     key: String,
@@ -72,7 +72,7 @@ fn fetch<F: Fn(&String) -> String>(
     Ok(text)
 }
 
-/// Puts a number under each text into a new map. On average, growth moved each stored entry at most twice.
+/// Puts a number under each text into a new map. Growth moved each stored entry at most twice on average.
 fn count_all(alloc: Global, texts: &[String]) -> Result<MoveReport, AllocError> {
     laws::runs_begin_with_maps::<String, u64, ByLength, RandomState>();
     laws::inserts_pay_for_moves::<String, u64, String, ByLength, RandomState>();
@@ -95,13 +95,13 @@ fn keep_all(alloc: Global, texts: &[String]) -> Result<LruMap<String, u64>, Allo
     Ok(map)
 }
 
-/// Puts a pair into a map that is within its length, and leaves it so.
+/// Puts an entry into a map that is within its length, and leaves it within its length.
 fn put_within(map: &mut LruMap<String, u64>, key: String, value: u64) -> Result<bool, AllocError> {
     laws::calls_keep_the_length::<String, u64, ByLength, RandomState>();
     map.insert(key, value)
 }
 
-/// Under two limits, by length and by the bytes of the table.
+/// Puts an entry as `put_within` does, under two limits, by length and by the bytes of the table.
 fn put_within_both(
     map: &mut LruMap<String, u64, Both<ByLength, ByMemoryUsage>>,
     key: String,
@@ -124,8 +124,8 @@ fn exchange(
     map.insert(new, text)
 }
 
-/// Inserts a pair, pops it, and inserts another one. Each of the inserts evicts only from the old end, all of them pay
-/// for the entries that they move, and no two keys are equal afterwards.
+/// Inserts an entry, pops it, and inserts another entry. Each insert evicts only from the old end, both pay for the
+/// entries that they move, and no two keys are equal afterwards.
 fn put_two(map: &mut LruMap<String, u64>, first: String, second: String, value: u64) -> Result<(), AllocError> {
     laws::runs_keep_maps::<String, u64, String, ByLength, RandomState>();
     laws::each_insert_of_a_run_evicts_the_oldest::<String, u64, String, ByLength, RandomState>();
@@ -153,8 +153,8 @@ fn put_and_keep_half(
     map.insert(key, value)
 }
 
-/// Puts a pair of a new key into a full table, in which a search for the key first meets a bucket whose entry was
-/// removed. The entry fills that bucket, and all the others stay.
+/// Puts an entry of a new key into a full table, in which a search for the key first meets a bucket whose entry was
+/// removed. The new entry fills that bucket, and all other entries stay.
 fn put_into_deleted(map: &mut LruMap<String, u64>, key: String, value: u64) -> Result<bool, AllocError> {
     laws::deleted_buckets_serve::<String, u64, String, ByLength, RandomState>();
     map.insert(key, value)
@@ -200,7 +200,7 @@ fn put_and_show<F: FnMut(u64, u64)>(
     map.insert_with(key, value, callback)
 }
 
-/// Evicts what is over the limit, and returns how many entries these were.
+/// Evicts the entries over the limit, and returns how many there were.
 fn trim_and_count(map: &mut LruMap<u64, u64>) -> usize {
     let _len = map.len();
     let mut count = 0usize;
@@ -208,7 +208,7 @@ fn trim_and_count(map: &mut LruMap<u64, u64>) -> usize {
     count
 }
 
-/// Adds a pair of a new key to all the others, or returns why the table has no growth left. It evicts nothing.
+/// Adds an entry of a new key to all others, or returns why the table has no growth left. Evicts nothing.
 fn put_and_keep_all(map: &mut LruMap<u64, u64, UnlimitedCompact>, key: u64, value: u64) -> Result<(), ReserveError> {
     laws::inserts_with_room_are_exact::<u64, u64, u64, UnlimitedCompact, RandomState>();
     map.try_reserve(1)?;

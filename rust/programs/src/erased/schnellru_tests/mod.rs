@@ -1,7 +1,8 @@
 // Erased from crates/schnellru_tests/src/lib.rt: do not edit.
-//! Tests of `schnellru` through its public calls: what no contract of it says.
+//! Tests of what no contract of `schnellru` says, through its public calls.
 //!
-//! `examples` also has those of `lru_model` and `ordered_table`. The worked rows are data of the program `rows`.
+//! `examples` also contains the examples of `lru_model` and `ordered_table`. The worked rows are data of the program
+//! `rows`.
 
 #[allow(unused_imports)]
 use crate::rattle_std::prelude::*;

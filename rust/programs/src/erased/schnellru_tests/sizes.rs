@@ -1,5 +1,5 @@
 // Erased from crates/schnellru_tests/src/sizes.rt: do not edit.
-//! Keys and values of 4 KiB.
+//! Tests keys and values of 4 KiB.
 #[allow(unused_imports)]
 use crate::rattle_std::prelude::*;
 

@@ -1,5 +1,5 @@
 // Erased from crates/schnellru_tests/src/walks.rt: do not edit.
-//! Printed texts, and the numbers of the refusals.
+//! Tests printed texts, and the numbers of errors.
 #[allow(unused_imports)]
 use crate::rattle_std::prelude::*;
 

@@ -1,13 +1,13 @@
 // Erased from crates/test_helpers/src/hog.rt: do not edit.
 //! Memory that a test takes for itself, so that `Global` refuses the requests of others.
 //!
-//! No contract can say what memory is left, so these calls are proved safe, and promise no more.
+//! No contract can say what memory is left, so these calls are only proved safe.
 #[allow(unused_imports)]
 use crate::rattle_std::prelude::*;
 
 use crate::rattle_std::alloc::{AllocError, Global};
 
-// The sizes that are tried: halves of the largest one, and from SMALL down each multiple of STEP.
+// The sizes that are tried: `LARGEST`, again and again halved, and from `SMALL` down each multiple of `STEP`.
 const LARGEST: usize = 1 << 46;
 
 const SMALL: usize = 2048;
@@ -45,7 +45,7 @@ impl Hog {
         Ok(Hog { held, spare })
     }
 
-    /// Takes all memory but `blocks` blocks of 8,192 bytes, so that this number of small requests is met.
+    /// Takes all memory except `blocks` blocks of 8,192 bytes, so that this number of small requests succeeds.
     pub fn but(alloc: Global, blocks: usize) -> Result<Hog, AllocError> {
         let sizes = vec![in alloc; 8192; blocks]?;
         let mut hog = Hog::new(alloc, sizes.as_slice())?;
@@ -59,7 +59,7 @@ impl Hog {
         drop(self.spare.pop());
     }
 
-    /// Whether no memory is left, which an allocator with its own checks may never come to.
+    /// Returns whether no memory is left. With an allocator that has checks of its own, some may always be left.
     pub fn took_all(&self) -> bool {
         self.held.len() < MOST
     }

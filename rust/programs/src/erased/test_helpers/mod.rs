@@ -1,8 +1,8 @@
 // Erased from crates/test_helpers/src/lib.rt: do not edit.
 //! What tests share.
 //!
-//! - [`check`], [`all`]: ends a test that does not hold, and joins conditions.
-//! - [`Hog`]: takes all memory, so that the requests of others are refused.
+//! - [`check`], [`all`]: end a test if a condition is false, and join conditions.
+//! - [`Hog`]: takes all memory, so that the requests of others fail.
 //! - [`LinkedBy`], [`Alternating`], [`Blanking`]: limiters of maps from numbers to numbers.
 //! - [`InsertKey`] and [`Counting`]: texts that become a `String` when they are stored, and a limiter for them.
 //! - [`Random`]: random numbers, the same in each run.
@@ -32,7 +32,7 @@ macro_rules! check {
     };
 }
 
-/// Whether all conditions hold.
+/// Returns whether all conditions hold.
 macro_rules! all {
     ($($holds:expr),+) => {
         $(($holds))&+

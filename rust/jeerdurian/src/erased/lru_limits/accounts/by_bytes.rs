@@ -9,8 +9,8 @@ use crate::erased::lru_limits::limiter::Limiter;
 /// Limits the bytes of the table and of what the entries own, together: `ByBytes::new(200 << 20)` is 200 MiB. A contract
 /// sees it as its limit, the bytes that the entries own, and the bytes of the table.
 ///
-/// It permits a table if the table and what the entries own are within the limit, and rejects an entry or a new value
-/// that by itself, with the table, is not. So after each call of the map `memory_usage` and what the entries own are
+/// It permits a table if the table and what the entries own are within the limit. It rejects an entry or a new value if
+/// its entry alone and the table are not. So after each call of the map `memory_usage` and what the entries own are
 /// together at most the limit, under the premises of `calls_keep_the_bytes` of `lru_model`. While the table grows, the
 /// old table exists, too, and is not counted.
 ///

@@ -29,7 +29,7 @@ fn bytes_of<T>() -> usize {
     size_of::<T>()
 }
 
-/// A number owns nothing. Nor does a `bool` or a `char`.
+/// Numbers, `bool` and `char` own nothing.
 impl OwnedBytes for u8 {
     #[inline]
     fn owned_bytes(&self) -> u64 {

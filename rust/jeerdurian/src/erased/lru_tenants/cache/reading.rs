@@ -14,7 +14,7 @@ use crate::rattle_std::hash::Hash;
 impl<N: Eq + Hash, K: Eq + Hash, V, L: Budgeted<K, V>, S: KeyHasher<K> + Copy> TenantCache<N, K, V, L, S> {
     /// Returns a tenant's value of a key, and makes its entry the tenant's newest.
     ///
-    /// The value is lent only for reading, so its cost stays.
+    /// The value is lent only for reading, so its cost does not change.
     ///
     /// ```text
     /// assert_eq!(rt; cache.get(&1, &7), Ok(Some(&2)));

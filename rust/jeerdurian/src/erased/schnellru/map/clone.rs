@@ -8,7 +8,8 @@ use crate::rattle_std::alloc::AllocError;
 use crate::rattle_std::hash::Hash;
 
 impl<K: TryClone, V: TryClone, L: Limiter<K, V> + TryClone, S: TryClone> LruMap<K, V, L, S> {
-    /// Clones the entries in order, the limiter and the hasher, into a table of the same buckets and counts.
+    /// Clones the entries, in order, the limiter and the hasher. The table of the clone has the same buckets and
+    /// counts.
     ///
     /// ```text
     /// let mut copy = map.clone()?;

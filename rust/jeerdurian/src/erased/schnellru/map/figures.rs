@@ -39,7 +39,7 @@ impl<K: Eq + Hash, V, L: Limiter<K, V>, S: KeyHasher<K>> LruMap<K, V, L, S> {
 
     /// Returns how many entries the table is sure to hold without growing: its entries and its growth left.
     ///
-    /// It may fall when an entry is removed from a table of more than 16 buckets. Cost: `O(1)`.
+    /// The number may fall when an entry is removed from a table of more than 16 buckets. Cost: `O(1)`.
     ///
     /// ```text
     /// let mut map: LruMap<u64, u64, UnlimitedCompact> = LruMap::default(alloc);
@@ -52,8 +52,8 @@ impl<K: Eq + Hash, V, L: Limiter<K, V>, S: KeyHasher<K>> LruMap<K, V, L, S> {
         self.entries.len() + self.entries.growth_left()
     }
 
-    /// Returns the bytes of the table, or 0 if there are no buckets. Each bucket, full or not, takes `entry_bytes`,
-    /// together rounded up to a multiple of 16, and a byte more. The table takes 16 bytes more.
+    /// Returns the bytes of the table, or 0 if there are no buckets. The `entry_bytes` of all buckets, full or not, are
+    /// together rounded up to a multiple of 16. Each bucket takes one byte more, and the table 16 more.
     ///
     /// Cost: `O(1)`.
     ///

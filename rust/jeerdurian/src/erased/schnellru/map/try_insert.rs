@@ -25,8 +25,8 @@ impl<K: Eq + Hash, V, L: Admission<K, V> + Copy, S: KeyHasher<K>> LruMap<K, V, L
     ///
     /// # Errors
     ///
-    /// Returns the key and the value for one of five reasons. The `Err` does not say which; only the first can be told
-    /// by `contains`:
+    /// Returns the key and the value for one of five reasons. The `Err` does not say which; `contains` recognises only
+    /// the first:
     ///
     /// - The key is there.
     /// - The limiter rejects the entry, before or after the table grew.

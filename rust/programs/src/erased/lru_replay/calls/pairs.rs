@@ -1,5 +1,5 @@
 // Erased from crates/lru_replay/src/calls/pairs.rt: do not edit.
-//! The calls of a run that return pairs. The memory for these is taken before the map changes.
+//! The calls of a run that return pairs. The memory for these pairs is taken before the map changes.
 
 #[allow(unused_imports)]
 use crate::rattle_std::prelude::*;

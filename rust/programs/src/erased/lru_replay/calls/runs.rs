@@ -15,7 +15,7 @@ use crate::rattle_std::hash::Hash;
 
 /// Carries out the calls on the map, one after another, and returns one answer for each.
 ///
-/// Each answer is what the map's own call returns, and the map is as these calls leave it. `docs/RUNS.md` explains how
+/// Each answer is what the map's own call returns, and the map is left as by these calls. `docs/RUNS.md` explains how
 /// to read a run.
 ///
 /// ```text
@@ -26,11 +26,12 @@ use crate::rattle_std::hash::Hash;
 /// assert!(rt; gives && answers.get(2) == Some(&Answer::Value(None)));
 /// ```
 ///
-/// Cost: as the calls, and one request for memory for the answers. `InsertWith`, `List` and `Drain` each take one more.
+/// Cost: as the calls, and one request for memory for the answers. `InsertWith`, `List` and `Drain` each make one more
+/// request.
 ///
 /// # Errors
 ///
-/// `Err` says that there was no memory for the answers. No call was made.
+/// Out of memory for the answers. No call was made.
 pub fn run_calls<K: Copy + Eq + Hash, V: Copy, L: Insertion<K, V, K>, S: KeyHasher<K>>(
     alloc: Global,
     map: &mut LruMap<K, V, L, S>,

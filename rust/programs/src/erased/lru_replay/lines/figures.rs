@@ -1,5 +1,5 @@
 // Erased from crates/lru_replay/src/lines/figures.rt: do not edit.
-//! What `stats` reports of a map.
+//! What `stats` reports about a map.
 
 #[allow(unused_imports)]
 use crate::rattle_std::prelude::*;

@@ -55,7 +55,7 @@ impl Line {
     }
 }
 
-/// What one look at the reader's buffer gave of a line.
+/// The part of a line that one look at the reader's buffer gave.
 #[derive(Clone, Copy)]
 pub enum Piece {
     Part,
@@ -63,7 +63,7 @@ pub enum Piece {
     End,
 }
 
-/// Takes what the reader's buffer contains of the line. An interrupted look gives no byte.
+/// Takes the part of the line that the reader's buffer contains. An interrupted look gives no byte.
 fn take_piece<R: BufRead>(reader: &mut R, line: &mut Line) -> Result<Piece, ReplayError> {
     let available = match reader.fill_buf() {
         Ok(available) => available,
@@ -94,7 +94,7 @@ pub enum Ending {
     Nothing,
 }
 
-/// Reads the next line, and holds its first bytes: a line of any length is read to its end, in constant memory. An
+/// Reads the next line, and holds its first bytes. A line of any length is read to its end, in constant memory. An
 /// interrupted look at the reader's buffer is repeated.
 ///
 /// # Errors

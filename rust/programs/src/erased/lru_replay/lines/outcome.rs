@@ -17,7 +17,7 @@ pub enum ReplayEnd {
     NoLimiter,
 }
 
-/// What cuts a replay off. As a number, a failed read is 1 and a failed write 2.
+/// Why a replay stops early. As a number, a failed read is 1 and a failed write 2.
 ///
 /// ```text
 /// let (read, write) = (ReplayError::Read, ReplayError::Write);
@@ -29,7 +29,7 @@ pub enum ReplayEnd {
 pub enum ReplayError {
     /// A read failed, or the reader gave `u64::MAX` reads without an end.
     Read = 1,
-    /// A write or the flush failed; a write that takes 0 bytes is one.
+    /// A write or the flush failed; a write that takes 0 bytes has failed.
     Write = 2,
 }
 

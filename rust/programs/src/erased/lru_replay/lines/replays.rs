@@ -124,8 +124,8 @@ fn answer_all<R: BufRead, W: Write>(alloc: Global, reader: &mut R, writer: &mut 
 /// assert_eq!(rt; writer.as_slice(), b"true\n".as_slice());
 /// ```
 ///
-/// In the contract, a reader's bytes and a writer's bytes are the whole streams, however they are cut into reads and
-/// writes. Of a reader or a writer whose type says nothing of its bytes, the contract says nothing.
+/// In the contract, a reader's bytes and a writer's bytes are the whole streams, however reads and writes cut them. If
+/// the type of a reader or a writer says nothing about its bytes, the contract says nothing about them.
 ///
 /// Cost: as the calls. A line of any length is read in constant memory, and `put` requests memory for the entries that
 /// it writes.
@@ -133,7 +133,7 @@ fn answer_all<R: BufRead, W: Write>(alloc: Global, reader: &mut R, writer: &mut 
 /// # Errors
 ///
 /// `Read`: a read failed. The lines that were read whole are answered, and the output is flushed. `Write`: a write or
-/// the flush failed. After a failed write no line is read, and nothing more is written.
+/// the flush failed. After a failed write no more lines are read, and nothing more is written.
 pub fn replay<R: BufRead, W: Write>(alloc: Global, reader: &mut R, writer: &mut W) -> Result<ReplayEnd, ReplayError> {
     let end = answer_all(alloc, reader, writer);
     if let Err(ReplayError::Write) = end {

@@ -1,5 +1,5 @@
 // Erased from crates/lru_replay/src/lines/taken.rt: do not edit.
-//! The pairs that the line `drain` takes out, written as they go.
+//! The pairs that the line `drain` takes out, each written at once.
 
 #[allow(unused_imports)]
 use crate::rattle_std::prelude::*;

@@ -1,5 +1,5 @@
 // Erased from crates/lru_replay/src/lines/words.rt: do not edit.
-//! What a line says: a call on the map, or, the first line, what limits the map. Both are a word and at most two
+//! What a line means: a call on the map, or, for the first line, the limit of the map. Each is a word and at most two
 //! numbers.
 
 #[allow(unused_imports)]
@@ -15,7 +15,7 @@ pub enum Numbers {
     Two(u64, u64),
 }
 
-/// What limits the map.
+/// The limit of the map.
 #[derive(Clone, Copy)]
 pub enum Limit {
     /// `length N`: at most N pairs.

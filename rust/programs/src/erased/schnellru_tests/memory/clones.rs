@@ -1,5 +1,5 @@
 // Erased from crates/schnellru_tests/src/memory/clones.rt: do not edit.
-//! Copies: whole, and refused.
+//! Clones of maps, with and without enough memory.
 
 #[allow(unused_imports)]
 use crate::rattle_std::prelude::*;
@@ -9,7 +9,7 @@ use crate::erased::schnellru::{Limiter, LruMap, Storing};
 use crate::programs::test_helpers::{LastByte, check};
 use crate::rattle_std::hash::BuildHasher;
 
-/// Limits nothing, and writes into `clones` how many keys live when it is notified of a clear.
+/// Limits nothing, and writes into `clones` how many keys are alive when it is notified of a clear.
 impl<K, V> Limiter<K, V> for Live<'_> {
     type LinkType = u32;
 
@@ -39,8 +39,8 @@ impl BuildHasher for Live<'_> {
 
 type Map<'a> = LruMap<Live<'a>, Live<'a>, Storing<Live<'a>>, Live<'a>>;
 
-/// Copies a map of seven pairs while this number of clones is allowed. Returns whether the copy takes a clone for each
-/// key, each value, the limiter and the hasher, and whether a copy drops what it made if a clone fails.
+/// Copies a map of seven entries with at most `allowed` clones. Returns whether the copy clones each key, each value,
+/// the limiter and the hasher, and whether it drops these clones if one fails.
 fn is_cloned_once(map: &Map, lives: &Lives, allowed: u64) -> bool {
     lives.clones.set(allowed);
     let is_made = map.try_clone().is_ok();
@@ -48,7 +48,7 @@ fn is_cloned_once(map: &Map, lives: &Lives, allowed: u64) -> bool {
     (is_made == (allowed >= 16)) & (left == allowed.saturating_sub(16)) & lives.are(8)
 }
 
-/// A clear is reported after the pairs were dropped.
+/// The limiter is notified of a clear after the entries were dropped.
 #[ignore = "the clone of a `Storing` cannot fail"]
 #[test]
 fn each_key_and_value_is_cloned_once() {
