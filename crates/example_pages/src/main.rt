@@ -3,20 +3,19 @@
 #![tactic(auto)]
 
 mod counted;
-mod crash;
+mod disk;
 mod log;
 mod page;
 mod session;
 mod store;
 mod trial;
 
+use disk::Disk;
 use session::Session;
 use std::fs::{File, OpenOptions};
 use std::io;
 use std::process::ExitCode;
 use store::{Sizes, Store};
-
-pub const PAGE: usize = 4096;
 
 const SIZES: Sizes = Sizes {
     pages: 8,
@@ -44,7 +43,7 @@ fn main(rt: HostRuntime) -> ExitCode {
     let (Ok(pages), Ok(log)) = (open(&rt, "pages"), open(&rt, "log")) else {
         return ExitCode::from(2);
     };
-    let mut store = Store::new(rt.alloc(), pages, log, SIZES);
+    let mut store = Store::new(rt.alloc(), Disk::File(pages), Disk::File(log), SIZES);
     let is_formatted = store.format().is_ok();
     let mut session = Session::new(rt.alloc(), store);
     let answered = answer_lines(&rt, &mut session);

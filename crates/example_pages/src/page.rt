@@ -1,5 +1,10 @@
 //! A page: four numbers, records of 64 bytes, and 8 bytes for the checksum of the device.
 
+/// The bytes of a page.
+pub const PAGE: usize = 4096;
+
+pub type Page = [u8; PAGE];
+
 const RECORD: usize = 64;
 
 const HEADER: usize = 32;
@@ -21,10 +26,8 @@ pub struct Header {
     pub count: u64,
 }
 
-/// Returns how many records a page of this size contains.
-pub fn records_of(size: usize) -> u64 {
-    (size.saturating_sub(HEADER + CHECKSUM) / RECORD) as u64
-}
+/// The number of records of a page.
+pub const RECORDS: u64 = ((PAGE - HEADER - CHECKSUM) / RECORD) as u64;
 
 fn number_at(page: &[u8], at: usize) -> u64 {
     let Some(rest) = page.get(at..) else {

@@ -1,10 +1,8 @@
 //! The answers to the lines.
-use crate::PAGE;
 use crate::page::Record;
 use crate::store::{Store, StoreError};
 use crate::trial::crashes;
 use std::alloc::Global;
-use std::fs::File;
 use std::{io, str};
 
 enum Command<'a> {
@@ -56,12 +54,12 @@ fn say(rt: &HostRuntime, done: Result<(), StoreError>, word: &str) -> io::Result
 }
 
 pub struct Session {
-    store: Store<File, PAGE>,
+    store: Store<'static>,
     changes: Vec<(u64, Record)>,
 }
 
 impl Session {
-    pub fn new(alloc: Global, store: Store<File, PAGE>) -> Session {
+    pub fn new(alloc: Global, store: Store<'static>) -> Session {
         Session {
             store,
             changes: Vec::new(alloc),

@@ -1,22 +1,21 @@
 // Erased from crates/example_pages/src/log.rt: do not edit.
 //! A log of pages, which is written before the pages themselves.
-
 #[allow(unused_imports)]
 use crate::rattle_std::prelude::*;
 
-use crate::erased::lru_caches::{BlockDevice, Durable, FileError, HashedFileDevice};
-use crate::programs::example_pages::page::{Header, header_of};
-use crate::rattle_std::io::{Read, Seek, Write};
+use crate::erased::lru_caches::{BlockDevice, FileError, HashedFileDevice};
+use crate::programs::example_pages::disk::Disk;
+use crate::programs::example_pages::page::{Header, PAGE, Page, header_of};
 
 /// The pages of the transactions since the last checkpoint, in order. Behind them are pages of earlier ones.
 
-pub struct Log<F, const N: usize> {
-    device: HashedFileDevice<F, N>,
+pub struct Log<'a> {
+    device: HashedFileDevice<Disk<'a>, PAGE>,
     next: u64,
 }
 
-impl<F: Read + Write + Seek + Durable, const N: usize> Log<F, N> {
-    pub fn new(file: F, len: u64) -> Self {
+impl<'a> Log<'a> {
+    pub fn new(file: Disk<'a>, len: u64) -> Self {
         Log { device: HashedFileDevice::new(file, len), next: 0 }
     }
 
@@ -33,7 +32,7 @@ impl<F: Read + Write + Seek + Durable, const N: usize> Log<F, N> {
         self.next = 0;
     }
 
-    fn write(&mut self, n: u64, page: &[u8; N]) -> Result<(), FileError> {
+    fn write(&mut self, n: u64, page: &Page) -> Result<(), FileError> {
         if !self.device.has(n) || !self.device.is_usable() {
             return Err(FileError::File);
         }
@@ -50,13 +49,13 @@ impl<F: Read + Write + Seek + Durable, const N: usize> Log<F, N> {
     /// Writes empty pages to the whole log.
     pub fn format(&mut self) -> Result<(), FileError> {
         for n in 0..self.device.len() {
-            self.write(n, &[0; N])?;
+            self.write(n, &[0; PAGE])?;
         }
         self.sync()
     }
 
     /// Appends pages, and returns when a crash cannot lose them.
-    pub fn append(&mut self, pages: &[[u8; N]]) -> Result<(), FileError> {
+    pub fn append(&mut self, pages: &[Page]) -> Result<(), FileError> {
         for page in pages {
             self.write(self.next, page)?;
             self.next = self.next.saturating_add(1);
@@ -65,7 +64,7 @@ impl<F: Read + Write + Seek + Durable, const N: usize> Log<F, N> {
     }
 
     /// Returns a page of the log, or none if it is torn.
-    pub fn read(&mut self, n: u64) -> Result<Option<[u8; N]>, FileError> {
+    pub fn read(&mut self, n: u64) -> Result<Option<Page>, FileError> {
         if !self.device.has(n) || !self.device.is_usable() {
             return Err(FileError::File);
         }
@@ -97,8 +96,8 @@ impl<F: Read + Write + Seek + Durable, const N: usize> Log<F, N> {
         Ok(newest)
     }
 
-    /// Returns the transaction whose pages begin at page n, with the number of its pages, if they are all there.
-    pub fn transaction_at(&mut self, n: u64) -> Result<Option<(u64, u64)>, FileError> {
+    /// Returns how many pages the transaction has whose first page is page n, if they are all there.
+    pub fn transaction_at(&mut self, n: u64) -> Result<Option<u64>, FileError> {
         let Some(first) = self.header(n)? else {
             return Ok(None);
         };
@@ -106,18 +105,15 @@ impl<F: Read + Write + Seek + Durable, const N: usize> Log<F, N> {
             return Ok(None);
         }
         for place in 0..first.count {
-            let Some(header) = self.header(n.saturating_add(place))? else {
-                return Ok(None);
-            };
-            let is_next = header.transaction == first.transaction && header.place == place;
-            if !is_next || header.count != first.count {
-                return Ok(None);
+            match self.header(n.saturating_add(place))? {
+                Some(header) if header.transaction == first.transaction && header.place == place => {}
+                _ => return Ok(None),
             }
         }
-        Ok(Some((first.transaction, first.count)))
+        Ok(Some(first.count))
     }
 
-    pub fn into_file(self) -> F {
+    pub fn into_file(self) -> Disk<'a> {
         let Log { device, next: _ } = self;
         device.into_file()
     }

@@ -6,7 +6,7 @@
 use crate::rattle_std::prelude::*;
 
 mod counted;
-mod crash;
+mod disk;
 mod log;
 mod page;
 mod session;
@@ -16,10 +16,9 @@ mod trial;
 use crate::rattle_std::fs::{File, OpenOptions};
 use crate::rattle_std::io;
 use crate::rattle_std::process::ExitCode;
+use disk::Disk;
 use session::Session;
 use store::{Sizes, Store};
-
-pub const PAGE: usize = 4096;
 
 const SIZES: Sizes = Sizes { pages: 8, log: 16, cache: 3 };
 
@@ -43,7 +42,7 @@ pub(crate) fn main(rt: HostRuntime) -> ExitCode {
     let (Ok(pages), Ok(log)) = (open(&rt, "pages"), open(&rt, "log")) else {
         return ExitCode::from(2);
     };
-    let mut store = Store::new(rt.alloc(), pages, log, SIZES);
+    let mut store = Store::new(rt.alloc(), Disk::File(pages), Disk::File(log), SIZES);
     let is_formatted = store.format().is_ok();
     let mut session = Session::new(rt.alloc(), store);
     let answered = answer_lines(&rt, &mut session);

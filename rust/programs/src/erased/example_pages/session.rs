@@ -3,12 +3,10 @@
 #[allow(unused_imports)]
 use crate::rattle_std::prelude::*;
 
-use crate::programs::example_pages::PAGE;
 use crate::programs::example_pages::page::Record;
 use crate::programs::example_pages::store::{Store, StoreError};
 use crate::programs::example_pages::trial::crashes;
 use crate::rattle_std::alloc::Global;
-use crate::rattle_std::fs::File;
 use crate::rattle_std::{io, str};
 
 enum Command<'a> {
@@ -60,12 +58,12 @@ fn say(rt: &HostRuntime, done: Result<(), StoreError>, word: &str) -> io::Result
 }
 
 pub struct Session {
-    store: Store<File, PAGE>,
+    store: Store<'static>,
     changes: Vec<(u64, Record)>,
 }
 
 impl Session {
-    pub const fn new(alloc: Global, store: Store<File, PAGE>) -> Session {
+    pub const fn new(alloc: Global, store: Store<'static>) -> Session {
         Session { store, changes: Vec::new(alloc) }
     }
 

@@ -5,16 +5,17 @@
 //! the file of pages never contains a page of a transaction that may still be lost, and the log contains each page that
 //! a crash may tear. A checkpoint flushes the cache; then the log begins at its front again. After a crash the pages of
 //! the log are written once more, except where the file has a page of the same or a later transaction.
-
 #[allow(unused_imports)]
 use crate::rattle_std::prelude::*;
 
-use crate::erased::lru_caches::{Durable, FileError, HashedFileDevice, PageCache, PageError};
+use crate::erased::lru_caches::{FileError, HashedFileDevice, PageCache, PageError};
 use crate::programs::example_pages::counted::Counted;
+use crate::programs::example_pages::disk::Disk;
 use crate::programs::example_pages::log::Log;
-use crate::programs::example_pages::page::{Header, Record, header_of, put_header, put_record, record_at, records_of};
+use crate::programs::example_pages::page::{
+    Header, PAGE, Page, RECORDS, Record, header_of, put_header, put_record, record_at,
+};
 use crate::rattle_std::alloc::{AllocError, Global};
-use crate::rattle_std::io::{Read, Seek, Write};
 
 /// Why a call failed.
 #[derive(Debug)]
@@ -64,11 +65,11 @@ pub struct Recovered {
     pub torn: u64,
 }
 
-type Pages<F, const N: usize> = PageCache<[u8; N], Counted<HashedFileDevice<F, N>>>;
+type Pages<'a> = PageCache<Page, Counted<HashedFileDevice<Disk<'a>, PAGE>>>;
 
-pub struct Store<F: Read + Write + Seek + Durable, const N: usize> {
-    pages: Pages<F, N>,
-    log: Log<F, N>,
+pub struct Store<'a> {
+    pages: Pages<'a>,
+    log: Log<'a>,
     len: u64,
     /// The number of the next transaction.
     transaction: u64,
@@ -76,8 +77,8 @@ pub struct Store<F: Read + Write + Seek + Durable, const N: usize> {
     is_interrupted: bool,
 }
 
-impl<F: Read + Write + Seek + Durable, const N: usize> Store<F, N> {
-    pub fn new(alloc: Global, pages: F, log: F, sizes: Sizes) -> Self {
+impl<'a> Store<'a> {
+    pub fn new(alloc: Global, pages: Disk<'a>, log: Disk<'a>, sizes: Sizes) -> Self {
         let device = Counted::new(HashedFileDevice::new(pages, sizes.pages));
         Store {
             pages: PageCache::new(alloc, device, sizes.cache),
@@ -92,7 +93,7 @@ impl<F: Read + Write + Seek + Durable, const N: usize> Store<F, N> {
     pub fn format(&mut self) -> Result<(), StoreError> {
         self.log.format()?;
         for n in 0..self.len {
-            self.pages.write(n, [0; N])?;
+            self.pages.write(n, [0; PAGE])?;
         }
         self.checkpoint()
     }
@@ -106,7 +107,7 @@ impl<F: Read + Write + Seek + Durable, const N: usize> Store<F, N> {
     }
 
     pub fn len(&self) -> u64 {
-        self.len.saturating_mul(records_of(N))
+        self.len.saturating_mul(RECORDS)
     }
 
     fn admit(&self) -> Result<(), StoreError> {
@@ -117,8 +118,8 @@ impl<F: Read + Write + Seek + Durable, const N: usize> Store<F, N> {
     }
 
     fn place_of(&self, id: u64) -> Result<(u64, u64), StoreError> {
-        let page = id.checked_div(records_of(N)).unwrap_or(self.len);
-        let slot = id.checked_rem(records_of(N)).unwrap_or(0);
+        let page = id.checked_div(RECORDS).unwrap_or(self.len);
+        let slot = id.checked_rem(RECORDS).unwrap_or(0);
         if page < self.len { Ok((page, slot)) } else { Err(StoreError::NoRecord) }
     }
 
@@ -132,18 +133,19 @@ impl<F: Read + Write + Seek + Durable, const N: usize> Store<F, N> {
     /// Replaces these records. After an error it has replaced none, or the store is interrupted.
     pub fn commit(&mut self, alloc: Global, changes: &[(u64, Record)]) -> Result<(), StoreError> {
         self.admit()?;
-        let mut pages: Vec<(u64, [u8; N])> = Vec::new(alloc);
+        let mut pages: Vec<Page> = Vec::new(alloc);
         for (id, record) in changes {
             self.change(&mut pages, *id, record)?;
         }
-        let mut images: Vec<[u8; N]> = Vec::with_capacity(alloc, pages.len())?;
         let count = pages.len() as u64;
-        for (place, (number, page)) in pages.iter().enumerate() {
-            images.push_reserved(self.image(page, *number, place as u64, count));
+        for (place, page) in pages.iter_mut().enumerate() {
+            let header =
+                Header { transaction: self.transaction, number: header_of(page).number, place: place as u64, count };
+            put_header(page, header);
         }
-        self.make_room(images.len())?;
+        self.make_room(pages.len())?;
         self.is_interrupted = true;
-        self.write_pages(images.as_slice())?;
+        self.write_pages(pages.as_slice())?;
         self.is_interrupted = false;
         Ok(())
     }
@@ -155,34 +157,29 @@ impl<F: Read + Write + Seek + Durable, const N: usize> Store<F, N> {
         if self.log.has_room_for(pages) { Ok(()) } else { Err(StoreError::TooLarge) }
     }
 
-    fn write_pages(&mut self, images: &[[u8; N]]) -> Result<(), StoreError> {
-        self.log.append(images)?;
+    fn write_pages(&mut self, pages: &[Page]) -> Result<(), StoreError> {
+        self.log.append(pages)?;
         self.transaction = self.transaction.saturating_add(1);
-        for page in images {
+        for page in pages {
             self.pages.write(header_of(page).number, *page)?;
         }
         Ok(())
     }
 
-    fn image(&self, page: &[u8; N], number: u64, place: u64, count: u64) -> [u8; N] {
-        let mut image = *page;
-        let header = Header { transaction: self.transaction, number, place, count };
-        put_header(&mut image, header);
-        image
-    }
-
     /// Puts a record into its page, which is read unless it is among the pages that have changed.
-    fn change(&mut self, pages: &mut Vec<(u64, [u8; N])>, id: u64, record: &Record) -> Result<(), StoreError> {
+    fn change(&mut self, pages: &mut Vec<Page>, id: u64, record: &Record) -> Result<(), StoreError> {
         let (number, slot) = self.place_of(id)?;
-        for (other, page) in pages.iter_mut() {
-            if *other == number {
+        for page in pages.iter_mut() {
+            if header_of(page).number == number {
                 put_record(page, slot, record);
                 return Ok(());
             }
         }
         let mut page = self.pages.read(number)?;
         put_record(&mut page, slot, record);
-        pages.push((number, page)).map_err(|_| StoreError::Memory)
+        let header = Header { number, ..header_of(&page) };
+        put_header(&mut page, header);
+        pages.push(page).map_err(|_| StoreError::Memory)
     }
 
     /// Makes the store that a crash left whole: with each transaction whose `commit` returned `Ok`, and with the one
@@ -190,20 +187,15 @@ impl<F: Read + Write + Seek + Durable, const N: usize> Store<F, N> {
     pub fn recover(&mut self) -> Result<Recovered, StoreError> {
         let mut recovered = Recovered::default();
         let mut next = 0u64;
-        let mut last = None;
         for _ in 0..self.log.len() {
-            let Some((transaction, count)) = self.log.transaction_at(next)? else {
+            let Some(count) = self.log.transaction_at(next)? else {
                 break;
             };
-            if last.is_some_and(|last: u64| transaction != last.saturating_add(1)) {
-                break;
-            }
             for place in 0..count {
                 self.redo(next.saturating_add(place), &mut recovered)?;
             }
             recovered.transactions = recovered.transactions.saturating_add(1);
             next = next.saturating_add(count);
-            last = Some(transaction);
         }
         self.transaction = self.newest()?.saturating_add(1);
         self.checkpoint()?;
@@ -247,7 +239,7 @@ impl<F: Read + Write + Seek + Durable, const N: usize> Store<F, N> {
     }
 
     /// Returns the file of pages and the log. What is not in them is lost, as by a crash.
-    pub fn into_files(self) -> (F, F) {
+    pub fn into_files(self) -> (Disk<'a>, Disk<'a>) {
         let Store { pages, log, len: _, transaction: _, is_interrupted: _ } = self;
         (pages.discard().into_inner().into_file(), log.into_file())
     }

@@ -3,25 +3,26 @@
 #[allow(unused_imports)]
 use crate::rattle_std::prelude::*;
 
-use crate::programs::example_pages::crash::{CrashFile, Power};
-use crate::programs::example_pages::page::Record;
+use crate::programs::example_pages::disk::{CrashFile, Disk, Power};
+use crate::programs::example_pages::page::{PAGE, RECORDS, Record};
 use crate::programs::example_pages::store::{Sizes, Store, StoreError};
 use crate::programs::test_helpers::Random;
 use crate::rattle_std::alloc::Global;
 
-const PAGE: usize = 256;
-
-/// Three records a page. The cache evicts, and the log is full after a few transactions.
+/// The cache evicts, and the log is full after a few transactions.
 const SIZES: Sizes = Sizes { pages: 4, log: 8, cache: 2 };
 
-const RECORDS: u64 = 12;
+/// How many records the trial changes: three of each page, one of which lies across two sectors.
+const USED: u64 = 12;
+
+fn id_of(n: u64) -> u64 {
+    (n / 3).wrapping_mul(RECORDS).wrapping_add((n % 3).wrapping_mul(31))
+}
 
 /// More calls than the work between two crashes makes.
 const CALLS: u64 = 150;
 
-type Small<'a> = Store<CrashFile<'a>, PAGE>;
-
-type Files<'a> = (CrashFile<'a>, CrashFile<'a>);
+type Files<'a> = (Disk<'a>, Disk<'a>);
 
 #[derive(Clone, Copy, Default)]
 pub struct Counts {
@@ -45,9 +46,11 @@ struct Model {
 
 impl Model {
     fn commit(&mut self) {
-        for (id, record) in self.pending.iter() {
-            if let Some(place) = self.records.get_mut(*id as usize) {
-                *place = *record;
+        for (n, shown) in self.records.iter_mut().enumerate() {
+            for (id, record) in self.pending.iter() {
+                if *id == id_of(n as u64) {
+                    *shown = *record;
+                }
             }
         }
         self.pending.clear();
@@ -56,16 +59,16 @@ impl Model {
     fn begin(&mut self, random: &mut Random) -> Result<(), StoreError> {
         self.pending.clear();
         for _ in 0..=random.below(3) {
-            let id = random.below(RECORDS);
+            let id = id_of(random.below(USED));
             let record = [(random.next() & 255) as u8; 64];
             self.pending.push((id, record)).map_err(|_| StoreError::Memory)?;
         }
         Ok(())
     }
 
-    fn is_shown(&self, store: &mut Small) -> bool {
-        for (id, record) in self.records.iter().enumerate() {
-            match store.get(id as u64) {
+    fn is_shown(&self, store: &mut Store) -> bool {
+        for (n, record) in self.records.iter().enumerate() {
+            match store.get(id_of(n as u64)) {
                 Ok(found) => {
                     if found != *record {
                         return false;
@@ -78,13 +81,13 @@ impl Model {
     }
 }
 
-fn open<'a>(alloc: Global, files: Files<'a>) -> Small<'a> {
+fn open<'a>(alloc: Global, files: Files<'a>) -> Store<'a> {
     Store::new(alloc, files.0, files.1, SIZES)
 }
 
 fn work(
     alloc: Global,
-    store: &mut Small,
+    store: &mut Store,
     model: &mut Model,
     random: &mut Random,
     counts: &mut Counts,
@@ -102,7 +105,7 @@ fn work(
     Ok(())
 }
 
-fn crash<'a>(store: Small<'a>, random: &mut Random) -> Files<'a> {
+fn crash<'a>(store: Store<'a>, random: &mut Random) -> Files<'a> {
     let (mut pages, mut log) = store.into_files();
     pages.crash(random);
     log.crash(random);
@@ -110,7 +113,7 @@ fn crash<'a>(store: Small<'a>, random: &mut Random) -> Files<'a> {
 }
 
 /// Recovers the store, and compares it with what was committed before, and then with the interrupted transaction, too.
-fn check(store: &mut Small, model: &mut Model, counts: &mut Counts) {
+fn check(store: &mut Store, model: &mut Model, counts: &mut Counts) {
     match store.recover() {
         Ok(recovered) => counts.torn = counts.torn.saturating_add(recovered.torn),
         Err(_) => {
@@ -136,10 +139,10 @@ pub fn crashes(alloc: Global, count: u64) -> Result<Counts, StoreError> {
     let power = Power::new();
     let mut random = Random::new(1);
     let mut counts = Counts::default();
-    let mut model = Model { records: vec![in alloc; [0; 64]; RECORDS as usize]?, pending: Vec::new(alloc) };
+    let mut model = Model { records: vec![in alloc; [0; 64]; USED as usize]?, pending: Vec::new(alloc) };
     let pages = CrashFile::new(alloc, PAGE * 4, &power)?;
     let log = CrashFile::new(alloc, PAGE * 8, &power)?;
-    let mut store = open(alloc, (pages, log));
+    let mut store = open(alloc, (Disk::Crash(pages), Disk::Crash(log)));
     let _ = store.format();
     for n in 0..count {
         power.set(n % CALLS);

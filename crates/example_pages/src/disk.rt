@@ -1,26 +1,25 @@
-// Erased from crates/example_pages/src/crash.rt: do not edit.
-//! A file in memory that loses at a crash what was not made durable.
-#[allow(unused_imports)]
-use crate::rattle_std::prelude::*;
-
-use crate::erased::lru_caches::Durable;
-use crate::programs::test_helpers::Random;
-use crate::rattle_std::alloc::{AllocError, Global};
-use crate::rattle_std::cell::Cell;
-use crate::rattle_std::io::{self, ErrorKind, Read, Seek, SeekFrom, Write};
+//! A file, or one in memory that loses at a crash what was not made durable.
+use lru_caches::Durable;
+use std::alloc::{AllocError, Global};
+use std::cell::Cell;
+use std::fs::File;
+use std::io::{self, ErrorKind, Read, Seek, SeekFrom, Write};
+use test_helpers::Random;
 
 /// What a disk writes whole: a crash may tear a page between two sectors.
-const SECTOR: usize = 32;
+const SECTOR: usize = 2048;
 
 /// The calls that a machine makes before it loses power. From then on each call fails.
-
+#[derive(Drop)]
 pub struct Power {
     calls_left: Cell<u64>,
 }
 
 impl Power {
     pub fn new() -> Power {
-        Power { calls_left: Cell::new(u64::MAX) }
+        Power {
+            calls_left: Cell::new(u64::MAX),
+        }
     }
 
     pub fn set(&self, calls: u64) {
@@ -34,6 +33,7 @@ impl Power {
     }
 }
 
+#[derive(Drop)]
 pub struct CrashFile<'a> {
     now: Vec<u8>,
     durable: Vec<u8>,
@@ -43,12 +43,20 @@ pub struct CrashFile<'a> {
 
 impl<'a> CrashFile<'a> {
     pub fn new(alloc: Global, len: usize, power: &'a Power) -> Result<CrashFile<'a>, AllocError> {
-        Ok(CrashFile { now: vec![in alloc; 0; len]?, durable: vec![in alloc; 0; len]?, at: 0, power })
+        Ok(CrashFile {
+            now: vec![in alloc; 0; len]?,
+            durable: vec![in alloc; 0; len]?,
+            at: 0,
+            power,
+        })
     }
 
     /// Leaves each sector as it was made durable, or as it was written since.
     pub fn crash(&mut self, random: &mut Random) {
-        let sectors = self.now.chunks_mut(SECTOR).zip(self.durable.chunks_mut(SECTOR));
+        let sectors = self
+            .now
+            .chunks_mut(SECTOR)
+            .zip(self.durable.chunks_mut(SECTOR));
         for (now, durable) in sectors {
             if now.len() == durable.len() {
                 if random.below(2) == 0 {
@@ -70,7 +78,7 @@ impl Read for CrashFile<'_> {
             return Ok(0);
         };
         let count = rest.len().min(buf.len());
-        (*at_mut!(buf, ..count)).copy_from_slice(&(*at!(rest, ..count)));
+        buf[..count].copy_from_slice(&rest[..count]);
         self.at = self.at.saturating_add(count);
         Ok(count)
     }
@@ -84,9 +92,13 @@ impl Write for CrashFile<'_> {
             return Ok(0);
         };
         let count = rest.len().min(buf.len());
-        (*at_mut!(rest, ..count)).copy_from_slice(&(*at!(buf, ..count)));
+        rest[..count].copy_from_slice(&buf[..count]);
         self.at = self.at.saturating_add(count);
-        if has_power { Ok(count) } else { Err(io::Error::from(ErrorKind::Other)) }
+        if has_power {
+            Ok(count)
+        } else {
+            Err(io::Error::from(ErrorKind::Other))
+        }
     }
 
     fn flush(&mut self) -> io::Result<()> {
@@ -110,8 +122,69 @@ impl Durable for CrashFile<'_> {
             return Err(io::Error::from(ErrorKind::Other));
         }
         if self.durable.len() == self.now.len() {
-            self.durable.as_mut_slice().copy_from_slice(self.now.as_slice());
+            self.durable
+                .as_mut_slice()
+                .copy_from_slice(self.now.as_slice());
         }
         Ok(())
+    }
+}
+
+/// What a store is on.
+#[derive(Drop)]
+pub enum Disk<'a> {
+    File(File),
+    Crash(CrashFile<'a>),
+}
+
+impl Disk<'_> {
+    /// Crashes a file in memory.
+    pub fn crash(&mut self, random: &mut Random) {
+        if let Disk::Crash(file) = self {
+            file.crash(random);
+        }
+    }
+}
+
+impl Read for Disk<'_> {
+    fn read(&mut self, buf: &mut [u8]) -> io::Result<usize> {
+        match self {
+            Disk::File(file) => file.read(buf),
+            Disk::Crash(file) => file.read(buf),
+        }
+    }
+}
+
+impl Write for Disk<'_> {
+    fn write(&mut self, buf: &[u8]) -> io::Result<usize> {
+        match self {
+            Disk::File(file) => file.write(buf),
+            Disk::Crash(file) => file.write(buf),
+        }
+    }
+
+    fn flush(&mut self) -> io::Result<()> {
+        match self {
+            Disk::File(file) => file.flush(),
+            Disk::Crash(file) => file.flush(),
+        }
+    }
+}
+
+impl Seek for Disk<'_> {
+    fn seek(&mut self, to: SeekFrom) -> io::Result<u64> {
+        match self {
+            Disk::File(file) => file.seek(to),
+            Disk::Crash(file) => file.seek(to),
+        }
+    }
+}
+
+impl Durable for Disk<'_> {
+    fn make_durable(&mut self) -> io::Result<()> {
+        match self {
+            Disk::File(file) => file.make_durable(),
+            Disk::Crash(file) => file.make_durable(),
+        }
     }
 }
