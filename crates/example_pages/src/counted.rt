@@ -15,6 +15,11 @@ impl<D> Counted<D> {
     pub fn writes(&self) -> u64 {
         self.writes
     }
+
+    pub fn into_inner(self) -> D {
+        let Counted { device, writes: _ } = self;
+        device
+    }
 }
 
 impl<B, D: BlockDevice<B>> BlockDevice<B> for Counted<D> {

@@ -34,6 +34,14 @@ impl OpenOptions {
         self.0.write(write);
     }
 
+    pub fn create(&mut self, create: bool) {
+        self.0.create(create);
+    }
+
+    pub fn truncate(&mut self, truncate: bool) {
+        self.0.truncate(truncate);
+    }
+
     pub fn open(&self, _: &HostRuntime, path: impl AsRef<Path>) -> Result<File> {
         self.0.open(path)
     }

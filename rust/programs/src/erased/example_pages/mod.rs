@@ -1,34 +1,34 @@
 // Erased from crates/example_pages/src/main.rt: do not edit.
-//! Reads and writes the blocks of a file through a page cache, by the lines of standard input: `read N`,
-//! `write N TEXT`, `flush` and `stats`. After the last line it closes the cache, and prints the file.
+//! A store of records on a file of pages and a log, by the lines of standard input: `get N`, `put N TEXT`, which is part
+//! of a transaction until `commit`, `checkpoint`, `stats`, and `crashes N`, which crashes a store in memory N times.
 
 #[allow(unused_imports)]
 use crate::rattle_std::prelude::*;
 
-mod command;
 mod counted;
+mod disk;
+mod log;
+mod page;
 mod session;
+mod store;
+mod trial;
 
-use crate::erased::lru_caches::{FileDevice, PageCache};
 use crate::rattle_std::fs::{File, OpenOptions};
+use crate::rattle_std::io;
 use crate::rattle_std::process::ExitCode;
-use crate::rattle_std::{fs, io};
-use command::BLOCKS;
-use counted::Counted;
+use disk::Disk;
 use session::Session;
+use store::{Sizes, Store};
 
-const FILE: &str = "blocks";
+const SIZES: Sizes = Sizes { pages: 8, log: 16, cache: 3 };
 
-const CAPACITY: usize = 3;
-
-/// Opens the file for reading and writing. The file is copied first, because the given file may be read-only.
-fn open(rt: &HostRuntime) -> io::Result<File> {
-    let text = fs::read_to_string(rt, "initial")?;
-    fs::write(rt, FILE, text.as_str())?;
+fn open(rt: &HostRuntime, name: &str) -> io::Result<File> {
     let mut options = OpenOptions::new();
     options.read(true);
     options.write(true);
-    options.open(rt, FILE)
+    options.create(true);
+    options.truncate(true);
+    options.open(rt, name)
 }
 
 fn answer_lines(rt: &HostRuntime, session: &mut Session) -> io::Result<()> {
@@ -38,22 +38,13 @@ fn answer_lines(rt: &HostRuntime, session: &mut Session) -> io::Result<()> {
     Ok(())
 }
 
-fn print_file(rt: &HostRuntime) -> io::Result<()> {
-    let bytes = fs::read(rt, FILE)?;
-    for block in bytes.chunks(16) {
-        println!(rt; "{}", session::text_of(block))?;
-    }
-    Ok(())
-}
-
 pub(crate) fn main(rt: HostRuntime) -> ExitCode {
-    let Ok(file) = open(&rt) else {
+    let (Ok(pages), Ok(log)) = (open(&rt, "pages"), open(&rt, "log")) else {
         return ExitCode::from(2);
     };
-    let device = FileDevice::new(file, BLOCKS);
-    let mut session = Session::new(PageCache::new(rt.alloc(), Counted::new(device), CAPACITY));
+    let mut store = Store::new(rt.alloc(), Disk::File(pages), Disk::File(log), SIZES);
+    let is_formatted = store.format().is_ok();
+    let mut session = Session::new(rt.alloc(), store);
     let answered = answer_lines(&rt, &mut session);
-    let is_closed = session.close();
-    let printed = print_file(&rt);
-    if is_closed && answered.is_ok() && printed.is_ok() { ExitCode::SUCCESS } else { ExitCode::FAILURE }
+    if session.close() && is_formatted && answered.is_ok() { ExitCode::SUCCESS } else { ExitCode::FAILURE }
 }

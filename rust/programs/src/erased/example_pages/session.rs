@@ -1,71 +1,128 @@
 // Erased from crates/example_pages/src/session.rt: do not edit.
+//! The answers to the lines.
 #[allow(unused_imports)]
 use crate::rattle_std::prelude::*;
 
-use crate::erased::lru_caches::{FileDevice, FileError, PageCache, PageError, Unclosed};
-use crate::programs::example_pages::command::{Block, Command, block_of, command_of};
-use crate::programs::example_pages::counted::Counted;
-use crate::rattle_std::fs::File;
+use crate::programs::example_pages::page::Record;
+use crate::programs::example_pages::store::{Store, StoreError};
+use crate::programs::example_pages::trial::crashes;
+use crate::rattle_std::alloc::Global;
 use crate::rattle_std::{io, str};
 
-type Cache = PageCache<Block, Counted<FileDevice<File, 16>>>;
+enum Command<'a> {
+    Get(u64),
+    Put(u64, &'a str),
+    Commit,
+    Checkpoint,
+    Stats,
+    Crashes(u64),
+}
+
+/// The command of a line, if it is one.
+fn command_of(line: &str) -> Option<Command<'_>> {
+    let (word, rest) = line.split_once(" ").unwrap_or((line, ""));
+    match word {
+        "get" => Some(Command::Get(rest.parse().ok()?)),
+        "put" => {
+            let (n, text) = rest.split_once(" ")?;
+            Some(Command::Put(n.parse().ok()?, text))
+        }
+        "commit" => Some(Command::Commit),
+        "checkpoint" => Some(Command::Checkpoint),
+        "stats" => Some(Command::Stats),
+        "crashes" => Some(Command::Crashes(rest.parse().ok()?)),
+        _ => None,
+    }
+}
+
+fn record_of(text: &str) -> Record {
+    let mut record = [0u8; 64];
+    for (place, byte) in record.iter_mut().zip(text.bytes()) {
+        *place = byte;
+    }
+    record
+}
+
+/// The text of a record, which ends before its first byte 0.
+fn text_of(record: &[u8]) -> &str {
+    let end = record.iter().position(|byte| *byte == 0);
+    let text = record.get(..end.unwrap_or(record.len())).unwrap_or(record);
+    str::from_utf8(text).unwrap_or("?")
+}
+
+fn say(rt: &HostRuntime, done: Result<(), StoreError>, word: &str) -> io::Result<()> {
+    match done {
+        Ok(()) => println!(rt; "{word}"),
+        Err(error) => println!(rt; "error: {error:?}"),
+    }
+}
 
 pub struct Session {
-    cache: Cache,
-}
-
-pub fn text_of(block: &[u8]) -> &str {
-    str::from_utf8(block).unwrap_or("?").trim_end()
-}
-
-fn say(rt: &HostRuntime, done: Result<(), PageError<FileError>>, word: &str) -> io::Result<()> {
-    let text = match done {
-        Ok(()) => word,
-        Err(error) => return println!(rt; "error: {error}"),
-    };
-    println!(rt; "{text}")
+    store: Store<'static>,
+    changes: Vec<(u64, Record)>,
 }
 
 impl Session {
-    pub fn new(cache: Cache) -> Session {
-        Session { cache }
+    pub const fn new(alloc: Global, store: Store<'static>) -> Session {
+        Session { store, changes: Vec::new(alloc) }
     }
 
-    fn read(&mut self, rt: &HostRuntime, n: u64) -> io::Result<()> {
-        match self.cache.read(n) {
-            Ok(block) => println!(rt; "{n}: {}", text_of(&block)),
+    fn get(&mut self, rt: &HostRuntime, n: u64) -> io::Result<()> {
+        match self.store.get(n) {
+            Ok(record) => println!(rt; "{n}: {}", text_of(&record)),
             Err(error) => say(rt, Err(error), ""),
         }
     }
 
-    fn write(&mut self, n: u64, text: &str) -> Result<(), PageError<FileError>> {
-        self.cache.write(n, block_of(text))
+    fn put(&mut self, n: u64, text: &str) -> Result<(), StoreError> {
+        self.changes.push((n, record_of(text))).map_err(|_| StoreError::Memory)
+    }
+
+    fn commit(&mut self, rt: &HostRuntime) -> io::Result<()> {
+        let done = self.store.commit(rt.alloc(), self.changes.as_slice());
+        self.changes.clear();
+        say(rt, done, "committed")
     }
 
     fn stats(&self, rt: &HostRuntime) -> io::Result<()> {
-        let (hits, misses) = (self.cache.hits(), self.cache.misses());
-        let writes = self.cache.device().writes();
-        println!(rt; "hits {hits}, misses {misses}, write-backs {writes}")
+        let cache = self.store.cache();
+        println!(rt;
+            "pages cached {}, dirty {}, written {}; hits {}, misses {}",
+            cache.len(),
+            cache.dirty_len(),
+            cache.device().writes(),
+            cache.hits(),
+            cache.misses()
+        )
     }
 
     pub fn answer(&mut self, rt: &HostRuntime, line: &str) -> io::Result<()> {
         match command_of(line) {
-            Some(Command::Read(n)) => self.read(rt, n),
-            Some(Command::Write(n, text)) => say(rt, self.write(n, text), "written"),
-            Some(Command::Flush) => say(rt, self.cache.flush(), "flushed"),
+            Some(Command::Get(n)) => self.get(rt, n),
+            Some(Command::Put(n, text)) => say(rt, self.put(n, text), "noted"),
+            Some(Command::Commit) => self.commit(rt),
+            Some(Command::Checkpoint) => say(rt, self.store.checkpoint(), "written"),
             Some(Command::Stats) => self.stats(rt),
-            None => say(rt, Ok(()), "no command"),
+            Some(Command::Crashes(n)) => crash(rt, n),
+            None => println!(rt; "no command"),
         }
     }
 
+    /// Writes what is committed. Returns whether that worked.
     pub fn close(self) -> bool {
-        let Session { cache } = self;
-        match cache.close() {
-            Ok(_) => true,
-            Err(Unclosed { cache, error: _ }) => {
-                cache.discard();
-                false
-            }
-        }
+        let Session { mut store, changes: _ } = self;
+        let is_written = store.checkpoint().is_ok();
+        let _ = store.into_files();
+        is_written
     }
+}
+
+fn crash(rt: &HostRuntime, n: u64) -> io::Result<()> {
+    let Ok(counts) = crashes(rt.alloc(), n) else {
+        return println!(rt; "out of memory");
+    };
+    println!(rt;
+        "{} crashes, {} lost; {} commits, and of the interrupted {} kept and {} dropped; {} torn pages mended",
+        counts.crashes, counts.lost, counts.commits, counts.kept, counts.dropped, counts.torn
+    )
 }
