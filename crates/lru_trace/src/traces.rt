@@ -77,8 +77,8 @@ fn read_trace<R: BufRead, P: Write>(
 ///
 /// # Errors
 ///
-/// `Read`: a read failed. `Memory`: out of memory. In both cases nothing was written. `Write`: a write or the flush
-/// failed; a beginning of the report was written.
+/// `Read`: a read failed, or there were 2 ^ 64 - 2 lines. `Memory`: out of memory. In both cases nothing was written.
+/// `Write`: a write or the flush failed; a beginning of the report was written.
 pub fn trace<R: BufRead, W: Write, P: Write>(
     alloc: Global,
     options: Options,
