@@ -28,7 +28,7 @@ synced = (5, 0, [])
 abbrev pub event_of : List ℕ → List ℕ → Event
 event_of numbers bytes = (slice_index numbers 0, slice_index numbers 1, bytes)
 
--- a block that is known stays, and else it becomes known
+-- what is known of a block after these bytes were read: what was known before, or else these bytes
 abbrev pub or_else : Option (List ℕ) → List ℕ → Option (List ℕ)
 or_else None bytes = Some bytes
 or_else (Some known) bytes = Some known
@@ -61,7 +61,8 @@ abbrev pub left : List Event → ℕ → Option (List ℕ)
 left [] n = None
 left (e ∷ earlier) n = left_after e.0 (nat_eq n e.1) (known earlier n) (left earlier n)
 
--- Whether a crash may leave a block that is seen so. `seen` is what contracts see of its bytes.
+-- Whether a crash may leave a block that contracts see as `block`: any block, if nothing determines it. `seen` takes the
+-- bytes of a block to what contracts see of them.
 abbrev pub IsLeft : (List ℕ → List ℕ) → Option (List ℕ) → List ℕ → Type 0
 IsLeft seen None block = Unit {0}
 IsLeft seen (Some only) block = block ≡ seen only
