@@ -62,9 +62,9 @@ where
 /// It keeps the pages that were used last, up to its capacity, and those that are pinned. A write changes only the
 /// cached page: the page is then dirty, and goes to the device when it is evicted or flushed.
 ///
-/// After a `flush` that returned `Ok`, a crash leaves each block as it was shown at that flush or, if a later call wrote
-/// it, as it was written, or torn; `docs/CACHES.md` says what this supposes of a disk. After a `sync` that failed,
-/// `write`, `flush`, `flush_page` and `close` return `Broken`, and so does a read of a page that is not cached.
+/// After a `flush` that returned `Ok`, a crash leaves each block as it was shown at that flush or, if a later call
+/// wrote it, as it was written, or torn; `docs/CACHES.md` says what this supposes of a disk. After a `sync` that
+/// failed, `write`, `flush`, `flush_page` and `close` return `Broken`, and so does a read of a page that is not cached.
 ///
 /// Code that drops or forgets a cache does not compile, because its dirty pages would be lost. Call `close` or
 /// `discard`.
@@ -205,7 +205,8 @@ impl<B: Copy, D: BlockDevice<B>, S: KeyHasher<u64>> PageCache<B, D, S> {
     /// # Errors
     ///
     /// `Device`: a write or the `sync` failed. All pages stay as dirty as before. If it was a write, the next flush
-    /// writes them again. If it was the `sync`, the device is not usable from then on. `Broken`: a `sync` had failed before.
+    /// writes them again. If it was the `sync`, the device is not usable from then on. `Broken`: a `sync` had failed
+    /// before.
     pub fn flush(&mut self) -> Result<(), PageError<D::Error>> {
         if !self.device.is_usable() {
             return Err(PageError::Broken);
