@@ -1,6 +1,4 @@
-//! What no contract says: how often functions and devices are called, that calls find memory unless a request for it is
-//! refused, and that caches give their memory back.
-mod memory;
+//! What no contract says: how often functions and devices are called, and that inserts find memory.
 mod memos;
 mod pages;
 mod recursion;
@@ -21,21 +19,6 @@ fn an_ordered_map_of_many_keys(rt: HostRuntime) {
     for key in 0..100_000u64 {
         check!(rt; map.insert(key, key) == Ok(None));
     }
-}
-
-/// A page cache and an ordered map run out of memory exactly if a request of a growth is refused: the first, the
-/// second, the third, or none.
-#[test]
-fn growths_without_memory(rt: HostRuntime) {
-    for met in 0..=3usize {
-        check!(rt; memory::grows_if_met(rt.alloc(), met));
-    }
-}
-
-#[test]
-fn nothing_leaks(rt: HostRuntime) {
-    check!(rt; memory::references(rt.alloc()) == [1, 3, 3, 3, 1]);
-    check!(rt; memory::caches_that_find_memory(rt.alloc()) == 1000);
 }
 
 /// A disk that fails at each call that the lists need, and again after as many more, or stays broken.

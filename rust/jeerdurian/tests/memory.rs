@@ -2,12 +2,13 @@
 
 mod refusing;
 
-use jeerdurian::caches::OrderedMap;
+use jeerdurian::caches::{FileDevice, OrderedMap, PageCache};
 use jeerdurian::tenants::TenantCache;
 use jeerdurian::trace::{Curve, report};
 use jeerdurian::{ByMemoryUsage, LruMap, More, ReserveError, Unlimited, UnlimitedCompact};
 use refusing::{aligned, held, refused};
 use std::cell::Cell;
+use std::io::Cursor;
 
 type Map = LruMap<u64, [u64; 2], UnlimitedCompact>;
 
@@ -113,8 +114,18 @@ fn errs<T>(requests: u64, new: impl Fn() -> T, call: impl Fn(&mut T) -> bool) {
     }
 }
 
+/// A page cache of three pages, whose table has no growth left.
+fn pages() -> PageCache<[u8; 8], FileDevice<Cursor<[u8; 64]>, 8>> {
+    let mut cache = PageCache::new(FileDevice::new(Cursor::new([0; 64]), 8), 8);
+    (0..3).for_each(|n| assert_eq!(cache.write(n, [n as u8; 8]), Ok(())));
+    cache
+}
+
 #[test]
 fn caches_out_of_memory_return_errors() {
+    errs(3, pages, |cache| cache.write(3, [3; 8]).is_ok());
+    errs(3, pages, |cache| cache.read(3).is_ok());
+    errs(3, pages, |cache| cache.write_with(3, |block| block[0] = 3).is_ok());
     let map = || {
         let mut map = OrderedMap::new();
         (0..14u64).for_each(|n| assert_eq!(map.insert(n, n), Ok(None)));
@@ -138,10 +149,15 @@ fn caches_out_of_memory_return_errors() {
     errs(4, || Curve::new().unwrap(), |curve| curve.refer("a").is_ok());
 }
 
-/// Tenants that evict, and are closed or dropped, and references to the same keys.
+/// Page caches that are closed or discarded, tenants that evict, and are closed or dropped, and references to the same
+/// keys.
 #[test]
 fn caches_give_their_memory_back() {
     let bytes = held();
+    for n in 0..100 {
+        let cache = pages();
+        assert!(if n % 2 == 0 { cache.close().is_ok() } else { cache.discard().len() == 8 });
+    }
     let mut cache: TenantCache<String, String, u64> = TenantCache::new();
     for n in 0..1000 {
         assert_eq!(cache.open("a".into(), 2), Ok(()));
