@@ -46,7 +46,7 @@ fn calls_that_agree(alloc: Global) -> u64 {
             & checked.is_some_and(|block| (*at!(block, ..8)) == (*at!(expected, ..8)));
         count = count.saturating_add(is_right as u64);
     }
-    let is_synced = plain.sync().is_ok() && hashed.sync().is_ok();
+    let is_synced = plain.is_usable() && plain.sync().is_ok();
     let bytes = plain.into_file().into_inner();
     if is_synced && contains(bytes.as_slice(), &model) { count } else { 0 }
 }
