@@ -19,6 +19,6 @@ usable_if_ok (Err x) e usable broken f = tt
 
 pub returns-clause-others : goal.returns-clause-others
 returns-clause-others g c =
-    usable_if_ok c.write.result _ (g.D.BlockDevice.is_usable c.read.new.cache.device) c.write.ensures.broken
+    usable_if_ok c.write.result _ (g.D.BlockDevice.is_usable c.read.new.self.device) c.write.ensures.broken
     (λ usable honest m b apart was. c.write.ensures.others honest m apart
     ∙ c.read.ensures.keeps (usable, c.write.ensures.serves.honest honest) m b was)
