@@ -24,15 +24,16 @@ fn load<F: Fn(&String) -> Result<u64, u64>>(
     Ok(value)
 }
 
-/// Reads a block through a page cache. The pages are those of an LRU cache after a reference to the number (`refers`). So
-/// if they were those of the numbers that were read last, they are so afterwards (`newest`).
+/// Reads a block through a page cache without pins. The pages are those of an LRU cache after a reference to the number
+/// (`refers`). So if they were those of the numbers that were read last, they are so afterwards (`newest`).
 fn read<D: BlockDevice<u8>>(cache: &mut PageCache<u8, D>, n: u64) -> Result<u8, PageError<D::Error>> {
     crate::erased::lru_theory::a_cache_is_the_newest::<u64>();
+    cache.without_pins_the_newest_stay();
     let block = cache.read(n)?;
     Ok(block)
 }
 
-/// Reads a block through two page caches. The smaller cache stays included in the larger one.
+/// Reads a block through two page caches without pins. The smaller cache stays included in the larger one.
 fn read_both<D: BlockDevice<u8>>(
     small: &mut PageCache<u8, D>,
     large: &mut PageCache<u8, D>,
