@@ -1,9 +1,10 @@
 //! Calls of the caches of `lru_caches` that are references: a memo, a loader and a page cache.
-ghost use Rattle.std.specs.Prelude.{◌≡◌, ◌≤◌, ◌∷◌, ℕ, Bool, IfOk, IsOk, List, OnOk, Result, nat_eq, take};
+ghost use Rattle.std.specs.Prelude.{◌≡◌, ◌≤◌, ◌∷◌, ℕ, Bool, false, IfOk, IsOk, List, OnOk, Result, nat_eq, take};
 ghost use Rattle.std.specs.Fn.{FnReturnsAt};
 ghost use Rattle.std.specs.String.{string_eq};
 ghost use Rattle.std.specs.declared.alloc.AllocError.{AllocError};
 ghost use Rattle.lru_caches.specs.Answers.{AreAnswers, loads};
+ghost use Rattle.lru_caches.specs.Pages.{pinned};
 ghost use Rattle.lru_model.specs.Kept.{KeepsToLength};
 ghost use Rattle.lru_model.specs.Lists.{keys_of};
 ghost use Rattle.lru_replay.specs.References.{Reference, of_length};
@@ -41,9 +42,12 @@ fn load<F: Fn(&String) -> Result<u64, u64>>(
     Ok(value)
 }
 
-/// Reads a block through a page cache. The pages change as the keys of an LRU cache do at a reference to the number
-/// (`refers`). So if they were the pages of the numbers that were read last, they still are (`newest`).
+/// Reads a block through a page cache without pins that may evict dirty pages. The pages change as the keys of an LRU
+/// cache do at a reference to the number (`refers`). So if they were the pages of the numbers that were read last, they
+/// still are (`newest`).
 fn read<D: BlockDevice<u8>>(cache: &mut PageCache<u8, D>, n: u64) -> Result<u8, PageError<D::Error>>
+    requires plain { cache.old.keeps_dirty ≡ false }
+    requires unpinned { (m : ℕ) → pinned cache.old m ≡ false }
     ensures refers { IfOk result
         (λ block. keys_of cache.new.pages ≡ refer nat_eq cache.old.capacity n (keys_of cache.old.pages)) }
     ensures newest { (past : List ℕ) →
@@ -51,16 +55,19 @@ fn read<D: BlockDevice<u8>>(cache: &mut PageCache<u8, D>, n: u64) -> Result<u8, 
         OnOk result (keys_of cache.new.pages ≡ take cache.old.capacity (recency nat_eq (n ∷ past))) }
 {
     lru_theory::a_cache_is_the_newest::<u64>();
+    cache.without_pins_the_newest_stay();
     let block = cache.read(n)?;
     Ok(block)
 }
 
-/// Reads a block through two page caches. The smaller cache stays included in the larger one.
+/// Reads a block through two page caches without pins. The smaller cache stays included in the larger one.
 fn read_both<D: BlockDevice<u8>>(
     small: &mut PageCache<u8, D>,
     large: &mut PageCache<u8, D>,
     n: u64,
 ) -> Result<u8, PageError<D::Error>>
+    requires plain { (small.old.keeps_dirty ≡ false) × (large.old.keeps_dirty ≡ false) }
+    requires unpinned { (m : ℕ) → (pinned small.old m ≡ false) × (pinned large.old m ≡ false) }
     requires ordered { small.old.capacity ≤ large.old.capacity }
     requires included { IsIncluded nat_eq small.old.capacity large.old.capacity (keys_of small.old.pages)
         (keys_of large.old.pages) }

@@ -6,7 +6,9 @@ use Rattle.lru_replay_tests.proofs.caches.read.Goals as goal
 
 pub returns : goal.returns
 returns g c =
-    let most = c.args.cache.now.capacity in let refers = ap keys_of c.in_ok-block.ensures.pages
+    let most = c.args.cache.now.capacity in
+    let plain = c.without_pins_the_newest_stay.ensures c.requires.plain c.requires.unpinned c.args.n _ in
+    let refers = ap keys_of (c.in_ok-block.ensures.pages ∙ plain)
     ∙ keys_referred nat_eq c.args.n most _ c.args.cache.now.pages in record {
       refers = refers;
       newest = λ past is. refers ∙ ap (refer nat_eq most c.args.n) is

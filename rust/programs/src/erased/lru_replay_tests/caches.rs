@@ -24,15 +24,17 @@ fn load<F: Fn(&String) -> Result<u64, u64>>(
     Ok(value)
 }
 
-/// Reads a block through a page cache. The pages change as the keys of an LRU cache do at a reference to the number
-/// (`refers`). So if they were the pages of the numbers that were read last, they still are (`newest`).
+/// Reads a block through a page cache without pins that may evict dirty pages. The pages change as the keys of an LRU
+/// cache do at a reference to the number (`refers`). So if they were the pages of the numbers that were read last, they
+/// still are (`newest`).
 fn read<D: BlockDevice<u8>>(cache: &mut PageCache<u8, D>, n: u64) -> Result<u8, PageError<D::Error>> {
     crate::erased::lru_theory::a_cache_is_the_newest::<u64>();
+    cache.without_pins_the_newest_stay();
     let block = cache.read(n)?;
     Ok(block)
 }
 
-/// Reads a block through two page caches. The smaller cache stays included in the larger one.
+/// Reads a block through two page caches without pins. The smaller cache stays included in the larger one.
 fn read_both<D: BlockDevice<u8>>(
     small: &mut PageCache<u8, D>,
     large: &mut PageCache<u8, D>,
