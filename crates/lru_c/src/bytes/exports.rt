@@ -16,6 +16,7 @@ use crate::bytes::answers::{Popped, Value, no_value, nothing_popped};
 use crate::bytes::calls::{copied, get, peek, pop_oldest, put, show};
 use crate::bytes::handle::{BytesMap, LruBytes};
 use crate::bytes::keys::Named;
+use crate::handle::with_map;
 use lru_limits::ByWeight;
 use schnellru::LruMap;
 use std::alloc::Global;
@@ -56,14 +57,7 @@ pub extern "C" fn lru_bytes_free(alloc: Global, lru: &mut LruBytes)
 pub extern "C" fn lru_bytes_put(alloc: Global, lru: &mut LruBytes, key: &[u8], value: &[u8]) -> u32
     ensures { OnMap (result ≡ 3) (λ old new. Puts key.now value.now old result new) lru.old.map lru.new.map }
 {
-    match lru.take(alloc) {
-        Some(mut map) => {
-            let answer = put(alloc, &mut map, key, value);
-            lru.put(map);
-            answer
-        }
-        None => NO_MAP,
-    }
+    with_map!(lru, alloc, |map| put(alloc, &mut map, key, value), NO_MAP)
 }
 
 #[unsafe(no_mangle)]
@@ -77,14 +71,7 @@ pub extern "C" fn lru_bytes_get(
         (λ old new. Reads (lookup (names_bytes key.now) old.pairs) result buffer.old buffer.new
         × (new ≡ promoted (names_bytes key.now) old)) lru.old.map lru.new.map }
 {
-    match lru.take(alloc) {
-        Some(mut map) => {
-            let answer = get(&mut map, key, buffer);
-            lru.put(map);
-            answer
-        }
-        None => no_value(),
-    }
+    with_map!(lru, alloc, |map| get(&mut map, key, buffer), no_value())
 }
 
 #[unsafe(no_mangle)]
@@ -98,14 +85,7 @@ pub extern "C" fn lru_bytes_peek(
         (λ old new. Reads (lookup (names_bytes key.now) old.pairs) result buffer.old buffer.new × (new ≡ old))
         lru.old.map lru.new.map }
 {
-    match lru.take(alloc) {
-        Some(map) => {
-            let answer = peek(&map, key, buffer);
-            lru.put(map);
-            answer
-        }
-        None => no_value(),
-    }
+    with_map!(lru, alloc, |map| peek(&map, key, buffer), no_value())
 }
 
 #[unsafe(no_mangle)]
@@ -114,14 +94,7 @@ pub extern "C" fn lru_bytes_contains(alloc: Global, lru: &mut LruBytes, key: &[u
         (λ old new. (result ≡ is_some (lookup (names_bytes key.now) old.pairs)) × (new ≡ old))
         lru.old.map lru.new.map }
 {
-    match lru.take(alloc) {
-        Some(map) => {
-            let answer = map.contains(&Named(key));
-            lru.put(map);
-            answer
-        }
-        None => false,
-    }
+    with_map!(lru, alloc, |map| map.contains(&Named(key)), false)
 }
 
 #[unsafe(no_mangle)]
@@ -129,14 +102,7 @@ pub extern "C" fn lru_bytes_remove(alloc: Global, lru: &mut LruBytes, key: &[u8]
     ensures { OnMap (result ≡ false) (λ old new. (value : Option Bytes) × (result ≡ is_some value)
         × Remove bytes_rules (names_bytes key.now) old value new) lru.old.map lru.new.map }
 {
-    match lru.take(alloc) {
-        Some(mut map) => {
-            let answer = map.remove(&Named(key)).is_some();
-            lru.put(map);
-            answer
-        }
-        None => false,
-    }
+    with_map!(lru, alloc, |map| map.remove(&Named(key)).is_some(), false)
 }
 
 #[unsafe(no_mangle)]
@@ -149,14 +115,12 @@ pub extern "C" fn lru_bytes_pop_oldest(
     ensures { OnMap ((result ≡ no_entry) × (key.new ≡ key.old) × (value.new ≡ value.old))
         (λ old new. Pops old result key.old key.new value.old value.new new) lru.old.map lru.new.map }
 {
-    match lru.take(alloc) {
-        Some(mut map) => {
-            let answer = pop_oldest(&mut map, key, value);
-            lru.put(map);
-            answer
-        }
-        None => nothing_popped(),
-    }
+    with_map!(
+        lru,
+        alloc,
+        |map| pop_oldest(&mut map, key, value),
+        nothing_popped()
+    )
 }
 
 #[unsafe(no_mangle)]
@@ -170,14 +134,12 @@ pub extern "C" fn lru_bytes_peek_oldest(
         (λ old new. Shows (last old.pairs) result key.old key.new value.old value.new × (new ≡ old))
         lru.old.map lru.new.map }
 {
-    match lru.take(alloc) {
-        Some(map) => {
-            let answer = show(map.peek_oldest(), key, value);
-            lru.put(map);
-            answer
-        }
-        None => nothing_popped(),
-    }
+    with_map!(
+        lru,
+        alloc,
+        |map| show(map.peek_oldest(), key, value),
+        nothing_popped()
+    )
 }
 
 #[unsafe(no_mangle)]
@@ -192,56 +154,33 @@ pub extern "C" fn lru_bytes_peek_at(
         (λ old new. Shows (slice_get old.pairs index) result key.old key.new value.old value.new × (new ≡ old))
         lru.old.map lru.new.map }
 {
-    match lru.take(alloc) {
-        Some(map) => {
-            let answer = show(map.get_index(index), key, value);
-            lru.put(map);
-            answer
-        }
-        None => nothing_popped(),
-    }
+    with_map!(
+        lru,
+        alloc,
+        |map| show(map.get_index(index), key, value),
+        nothing_popped()
+    )
 }
 
 #[unsafe(no_mangle)]
 pub extern "C" fn lru_bytes_len(alloc: Global, lru: &mut LruBytes) -> usize
     ensures { OnMap (result ≡ 0) (λ old new. (result ≡ length old.pairs) × (new ≡ old)) lru.old.map lru.new.map }
 {
-    match lru.take(alloc) {
-        Some(map) => {
-            let answer = map.len();
-            lru.put(map);
-            answer
-        }
-        None => 0,
-    }
+    with_map!(lru, alloc, |map| map.len(), 0)
 }
 
 #[unsafe(no_mangle)]
 pub extern "C" fn lru_bytes_cost(alloc: Global, lru: &mut LruBytes) -> u64
     ensures { OnMap (result ≡ 0) (λ old new. (result ≡ old.limiter.cost) × (new ≡ old)) lru.old.map lru.new.map }
 {
-    match lru.take(alloc) {
-        Some(map) => {
-            let answer = map.limiter().cost();
-            lru.put(map);
-            answer
-        }
-        None => 0,
-    }
+    with_map!(lru, alloc, |map| map.limiter().cost(), 0)
 }
 
 #[unsafe(no_mangle)]
 pub extern "C" fn lru_bytes_budget(alloc: Global, lru: &mut LruBytes) -> u64
     ensures { OnMap (result ≡ 0) (λ old new. (result ≡ old.limiter.limit) × (new ≡ old)) lru.old.map lru.new.map }
 {
-    match lru.take(alloc) {
-        Some(map) => {
-            let answer = map.limiter().limit();
-            lru.put(map);
-            answer
-        }
-        None => 0,
-    }
+    with_map!(lru, alloc, |map| map.limiter().limit(), 0)
 }
 
 #[unsafe(no_mangle)]
@@ -282,8 +221,5 @@ pub extern "C" fn lru_bytes_clone(alloc: Global, lru: &mut LruBytes, copy: &mut 
 pub extern "C" fn lru_bytes_clear(alloc: Global, lru: &mut LruBytes)
     ensures { OnMap ⊤ (λ old new. new ≡ cleared bytes_rules old) lru.old.map lru.new.map }
 {
-    if let Some(mut map) = lru.take(alloc) {
-        map.clear();
-        lru.put(map);
-    }
+    with_map!(lru, alloc, |map| map.clear(), ())
 }
