@@ -3,3 +3,4 @@ pub mod ByteCopies
 pub mod FilledSlots
 pub mod NotedPairs
 pub mod Within
+pub mod WithinBudget

@@ -2,14 +2,15 @@
 //!
 //! On a handle without a map, `lru_bytes_new` makes a map, and `lru_bytes_clone` drops the map of the copy. Every other
 //! call changes nothing and finds nothing; a put returns `NO_MAP`.
-ghost use Rattle.std.specs.Prelude.{◌≡◌, length, is_some, slice_get, Option, Some, None, true, false, ⊤};
+ghost use Rattle.std.specs.Prelude.{◌≡◌, ◌≤◌, length, is_some, slice_get, Option, Some, None, true, false, ⊤};
 ghost use Rattle.lru_limits.specs.Mixing.{seeded};
 ghost use Rattle.lru_model.specs.Calls.{Remove, promoted, cleared};
 ghost use Rattle.lru_model.specs.Lists.{lookup, last};
 ghost use Rattle.lru_model.specs.Sizes.{max_of_64_bits};
 ghost use Rattle.lru_model.specs.State.{empty_map, contents, Trims, IsWithin};
 ghost use Rattle.lru_c.specs.Answers.{OnMap};
-ghost use Rattle.lru_c.specs.Bytes.{Bytes, names_bytes, bytes_rules, no_entry, Reads, Puts, Pops, Shows, Copies};
+ghost use Rattle.lru_c.specs.Bytes.{Bytes, names_bytes, bytes_rules, total_weight, no_entry};
+ghost use Rattle.lru_c.specs.Bytes.{Reads, Puts, Pops, Shows, Copies};
 
 use crate::answers::NO_MAP;
 use crate::bytes::answers::{Popped, Value, no_value, nothing_popped};
@@ -171,7 +172,8 @@ pub extern "C" fn lru_bytes_len(alloc: Global, lru: &mut LruBytes) -> usize
 
 #[unsafe(no_mangle)]
 pub extern "C" fn lru_bytes_cost(alloc: Global, lru: &mut LruBytes) -> u64
-    ensures { OnMap (result ≡ 0) (λ old new. (result ≡ old.limiter.cost) × (new ≡ old)) lru.old.map lru.new.map }
+    ensures { OnMap (result ≡ 0) (λ old new. (result ≡ old.limiter.cost) × (result ≡ total_weight old.pairs)
+        × (result ≤ old.limiter.limit) × (new ≡ old)) lru.old.map lru.new.map }
 {
     with_map!(lru, alloc, |map| map.limiter().cost(), 0)
 }
