@@ -15,7 +15,7 @@ use Rattle.lru_c.specs.Bytes.Puts.{too_long, too_heavy, no_memory, inserted}
 use Rattle.lru_c.specs.Bytes.Pops.{none, too_long as does_not_fit, removed}
 use Rattle.lru_c.specs.Bytes.IsReady.{there, reserved}
 
-abbrev weighs : Bytes → Bytes → ℕ
+abbrev pub weighs : Bytes → Bytes → ℕ
 weighs k v = weight (vec_len k) (vec_len v)
 
 pub stays_in_budget : {old new : BytesMap} → Step bytes_rules bytes_offers same_bytes hash_of_bytes old new

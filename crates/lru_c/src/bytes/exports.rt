@@ -2,7 +2,7 @@
 //!
 //! On a handle without a map, `lru_bytes_new` makes a map, and `lru_bytes_clone` drops the map of the copy. Every other
 //! call changes nothing and finds nothing; a put returns `NO_MAP`.
-ghost use Rattle.std.specs.Prelude.{◌≡◌, ◌≤◌, length, is_some, slice_get, Option, Some, None, true, false, ⊤};
+ghost use Rattle.std.specs.Prelude.{◌≡◌, ◌≤◌, length, is_some, slice_get, IfSome, Option, Some, None, true, false, ⊤};
 ghost use Rattle.lru_limits.specs.Mixing.{seeded};
 ghost use Rattle.lru_model.specs.Calls.{Remove, promoted, cleared};
 ghost use Rattle.lru_model.specs.Lists.{lookup, last};
@@ -10,7 +10,7 @@ ghost use Rattle.lru_model.specs.Sizes.{max_of_64_bits};
 ghost use Rattle.lru_model.specs.State.{empty_map, contents, Trims, IsWithin};
 ghost use Rattle.lru_c.specs.Answers.{OnMap};
 ghost use Rattle.lru_c.specs.Bytes.{Bytes, names_bytes, bytes_rules, total_weight, no_entry};
-ghost use Rattle.lru_c.specs.Bytes.{Reads, Puts, Pops, Shows, Copies};
+ghost use Rattle.lru_c.specs.Bytes.{Reads, Puts, Pops, Shows, Copies, value_of};
 
 use crate::answers::NO_MAP;
 use crate::bytes::answers::{Popped, Value, no_value, nothing_popped};
@@ -56,7 +56,9 @@ pub extern "C" fn lru_bytes_free(alloc: Global, lru: &mut LruBytes)
 
 #[unsafe(no_mangle)]
 pub extern "C" fn lru_bytes_put(alloc: Global, lru: &mut LruBytes, key: &[u8], value: &[u8]) -> u32
-    ensures { OnMap (result ≡ 3) (λ old new. Puts key.now value.now old result new) lru.old.map lru.new.map }
+    ensures puts { OnMap (result ≡ 3) (λ old new. Puts key.now value.now old result new) lru.old.map lru.new.map }
+    ensures stored { result ≡ 0 → IfSome lru.new.map (λ map. value_of key.now map ≡ Some value.now) }
+    ensures rejected { result ≡ 1 → IfSome lru.new.map (λ map. value_of key.now map ≡ None) }
 {
     with_map!(lru, alloc, |map| put(alloc, &mut map, key, value), NO_MAP)
 }
