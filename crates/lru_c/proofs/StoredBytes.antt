@@ -1,15 +1,14 @@
 -- What a put of byte strings leaves under its key.
-use Rattle.std.proofs.Common.{◌≡◌, ◌<◌, ◌^◌, List, ℕ, length, Option, Some, None, Ok, refl, ap, ◌∙◌, subst, arith}
+use Rattle.std.proofs.Common.{◌≡◌, ◌<◌, ◌^◌, List, ℕ, length, Option, Some, None, refl, ap, ◌∙◌, subst, arith}
 use Rattle.std.specs.Cmp.Lexicographic.{bytes_decides}
 use Rattle.std.specs.Map.{lookup}
 use Rattle.std.specs.Prelude.{option_map, vec_items}
-use Rattle.std.specs.Str.{bytes_eq}
 use Rattle.lru_model.specs.Calls.{Remove}
 use Rattle.lru_model.specs.Lists.{lookup_entry, without}
 use Rattle.lru_model.specs.State.{IsMap}
 use Rattle.lru_model.proofs.CallerLemmas.{lookup-entry, found_named}
 use Rattle.lru_model.proofs.PairLists.DistinctKeys.{absent_without}
-use Rattle.lru_model.proofs.Theorems.Sums.{total, total-is, split_named, IsSplit}
+use Rattle.lru_model.proofs.Theorems.Sums.{total-is, split_named, IsSplit}
 use Rattle.lru_c.specs.Bytes.{Bytes, BytesMap, IsWithinBudget, bytes_rules, same_bytes, names_bytes, names_bytes-lawful}
 use Rattle.lru_c.specs.Bytes.{value_of}
 use Rattle.lru_c.proofs.WithinBudget.{weighs}
@@ -37,9 +36,9 @@ long_key_absent key map (sum, within) long small =
 pub removed_absent : (key : List ℕ) (old new : BytesMap) (gone : Option Bytes) → IsMap same_bytes old
     → Remove bytes_rules (names_bytes key) old gone new → value_of key new ≡ None
 removed_absent key old new gone map step = no_value key new (
-      ap (λ st. lookup_entry (names_bytes key) st.pairs) step.state.is
-          ∙ absent_without same_bytes (names_bytes key) ((names_bytes-lawful (λ bytes. bytes)).one key) old.pairs
-          map.distinct)
+    ap (λ st. lookup_entry (names_bytes key) st.pairs) step.state.is
+    ∙ absent_without same_bytes (names_bytes key) ((names_bytes-lawful (λ bytes. bytes)).one key) old.pairs
+    map.distinct)
 
 pub inserted_found : (key value : List ℕ) (k v : Bytes) (new : BytesMap) → k.items ≡ key → v.items ≡ value
     → lookup (same_bytes k) new.pairs ≡ Some v → value_of key new ≡ Some value

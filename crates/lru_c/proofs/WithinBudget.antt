@@ -1,10 +1,11 @@
 -- Each call of a map of byte strings leaves its running total the sum of the weights, and within the budget.
-use Rattle.std.proofs.Common.{◌≡◌, ◌≤◌, ◌+◌, ℕ, List, [], ◌∷◌, length, Ok, inl, inr, refl, sym, ap, ◌∙◌, subst, arith}
+use Rattle.std.proofs.Common.{◌≡◌, ◌≤◌, ◌+◌, ℕ, Bool, Option, List, [], ◌∷◌, length, Ok, inl, inr, refl, sym, ap, ◌∙◌, subst, arith}
 use Rattle.std.specs.Prelude.{vec_len}
 use Rattle.lru_limits.specs.Budget.{weighs-sums}
 use Rattle.lru_limits.specs.Budgeted.{weighs-budgeted}
+use Rattle.lru_model.specs.Calls.{Remove, promoted, cleared}
 use Rattle.lru_model.specs.Runs.{Step}
-use Rattle.lru_model.specs.Runs.Step.{inserts, removes, reserves, pops_oldest, trims}
+use Rattle.lru_model.specs.Runs.Step.{inserts, gets, removes, pops_oldest, clears, reserves, trims}
 use Rattle.lru_model.specs.State.{contents, IsWithin, Trims}
 use Rattle.lru_model.proofs.Theorems.BudgetLimits.{not_over, step_keeps_total}
 use Rattle.lru_model.proofs.Theorems.Runs.{step_summed}
@@ -24,6 +25,18 @@ stays_in_budget {old} {new} step (sum, within) = (
   step_summed (weighs-sums weighs) old new step sum,
   step_keeps_total (weighs-budgeted weighs) (weighs-sums weighs) same_bytes hash_of_bytes old new step sum within,
 )
+
+pub got_in_budget : (named : Bytes → Bool) (old new : BytesMap) → new ≡ promoted named old → IsWithinBudget old
+    → IsWithinBudget new
+got_in_budget named old new step = stays_in_budget {old = old} (gets named step)
+
+pub removed_in_budget : (named : Bytes → Bool) (value : Option Bytes) (old new : BytesMap)
+    → Remove bytes_rules named old value new → IsWithinBudget old → IsWithinBudget new
+removed_in_budget named value old new step = stays_in_budget (removes named value step)
+
+pub cleared_in_budget : (old new : BytesMap) → new ≡ cleared bytes_rules old → IsWithinBudget old
+    → IsWithinBudget new
+cleared_in_budget old new step = stays_in_budget {old = old} (clears step)
 
 ready_in_budget : {key : List ℕ} {old ready : BytesMap} → IsReady key old ready → IsWithinBudget old
     → IsWithinBudget ready

@@ -89,6 +89,7 @@ pub extern "C" fn lru_put(alloc: Global, lru: &mut Lru, key: u64, value: u64) ->
 }
 
 #[unsafe(no_mangle)]
+#[tactic(auto, using(crate::proofs::Within::got_within))]
 pub extern "C" fn lru_get(alloc: Global, lru: &mut Lru, key: u64) -> Found
     ensures { OnMap (result ≡ found_of None) (λ old new. (result ≡ found_of (lookup (nat_eq key) old.pairs))
         × (new ≡ promoted (nat_eq key) old)) lru.old.map lru.new.map }
@@ -113,6 +114,7 @@ pub extern "C" fn lru_contains(alloc: Global, lru: &mut Lru, key: u64) -> bool
 }
 
 #[unsafe(no_mangle)]
+#[tactic(auto, using(crate::proofs::Within::got_within))]
 pub extern "C" fn lru_promote(alloc: Global, lru: &mut Lru, key: u64) -> bool
     ensures { OnMap (result ≡ false) (λ old new. (result ≡ is_some (lookup (nat_eq key) old.pairs))
         × (new ≡ promoted (nat_eq key) old)) lru.old.map lru.new.map }
@@ -121,6 +123,7 @@ pub extern "C" fn lru_promote(alloc: Global, lru: &mut Lru, key: u64) -> bool
 }
 
 #[unsafe(no_mangle)]
+#[tactic(auto, using(crate::proofs::Within::removed_within))]
 pub extern "C" fn lru_remove(alloc: Global, lru: &mut Lru, key: u64) -> Found
     ensures { OnMap (result ≡ found_of None) (λ old new. (value : Option ℕ) × (result ≡ found_of value)
         × Remove length_rules (nat_eq key) old value new) lru.old.map lru.new.map }
@@ -129,6 +132,7 @@ pub extern "C" fn lru_remove(alloc: Global, lru: &mut Lru, key: u64) -> Found
 }
 
 #[unsafe(no_mangle)]
+#[tactic(auto, using(crate::proofs::Within::popped_within))]
 pub extern "C" fn lru_pop_oldest(alloc: Global, lru: &mut Lru) -> Pair
     ensures { OnMap (result ≡ pair_of None) (λ old new. (pair : Option (ℕ × ℕ)) × (result ≡ pair_of pair)
         × PopOldest length_rules old pair new) lru.old.map lru.new.map }
@@ -193,6 +197,7 @@ pub extern "C" fn lru_memory_usage(alloc: Global, lru: &mut Lru) -> usize
 }
 
 #[unsafe(no_mangle)]
+#[tactic(auto, using(crate::proofs::Within::cleared_within))]
 pub extern "C" fn lru_clear(alloc: Global, lru: &mut Lru)
     ensures { OnMap ⊤ (λ old new. new ≡ cleared length_rules old) lru.old.map lru.new.map }
 {
@@ -200,6 +205,7 @@ pub extern "C" fn lru_clear(alloc: Global, lru: &mut Lru)
 }
 
 #[unsafe(no_mangle)]
+#[tactic(auto, using(crate::proofs::Within::reserved_within))]
 pub extern "C" fn lru_reserve(alloc: Global, lru: &mut Lru, additional: usize) -> bool
     ensures { OnMap (result ≡ false) (λ old new. (done : Result (Unit {0}) ReserveError) × (result ≡ is_ok done)
         × Reserve length_rules additional old done new) lru.old.map lru.new.map }
@@ -208,6 +214,7 @@ pub extern "C" fn lru_reserve(alloc: Global, lru: &mut Lru, additional: usize) -
 }
 
 #[unsafe(no_mangle)]
+#[tactic(auto, using(crate::proofs::Within::shrunk_within))]
 pub extern "C" fn lru_shrink(alloc: Global, lru: &mut Lru) -> bool
     ensures { OnMap (result ≡ false) (λ old new. (done : Result Bool AllocError) × (result ≡ is_ok done)
         × Shrink old done new) lru.old.map lru.new.map }
@@ -216,6 +223,7 @@ pub extern "C" fn lru_shrink(alloc: Global, lru: &mut Lru) -> bool
 }
 
 #[unsafe(no_mangle)]
+#[tactic(auto, using(crate::proofs::Within::is_within))]
 pub extern "C" fn lru_set_max_length(alloc: Global, lru: &mut Lru, max_length: u32)
     ensures { OnMap ⊤ (λ old new. Trims length_rules (record old { limiter = max_length }) new
         × IsWithin length_rules (contents new)) lru.old.map lru.new.map }

@@ -64,6 +64,7 @@ pub extern "C" fn lru_bytes_put(alloc: Global, lru: &mut LruBytes, key: &[u8], v
 }
 
 #[unsafe(no_mangle)]
+#[tactic(auto, using(crate::proofs::WithinBudget::got_in_budget))]
 pub extern "C" fn lru_bytes_get(
     alloc: Global,
     lru: &mut LruBytes,
@@ -201,6 +202,7 @@ pub extern "C" fn lru_bytes_set_budget(alloc: Global, lru: &mut LruBytes, budget
 }
 
 #[unsafe(no_mangle)]
+#[tactic(auto, using(crate::proofs::WithinBudget::copy_in_budget))]
 pub extern "C" fn lru_bytes_clone(alloc: Global, lru: &mut LruBytes, copy: &mut LruBytes) -> bool
     ensures kept { lru.new.map ≡ lru.old.map }
     ensures made { result ≡ true → OnMap ⊥ Copies lru.old.map copy.new.map }
@@ -222,6 +224,7 @@ pub extern "C" fn lru_bytes_clone(alloc: Global, lru: &mut LruBytes, copy: &mut 
 }
 
 #[unsafe(no_mangle)]
+#[tactic(auto, using(crate::proofs::WithinBudget::cleared_in_budget))]
 pub extern "C" fn lru_bytes_clear(alloc: Global, lru: &mut LruBytes)
     ensures { OnMap ⊤ (λ old new. new ≡ cleared bytes_rules old) lru.old.map lru.new.map }
 {

@@ -1,6 +1,5 @@
 use Rattle.std.proofs.Common.{rules}
-use Rattle.lru_model.specs.Runs.Step.{inserts}
-use Rattle.lru_c.proofs.Within.{on_map, stays_within}
+use Rattle.lru_c.proofs.Within.{on_map, put_within}
 use Rattle.lru_c.proofs.exports.lru_put.Goals as goal
 
 pub returns-in-Some : goal.returns-in-Some
@@ -9,5 +8,5 @@ returns-in-Some c =
     (c.insert.result, search rules, c.insert.ensures.step)
 
 pub put-requires-clause-within : goal.put-requires-clause-within
-put-requires-clause-within c = stays_within c.deref_mut.result.now c.insert.new.self
-    (inserts c.args.key c.args.value c.insert.result c.insert.ensures.step) (search rules)
+put-requires-clause-within c = put_within c.args.key c.args.value c.insert.result c.deref_mut.result.now
+    c.insert.new.self c.insert.ensures.step (search rules)

@@ -1,8 +1,7 @@
 use Rattle.std.proofs.Common.{rules}
-use Rattle.lru_c.proofs.Within.{on_map}
-use Rattle.lru_model.specs.Runs.Step.{removes}
 use Rattle.lru_c.specs.Bytes.{names_bytes}
-use Rattle.lru_c.proofs.WithinBudget.{stays_in_budget}
+use Rattle.lru_c.proofs.Within.{on_map}
+use Rattle.lru_c.proofs.WithinBudget.{removed_in_budget}
 use Rattle.lru_c.proofs.bytes.exports.lru_bytes_remove.Goals as goal
 
 pub returns-in-Some : goal.returns-in-Some
@@ -11,5 +10,5 @@ returns-in-Some c =
     (c.remove.result, (search rules), c.remove.ensures.step)
 
 pub put-requires-clause-within : goal.put-requires-clause-within
-put-requires-clause-within c = stays_in_budget
-    (removes (names_bytes c.args.key.now) c.remove.result c.remove.ensures.step) (search rules)
+put-requires-clause-within c = removed_in_budget (names_bytes c.args.key.now) c.remove.result
+    c.deref_mut.result.now c.remove.new.self c.remove.ensures.step (search rules)

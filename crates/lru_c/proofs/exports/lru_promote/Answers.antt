@@ -1,9 +1,0 @@
-use Rattle.std.proofs.Common.{rules}
-use Rattle.std.proofs.Common.{nat_eq}
-use Rattle.lru_model.specs.Runs.Step.{gets}
-use Rattle.lru_c.proofs.Within.{stays_within}
-use Rattle.lru_c.proofs.exports.lru_promote.Goals as goal
-
-pub put-requires-clause-within : goal.put-requires-clause-within
-put-requires-clause-within c = stays_within c.deref_mut.result.now c.promote-answer.new.self
-    (gets (nat_eq c.args.key) c.promote-answer.ensures.promoted) (search rules)
