@@ -1,5 +1,6 @@
 -- Each call of a map of byte strings leaves its running total the sum of the weights, and within the budget.
-use Rattle.std.proofs.Common.{◌≡◌, ◌≤◌, ◌+◌, ℕ, Bool, Option, List, [], ◌∷◌, length, Ok, inl, inr, refl, sym, ap, ◌∙◌, subst, arith}
+use Rattle.std.proofs.Common.{◌≡◌, ◌≤◌, ◌+◌, ℕ, Bool, Option, List, [], ◌∷◌, length, Ok, inl}
+use Rattle.std.proofs.Common.{inr, refl, sym, ap, ◌∙◌, subst, arith}
 use Rattle.std.specs.Prelude.{vec_len}
 use Rattle.lru_limits.specs.Budget.{weighs-sums}
 use Rattle.lru_limits.specs.Budgeted.{weighs-budgeted}

@@ -4,8 +4,8 @@ use Rattle.lru_c.proofs.exports.lru_put.Goals as goal
 
 pub returns-in-Some : goal.returns-in-Some
 returns-in-Some c =
-    on_map _ _ c.args.lru.now.map c.put.new.self.map c.deref_mut.result.now c.insert.new.self (search rules) (search rules)
-    (c.insert.result, search rules, c.insert.ensures.step)
+    on_map _ _ c.args.lru.now.map c.put.new.self.map c.deref_mut.result.now c.insert.new.self
+    (search rules) (search rules) (c.insert.result, search rules, c.insert.ensures.step)
 
 pub put-requires-clause-within : goal.put-requires-clause-within
 put-requires-clause-within c = put_within c.args.key c.args.value c.insert.result c.deref_mut.result.now

@@ -4,5 +4,5 @@ use Rattle.lru_c.proofs.exports.lru_reserve.Goals as goal
 
 pub returns-in-Some : goal.returns-in-Some
 returns-in-Some c =
-    on_map _ _ c.args.lru.now.map c.put.new.self.map c.deref_mut.result.now c.try_reserve.new.self (search rules) (search rules)
-    (c.try_reserve.result, search rules, c.try_reserve.ensures.step)
+    on_map _ _ c.args.lru.now.map c.put.new.self.map c.deref_mut.result.now c.try_reserve.new.self
+    (search rules) (search rules) (c.try_reserve.result, search rules, c.try_reserve.ensures.step)
