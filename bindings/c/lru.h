@@ -6,9 +6,8 @@
  * What is proved. Each function meets its contract in crates/lru_c/src/exports.rt or crates/lru_c/src/bytes/exports.rt,
  * for every input: it is safe, it ends, and it does to the map what the comment here says, unless the comment says
  * "tested". A map is a list of entries with distinct keys, the most recently used first. The map of a `struct lru` never
- * has more entries than its maximum length: this is an invariant of the handle. That the map of a `struct lru_bytes`
- * keeps to its budget over many calls follows from laws of the map in crates/lru_model; no contract of this handle says
- * it. Nothing is proved of what C and its compiler do.
+ * has more entries than its maximum length, and the entries of a `struct lru_bytes` together never weigh more than its
+ * budget: these are invariants of the handles. Nothing is proved of what C and its compiler do.
  *
  * What the caller must guarantee, since nothing checks it:
  * - A handle is LRU_NONE, or what the last call left in it. Nothing writes its field, and no copy of a handle is
@@ -248,7 +247,7 @@ bool lru_bytes_clone(struct lru_bytes *lru, struct lru_bytes *copy);
 /* Returns the number of entries. */
 size_t lru_bytes_len(struct lru_bytes *lru);
 
-/* Returns what the entries weigh together, by the count that the map keeps. */
+/* Returns what the entries weigh together, at most the budget. */
 uint64_t lru_bytes_cost(struct lru_bytes *lru);
 
 /* Returns the budget. */

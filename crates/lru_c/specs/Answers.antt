@@ -68,8 +68,10 @@ pub record Inserts (key value : ℕ) (old : Map) (answer : Inserted) (place left
   pub untouched : answer.evicted ≡ false → left ≡ place
   pub returned : answer ≡ inserted_of (put_code result) (lookup (nat_eq key) old.pairs) answer.evicted
 
--- A call on a handle. If there is a map, it makes this step. Otherwise nothing changes, and the call returns nothing.
-pub data OnMap {M : Type 0} (returns_nothing : Type 0) (step : M → M → Type 0) (old new : Option M) : Type 0 where
-  without : old ≡ None → new ≡ None → returns_nothing → OnMap returns_nothing step old new
-  within : (before after : M) → old ≡ Some before → new ≡ Some after → step before after →
-      OnMap returns_nothing step old new
+-- A call on a handle. If there is a map, it makes this step. Otherwise there is none afterwards, and the call returns
+-- nothing.
+abbrev pub OnMap : {M : Type 0} → Type 0 → (M → M → Type 0) → Option M → Option M → Type 0
+OnMap returns_nothing step None None = returns_nothing
+OnMap returns_nothing step None (Some after) = ⊥
+OnMap returns_nothing step (Some before) None = ⊥
+OnMap returns_nothing step (Some before) (Some after) = step before after

@@ -3,7 +3,7 @@
 --     weight key value           the weight of an entry with a key and a value of these lengths
 --     poured bytes buffer        the buffer after the bytes were copied to its front, if they fit
 use Rattle.std.specs.Prelude.{◌≡◌, ◌++◌, ◌<◌, ◌≤◌, ◌&&◌, ℕ, Bool, true, false, List, length, drop, Option, Some, None}
-use Rattle.std.specs.Prelude.{nat_le, vec_len, is_some, if◌then◌else◌, map, Ok}
+use Rattle.std.specs.Prelude.{nat_le, option_map, vec_items, vec_len, is_some, if◌then◌else◌, map, sum_by, Ok}
 use Rattle.std.proofs.Common.{ap}
 use Rattle.std.specs.Cmp.Lexicographic.{bytes_decides, nat_list_eq_equiv}
 use Rattle.std.specs.Hash as fed
@@ -56,6 +56,18 @@ hash_of_bytes = hash_by input_of_bytes random_builds.ghosts default_hashes.ghost
 -- 64 bytes for the entry, plus the bytes of its key and its value
 abbrev pub weight : ℕ → ℕ → ℕ
 weight key value = pair_cost 64 key value
+
+-- the bytes of the value of a key with these bytes, if the key is there
+abbrev pub value_of : List ℕ → BytesMap → Option (List ℕ)
+value_of key map = option_map vec_items (lookup (names_bytes key) map.pairs)
+
+-- what the entries weigh together
+abbrev pub total_weight : List (Bytes × Bytes) → ℕ
+total_weight pairs = sum_by (λ pair. weight (vec_len pair.0) (vec_len pair.1)) pairs
+
+-- the running total is what the entries weigh together, and within the budget
+abbrev pub IsWithinBudget : BytesMap → Type 0
+IsWithinBudget map = (map.limiter.cost ≡ total_weight map.pairs) × (map.limiter.cost ≤ map.limiter.limit)
 
 abbrev pub bytes_rules : Rules Bytes Bytes Budget
 bytes_rules = by_weight (λ k v. weight (vec_len k) (vec_len v))
@@ -138,8 +150,7 @@ FindsMemory key ready = has_bytes key ready ≡ false → 1 ≤ growth_left read
 
 -- A put, and what it returns.
 pub data Puts (key value : List ℕ) (old : BytesMap) (code : ℕ) (new : BytesMap) : Type 0 where
-  -- The key alone is over the budget: nothing changes. (If the total is the sum of the weights and within the budget,
-  -- such a key is not there.)
+  -- The key alone is over the budget: nothing changes.
   too_long : old.limiter.limit < length key → code ≡ 1 → new ≡ old → Puts key value old code new
   -- The entry alone is over the budget: it is not stored, and the key is removed.
   too_heavy : old.limiter.limit < weight (length key) (length value) → code ≡ 1 →

@@ -24,7 +24,7 @@ use crate::answers::{
 use crate::calls::{
     copied, copy_entries, get, insert, peek, peek_newest, peek_oldest, pop_oldest, remove,
 };
-use crate::handle::Lru;
+use crate::handle::{Lru, with_map};
 use schnellru::{ByLength, LruMap};
 use std::alloc::Global;
 
@@ -72,14 +72,12 @@ pub extern "C" fn lru_insert(
     ensures { OnMap ((result ≡ inserted_of 3 None false) × (evicted.new ≡ evicted.old))
         (λ old new. Inserts key value old result evicted.old evicted.new new) lru.old.map lru.new.map }
 {
-    match lru.take(alloc) {
-        Some(mut map) => {
-            let answer = insert(&mut map, key, value, evicted);
-            lru.put(map);
-            answer
-        }
-        None => as_inserted(NO_MAP, None, false),
-    }
+    with_map!(
+        lru,
+        alloc,
+        |map| insert(&mut map, key, value, evicted),
+        as_inserted(NO_MAP, None, false)
+    )
 }
 
 #[unsafe(no_mangle)]
@@ -87,29 +85,16 @@ pub extern "C" fn lru_put(alloc: Global, lru: &mut Lru, key: u64, value: u64) ->
     ensures { OnMap (result ≡ 3) (λ old new. (done : Result Bool AllocError) × (result ≡ put_code done)
         × Insert length_rules length_offers nat_eq hash_of key value old done new) lru.old.map lru.new.map }
 {
-    match lru.take(alloc) {
-        Some(mut map) => {
-            let answer = as_code(map.insert(key, value));
-            lru.put(map);
-            answer
-        }
-        None => NO_MAP,
-    }
+    with_map!(lru, alloc, |map| as_code(map.insert(key, value)), NO_MAP)
 }
 
 #[unsafe(no_mangle)]
+#[tactic(auto, using(crate::proofs::Within::got_within))]
 pub extern "C" fn lru_get(alloc: Global, lru: &mut Lru, key: u64) -> Found
     ensures { OnMap (result ≡ found_of None) (λ old new. (result ≡ found_of (lookup (nat_eq key) old.pairs))
         × (new ≡ promoted (nat_eq key) old)) lru.old.map lru.new.map }
 {
-    match lru.take(alloc) {
-        Some(mut map) => {
-            let answer = get(&mut map, key);
-            lru.put(map);
-            answer
-        }
-        None => as_found(None),
-    }
+    with_map!(lru, alloc, |map| get(&mut map, key), as_found(None))
 }
 
 #[unsafe(no_mangle)]
@@ -117,14 +102,7 @@ pub extern "C" fn lru_peek(alloc: Global, lru: &mut Lru, key: u64) -> Found
     ensures { OnMap (result ≡ found_of None)
         (λ old new. (result ≡ found_of (lookup (nat_eq key) old.pairs)) × (new ≡ old)) lru.old.map lru.new.map }
 {
-    match lru.take(alloc) {
-        Some(map) => {
-            let answer = peek(&map, key);
-            lru.put(map);
-            answer
-        }
-        None => as_found(None),
-    }
+    with_map!(lru, alloc, |map| peek(&map, key), as_found(None))
 }
 
 #[unsafe(no_mangle)]
@@ -132,59 +110,34 @@ pub extern "C" fn lru_contains(alloc: Global, lru: &mut Lru, key: u64) -> bool
     ensures { OnMap (result ≡ false)
         (λ old new. (result ≡ is_some (lookup (nat_eq key) old.pairs)) × (new ≡ old)) lru.old.map lru.new.map }
 {
-    match lru.take(alloc) {
-        Some(map) => {
-            let answer = map.contains(&key);
-            lru.put(map);
-            answer
-        }
-        None => false,
-    }
+    with_map!(lru, alloc, |map| map.contains(&key), false)
 }
 
 #[unsafe(no_mangle)]
+#[tactic(auto, using(crate::proofs::Within::got_within))]
 pub extern "C" fn lru_promote(alloc: Global, lru: &mut Lru, key: u64) -> bool
     ensures { OnMap (result ≡ false) (λ old new. (result ≡ is_some (lookup (nat_eq key) old.pairs))
         × (new ≡ promoted (nat_eq key) old)) lru.old.map lru.new.map }
 {
-    match lru.take(alloc) {
-        Some(mut map) => {
-            let answer = map.promote(&key);
-            lru.put(map);
-            answer
-        }
-        None => false,
-    }
+    with_map!(lru, alloc, |map| map.promote(&key), false)
 }
 
 #[unsafe(no_mangle)]
+#[tactic(auto, using(crate::proofs::Within::removed_within))]
 pub extern "C" fn lru_remove(alloc: Global, lru: &mut Lru, key: u64) -> Found
     ensures { OnMap (result ≡ found_of None) (λ old new. (value : Option ℕ) × (result ≡ found_of value)
         × Remove length_rules (nat_eq key) old value new) lru.old.map lru.new.map }
 {
-    match lru.take(alloc) {
-        Some(mut map) => {
-            let answer = remove(&mut map, key);
-            lru.put(map);
-            answer
-        }
-        None => as_found(None),
-    }
+    with_map!(lru, alloc, |map| remove(&mut map, key), as_found(None))
 }
 
 #[unsafe(no_mangle)]
+#[tactic(auto, using(crate::proofs::Within::popped_within))]
 pub extern "C" fn lru_pop_oldest(alloc: Global, lru: &mut Lru) -> Pair
     ensures { OnMap (result ≡ pair_of None) (λ old new. (pair : Option (ℕ × ℕ)) × (result ≡ pair_of pair)
         × PopOldest length_rules old pair new) lru.old.map lru.new.map }
 {
-    match lru.take(alloc) {
-        Some(mut map) => {
-            let answer = pop_oldest(&mut map);
-            lru.put(map);
-            answer
-        }
-        None => as_pair(None),
-    }
+    with_map!(lru, alloc, |map| pop_oldest(&mut map), as_pair(None))
 }
 
 #[unsafe(no_mangle)]
@@ -192,14 +145,7 @@ pub extern "C" fn lru_peek_oldest(alloc: Global, lru: &mut Lru) -> Pair
     ensures { OnMap (result ≡ pair_of None)
         (λ old new. (result ≡ pair_of (last old.pairs)) × (new ≡ old)) lru.old.map lru.new.map }
 {
-    match lru.take(alloc) {
-        Some(map) => {
-            let answer = peek_oldest(&map);
-            lru.put(map);
-            answer
-        }
-        None => as_pair(None),
-    }
+    with_map!(lru, alloc, |map| peek_oldest(&map), as_pair(None))
 }
 
 #[unsafe(no_mangle)]
@@ -207,14 +153,7 @@ pub extern "C" fn lru_peek_newest(alloc: Global, lru: &mut Lru) -> Pair
     ensures { OnMap (result ≡ pair_of None)
         (λ old new. (result ≡ pair_of (first old.pairs)) × (new ≡ old)) lru.old.map lru.new.map }
 {
-    match lru.take(alloc) {
-        Some(map) => {
-            let answer = peek_newest(&map);
-            lru.put(map);
-            answer
-        }
-        None => as_pair(None),
-    }
+    with_map!(lru, alloc, |map| peek_newest(&map), as_pair(None))
 }
 
 #[unsafe(no_mangle)]
@@ -223,14 +162,7 @@ pub extern "C" fn lru_copy_newest(alloc: Global, lru: &mut Lru, entries: &mut [E
         (λ old new. (result ≡ fitting old.pairs entries.old) × (entries.new ≡ filled old.pairs entries.old)
         × (new ≡ old)) lru.old.map lru.new.map }
 {
-    match lru.take(alloc) {
-        Some(map) => {
-            let answer = copy_entries(&map, entries);
-            lru.put(map);
-            answer
-        }
-        None => 0,
-    }
+    with_map!(lru, alloc, |map| copy_entries(&map, entries), 0)
 }
 
 #[unsafe(no_mangle)]
@@ -238,28 +170,14 @@ pub extern "C" fn lru_len(alloc: Global, lru: &mut Lru) -> usize
     ensures { OnMap (result ≡ 0) (λ old new. (result ≡ length old.pairs) × (result ≤ old.limiter) × (new ≡ old))
         lru.old.map lru.new.map }
 {
-    match lru.take(alloc) {
-        Some(map) => {
-            let answer = map.len();
-            lru.put(map);
-            answer
-        }
-        None => 0,
-    }
+    with_map!(lru, alloc, |map| map.len(), 0)
 }
 
 #[unsafe(no_mangle)]
 pub extern "C" fn lru_max_length(alloc: Global, lru: &mut Lru) -> u32
     ensures { OnMap (result ≡ 0) (λ old new. (result ≡ old.limiter) × (new ≡ old)) lru.old.map lru.new.map }
 {
-    match lru.take(alloc) {
-        Some(map) => {
-            let answer = map.limiter().max_length();
-            lru.put(map);
-            answer
-        }
-        None => 0,
-    }
+    with_map!(lru, alloc, |map| map.limiter().max_length(), 0)
 }
 
 #[unsafe(no_mangle)]
@@ -267,14 +185,7 @@ pub extern "C" fn lru_capacity(alloc: Global, lru: &mut Lru) -> usize
     ensures { OnMap (result ≡ 0)
         (λ old new. (result ≡ length old.pairs + growth_left old) × (new ≡ old)) lru.old.map lru.new.map }
 {
-    match lru.take(alloc) {
-        Some(map) => {
-            let answer = map.guaranteed_capacity();
-            lru.put(map);
-            answer
-        }
-        None => 0,
-    }
+    with_map!(lru, alloc, |map| map.guaranteed_capacity(), 0)
 }
 
 #[unsafe(no_mangle)]
@@ -282,57 +193,37 @@ pub extern "C" fn lru_memory_usage(alloc: Global, lru: &mut Lru) -> usize
     ensures { OnMap (result ≡ 0)
         (λ old new. (usage old.entry_bytes (buckets old) ≡ Some result) × (new ≡ old)) lru.old.map lru.new.map }
 {
-    match lru.take(alloc) {
-        Some(map) => {
-            let answer = map.memory_usage();
-            lru.put(map);
-            answer
-        }
-        None => 0,
-    }
+    with_map!(lru, alloc, |map| map.memory_usage(), 0)
 }
 
 #[unsafe(no_mangle)]
+#[tactic(auto, using(crate::proofs::Within::cleared_within))]
 pub extern "C" fn lru_clear(alloc: Global, lru: &mut Lru)
     ensures { OnMap ⊤ (λ old new. new ≡ cleared length_rules old) lru.old.map lru.new.map }
 {
-    if let Some(mut map) = lru.take(alloc) {
-        map.clear();
-        lru.put(map);
-    }
+    with_map!(lru, alloc, |map| map.clear(), ())
 }
 
 #[unsafe(no_mangle)]
+#[tactic(auto, using(crate::proofs::Within::reserved_within))]
 pub extern "C" fn lru_reserve(alloc: Global, lru: &mut Lru, additional: usize) -> bool
     ensures { OnMap (result ≡ false) (λ old new. (done : Result (Unit {0}) ReserveError) × (result ≡ is_ok done)
         × Reserve length_rules additional old done new) lru.old.map lru.new.map }
 {
-    match lru.take(alloc) {
-        Some(mut map) => {
-            let answer = map.try_reserve(additional).is_ok();
-            lru.put(map);
-            answer
-        }
-        None => false,
-    }
+    with_map!(lru, alloc, |map| map.try_reserve(additional).is_ok(), false)
 }
 
 #[unsafe(no_mangle)]
+#[tactic(auto, using(crate::proofs::Within::shrunk_within))]
 pub extern "C" fn lru_shrink(alloc: Global, lru: &mut Lru) -> bool
     ensures { OnMap (result ≡ false) (λ old new. (done : Result Bool AllocError) × (result ≡ is_ok done)
         × Shrink old done new) lru.old.map lru.new.map }
 {
-    match lru.take(alloc) {
-        Some(mut map) => {
-            let answer = map.shrink_to_fit().is_ok();
-            lru.put(map);
-            answer
-        }
-        None => false,
-    }
+    with_map!(lru, alloc, |map| map.shrink_to_fit().is_ok(), false)
 }
 
 #[unsafe(no_mangle)]
+#[tactic(auto, using(crate::proofs::Within::is_within))]
 pub extern "C" fn lru_set_max_length(alloc: Global, lru: &mut Lru, max_length: u32)
     ensures { OnMap ⊤ (λ old new. Trims length_rules (record old { limiter = max_length }) new
         × IsWithin length_rules (contents new)) lru.old.map lru.new.map }

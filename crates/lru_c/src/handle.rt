@@ -9,6 +9,22 @@ use std::marker::{Model, PhantomData};
 use std::mem::replace;
 use std::ptr::null_mut;
 
+// Takes the map out of a handle, makes a call on it, and puts it back; returns the last argument if there is no map.
+macro_rules! with_map {
+    ($lru:ident, $alloc:ident, |$map:ident| $call:expr, $nothing:expr) => {
+        match $lru.take($alloc) {
+            Some(mut $map) => {
+                let answer = $call;
+                $lru.put($map);
+                answer
+            }
+            None => $nothing,
+        }
+    };
+}
+
+pub(crate) use with_map;
+
 /// The map of a handle.
 pub type Map = LruMap<u64, u64>;
 

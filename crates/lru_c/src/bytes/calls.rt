@@ -1,9 +1,9 @@
-ghost use Rattle.std.specs.Prelude.{◌≡◌, ◌&&◌, length, Some, IfSome, option_map, nat_le, true, false};
+ghost use Rattle.std.specs.Prelude.{◌≡◌, ◌&&◌, length, Some, None, IfSome, option_map, nat_le, true, false};
 ghost use Rattle.std.specs.Map.Iter.{deref_pair};
 ghost use Rattle.lru_model.specs.Calls.{promoted};
 ghost use Rattle.lru_model.specs.Lists.{lookup, last};
 ghost use Rattle.lru_c.specs.Bytes.{names_bytes, weight, poured, Reads, IsReady, FindsMemory, Puts, Pops, Shows};
-ghost use Rattle.lru_c.specs.Bytes.{Copies};
+ghost use Rattle.lru_c.specs.Bytes.{Copies, IsWithinBudget, value_of};
 
 use crate::answers::{OUT_OF_MEMORY, REJECTED, STORED};
 use crate::bytes::answers::{Popped, Value, no_value, nothing_popped};
@@ -24,8 +24,11 @@ fn weight_of(key: usize, value: usize) -> u64
 /// Inserts a copy of the value under a copy of the key. Takes all memory before it changes an entry. If the key is
 /// there, it needs memory only for the copies.
 pub fn put(alloc: Global, map: &mut BytesMap, key: &[u8], value: &[u8]) -> u32
-    ensures { Puts key.now value.now map.old result map.new }
+    ensures puts { Puts key.now value.now map.old result map.new }
+    ensures stored { result ≡ 0 → value_of key.now map.new ≡ Some value.now }
+    ensures rejected { result ≡ 1 → IsWithinBudget map.old → value_of key.now map.new ≡ None }
 {
+    let _len = map.len();
     let limit = map.limiter().limit();
     // The key is not hashed, so that a length that is far too great reads no memory.
     if key.len() as u64 > limit {

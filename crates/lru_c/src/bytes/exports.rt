@@ -2,20 +2,22 @@
 //!
 //! On a handle without a map, `lru_bytes_new` makes a map, and `lru_bytes_clone` drops the map of the copy. Every other
 //! call changes nothing and finds nothing; a put returns `NO_MAP`.
-ghost use Rattle.std.specs.Prelude.{◌≡◌, length, is_some, slice_get, Option, Some, None, true, false, ⊤};
+ghost use Rattle.std.specs.Prelude.{◌≡◌, ◌≤◌, length, is_some, slice_get, IfSome, Option, Some, None, true, false, ⊤};
 ghost use Rattle.lru_limits.specs.Mixing.{seeded};
 ghost use Rattle.lru_model.specs.Calls.{Remove, promoted, cleared};
 ghost use Rattle.lru_model.specs.Lists.{lookup, last};
 ghost use Rattle.lru_model.specs.Sizes.{max_of_64_bits};
 ghost use Rattle.lru_model.specs.State.{empty_map, contents, Trims, IsWithin};
 ghost use Rattle.lru_c.specs.Answers.{OnMap};
-ghost use Rattle.lru_c.specs.Bytes.{Bytes, names_bytes, bytes_rules, no_entry, Reads, Puts, Pops, Shows, Copies};
+ghost use Rattle.lru_c.specs.Bytes.{Bytes, names_bytes, bytes_rules, total_weight, no_entry};
+ghost use Rattle.lru_c.specs.Bytes.{Reads, Puts, Pops, Shows, Copies, value_of};
 
 use crate::answers::NO_MAP;
 use crate::bytes::answers::{Popped, Value, no_value, nothing_popped};
 use crate::bytes::calls::{copied, get, peek, pop_oldest, put, show};
 use crate::bytes::handle::{BytesMap, LruBytes};
 use crate::bytes::keys::Named;
+use crate::handle::with_map;
 use lru_limits::ByWeight;
 use schnellru::LruMap;
 use std::alloc::Global;
@@ -54,19 +56,15 @@ pub extern "C" fn lru_bytes_free(alloc: Global, lru: &mut LruBytes)
 
 #[unsafe(no_mangle)]
 pub extern "C" fn lru_bytes_put(alloc: Global, lru: &mut LruBytes, key: &[u8], value: &[u8]) -> u32
-    ensures { OnMap (result ≡ 3) (λ old new. Puts key.now value.now old result new) lru.old.map lru.new.map }
+    ensures puts { OnMap (result ≡ 3) (λ old new. Puts key.now value.now old result new) lru.old.map lru.new.map }
+    ensures stored { result ≡ 0 → IfSome lru.new.map (λ map. value_of key.now map ≡ Some value.now) }
+    ensures rejected { result ≡ 1 → IfSome lru.new.map (λ map. value_of key.now map ≡ None) }
 {
-    match lru.take(alloc) {
-        Some(mut map) => {
-            let answer = put(alloc, &mut map, key, value);
-            lru.put(map);
-            answer
-        }
-        None => NO_MAP,
-    }
+    with_map!(lru, alloc, |map| put(alloc, &mut map, key, value), NO_MAP)
 }
 
 #[unsafe(no_mangle)]
+#[tactic(auto, using(crate::proofs::WithinBudget::got_in_budget))]
 pub extern "C" fn lru_bytes_get(
     alloc: Global,
     lru: &mut LruBytes,
@@ -77,14 +75,7 @@ pub extern "C" fn lru_bytes_get(
         (λ old new. Reads (lookup (names_bytes key.now) old.pairs) result buffer.old buffer.new
         × (new ≡ promoted (names_bytes key.now) old)) lru.old.map lru.new.map }
 {
-    match lru.take(alloc) {
-        Some(mut map) => {
-            let answer = get(&mut map, key, buffer);
-            lru.put(map);
-            answer
-        }
-        None => no_value(),
-    }
+    with_map!(lru, alloc, |map| get(&mut map, key, buffer), no_value())
 }
 
 #[unsafe(no_mangle)]
@@ -98,14 +89,7 @@ pub extern "C" fn lru_bytes_peek(
         (λ old new. Reads (lookup (names_bytes key.now) old.pairs) result buffer.old buffer.new × (new ≡ old))
         lru.old.map lru.new.map }
 {
-    match lru.take(alloc) {
-        Some(map) => {
-            let answer = peek(&map, key, buffer);
-            lru.put(map);
-            answer
-        }
-        None => no_value(),
-    }
+    with_map!(lru, alloc, |map| peek(&map, key, buffer), no_value())
 }
 
 #[unsafe(no_mangle)]
@@ -114,14 +98,7 @@ pub extern "C" fn lru_bytes_contains(alloc: Global, lru: &mut LruBytes, key: &[u
         (λ old new. (result ≡ is_some (lookup (names_bytes key.now) old.pairs)) × (new ≡ old))
         lru.old.map lru.new.map }
 {
-    match lru.take(alloc) {
-        Some(map) => {
-            let answer = map.contains(&Named(key));
-            lru.put(map);
-            answer
-        }
-        None => false,
-    }
+    with_map!(lru, alloc, |map| map.contains(&Named(key)), false)
 }
 
 #[unsafe(no_mangle)]
@@ -129,14 +106,7 @@ pub extern "C" fn lru_bytes_remove(alloc: Global, lru: &mut LruBytes, key: &[u8]
     ensures { OnMap (result ≡ false) (λ old new. (value : Option Bytes) × (result ≡ is_some value)
         × Remove bytes_rules (names_bytes key.now) old value new) lru.old.map lru.new.map }
 {
-    match lru.take(alloc) {
-        Some(mut map) => {
-            let answer = map.remove(&Named(key)).is_some();
-            lru.put(map);
-            answer
-        }
-        None => false,
-    }
+    with_map!(lru, alloc, |map| map.remove(&Named(key)).is_some(), false)
 }
 
 #[unsafe(no_mangle)]
@@ -149,14 +119,12 @@ pub extern "C" fn lru_bytes_pop_oldest(
     ensures { OnMap ((result ≡ no_entry) × (key.new ≡ key.old) × (value.new ≡ value.old))
         (λ old new. Pops old result key.old key.new value.old value.new new) lru.old.map lru.new.map }
 {
-    match lru.take(alloc) {
-        Some(mut map) => {
-            let answer = pop_oldest(&mut map, key, value);
-            lru.put(map);
-            answer
-        }
-        None => nothing_popped(),
-    }
+    with_map!(
+        lru,
+        alloc,
+        |map| pop_oldest(&mut map, key, value),
+        nothing_popped()
+    )
 }
 
 #[unsafe(no_mangle)]
@@ -170,14 +138,12 @@ pub extern "C" fn lru_bytes_peek_oldest(
         (λ old new. Shows (last old.pairs) result key.old key.new value.old value.new × (new ≡ old))
         lru.old.map lru.new.map }
 {
-    match lru.take(alloc) {
-        Some(map) => {
-            let answer = show(map.peek_oldest(), key, value);
-            lru.put(map);
-            answer
-        }
-        None => nothing_popped(),
-    }
+    with_map!(
+        lru,
+        alloc,
+        |map| show(map.peek_oldest(), key, value),
+        nothing_popped()
+    )
 }
 
 #[unsafe(no_mangle)]
@@ -192,56 +158,34 @@ pub extern "C" fn lru_bytes_peek_at(
         (λ old new. Shows (slice_get old.pairs index) result key.old key.new value.old value.new × (new ≡ old))
         lru.old.map lru.new.map }
 {
-    match lru.take(alloc) {
-        Some(map) => {
-            let answer = show(map.get_index(index), key, value);
-            lru.put(map);
-            answer
-        }
-        None => nothing_popped(),
-    }
+    with_map!(
+        lru,
+        alloc,
+        |map| show(map.get_index(index), key, value),
+        nothing_popped()
+    )
 }
 
 #[unsafe(no_mangle)]
 pub extern "C" fn lru_bytes_len(alloc: Global, lru: &mut LruBytes) -> usize
     ensures { OnMap (result ≡ 0) (λ old new. (result ≡ length old.pairs) × (new ≡ old)) lru.old.map lru.new.map }
 {
-    match lru.take(alloc) {
-        Some(map) => {
-            let answer = map.len();
-            lru.put(map);
-            answer
-        }
-        None => 0,
-    }
+    with_map!(lru, alloc, |map| map.len(), 0)
 }
 
 #[unsafe(no_mangle)]
 pub extern "C" fn lru_bytes_cost(alloc: Global, lru: &mut LruBytes) -> u64
-    ensures { OnMap (result ≡ 0) (λ old new. (result ≡ old.limiter.cost) × (new ≡ old)) lru.old.map lru.new.map }
+    ensures { OnMap (result ≡ 0) (λ old new. (result ≡ old.limiter.cost) × (result ≡ total_weight old.pairs)
+        × (result ≤ old.limiter.limit) × (new ≡ old)) lru.old.map lru.new.map }
 {
-    match lru.take(alloc) {
-        Some(map) => {
-            let answer = map.limiter().cost();
-            lru.put(map);
-            answer
-        }
-        None => 0,
-    }
+    with_map!(lru, alloc, |map| map.limiter().cost(), 0)
 }
 
 #[unsafe(no_mangle)]
 pub extern "C" fn lru_bytes_budget(alloc: Global, lru: &mut LruBytes) -> u64
     ensures { OnMap (result ≡ 0) (λ old new. (result ≡ old.limiter.limit) × (new ≡ old)) lru.old.map lru.new.map }
 {
-    match lru.take(alloc) {
-        Some(map) => {
-            let answer = map.limiter().limit();
-            lru.put(map);
-            answer
-        }
-        None => 0,
-    }
+    with_map!(lru, alloc, |map| map.limiter().limit(), 0)
 }
 
 #[unsafe(no_mangle)]
@@ -258,6 +202,7 @@ pub extern "C" fn lru_bytes_set_budget(alloc: Global, lru: &mut LruBytes, budget
 }
 
 #[unsafe(no_mangle)]
+#[tactic(auto, using(crate::proofs::WithinBudget::copy_in_budget))]
 pub extern "C" fn lru_bytes_clone(alloc: Global, lru: &mut LruBytes, copy: &mut LruBytes) -> bool
     ensures kept { lru.new.map ≡ lru.old.map }
     ensures made { result ≡ true → OnMap ⊥ Copies lru.old.map copy.new.map }
@@ -279,11 +224,9 @@ pub extern "C" fn lru_bytes_clone(alloc: Global, lru: &mut LruBytes, copy: &mut 
 }
 
 #[unsafe(no_mangle)]
+#[tactic(auto, using(crate::proofs::WithinBudget::cleared_in_budget))]
 pub extern "C" fn lru_bytes_clear(alloc: Global, lru: &mut LruBytes)
     ensures { OnMap ⊤ (λ old new. new ≡ cleared bytes_rules old) lru.old.map lru.new.map }
 {
-    if let Some(mut map) = lru.take(alloc) {
-        map.clear();
-        lru.put(map);
-    }
+    with_map!(lru, alloc, |map| map.clear(), ())
 }

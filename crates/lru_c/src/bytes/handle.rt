@@ -1,5 +1,6 @@
 //! What C keeps for a map of byte strings.
-ghost use Rattle.std.specs.Prelude.{◌≡◌, None, Some, option_map};
+ghost use Rattle.std.specs.Prelude.{◌≡◌, None, Some, IfSome, option_map};
+ghost use Rattle.lru_c.specs.Bytes.{IsWithinBudget};
 ghost use Rattle.lru_c.specs.BytesHandle.{bytes_row, maybe_bytes_row};
 ghost use Rattle.lru_c.specs.Handle.{owns_boxed};
 
@@ -18,35 +19,34 @@ pub const OVERHEAD: u64 = 64;
 /// The map of a handle.
 pub type BytesMap = LruMap<Vec<u8>, Vec<u8>, ByWeight<64>>;
 
-/// A handle: a map of byte strings on the heap, or none.
 #[repr(C)]
-pub struct LruBytes {
+pub(crate) struct BytesSlot {
     start: *mut u8,
     pub ghost map: { maybe_bytes_row.Denot } by { maybe_bytes_row.coded },
 }
 
-impl Model for LruBytes {
+impl Model for BytesSlot {
     ghost also_owns = { λ lru. owns_boxed bytes_row lru.start lru.map };
 }
 
-impl LruBytes {
-    fn vacant() -> LruBytes
+impl BytesSlot {
+    fn vacant() -> BytesSlot
         ensures { result.map ≡ None }
     {
-        LruBytes { start: null_mut() }
+        BytesSlot { start: null_mut() }
     }
 
     fn forget(self)
         requires { self.map ≡ None }
     {
-        let LruBytes { start: _ } = self;
+        let BytesSlot { start: _ } = self;
     }
 
-    fn from_raw(map: RawBox<BytesMap, Global>) -> LruBytes
+    fn from_raw(map: RawBox<BytesMap, Global>) -> BytesSlot
         ensures { result.map ≡ Some map.value }
     {
         let RawBox { start, mark: _ } = map;
-        LruBytes {
+        BytesSlot {
             start: start as *mut u8,
         }
     }
@@ -54,7 +54,7 @@ impl LruBytes {
     fn into_raw(self) -> Option<RawBox<BytesMap, Global>>
         ensures { option_map (λ map. map.value) result ≡ self.map }
     {
-        let LruBytes { start } = self;
+        let BytesSlot { start } = self;
         if start.is_null() {
             None
         } else {
@@ -66,21 +66,62 @@ impl LruBytes {
     }
 
     #[inline]
-    pub fn take(&mut self, alloc: Global) -> Option<Box<BytesMap>>
+    fn take(&mut self, alloc: Global) -> Option<Box<BytesMap>>
         ensures map { option_map (λ map. map.value) result ≡ self.old.map }
         ensures none { self.new.map ≡ None }
     {
-        match replace(self, LruBytes::vacant()).into_raw() {
+        match replace(self, BytesSlot::vacant()).into_raw() {
             Some(map) => Some(map.into_box(alloc)),
             None => None,
         }
     }
 
     #[inline]
-    pub fn put(&mut self, map: Box<BytesMap>)
+    fn put(&mut self, map: Box<BytesMap>)
         requires { self.old.map ≡ None }
         ensures { self.new.map ≡ Some map.value }
     {
-        replace(self, LruBytes::from_raw(RawBox::from_box(map))).forget();
+        replace(self, BytesSlot::from_raw(RawBox::from_box(map))).forget();
+    }
+}
+
+/// A handle: a map of byte strings on the heap, or none. The entries of the map weigh what its running total says, and
+/// at most its budget. As of an [`Lru`](crate::handle::Lru), nothing drops a handle.
+#[repr(C)]
+pub struct LruBytes {
+    pub(crate) slot: BytesSlot,
+}
+
+impl Model for LruBytes {
+    ghost use Rattle.std.specs.Prelude.{IfSome};
+    ghost use Rattle.lru_c.specs.Bytes.{IsWithinBudget};
+    ghost use Rattle.lru_c.specs.declared.bytes.handle.BytesSlot.{BytesSlot};
+
+    ghost Value = { BytesSlot };
+
+    ghost view = { λ lru. lru.slot };
+
+    ghost inverse = { λ slot. record { slot = slot } };
+
+    ghost invariant = { λ lru. IfSome lru.slot.map IsWithinBudget };
+}
+
+impl LruBytes {
+    #[inline]
+    pub fn take(&mut self, alloc: Global) -> Option<Box<BytesMap>>
+        ensures map { option_map (λ map. map.value) result ≡ self.old.map }
+        ensures within { IfSome result (λ map. IsWithinBudget map.value) }
+        ensures none { self.new.map ≡ None }
+    {
+        self.slot.take(alloc)
+    }
+
+    #[inline]
+    pub fn put(&mut self, map: Box<BytesMap>)
+        requires none { self.old.map ≡ None }
+        requires within { IsWithinBudget map.value }
+        ensures { self.new.map ≡ Some map.value }
+    {
+        self.slot.put(map)
     }
 }

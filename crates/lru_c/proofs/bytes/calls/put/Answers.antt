@@ -2,14 +2,26 @@ use Rattle.std.proofs.Common.{◌≡◌, List, ℕ, rules, refl, ap, ◌∙◌, 
 use Rattle.std.proofs.Common.{is_some, option_map}
 use Rattle.std.specs.Map.{lookup}
 use Rattle.std.specs.Str.{bytes_eq}
+use Rattle.lru_limits.specs.Budget.{budget_terms}
 use Rattle.lru_model.specs.Inserts.{IsOutOfMemory}
-use Rattle.lru_model.proofs.CallerLemmas.{lookup-entry}
+use Rattle.lru_model.proofs.CallerLemmas.{lookup-entry, inserted-found, offers_of-keeps}
 use Rattle.lru_c.specs.Bytes.{Bytes, BytesMap, FindsMemory, same_bytes, hash_of_bytes, bytes_rules, bytes_offers}
 use Rattle.lru_c.specs.Bytes.Puts.{too_heavy, inserted}
+use Rattle.lru_c.proofs.StoredBytes.{long_key_absent, removed_absent, inserted_found, rejected_absent}
+use Rattle.lru_c.proofs.WithinBudget.{weighs}
 use Rattle.lru_c.proofs.bytes.calls.put.Goals as goal
 
-pub returns-then-weight_of-limit : goal.returns-then-weight_of-limit
-returns-then-weight_of-limit c = too_heavy (search rules) refl c.remove.result c.remove.ensures.step
+pub returns-then-key-limit-clause-rejected : goal.returns-then-key-limit-clause-rejected
+returns-then-key-limit-clause-rejected c = λ _ within.
+    long_key_absent c.args.key.now c.args.map.now within (search rules) (search rules)
+
+pub returns-then-weight_of-limit-clause-puts : goal.returns-then-weight_of-limit-clause-puts
+returns-then-weight_of-limit-clause-puts c = too_heavy (search rules) refl c.remove.result c.remove.ensures.step
+
+pub returns-then-weight_of-limit-clause-rejected : goal.returns-then-weight_of-limit-clause-rejected
+returns-then-weight_of-limit-clause-rejected c = λ _ _.
+    removed_absent c.args.key.now c.args.map.now c.remove.new.self c.remove.result c.len-len.ensures.map
+    c.remove.ensures.step
 
 no_lack : {k v : Bytes} {ready new : BytesMap} (key : List ℕ) → k.items ≡ key → FindsMemory key ready
     → IsOutOfMemory bytes_rules bytes_offers same_bytes hash_of_bytes k v ready new → ⊥
@@ -24,14 +36,25 @@ pub unreachable-requires : goal.unreachable-requires
 unreachable-requires c =
     no_lack c.args.key.now (search rules) (c.get_ready_for.ensures.finds (search rules)) c.in-Err.ensures.out_of_memory
 
-pub returns-in-Ok-true : goal.returns-in-Ok-true
-returns-in-Ok-true c =
+pub returns-in-Ok-true-clause-puts : goal.returns-in-Ok-true-clause-puts
+returns-in-Ok-true-clause-puts c =
     inserted (search rules) c.get_ready_for.new.map (c.get_ready_for.ensures.ready (search rules)) c.in-Ok.own_key
     c.in-Ok-from_slice.own_value (search rules) (search rules) true refl
     (rw (c.in-Ok-true.is ∙ ap Ok c.in-Ok-true.field-0-test) at c.insert.ensures.step)
 
-pub returns-in-Ok-false : goal.returns-in-Ok-false
-returns-in-Ok-false c =
+pub returns-in-Ok-false-clause-puts : goal.returns-in-Ok-false-clause-puts
+returns-in-Ok-false-clause-puts c =
     inserted (search rules) c.get_ready_for.new.map (c.get_ready_for.ensures.ready (search rules)) c.in-Ok.own_key
     c.in-Ok-from_slice.own_value (search rules) (search rules) false refl
     (rw (c.in-Ok-false.is ∙ ap Ok c.in-Ok-false.field-0-test) at c.insert.ensures.step)
+
+pub returns-in-Ok-true-clause-stored : goal.returns-in-Ok-true-clause-stored
+returns-in-Ok-true-clause-stored c = λ _. inserted_found c.args.key.now c.args.value.now c.in-Ok.own_key
+    c.in-Ok-from_slice.own_value c.insert.new.self (search rules) (search rules)
+    (inserted-found (offers_of-keeps (budget_terms weighs)) bytes_rules same_bytes c.in-Ok.own_key
+    c.get_ready_for.new.map c.insert.new.self c.insert.result (c.in-Ok-true.is ∙ ap Ok c.in-Ok-true.field-0-test)
+    c.insert.ensures.says c.insert.ensures.stores)
+
+pub returns-in-Ok-false-clause-rejected : goal.returns-in-Ok-false-clause-rejected
+returns-in-Ok-false-clause-rejected c = λ _ _. rejected_absent c.args.key.now c.in-Ok.own_key c.insert.new.self
+    (search rules) (rw (c.in-Ok-false.is ∙ ap Ok c.in-Ok-false.field-0-test) at c.insert.ensures.says)

@@ -13,11 +13,11 @@ use types.ByLocal.{alloc_all, pass_all, free_all, look_at, sets}
 use types.Part.{agg}
 use Rattle.std.proofs.raw_atomic.Walks.{proved, leaves}
 use Rattle.lru_c.specs.Bytes.{BytesMap}
-use Rattle.lru_c.specs.contracts.bytes.handle.LruBytes as lru
-use Rattle.lru_c.specs.contracts.bytes.handle.LruBytes.vacant as f
+use Rattle.lru_c.specs.contracts.bytes.handle.BytesSlot as lru
+use Rattle.lru_c.specs.contracts.bytes.handle.BytesSlot.vacant as f
 use Rattle.lru_c.proofs.Addresses.{Address, address_val, address_good, address_made}
-use Rattle.lru_c.proofs.bytes.handle.LruBytes.vacant.Statement.{statement}
-use Rattle.lru_c.proofs.bytes.handle.LruBytes.vacant.Code as code
+use Rattle.lru_c.proofs.bytes.handle.BytesSlot.vacant.Statement.{statement}
+use Rattle.lru_c.proofs.bytes.handle.BytesSlot.vacant.Code as code
 
 abbrev stays : Stays f.ended.signature.params f.ended.kept
 stays = tt

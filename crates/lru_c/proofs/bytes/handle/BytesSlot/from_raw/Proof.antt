@@ -20,12 +20,12 @@ use Rattle.std.specs.contracts.alloc.Global as global
 use Rattle.lru_c.specs.Bytes.{BytesMap}
 use Rattle.lru_c.specs.BytesHandle.{bytes_row}
 use Rattle.lru_c.specs.contracts.raw_box.RawBox as raw_box
-use Rattle.lru_c.specs.contracts.bytes.handle.LruBytes as lru
-use Rattle.lru_c.specs.contracts.bytes.handle.LruBytes.from_raw as f
+use Rattle.lru_c.specs.contracts.bytes.handle.BytesSlot as lru
+use Rattle.lru_c.specs.contracts.bytes.handle.BytesSlot.from_raw as f
 use Rattle.lru_c.proofs.Addresses.{Address, address_val, address_good, address_made, marked_val, marked_good}
 use Rattle.lru_c.proofs.Addresses.{marked_told, ptr_good}
-use Rattle.lru_c.proofs.bytes.handle.LruBytes.from_raw.Statement.{statement}
-use Rattle.lru_c.proofs.bytes.handle.LruBytes.from_raw.Code as code
+use Rattle.lru_c.proofs.bytes.handle.BytesSlot.from_raw.Statement.{statement}
+use Rattle.lru_c.proofs.bytes.handle.BytesSlot.from_raw.Code as code
 
 abbrev stays : Stays f.ended.signature.params f.ended.kept
 stays = (stay_dropped (plain (λ _. raw_box.the_row bytes_row global.the_row ghosts)) yes, tt)

@@ -27,13 +27,13 @@ use Rattle.std.specs.contracts.option.Option as option
 use Rattle.lru_c.specs.Bytes.{BytesMap}
 use Rattle.lru_c.specs.BytesHandle.{bytes_row}
 use Rattle.lru_c.specs.Handle.{c_heap}
-use Rattle.lru_c.specs.contracts.bytes.handle.LruBytes as lru
+use Rattle.lru_c.specs.contracts.bytes.handle.BytesSlot as lru
 use Rattle.lru_c.specs.contracts.raw_box.RawBox as raw_box
-use Rattle.lru_c.specs.contracts.bytes.handle.LruBytes.into_raw as f
+use Rattle.lru_c.specs.contracts.bytes.handle.BytesSlot.into_raw as f
 use Rattle.lru_c.proofs.Addresses.{Marked, address_val, address_good, marked_val, marked_good}
 use Rattle.lru_c.proofs.Addresses.{marked_made, ptr_good, null_or_box}
-use Rattle.lru_c.proofs.bytes.handle.LruBytes.into_raw.Statement.{statement}
-use Rattle.lru_c.proofs.bytes.handle.LruBytes.into_raw.Code as code
+use Rattle.lru_c.proofs.bytes.handle.BytesSlot.into_raw.Statement.{statement}
+use Rattle.lru_c.proofs.bytes.handle.BytesSlot.into_raw.Code as code
 
 address_told : (x : lru.the_row.Denot) (vs : List Val) → Is lru.the_row x vs → vs ≡ address_val x.start ∷ []
 address_told x vs is = is.0.1.0 ∙ ap (λ (ws : List Val). vstruct (of_list (ws ++ [])) ∷ []) is.0.1.1.0

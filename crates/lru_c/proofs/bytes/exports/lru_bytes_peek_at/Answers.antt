@@ -1,7 +1,0 @@
-use Rattle.std.proofs.Common.{rules, refl}
-use Rattle.lru_c.specs.Answers.{within}
-use Rattle.lru_c.proofs.bytes.exports.lru_bytes_peek_at.Goals as goal
-
-pub returns-in-Some : goal.returns-in-Some
-returns-in-Some c =
-    within c.deref.result.now c.deref.result.now (search rules) (search rules) (search rules, refl)
