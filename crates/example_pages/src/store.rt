@@ -1,9 +1,9 @@
 //! A store of records whose transactions survive a crash whole or not at all.
 //!
-//! A transaction writes its pages to the log first, and syncs the log. Only then it writes them into the page cache. So
-//! the file of pages never contains a page of a transaction that may still be lost, and the log contains each page that
-//! a crash may tear. A checkpoint flushes the cache; then the log begins at its front again. After a crash the pages of
-//! the log are written once more, except where the file has a page of the same or a later transaction.
+//! A transaction writes its pages to the log first, and syncs the log. Only then does it write them into the page
+//! cache. So the file of pages never contains a page of a transaction that may still be lost, and the log contains each
+//! page that a crash may tear. A checkpoint flushes the cache; then the log begins at its front again. After a crash
+//! the pages of the log are written once more, except where the file has a page of the same or a later transaction.
 use crate::counted::Counted;
 use crate::disk::Disk;
 use crate::log::Log;
