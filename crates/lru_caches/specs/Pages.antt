@@ -201,7 +201,7 @@ module _ {B D E S : Type 0} (d : device.Ghosts D B E S) where
     pub writes : AreWritten numbers pages old written
     pub synced : d.sync_gives written new
 
-  -- a flush that was cut off after the first of its writes, or in its sync
+  -- a flush that was cut off after some of its writes, or, after all of them, in its sync
   pub record IsCutOff (pages : List (ℕ × Page B)) (old new : D) : Type 0 where
     pub numbers : List ℕ
     pub rest : List ℕ
@@ -209,7 +209,7 @@ module _ {B D E S : Type 0} (d : device.Ghosts D B E S) where
     pub ascending : IsStrictlyIncreasing (numbers ++ rest)
     pub written : D
     pub writes : AreWritten numbers pages old written
-    pub ends : (new ≡ written) ⊎ d.sync_gives written new
+    pub ends : (new ≡ written) ⊎ ((rest ≡ []) × d.sync_gives written new)
 
   -- the device failed in the call
   abbrev pub IsFault : D → D → PageError E → Type 0

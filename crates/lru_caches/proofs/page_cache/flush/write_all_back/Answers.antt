@@ -1,4 +1,4 @@
-use Rattle.std.proofs.Common.{[], inr, Result, Ok, Err, OnErr, sym, subst}
+use Rattle.std.proofs.Common.{[], inr, refl, Result, Ok, Err, OnErr, sym, subst}
 use Rattle.std.proofs.lemmas.List.{append-nil}
 use Rattle.std.specs.List.Sorted.{IsPermutation, IsStrictlyIncreasing}
 use Rattle.lru_caches.specs.Pages.{dirty_numbers}
@@ -18,5 +18,5 @@ returns-clause-cut_off g c =
       ascending = subst IsStrictlyIncreasing (sym (append-nil numbers)) c.requires.sorted;
       written = c.write_each_back.new.device;
       writes = c.in_ok-write_each_back.ensures.order;
-      ends = inr c.sync.ensures.gives;
+      ends = inr (refl, c.sync.ensures.gives);
     })
