@@ -88,6 +88,18 @@ fn callbacks_of_inserts() {
 }
 
 #[test]
+fn callbacks_of_other_calls() {
+    let (mut map, log) = filled(3, 9);
+    assert_eq!(map.update(2, 21), Updated::Replaced(2));
+    assert_eq!(map.update(9, 1), Updated::Absent(1));
+    assert_eq!((map.get_or_insert(1, || 0).copied(), map.remove(&2)), (Some(1), Some(21)));
+    map.trim();
+    map.clear();
+    map.trim();
+    assert_eq!(*log.borrow(), ["replace 2", "over 3", "removed 2", "over 2", "cleared"]);
+}
+
+#[test]
 fn a_drop_of_a_map_notifies_nobody() {
     let (map, log) = filled(50, 100);
     drop(map);
@@ -234,6 +246,9 @@ fn calls_and_moves_hash_once() {
     let moved = map.move_report().moved - before;
     assert!(moved > 500);
     assert_eq!(map.hasher().0.get(), moved + 4000);
+    let mut large = LruMap::with_hasher(UnlimitedCompact, Builds::default());
+    (0..3u64).for_each(|n| assert!(large.insert(n, [n; 32])));
+    assert_eq!(large.hasher().0.get(), 3);
 }
 
 /// A table that stays at most half full is rehashed at its size, and never grows, by inserts of both kinds.

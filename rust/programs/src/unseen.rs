@@ -25,6 +25,39 @@ fn try_extend_leaves_the_iterator_behind_the_failed_entry() {
     assert!(map.keys().eq(&[9, 8, 7, 6, 3, 2, 1]));
 }
 
+type Map = LruMap<u64, u64, UnlimitedCompact, RandomState>;
+
+/// Inserts a key by each form of an insert.
+fn is_refused(map: &mut Map, form: u64, key: u64) -> bool {
+    match form {
+        0 => map.insert(key, key).is_err(),
+        1 => map.insert_with(key, key, &mut |_, _| {}).is_err(),
+        2 => map.get_or_insert(key, || key).is_err(),
+        3 => map.get_or_insert_fallible(key, || Ok::<_, u8>(key)).is_err(),
+        4 => map.ensure_newest(key, || key).is_err(),
+        5 => map.ensure_newest_fallible(key, || Ok::<_, u8>(key)).is_err(),
+        _ => map.try_extend([(key, key)]).is_err(),
+    }
+}
+
+/// The requests of a first table of 4 buckets are its entries and its control bytes. A growth from 8 buckets to 16 also
+/// requests the links of the old entries.
+#[test]
+fn each_request_of_an_insert_is_refused() {
+    let cases: [(u64, &[usize]); 2] = [(0, &[96, 20]), (7, &[384, 32, 32])];
+    for (form, (len, requests)) in (0..7).flat_map(|form| cases.map(|case| (form, case))) {
+        let mut map: Map = LruMap::new(Global, UnlimitedCompact, SEEDS, 16);
+        (1..=len).for_each(|n| assert_eq!(map.insert(n, n), Ok(true)));
+        let mut hog = Hog::new(Global, requests).unwrap();
+        for met in 0..=requests.len() {
+            assert_eq!(is_refused(&mut map, form, 99), met < requests.len(), "form {form}, {len} entries, {met} met");
+            hog.release();
+        }
+        assert!(hog.took_all());
+        assert!(map.keys().copied().eq([99].into_iter().chain((1..=len).rev())));
+    }
+}
+
 /// The new entry costs as much as all others, which it evicts.
 #[test]
 fn insert_and_keep_asks_for_one_entry_more_than_there_are() {
