@@ -2,15 +2,15 @@
 use Rattle.std.specs.Prelude.{◌≡◌, ℕ, ◌+◌, ◌-◌, ◌*◌, ◌/◌, ◌^◌, ◌≤◌, ◌<◌, Bool, true, false, List, ◌∷◌, length}
 use Rattle.std.specs.Prelude.{sum_by, not}
 use Rattle.std.specs.List.{filter}
-use Rattle.std.specs.Prelude.{Some, None, Result, Ok}
+use Rattle.std.specs.Prelude.{Some, None, IfSome, Result, Ok, OnErr}
 use Rattle.std.specs.declared.alloc.AllocError.{AllocError}
 use Rattle.group_table.specs.Sizes.{full_capacity}
 use Rattle.lru_limits.specs.Rules.{Rules, Offers}
 use Rattle.lru_model.specs.Sizes.{usage}
-use Rattle.lru_model.specs.Lists.{IsFront, lookup_entry, without}
+use Rattle.lru_model.specs.Lists.{first, IsFront, lookup_entry, without}
 use Rattle.lru_model.specs.State.{State, Counts, buckets, contents, potential}
 use Rattle.lru_model.specs.Place.{HasPairsButNoGrowth, CannotGrow}
-use Rattle.lru_model.specs.Inserts.{replacement, with_new_value, MayGive}
+use Rattle.lru_model.specs.Inserts.{replacement, with_new_value, MayGive, IsOutOfMemory}
 
 -- the count of insertions into the table rises by the entries moved and the entries stored, unless a count has stopped
 -- at its maximum
@@ -96,6 +96,16 @@ module _ {K V S H I : Type 0} (rules : Rules K V S) (offers : Offers K V S I) (n
     given : lookup_entry (names i) old.pairs ≡ None →
         (s : S) → MayGive rules offers names i v (contents old) s (Some pair) →
         Stores i v old pair
+
+  -- How an insert ends. What it returned says whether the key is there (`says`). If it is, the newest pair is the pair
+  -- that the insert stores (`stores`). An error comes only without memory for a new key (`out_of_memory`), and only
+  -- the oldest pairs may be gone then (`keeps`).
+  pub record InsertEnds (hash_of : H → K → ℕ) (i : I) (v : V) (old : State K V S H) (result : Result Bool AllocError)
+      (new : State K V S H) : Type 0 where
+    pub says : SaysWhether rules (names i) result new
+    pub stores : result ≡ Ok true → IfSome (first new.pairs) (Stores i v old)
+    pub out_of_memory : OnErr result (IsOutOfMemory rules offers names hash_of i v old new)
+    pub keeps : OnErr result (IsFront new.pairs old.pairs)
 
 -- the limiter stores each value as it was inserted
 pub record KeepsValues {K V S I : Type 0} (offers : Offers K V S I) : Type 0 where

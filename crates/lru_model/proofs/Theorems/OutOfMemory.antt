@@ -5,17 +5,18 @@ use Rattle.std.specs.Prelude.{IsErr, OnErr}
 use Rattle.std.specs.declared.alloc.AllocError.{AllocError}
 use Rattle.group_table.specs.Bucket.{BucketState, growth_left as growth_left_of}
 use Rattle.lru_limits.specs.Rules.{Rules, Offers}
-use Rattle.lru_model.specs.State.{State, buckets, growth_left}
+use Rattle.lru_model.specs.State.{State, IsMap, buckets, growth_left}
 use Rattle.lru_model.specs.Place.{Place, in_bucket, rehashed, grown, not_grown}
 use Rattle.lru_model.specs.Place.{nothing_to_evict, finds_bucket, rehashes, Outcome, placed, refused, no_memory}
 use Rattle.lru_model.specs.Inserts.{Insert, replaced, not_replaced, no_memory_to_admit, not_admitted, admitted}
 use Rattle.lru_model.specs.Inserts.{make_room}
-use Rattle.lru_model.specs.Inserts.{kept_of}
-use Rattle.lru_model.specs.declared.results.Inserted.{Inserted}
 use Rattle.lru_model.specs.Inserts.{Settles, NeedsMemory, IsOutOfMemory}
 use Rattle.lru_model.specs.Lists.{IsFront}
 use Rattle.lru_model.proofs.Theorems.Fronts.{front_same, front_trans, front_make_room}
-use Rattle.lru_model.proofs.Theorems.InsertAnswers.{place_comes}
+use Rattle.lru_model.proofs.Theorems.InsertAnswers.{place_comes, insert_says, insert_stores}
+use Rattle.lru_model.specs.Theorems.{InsertEnds}
+use Rattle.lru_limits.specs.Laws.{IsLookup, IsInsertion}
+use Rattle.lru_limits.specs.Rules.{Rules, Offers}
 use Rattle.lru_model.proofs.States.Outcomes.{placed-not_no_memory, refused-not_no_memory, ok-not_err}
 use Rattle.lru_model.proofs.TableSizes.Growth.{full_capacity-at_most}
 
@@ -90,7 +91,15 @@ pub on_err : {A : Type 0} (result : Result Bool AllocError) → (IsErr result �
 on_err (Ok b) h = tt
 on_err (Err e) h = h refl
 
-pub on_err_kept : {A V : Type 0} (result : Result (Inserted V) AllocError) → (IsErr (kept_of result) → A) → OnErr
-    result A
-on_err_kept (Ok inserted) h = tt
-on_err_kept (Err e) h = h refl
+module _ {K V S H I : Type 0} {rules : Rules K V S} {offers : Offers K V S I} {names : I → K → Bool}
+    {hash_of : H → K → ℕ} {eq : K → K → Bool} {query_input : I → List (List ℕ)} {key_input : K → List (List ℕ)}
+    (looks_up : IsLookup names eq query_input key_input) (laws : IsInsertion names eq offers) {i : I} {v : V}
+    {old : State K V S H} (map : IsMap eq old) {result : Result Bool AllocError} {new : State K V S H} where
+  pub insert_ends : Insert rules offers names hash_of i v old result new
+      → InsertEnds rules offers names hash_of i v old result new
+  insert_ends step = record {
+    says = insert_says looks_up laws map.distinct step;
+    stores = λ yes. insert_stores yes step;
+    out_of_memory = on_err result (λ failed. err_is failed step);
+    keeps = on_err result (λ failed. err_keeps failed step);
+  }

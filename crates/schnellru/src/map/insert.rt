@@ -1,8 +1,7 @@
-ghost use Rattle.std.specs.Prelude.{◌≡◌, true, Some, IfSome, IfOk, Ok, OnErr, List, IsTrue};
-ghost use Rattle.lru_model.specs.Lists.{first, IsFront};
+ghost use Rattle.std.specs.Prelude.{◌≡◌, IfOk, List, IsTrue};
 ghost use Rattle.lru_model.specs.State.{contents, IsMap};
-ghost use Rattle.lru_model.specs.Inserts.{Insert, IsOutOfMemory, kept_of, unkept_value};
-ghost use Rattle.lru_model.specs.Theorems.{SaysWhether, Stores};
+ghost use Rattle.lru_model.specs.Inserts.{Insert, kept_of, unkept_value};
+ghost use Rattle.lru_model.specs.Theorems.{InsertEnds};
 ghost use Rattle.lru_model.specs.MayTake.{MayTakeInserted};
 ghost use Rattle.lru_model.specs.Callbacks.{noting, noting_offers, noted, CalledWith, InsertPasses};
 ghost use Rattle.schnellru.specs.Inside.Passing.{Passes};
@@ -51,12 +50,7 @@ impl<K: Eq + Hash + Drop, V: Drop, L: Limiter<K, V>, S: KeyHasher<K>> LruMap<K, 
     where
         L: Insertion<K, V, I>,
         ensures step { Insert L.rules L.offers I.names S.hash_of key value self.old result self.new }
-        ensures says { SaysWhether L.rules (I.names key) result self.new }
-        ensures stores { result ≡ Ok true
-            → IfSome (first self.new.pairs) (Stores L.rules L.offers I.names key value self.old) }
-        ensures out_of_memory { OnErr result
-            (IsOutOfMemory L.rules L.offers I.names S.hash_of key value self.old self.new) }
-        ensures keeps { OnErr result (IsFront self.new.pairs self.old.pairs) }
+        ensures ends { InsertEnds L.rules L.offers I.names S.hash_of key value self.old result self.new }
         ensures map { IsMap K.eq self.new }
     {
         self.insert_with(key, value, &mut discard)
@@ -96,12 +90,7 @@ impl<K: Eq + Hash, V: Drop, L: Limiter<K, V>, S: KeyHasher<K>> LruMap<K, V, L, S
         ensures passed { (passed : List (K × V)) × CalledWith F.FnMut sink.old passed sink.new
             × InsertPasses L.rules L.offers I.names S.hash_of key value self.old result passed self.new }
         ensures callable { F.IsAlwaysCallable sink.old → F.IsAlwaysCallable sink.new }
-        ensures says { SaysWhether L.rules (I.names key) result self.new }
-        ensures stores { result ≡ Ok true
-            → IfSome (first self.new.pairs) (Stores L.rules L.offers I.names key value self.old) }
-        ensures out_of_memory { OnErr result
-            (IsOutOfMemory L.rules L.offers I.names S.hash_of key value self.old self.new) }
-        ensures keeps { OnErr result (IsFront self.new.pairs self.old.pairs) }
+        ensures ends { InsertEnds L.rules L.offers I.names S.hash_of key value self.old result self.new }
         ensures map { IsMap K.eq self.new }
     {
         let hash = self.hasher.hash_named(&key);
@@ -179,12 +168,7 @@ impl<K: Eq + Hash, V, L: Limiter<K, V>, S: KeyHasher<K>> LruMap<K, V, L, S> {
         ensures passed { (passed : List (K × V)) × CalledWith F.FnMut sink.old passed sink.new
             × InsertPasses L.rules L.offers I.names S.hash_of key value self.old (kept_of result) passed self.new }
         ensures callable { F.IsAlwaysCallable sink.old → F.IsAlwaysCallable sink.new }
-        ensures says { SaysWhether L.rules (I.names key) (kept_of result) self.new }
-        ensures stores { kept_of result ≡ Ok true
-            → IfSome (first self.new.pairs) (Stores L.rules L.offers I.names key value self.old) }
-        ensures out_of_memory { OnErr result
-            (IsOutOfMemory L.rules L.offers I.names S.hash_of key value self.old self.new) }
-        ensures keeps { OnErr result (IsFront self.new.pairs self.old.pairs) }
+        ensures ends { InsertEnds L.rules L.offers I.names S.hash_of key value self.old (kept_of result) self.new }
         ensures map { IsMap K.eq self.new }
     {
         let hash = self.hasher.hash_named(&key);
@@ -226,12 +210,7 @@ impl<K: Eq + Hash, V, L: Limiter<K, V>, S: KeyHasher<K>> LruMap<K, V, L, S> {
         ensures passed { (passed : List (K × V)) × CalledWith F.FnMut sink.old passed sink.new
             × InsertPasses L.rules L.offers I.names S.hash_of key value self.old (kept_of result) passed self.new }
         ensures callable { F.IsAlwaysCallable sink.old → F.IsAlwaysCallable sink.new }
-        ensures says { SaysWhether L.rules (I.names key) (kept_of result) self.new }
-        ensures stores { kept_of result ≡ Ok true
-            → IfSome (first self.new.pairs) (Stores L.rules L.offers I.names key value self.old) }
-        ensures out_of_memory { OnErr result
-            (IsOutOfMemory L.rules L.offers I.names S.hash_of key value self.old self.new) }
-        ensures keeps { OnErr result (IsFront self.new.pairs self.old.pairs) }
+        ensures ends { InsertEnds L.rules L.offers I.names S.hash_of key value self.old (kept_of result) self.new }
         ensures map { IsMap K.eq self.new }
     {
         let _ = &self.entries;

@@ -1,10 +1,8 @@
-ghost use Rattle.std.specs.Prelude.{◌≡◌, ◌+◌, ◌<◌, ◌++◌, [], ◌∷◌, true, Ok, IfOk, IfSome, OnErr};
+ghost use Rattle.std.specs.Prelude.{◌≡◌, ◌+◌, ◌<◌, ◌++◌, [], ◌∷◌, IfOk, OnErr};
 ghost use Rattle.std.specs.Vec.{vec_len, vec_capacity};
 ghost use Rattle.lru_model.specs.Callbacks.{InsertPasses};
-ghost use Rattle.lru_model.specs.Inserts.{IsOutOfMemory};
-ghost use Rattle.lru_model.specs.Lists.{first, IsFront};
 ghost use Rattle.lru_model.specs.State.{IsMap};
-ghost use Rattle.lru_model.specs.Theorems.{SaysWhether, Stores};
+ghost use Rattle.lru_model.specs.Theorems.{InsertEnds};
 
 use crate::map::LruMap;
 use lru_limits::{Insertion, KeyHasher, Limiter, LookupKey};
@@ -36,12 +34,8 @@ impl<K: Eq + Hash + Drop, V: Drop, L: Limiter<K, V>, S: KeyHasher<K>> LruMap<K, 
         L: Insertion<K, V, I>,
         ensures passed { IfOk result (λ answer. InsertPasses L.rules L.offers I.names
             S.hash_of key value self.old answer.0 answer.1.items self.new) }
-        ensures says { IfOk result (λ answer. SaysWhether L.rules (I.names key) answer.0 self.new) }
-        ensures stores { IfOk result (λ answer. answer.0 ≡ Ok true
-            → IfSome (first self.new.pairs) (Stores L.rules L.offers I.names key value self.old)) }
-        ensures out_of_memory { IfOk result (λ answer. OnErr answer.0
-            (IsOutOfMemory L.rules L.offers I.names S.hash_of key value self.old self.new)) }
-        ensures keeps { IfOk result (λ answer. OnErr answer.0 (IsFront self.new.pairs self.old.pairs)) }
+        ensures ends { IfOk result
+            (λ answer. InsertEnds L.rules L.offers I.names S.hash_of key value self.old answer.0 self.new) }
         ensures unchanged { OnErr result (self.new ≡ self.old) }
         ensures map { IsMap K.eq self.new }
     {

@@ -45,4 +45,4 @@ returns-clause-replaced c = if_ok c.insert_full.result (λ inserted unkept.
 pub returns-clause-out_of_memory : goal.returns-clause-out_of_memory
 returns-clause-out_of_memory c = on_err c.insert_full.result (λ out_of_memory.
     lookup-entry (nat_eq c.args.key) c.args.map.now.pairs ∙ ap (option_map
-    (λ p. p.1)) out_of_memory.0) c.insert_full.ensures.out_of_memory
+    (λ p. p.1)) out_of_memory.0) c.insert_full.ensures.ends.out_of_memory

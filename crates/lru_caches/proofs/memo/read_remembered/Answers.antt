@@ -61,6 +61,6 @@ returns-clause-known g c =
     let new = c.insert.new.self in
     let insert = c.insert.ensures in
     let evicts = c.inserts_evict_the_oldest.ensures key value old c.insert.result new insert.step in
-    let only = inserted-only c.requires.keeps _ eq key old new c.insert.result insert.says insert.stores in
+    let only = inserted-only c.requires.keeps _ eq key old new c.insert.result insert.ends.says insert.ends.stores in
     inserted-all (λ p. IsAnswer eq post p.0 p.1) (eq key) old.pairs new.pairs evicts c.requires.known
     (λ p named there. inserted_answer eq g.met.K.Eq.laws post key p.0 value p.1 returned named (only p.1 there))

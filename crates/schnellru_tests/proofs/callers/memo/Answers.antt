@@ -31,7 +31,7 @@ returns-in_err-insert-clause-knows g c =
     let value = c.answers-value.result in
     let evicts = c.inserts_evict_the_oldest.ensures key value old c.insert.result new c.insert.ensures.step in
     let insert = c.insert.ensures in
-    let only = inserted-only (offers_of-keeps length_terms) _ nat_eq key old new c.insert.result insert.says insert.stores in
+    let only = inserted-only (offers_of-keeps length_terms) _ nat_eq key old new c.insert.result insert.ends.says insert.ends.stores in
     inserted-all (λ p. goal.F-post g c.args.answers p.0 p.1) (nat_eq key) old.pairs new.pairs evicts c.requires.known
     (λ p named found. alike (goal.F-post g c.args.answers) key value c.answers-value.ensures p named (only p.1 found))
 
@@ -43,6 +43,6 @@ returns-clause-knows g c =
     let value = c.answers-value.result in
     let evicts = c.inserts_evict_the_oldest.ensures key value old c.insert.result new c.insert.ensures.step in
     let insert = c.insert.ensures in
-    let only = inserted-only (offers_of-keeps length_terms) _ nat_eq key old new c.insert.result insert.says insert.stores in
+    let only = inserted-only (offers_of-keeps length_terms) _ nat_eq key old new c.insert.result insert.ends.says insert.ends.stores in
     inserted-all (λ p. goal.F-post g c.args.answers p.0 p.1) (nat_eq key) old.pairs new.pairs evicts c.requires.known
     (λ p named found. alike (goal.F-post g c.args.answers) key value c.answers-value.ensures p named (only p.1 found))

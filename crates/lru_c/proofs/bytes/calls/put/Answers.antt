@@ -34,7 +34,7 @@ no_lack {k} {v} {ready} {new} key is finds (new_key, inr short) =
 
 pub unreachable-requires : goal.unreachable-requires
 unreachable-requires c =
-    no_lack c.args.key.now (search rules) (c.get_ready_for.ensures.finds (search rules)) c.in-Err.ensures.out_of_memory
+    no_lack c.args.key.now (search rules) (c.get_ready_for.ensures.finds (search rules)) c.in-Err.ensures.ends.out_of_memory
 
 pub returns-in-Ok-true-clause-puts : goal.returns-in-Ok-true-clause-puts
 returns-in-Ok-true-clause-puts c =
@@ -53,8 +53,8 @@ returns-in-Ok-true-clause-stored c = λ _. inserted_found c.args.key.now c.args.
     c.in-Ok-from_slice.own_value c.insert.new.self (search rules) (search rules)
     (inserted-found (offers_of-keeps (budget_terms weighs)) bytes_rules same_bytes c.in-Ok.own_key
     c.get_ready_for.new.map c.insert.new.self c.insert.result (c.in-Ok-true.is ∙ ap Ok c.in-Ok-true.field-0-test)
-    c.insert.ensures.says c.insert.ensures.stores)
+    c.insert.ensures.ends.says c.insert.ensures.ends.stores)
 
 pub returns-in-Ok-false-clause-rejected : goal.returns-in-Ok-false-clause-rejected
 returns-in-Ok-false-clause-rejected c = λ _ _. rejected_absent c.args.key.now c.in-Ok.own_key c.insert.new.self
-    (search rules) (rw (c.in-Ok-false.is ∙ ap Ok c.in-Ok-false.field-0-test) at c.insert.ensures.says)
+    (search rules) (rw (c.in-Ok-false.is ∙ ap Ok c.in-Ok-false.field-0-test) at c.insert.ensures.ends.says)

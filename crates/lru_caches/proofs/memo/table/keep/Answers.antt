@@ -32,13 +32,13 @@ returns g c =
     let new = c.insert.new.self in
     let insert = c.insert.ensures in
     let evicts = c.inserts_evict_the_oldest.ensures key value old c.insert.result new insert.step in
-    let only = inserted-only c.requires.keeps _ eq key old new c.insert.result insert.says insert.stores in
+    let only = inserted-only c.requires.keeps _ eq key old new c.insert.result insert.ends.says insert.ends.stores in
     record {
       stored = λ e. inserted-found c.requires.keeps _ eq key old new c.insert.result
-          (is_kept c.insert.result (sym c.unwrap_or.ensures ∙ e)) insert.says insert.stores;
+          (is_kept c.insert.result (sym c.unwrap_or.ensures ∙ e)) insert.ends.says insert.ends.stores;
       newest = λ e. (subst (λ result. SaysWhether g.L.Limiter.rules (eq key) result new) (is_kept c.insert.result (sym c.unwrap_or.ensures ∙ e))
-          insert.says).0;
-      absent = λ e. not_kept g.L.Limiter.rules (eq key) c.insert.result new (sym c.unwrap_or.ensures ∙ e) insert.says;
+          insert.ends.says).0;
+      absent = λ e. not_kept g.L.Limiter.rules (eq key) c.insert.result new (sym c.unwrap_or.ensures ∙ e) insert.ends.says;
       known = inserted-all (λ p. IsAnswer eq post p.0 p.1) (eq key) old.pairs new.pairs evicts c.requires.known
           (λ p named there. inserted_answer eq g.met.K.Eq.laws post key p.0 value p.1 c.requires.answer named
           (only p.1 there));
