@@ -25,8 +25,8 @@ module _ {T : Type 0} (old gone placed now : List (Option T)) (b : ℕ) where
     pub none_placed : place_at placed b ≡ None
 
 module _ {T N : Type 0} (number : N → ℕ) (none : N) (IsGiven : (ℕ → ℕ) → Type 0) where
-  -- the entries that have moved are as in a fresh table of these control bytes; the others are where they were; and no
-  -- entry waits in the first `passed` places
+  -- the entries that have moved are as in a fresh table of these control bytes; the others are where they were. No
+  -- entry waits in the first `passed` places.
   pub record IsHalfway (old now : List (Option T)) (control : List ℕ) (links : List N) (passed : ℕ) : Type 0 where
     pub gone : List (Option T)
     pub placed : List (Option T)
