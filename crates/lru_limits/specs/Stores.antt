@@ -57,7 +57,7 @@ given-names {accepts} {s} {t} {i} {k} {v} {w} E reflexive h =
 
 -- Below, s becomes s' if the limiter accepts, and stays s if it does not.
 
--- An accepted entry adds its cost, if s' has its cost more than s.
+-- An accepted entry adds its cost, if s' does.
 pub given-adds : {K V S : Type 0} (cost : K → V → ℕ) (account : S → ℕ) (accepts : Bool) (s s' : S) (i : K) (v : V)
     (t : S) (k : K) (w : V) → account s' ≡ account s + cost i v
     → ReturnsPairIf accepts (if accepts then s' else s) i v t (Some (k, w)) → account t ≡ account s + cost k w
