@@ -87,7 +87,7 @@ abbrev pub FirstFreeIs : BucketState → ℕ → List BucketState → Type 0
 FirstFreeIs state hash states = (b : ℕ) × IsFirstFree states hash b × (bucket_at states b ≡ state)
 
 -- The bucket of a removed pair, `place`, is free now: it is empty if every 16 neighbouring buckets around it contain an
--- empty bucket, and deleted otherwise. Each other bucket stays as it was.
+-- empty one, and deleted otherwise. Each other bucket stays as it was.
 pub record Frees (place : Option ℕ) (old new : TableState) : Type 0 where
   pub bucket : ℕ
   pub there : place ≡ Some bucket

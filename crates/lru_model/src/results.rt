@@ -82,8 +82,7 @@ pub enum GetOrInsertError<E> {
     Caller(E),
 }
 
-/// How many entries the inserts of a map have moved, how many new ones they have stored, and how many entries its
-/// shrinks have rehashed.
+/// How many entries the inserts of a map have moved and stored, and how many its shrinks have rehashed.
 ///
 /// ```
 /// let mut map: LruMap<u64, u64> = LruMap::with_limiter(alloc, ByLength::new(3));
