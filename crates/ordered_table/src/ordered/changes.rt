@@ -26,7 +26,7 @@ impl<K, V, N: LinkType> OrderedTable<K, V, N> {
         settle(&mut self.linked, &mut self.promoted);
     }
 
-    /// Puts a pair whose key has this hash into the first free bucket of a table with growth left, as the newest.
+    /// Puts a pair whose key has this hash into the first free bucket, as the newest. There must be growth left.
     ///
     /// Cost: `O(1)` expected.
     #[inline(always)]
