@@ -17,8 +17,8 @@ impl<K: Eq + Hash, V, L: Limiter<K, V>, S: KeyHasher<K>> LruMap<K, V, L, S> {
     ///
     /// `is_eq` gets only entries whose hashes agree with `hash` in the top 7 bits. Only tests show that it gets each at
     /// most once, and none after it accepted one. It may get an entry of another hash, so let it compare keys. `None`
-    /// means that `is_eq` rejected each entry of this hash, and that nothing has changed. The hash of a key is what
-    /// `map.hasher().hash_named(&key)` returns.
+    /// means that `is_eq` rejected each entry of this hash, and that nothing has changed.
+    /// `map.hasher().hash_named(&key)` returns the hash of a key.
     ///
     /// Cost: `O(1)` expected, with one call of `is_eq` for each entry that it gets.
     ///
