@@ -7,8 +7,8 @@ use crate::admission::Admission;
 use crate::limiter::Limiter;
 use std::marker::Model;
 
-/// Limits the bytes of the table and of what the entries own, together: `ByBytes::new(200 << 20)` is 200 MiB. A contract
-/// sees it as its limit, the bytes that the entries own, and the bytes of the table.
+/// Limits the bytes of the table and of what the entries own, together: `ByBytes::new(200 << 20)` is 200 MiB. A
+/// contract sees it as its limit, the bytes that the entries own, and the bytes of the table.
 ///
 /// It permits a table if the table and what the entries own are within the limit. It rejects an entry or a new value if
 /// its entry alone and the table are not. So after each call of the map, `memory_usage` and what the entries own are
