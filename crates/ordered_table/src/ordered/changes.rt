@@ -143,8 +143,8 @@ impl<K: Drop, V: Drop, N: LinkType> OrderedTable<K, V, N> {
 }
 
 impl<K: Eq + Hash, V, N: LinkType> OrderedTable<K, V, N> {
-    /// Moves all pairs into a table of `buckets` buckets, in the same order. If the table has that many buckets already,
-    /// the pairs are rehashed in place.
+    /// Moves all pairs into a table of `buckets` buckets, in the same order. If the table has this number already, the
+    /// pairs are rehashed in place.
     ///
     /// Cost: `O(buckets)` of both tables, and a hash for each pair.
     ///
