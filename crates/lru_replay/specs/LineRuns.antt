@@ -38,7 +38,7 @@ module _ {S : Type 0} (rules : Rules ℕ ℕ S) (offers : Offers ℕ ℕ S ℕ) 
   LineStep old line text new = ((call : Call ℕ ℕ S) × SpellsCall line call × TextStep old call text new)
       ⊎ (((call : Call ℕ ℕ S) → SpellsCall line call → ⊥) × (text ≡ bad_text) × (new ≡ old))
 
-  -- The line is answered, and its text and a line feed are written, or a beginning of these if a write failed.
+  -- The line is answered: its text and a line feed are written. If a write failed, a beginning of both was written.
   abbrev pub AnswersLine : Map S → List ℕ → Map S → Option (List ℕ) → Option (List ℕ) → Result (Unit {0}) ReplayError
       → Type 0
   AnswersLine before line after old new result =

@@ -52,8 +52,8 @@ abbrev pub SoFar : (List (List ℕ) → List ℕ → Type 0) → List (List ℕ)
 SoFar IsText [] text = text ≡ []
 SoFar IsText (first ∷ others) text = IsText (first ∷ others) text
 
--- What a replay read and wrote, by how it ended. As in `LineRuns`, a reader had the bytes `from` left, if they are known,
--- and has `to` left now. A writer's bytes were `old` and are `new`.
+-- What a replay read and wrote, by how it ended. As in `LineRuns`, a reader had the bytes `from` left, and has `to`
+-- left now. A writer's bytes were `old` and are `new`.
 module _ (from to old new : Option (List ℕ)) where
   -- The first line names a limit, a replay of all the lines was written, and nothing is left to read.
   pub record Finished : Type 0 where
