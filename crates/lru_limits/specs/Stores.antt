@@ -43,7 +43,6 @@ rules_at of to rules = record {
   on_grow = λ w bytes. let asked = rules.on_grow (of w) bytes in answers (to asked.limiter) asked.allowed;
 }
 
--- the returned entry is the offered one
 pub given-is : {S K V : Type 0} (accepts : Bool) (s : S) (k : K) (v : V) (t : S) (p : K × V)
     → ReturnsPairIf accepts s k v t (Some p) → p ≡ (k, v)
 given-is true s k v t p h = ap (λ o. unwrap_or o (k, v)) h.pair
