@@ -184,8 +184,8 @@ pub fn deleted_buckets_serve<
 {}
 
 /// An insert pays for the entries that it moves: the count of moved entries and the potential together rise by at most
-/// 2 for the entry that it stores. So inserts move at most two entries for each that they store, plus one for each that
-/// a shrink rehashed.
+/// 2 for the entry that it stores. So inserts move at most two entries for each stored entry, plus one for each entry
+/// that a shrink rehashed.
 pub fn inserts_pay_for_moves<
     K: Eq + Hash,
     V,

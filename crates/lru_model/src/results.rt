@@ -12,8 +12,7 @@ use thiserror::Error;
 /// - The key was there, and the limiter rejected the new value: `unkept` is the new value, and `kept` is false. The
 ///   entry was removed.
 ///
-/// If `kept` is false and `unkept` is a value, the callback got the entry of the key: it was evicted, or its new value
-/// was rejected.
+/// If `kept` is false and `unkept` is a value, the callback got the entry of the key.
 ///
 /// ```
 /// let inserted = map.insert_full(1, 11, &mut |_, _| {})?;
