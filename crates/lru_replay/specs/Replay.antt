@@ -83,7 +83,6 @@ module _ (from to old new : Option (List ℕ)) where
   Replays (Err errors.Read) = ReadFailed
   Replays (Err errors.Write) = WriteFailed
 
--- 0 if the lines were carried out, 1 if the first line names no limit, and 2 if a read or a write failed
 abbrev pub status_of : Result ReplayEnd ReplayError → ℕ
 status_of (Ok ends.Done) = 0
 status_of (Ok ends.NoLimiter) = 1
