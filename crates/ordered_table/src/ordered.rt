@@ -214,7 +214,7 @@ impl<K, V, N: LinkType> OrderedTable<K, V, N> {
 }
 
 impl<K: Eq + Hash, V, N: LinkType> OrderedTable<K, V, N> {
-    /// Returns the bucket of the key that `key` names and that has this hash.
+    /// Returns the bucket of the key that `key` names; `hash` is the hash of this key.
     ///
     /// Cost: `O(1)` expected.
     #[inline]
