@@ -71,8 +71,8 @@ impl Control {
     }
 
     // Returns whether there are no buckets, before a search for this hash. Without buckets a search begins at bucket 0;
-    // with buckets it seldom does. So most searches test only where they begin, which they compute anyway. The sum
-    // keeps the compiler from joining both tests.
+    // with buckets it seldom does. So most searches test only where they begin, which they compute anyway. The sum in
+    // the second test keeps the compiler from joining the tests.
     #[inline]
     pub(crate) fn is_empty_at(&self, hash: u64) -> bool
         ensures { result ≡ nat_eq (buckets_of self.now) 0 }
