@@ -1,4 +1,4 @@
--- What an ordered map ends as, once a reference to one of its values has ended.
+-- What an ordered map is, once a reference to one of its values has ended.
 use Rattle.std.specs.Prelude.{Bool, List, Option}
 use Rattle.std.specs.Borrow.{Fml, RattleType, MutBor, LendsIf}
 use Rattle.std.specs.HashMap.Lent.{HashMembers}

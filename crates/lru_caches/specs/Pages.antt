@@ -66,7 +66,7 @@ module _ {B : Type 0} where
   abbrev pub victim : Bool → List (ℕ × Page B) → Option ℕ
   victim keeps_dirty pages = option_map (λ p. p.0) (find (λ p. may_go keeps_dirty p.1) (reverse pages))
 
-  -- the pages without the one of this number, if there is a number
+  -- the pages without the page of this number, if there is a number
   abbrev pub evicted : Option ℕ → List (ℕ × Page B) → List (ℕ × Page B)
   evicted None pages = pages
   evicted (Some n) pages = without (nat_eq n) pages
@@ -98,11 +98,11 @@ module _ {B D : Type 0} where
   abbrev pub IsCached : ℕ → Cached B D → Type 0
   IsCached n cache = IsTrue (is_some (lookup (nat_eq n) cache.pages))
 
-  -- whether the page of each number is dirty; one that is not cached is not
+  -- whether the page of each number is cached and dirty
   abbrev pub dirty : Cached B D → ℕ → Bool
   dirty cache n = is_dirty (lookup (nat_eq n) cache.pages)
 
-  -- whether the page of each number is pinned; one that is not cached is not
+  -- whether the page of each number is cached and pinned
   abbrev pub pinned : Cached B D → ℕ → Bool
   pinned cache n = is_pinned (lookup (nat_eq n) cache.pages)
 

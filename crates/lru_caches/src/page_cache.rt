@@ -55,8 +55,8 @@ pub enum PageError<E> {
 ///
 /// After a `flush` that returned `Ok`, a crash leaves each block as it was shown at that flush. If a later call wrote
 /// the block, a crash may also leave it as it was written, or torn. `docs/CACHES.md` says what this supposes of a disk.
-/// After a failed `sync`, `write`, `flush`, `flush_page` and `close` return `Broken`. So does a read of a page that is
-/// not cached.
+/// `write`, `flush`, `flush_page` and `close` return `Broken` after a `sync` that failed. So does a read of a page that
+/// is not cached.
 ///
 /// Code that drops or forgets a cache does not compile, because its dirty pages would be lost. Call `close` or
 /// `discard`.
