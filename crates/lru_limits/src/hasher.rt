@@ -1,4 +1,4 @@
-//! A fast seeded hasher: each eight bytes of a write cost one multiplication. Which hashes it gives may change.
+//! A fast seeded hasher: each eight bytes of a write cost one multiplication. Its hashes may change in later versions.
 ghost use Rattle.std.specs.Prelude.{◌≡◌, ◌+◌, ◌*◌, ◌^◌, ◌<◌, length, fold};
 ghost use Rattle.std.specs.Int.{w64, from_le_bytes};
 ghost use Rattle.lru_limits.specs.Mixing.{folded, joined, written, closed, seeded};
