@@ -10,7 +10,7 @@ use Rattle.lru_model.specs.TryInserts.{TryInsert}
 use Rattle.lru_model.specs.Runs.{AnyStep, calls, reserves}
 
 -- Insertions into the table and the potential together rise by at most 3 for each entry stored, and by 2 for each entry
--- that shrinks rehashed. This ends when the count of stored or of rehashed entries stops at its maximum.
+-- that shrinks rehashed. This holds until the count of stored or of rehashed entries stops at its maximum.
 pub record PaysForInsertions {K V S H : Type 0} (old new : State K V S H) : Type 0 where
   pub placed : old.counts.placed ≤ new.counts.placed
   pub shrunk : old.counts.shrunk ≤ new.counts.shrunk

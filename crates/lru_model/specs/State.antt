@@ -151,7 +151,7 @@ module _ {K V S H : Type 0} where
   abbrev pub FreesGrowth : State K V S H → State K V S H → Type 0
   FreesGrowth old new = GivesBack (length old.pairs) (length new.pairs) old.table.states new.table.states
 
-  -- all pairs moved into a table of `count` buckets, none of which is deleted
+  -- all pairs moved into a table of `count` buckets; no bucket is deleted
   pub record MovesTo (count : ℕ) (old new : State K V S H) : Type 0 where
     pub table : buckets new ≡ count
     pub exact : length old.pairs + growth_left new ≡ full_capacity count

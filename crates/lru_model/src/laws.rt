@@ -123,8 +123,8 @@ pub fn inserts_are_exact_unless_refused<
 {}
 
 /// An insert does what it would do to a list of entries without a table, under two premises. The limiter permits every
-/// growth, as `ByLength` and the unlimited ones do. Links and bytes reach the tables that the insert may need. Only
-/// whether memory runs out stays open.
+/// growth, as `ByLength` and the unlimited ones do. Links and bytes reach the tables that the insert may need. The law
+/// leaves open whether memory runs out.
 pub fn granted_inserts_are_exact<
     K: Eq + Hash,
     V,

@@ -15,7 +15,8 @@ use lru_limits::{Budgeted, Insertion, KeyHasher, LookupKey};
 use std::hash::Hash;
 
 /// After each call no two keys are equal (`keys`). Inserts moved at most twice as many entries as they stored, plus
-/// those that shrinks rehashed, if the table is sound after the call (`map`). It is, by clause `map` of each call.
+/// those that shrinks rehashed, if the table is sound after the call (`map`). Clause `map` of each call says that it
+/// is.
 pub fn calls_keep_maps<K: Eq + Hash, V, I: LookupKey<K>, L: Insertion<K, V, I>, S: KeyHasher<K>>()
     ensures keys { (old new : State K V L S) →
         AnyStep L.rules L.offers I.names S.hash_of old new →

@@ -14,8 +14,8 @@ use std::hash::Hash;
 ///
 /// Any calls one after another, including inserts and `try_insert`, pay for theirs, too (`runs`). The insertions and
 /// the potential together rise by at most 3 for each entry stored, and by 2 for each entry that shrinks rehashed. This
-/// ends when the count of stored or of rehashed entries reaches `u64::MAX`. A reservation may be among these calls only
-/// if no growth is left before it.
+/// holds until the count of stored or of rehashed entries reaches `u64::MAX`. A reservation may be among these calls
+/// only if no growth is left before it.
 pub fn try_inserts_pay_for_moves<K: Eq + Hash, V, L: Admission<K, V>, S: KeyHasher<K>>()
     ensures rise { (key : K) (value : V) (old : State K V L S) (result : Result (Unit {0}) (K × V))
         (new : State K V L S) →

@@ -30,7 +30,7 @@ pub fn runs_keep_sums<K: Eq + Hash, V, I: LookupKey<K>, L: Insertion<K, V, I>, S
 {}
 
 /// Over any calls the count of moved entries and the potential together rise by at most two for each stored entry, and
-/// by one for each entry that shrinks rehash. This ends when the count of stored or of rehashed entries reaches
+/// by one for each entry that shrinks rehash. This holds until the count of stored or of rehashed entries reaches
 /// `u64::MAX`.
 pub fn runs_pay_for_moves<
     K: Eq + Hash,
