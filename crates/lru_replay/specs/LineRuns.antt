@@ -15,7 +15,7 @@ use Rattle.lru_replay.specs.Output.{reply_text, bad_text, Writes, Begins}
 use Rattle.lru_replay.specs.Replies.{Reply, no_memory}
 use Rattle.lru_replay.specs.Steps.{ReplyStep}
 
--- The line of the call stores the pairs that its insert passes on in a list, before it writes them. This takes memory.
+-- The pairs that the call's insert passes on are stored in a list before the line writes them. This takes memory.
 abbrev pub StoresFirst : {S : Type 0} → Call ℕ ℕ S → Type 0
 StoresFirst (calls.InsertWith k v) = Unit {0}
 StoresFirst call = ⊥
