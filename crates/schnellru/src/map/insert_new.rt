@@ -117,7 +117,7 @@ impl<K: Eq + Hash, V, L: Limiter<K, V>, S: KeyHasher<K>> LruMap<K, V, L, S> {
         Ok(self.evict_over_limit(sink))
     }
 
-    // Tests whether a deleted bucket takes the pair, because no growth is left. Out of line, so that other inserts need
+    // No growth is left, so this tests whether a deleted bucket takes the pair. Out of line, so that other inserts need
     // no such test.
     #[cold]
     #[inline(never)]
