@@ -11,8 +11,8 @@ use std::hash::Hash;
 /// Decides when a map is over its limit, and whether its table may grow. It is notified of each entry that is evicted
 /// or removed.
 ///
-/// Each callback accepts every state, length, key and value. In `rules`, the impl defines its result and its effect as
-/// functions of these.
+/// Each callback accepts every state, length, key and value. In `rules`, the impl defines the result and the effect of
+/// each as functions of these.
 ///
 /// ```
 /// let limiter = ByLength::new(3);
