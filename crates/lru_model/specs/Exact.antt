@@ -25,8 +25,8 @@ abbrev pub at_once : Report
 at_once = record { asked = None; evicted = 0; has_bucket = true }
 
 module _ {K V S : Type 0} (rules : Rules K V S) where
-  -- growth is refused, after a query if `asked` names one, and n of these pairs are evicted; without pairs there is no
-  -- bucket
+  -- growth is refused, after the query `asked` if there is one, and n of these pairs are evicted; without pairs there
+  -- is no bucket
   abbrev pub refusal : Option ℕ → ℕ → Contents K V S → Report
   refusal asked n c = record { asked = asked; evicted = n; has_bucket = not (is_empty c.pairs) }
 
