@@ -44,7 +44,7 @@ impl<K: Eq + Hash, V, L: Limiter<K, V>, S: KeyHasher<K>> LruMap<K, V, L, S> {
         Some(self.value_in_mut(b))
     }
 
-    /// Returns the value of an entry that `is_eq` accepts. The order stays. `is_eq` is called as by `get_by_hash`.
+    /// Returns the value of an entry that `is_eq` accepts. The order stays. `is_eq` is called as in `get_by_hash`.
     ///
     /// ```
     /// let hash = RandomState::default().hash_one(&1u64);
@@ -66,7 +66,7 @@ impl<K: Eq + Hash, V, L: Limiter<K, V>, S: KeyHasher<K>> LruMap<K, V, L, S> {
         Some(&self.pair_in(b).value)
     }
 
-    /// Lends the value of an entry that `is_eq` accepts, for writing. The order stays. `is_eq` is called as by
+    /// Lends the value of an entry that `is_eq` accepts, for writing. The order stays. `is_eq` is called as in
     /// `get_by_hash`.
     ///
     /// ```
