@@ -1,4 +1,4 @@
-//! A file, or one in memory that loses at a crash what was not made durable.
+//! A file, or a file in memory. A crash of a file in memory loses what was not made durable.
 use lru_caches::Durable;
 use std::alloc::{AllocError, Global};
 use std::cell::Cell;

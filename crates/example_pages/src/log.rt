@@ -95,7 +95,7 @@ impl<'a> Log<'a> {
         Ok(newest)
     }
 
-    /// Returns how many pages the transaction has whose first page is page n, if they are all there.
+    /// Returns how many pages a transaction has, if page n is its first page and all are there.
     pub fn transaction_at(&mut self, n: u64) -> Result<Option<u64>, FileError> {
         let Some(first) = self.header(n)? else {
             return Ok(None);

@@ -1,4 +1,4 @@
-//! Crashes of a store, after each of which its records are compared with what was committed.
+//! Crashes of a store. After each, its records are compared with what was committed.
 use crate::disk::{CrashFile, Disk, Power};
 use crate::page::{PAGE, RECORDS, Record};
 use crate::store::{Sizes, Store, StoreError};
@@ -12,7 +12,7 @@ const SIZES: Sizes = Sizes {
     cache: 2,
 };
 
-/// How many records the trial changes: three of each page, one of which lies across two sectors.
+/// How many records the trial changes: three of each page. One of the three lies across two sectors.
 const USED: u64 = 12;
 
 fn id_of(n: u64) -> u64 {
@@ -30,7 +30,7 @@ type Files<'a> = (Disk<'a>, Disk<'a>);
 pub struct Counts {
     pub crashes: u64,
     pub commits: u64,
-    /// Crashes that interrupted a commit, after which it had taken place, or not.
+    /// Crashes that interrupted a commit, which had then taken place, or not.
     pub kept: u64,
     pub dropped: u64,
     /// Pages that were torn, and are whole again.

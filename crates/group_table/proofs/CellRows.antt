@@ -1,4 +1,4 @@
--- A place is taken out of a row and put back; a `&` to a row shows a place; bare memory is a row of places.
+-- A place is taken out of a row and put back. A `&` to a row shows a place. Bare memory is a row of places.
 use Rattle.std.proofs.Common.{◌≡◌, ℕ, zero, suc, ◌+◌, ◌*◌, ◌^◌, ◌<◌, List, [], ◌∷◌, length, replicate, length-set, refl}
 use Rattle.std.proofs.Common.{sym, subst, arith, suc-mul, zero-mul}
 use Rattle.std.specs.Prelude.{Option, Some, None, get_or, slice_set}

@@ -7,7 +7,7 @@ use Rattle.group_table.specs.Layout.{slots_of, IsValid}
 use Rattle.group_table.specs.Moves.{place_at}
 use Rattle.group_table.specs.Relocation.{Moves, KeepsHashes}
 
--- each place that is not passed and whose bucket is free holds what it held before
+-- each place that is not passed holds what it held before, if its bucket is free
 abbrev pub StaysWhereFree : {T : Type 0} → List (Option T) → List (Option T) → List ℕ → ℕ → Type 0
 StaysWhereFree old now control passed = (b : ℕ) → passed ≤ b → b < length old → IsFreeByte (slice_index control b)
     → place_at now b ≡ place_at old b
@@ -25,8 +25,8 @@ module _ {T : Type 0} (old gone placed now : List (Option T)) (b : ℕ) where
     pub none_placed : place_at placed b ≡ None
 
 module _ {T N : Type 0} (number : N → ℕ) (none : N) (IsGiven : (ℕ → ℕ) → Type 0) where
-  -- the entries that have moved are as in a fresh table of these control bytes; the others are where they were; and no
-  -- entry waits in the first `passed` places
+  -- the moved entries are as in a fresh table of these control bytes; the others are where they were. No entry waits in
+  -- the first `passed` places.
   pub record IsHalfway (old now : List (Option T)) (control : List ℕ) (links : List N) (passed : ℕ) : Type 0 where
     pub gone : List (Option T)
     pub placed : List (Option T)

@@ -7,7 +7,7 @@ empty_byte = 255
 abbrev pub deleted_byte : ℕ
 deleted_byte = 128
 
--- the tag of the entry of a full bucket has seven bits
+-- a tag has seven bits
 abbrev pub IsTag : ℕ → Type 0
 IsTag byte = byte < deleted_byte
 

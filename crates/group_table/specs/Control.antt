@@ -4,7 +4,7 @@ use Rattle.group_table.specs.Sizes.{IsPowerFromFour}
 use Rattle.group_table.specs.Bytes.{empty_byte, IsFreeByte}
 use Rattle.group_table.specs.Lanes.{IsRepeated}
 
--- how many buckets n control bytes are for: 16 fewer
+-- the number of buckets: 16 fewer than the control bytes
 abbrev pub buckets_of : List ℕ → ℕ
 buckets_of control = length control - 16
 

@@ -15,7 +15,7 @@ use Rattle.group_table.specs.declared.probe.Searched.TheVariants.{Accepted, Ende
 abbrev pub passed_by : Probe → ℕ
 passed_by probe = probe.stride - 16
 
--- a search for the hash comes to the group that begins here, after n buckets of whole groups
+-- a search for the hash visits this group after `passed_by` buckets, which are whole groups
 pub record IsProbe (buckets hash : ℕ) (probe : Probe) : Type 0 where
   pub start : probe.start ≡ probed buckets hash (passed_by probe)
   pub whole : passed_by probe % 16 ≡ 0
@@ -43,7 +43,7 @@ module _ {T : Type 0} (slots : List (Slot T)) where
       → bucket_at (bucket_states slots) ((start + lane) % length slots) ≢ empty
 
 module _ {T F : Type 0} (closure : Mut F (Bor T × Unit {0}) Bool) (slots : List (Slot T)) (tag start : ℕ) (f : F) where
-  -- f was called for the buckets with the tag, in the order of the lanes, and rejected all but the last, which is b
+  -- f was called for the buckets with the tag, in the order of the lanes; it rejected all but the last, which is b
   pub record AcceptsIn (b : ℕ) (g : F) : Type 0 where
     pub lanes : ℕ
     pub in_group : lanes ≤ width slots

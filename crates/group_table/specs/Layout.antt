@@ -38,7 +38,7 @@ module _ {T : Type 0} where
   Agrees byte (Some entry) = IsTag byte
   Agrees byte None = (byte ≡ deleted_byte) ⊎ (byte ≡ empty_byte)
 
-  -- the bytes after a write of one bucket and of its repetition
+  -- the bytes after one bucket and its repetition were written
   abbrev pub written : List ℕ → List (Option T) → ℕ → ℕ → List ℕ
   written control entries b byte = slice_set (slice_set control b byte) (b + max 16 (length entries)) byte
 

@@ -6,7 +6,7 @@
 use Rattle.std.specs.Prelude.{◌≡◌, ◌≢◌, ◌≤◌, ◌<◌, ℕ, refl}
 use Rattle.std.proofs.Common.{ap, arith}
 
--- the greatest number of eight bits, which the narrowest links have
+-- the greatest number of eight bits
 abbrev pub narrowest_most : ℕ
 narrowest_most = 255
 
@@ -18,7 +18,6 @@ pub record IsLinkType {N : Type 0} (number : N → ℕ) (link : ℕ → N) (most
   -- a link has at least eight bits
   pub wide_enough : narrowest_most ≤ number most
 
--- so the link of a number below the number of `MAX` is not `MAX`
 pub link_below : {N : Type 0} {number : N → ℕ} {link : ℕ → N} {most : N} → IsLinkType number link most
     → (n : ℕ) → n < number most → link n ≢ most
 link_below {N} {number} {link} {most} laws n below same =

@@ -8,12 +8,12 @@ use Rattle.group_table.specs.Bucket.{Slot, empty, bucket_at, entry_at, has_tag, 
 use Rattle.group_table.specs.Probe.{hash_tag, probed, state_probed, Reaches}
 use Rattle.group_table.specs.Fits.{Fits}
 
--- the buckets with the tag that an order visits in the first steps
+-- among the first buckets of an order, those with the tag
 abbrev pub tagged : {T : Type 0} → List (Slot T) → ℕ → (ℕ → ℕ) → ℕ → List ℕ
 tagged slots tag order steps = filter (λ b. has_tag tag (bucket_at slots b)) (map order (range_with_len 0 steps))
 
 module _ {T : Type 0} (slots : List (Slot T)) (hash : ℕ) where
-  -- the buckets with the tag of the hash, among the buckets of the first steps of a search
+  -- among the first buckets of a search, those with the tag of the hash
   abbrev pub candidates : ℕ → List ℕ
   candidates steps = tagged slots (hash_tag hash) (probed (length slots) hash) steps
 
@@ -47,8 +47,8 @@ module _ {T F : Type 0} (closure : Mut F (Bor T × Unit {0}) Bool) (slots : List
     pub last : F
     pub accepted : Answers between b true last
 
-  -- a search for the hash called f with the entries in these buckets, and f rejected all. Each bucket with the tag that
-  -- a search reaches is among them, and so is each entry of that hash, for all hashes that fit.
+  -- a search for the hash called f with the entries in these buckets, and f rejected all. If a bucket has the tag and a
+  -- search reaches it, it is among them. For all hashes that fit, each entry of this hash is among them.
   pub record FindsNone (hash : ℕ) (f : F) : Type 0 where
     pub asked : List ℕ
     pub search : IsSearch slots hash asked

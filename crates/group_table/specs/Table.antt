@@ -3,7 +3,7 @@ use Rattle.std.specs.Prelude.{◌≡◌, ℕ, ◌+◌, ◌^◌, ◌<◌, ◌≤�
 use Rattle.group_table.specs.Sizes.{IsBucketCount, full_capacity}
 use Rattle.group_table.specs.Bucket.{Slot, BucketState, bucket_at, refilled, is_deleted, is_used}
 
--- how many insertions the table has made: of entries that were new to it, and of entries that it moved
+-- how many insertions the table has made: of new entries, and of entries that it moved
 pub record Insertions : Type 0 where
   pub placed : ℕ
   pub moved : ℕ

@@ -1,5 +1,4 @@
-//! Places for entries in one block of memory. No place has a tag: whoever owns the places knows which of them hold an
-//! entry.
+//! Places for entries in one block of memory. Only the owner of the places knows which of them hold an entry.
 ghost use Rattle.std.specs.Prelude.{◌≡◌, ℕ, ◌<◌, List, Option, Some, None, length, replicate, get_or, slice_set, IfOk};
 ghost use Rattle.std.specs.Prelude.{true, ⊤};
 ghost use Rattle.std.specs.Borrow.{sem};
@@ -129,7 +128,7 @@ pub(crate) fn deallocate<T, A: Allocator>(
 {
     let Cells { mark: _ } = cells;
     let Deed { mark: _ } = deed;
-    // SAFETY: `deed` says that this allocator gave this block with these bytes, and no place holds an entry.
+    // SAFETY: by `deed`, this allocator gave this block with these bytes. No place holds an entry.
     unsafe {
         alloc.deallocate(
             block.start as *mut u8,

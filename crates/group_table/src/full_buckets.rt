@@ -6,8 +6,8 @@ ghost use Rattle.group_table.specs.FullBuckets.{IsAhead, IsNextFull};
 use crate::control::Control;
 use crate::group::{lowest_lane, without_lowest};
 
-// Where a walk over the full buckets is. It keeps the lanes of a group that are still to come, so that no step waits
-// for the step before.
+// Where a walk over the full buckets is. It keeps the lanes of a group that are still to come, so no step waits for the
+// one before.
 #[derive(Drop)]
 pub(crate) struct FullBuckets {
     start: usize,

@@ -1,4 +1,4 @@
-//! Whether the 16 neighbouring buckets around a bucket contain an empty one.
+//! Whether every 16 neighbouring buckets around a bucket contain an empty one.
 ghost use Rattle.std.specs.Prelude.{◌≡◌, ◌≢◌, ◌+◌, ◌-◌, ◌%◌, ◌^◌, ◌<◌, Bool, if◌then◌else◌, nat_lt, slice_index};
 ghost use Rattle.std.specs.Prelude.{MatchBool};
 ghost use Rattle.group_table.specs.Bytes.{empty_byte};
@@ -37,7 +37,7 @@ fn ones_if_less(low: u32, high: u16) -> usize
 }
 
 // Returns all ones if every 16 neighbouring buckets around this one contain an empty one, and 0 otherwise. They do if
-// fewer than 16 used buckets lie between the last empty bucket before this one and the first after it.
+// fewer than 16 used buckets lie between the nearest empty buckets on both sides.
 #[inline]
 pub(crate) fn ones_if_empty_neighbours(control: &Control, b: usize) -> usize
     requires bucket { b < buckets_of control.now }
@@ -47,9 +47,9 @@ pub(crate) fn ones_if_empty_neighbours(control: &Control, b: usize) -> usize
         × MatchBool empty (HasEmptyNeighbours (IsEmptyAt control.now) (buckets_of control.now) b)
         (IsHemmedIn (IsEmptyAt control.now) (buckets_of control.now) b) }
 {
-    // `used` has a bit for each used bucket from this one up to the next empty one. It is less than the mask of the
-    // empty buckets before exactly if these used buckets and those directly before this one are fewer than 16 together.
-    // Comparing the masks takes fewer instructions than two counts and their sum.
+    // `used` has a bit for each used bucket from this one up to the next empty one. Fewer than 16 used buckets are in a
+    // row around this one if and only if `used` is less than the mask of the empty buckets before. Comparing the masks
+    // takes fewer instructions than two counts and their sum.
     let used = lanes_below(empty_from(control, b));
     ones_if_less(used, empty_before(control, b))
 }

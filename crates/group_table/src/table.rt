@@ -27,7 +27,7 @@ mod in_place;
 mod moves;
 mod relocation;
 
-/// A hash table of numbered buckets, each of which is empty, deleted or full.
+/// A hash table of numbered buckets. Each bucket is empty, deleted or full.
 ///
 /// It sees no key and stores no hash: the caller gives the hash, and a search calls the caller's closure. An entry
 /// keeps its bucket until it is taken out, or all entries are moved. `docs/TABLE.md` explains the rules.
@@ -129,10 +129,10 @@ impl<T> Table<T> {
         })
     }
 
-    /// Returns the bucket of the first entry that `f` accepts among those whose tag is the hash's top 7 bits.
+    /// Returns the bucket of the first entry that `f` accepts.
     ///
-    /// `f` is called with one entry after another in the order of the search. Only tests show that it is called at most
-    /// once with each. `None` means that `f` rejected each entry of that hash.
+    /// `f` is called with entries whose tag is the hash's top 7 bits, in the order of the search. Only tests show that
+    /// `f` is called at most once with each. `None` means that `f` rejected each entry of that hash.
     #[inline]
     pub fn find<F: FnMut(&T) -> bool>(&self, hash: u64, f: F) -> Option<usize>
         requires { F.IsAlwaysCallable f }
@@ -173,8 +173,9 @@ impl<T> Table<T> {
 
     /// Takes the entry out of a full bucket.
     ///
-    /// If every 16 neighbouring buckets around it contain an empty bucket, as in a table of up to 16 buckets, it
-    /// becomes empty, which gives growth left back. Otherwise it becomes deleted, so that searches still go past it.
+    /// The bucket becomes empty if every 16 neighbouring buckets around it contain an empty one, as in each table of up
+    /// to 16 buckets. This gives growth left back. Otherwise the bucket becomes deleted, so that searches still go past
+    /// it.
     #[inline(always)]
     pub fn take(&mut self, b: usize) -> T
         requires { IsFull self.old.slots b }
@@ -194,7 +195,7 @@ impl<T> Table<T> {
         empty_bucket(&mut self.control, &mut self.entries, b, byte)
     }
 
-    /// Puts an entry with this hash into the first free bucket in the order of a search, and returns its number. There
+    /// Puts an entry with this hash into the first free bucket in the order of a search, and returns the bucket. There
     /// must be growth left.
     ///
     /// Filling an empty bucket takes one of the growth left; filling a deleted bucket takes none. `place` asks for no
@@ -222,7 +223,7 @@ impl<T> Table<T> {
         b
     }
 
-    /// Does what `place` does, but growth need not be left: if none is, only a deleted bucket may take the entry.
+    /// Does what `place` does. If no growth is left, only a deleted bucket may take the entry.
     ///
     /// # Errors
     ///

@@ -1,4 +1,4 @@
-//! Tests of what no clause of `group_table` says, through its public calls.
+//! Tests of `group_table` through its public calls, for what no clause says.
 #![tactic(auto)]
 
 #[cfg(test)]

@@ -1,4 +1,4 @@
--- A callback that notes pairs of other keys than the inserted one has noted the first of them.
+-- A callback notes the first pair of a key that differs from the inserted key.
 use Rattle.std.proofs.Common.{◌≡◌, ℕ, Bool, true, false, cond, List, [], ◌∷◌, Option, None, Some, MutBor, refl, ap, ◌∙◌}
 use Rattle.std.proofs.Common.{nat_eq, subst}
 use Rattle.std.specs.List.{FoldsTo}

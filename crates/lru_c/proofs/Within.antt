@@ -1,5 +1,5 @@
--- What the proofs of several exports share: a step on the map of a handle, and that each call of a map leaves at most
--- as many entries as its maximum length.
+-- What the proofs of several exports share: a step on the map of a handle, and that each call leaves a map within its
+-- maximum length.
 use Rattle.std.proofs.Common.{◌≡◌, ◌≤◌, ℕ, Bool, Result, Option, Some, length, nat_eq, inl, inr, sym, ap, subst, arith}
 use Rattle.std.proofs.lemmas.Bool.Decides.{nat_tests}
 use Rattle.lru_limits.specs.Limiters.{length_rules, length_offers}

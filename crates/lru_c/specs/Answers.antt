@@ -31,7 +31,7 @@ inserted_of code (Some old_value) evicted =
 abbrev pub noted_pair : Bool → Entry → Option (ℕ × ℕ)
 noted_pair noted place = if noted then Some (place.key, place.value) else None
 
--- the slots after as many pairs as fit were copied into them
+-- the slots after pairs were copied into them, up to the last slot
 abbrev pub filled : List (ℕ × ℕ) → List Entry → List Entry
 filled [] slots = slots
 filled (pair ∷ pairs) [] = []
@@ -68,7 +68,7 @@ pub record Inserts (key value : ℕ) (old : Map) (answer : Inserted) (place left
   pub untouched : answer.evicted ≡ false → left ≡ place
   pub returned : answer ≡ inserted_of (put_code result) (lookup (nat_eq key) old.pairs) answer.evicted
 
--- A call on a handle. If there is a map, it makes this step. Otherwise there is none afterwards, and the call returns
+-- A call on a handle. If there is a map, it makes this step. Otherwise there is no map afterwards, and the call returns
 -- nothing.
 abbrev pub OnMap : {M : Type 0} → Type 0 → (M → M → Type 0) → Option M → Option M → Type 0
 OnMap returns_nothing step None None = returns_nothing

@@ -52,7 +52,6 @@ module _ {B : Type 0} (keeps : Bool) where
           )
       go false e is later = (Contains-append_right (x ∷ []) xs p (later is).0, (later is).1)
 
-  -- the victim is a page, and may go
   pub victim_page : (pages : List (ℕ × Page B)) (n : ℕ) → IsDistinct nat_eq (keys_of pages)
       → victim keeps pages ≡ Some n
       → (page : Page B) × (lookup (nat_eq n) pages ≡ Some page) × (may_go keeps page ≡ true)
@@ -72,7 +71,6 @@ module _ {B : Type 0} (keeps : Bool) where
             found.1,
           )
 
-  -- if the cache keeps dirty pages, it is clean
   pub clean_victim : (page : Page B) → IsTrue keeps → may_go keeps page ≡ true → page.is_dirty ≡ false
   clean_victim page kept e = go keeps page.is_pinned page.is_dirty kept e
     where
@@ -110,7 +108,6 @@ module _ {B : Type 0} (pages : List (ℕ × Page B)) (distinct : IsDistinct nat_
   lookup-gone m =
       lookup-remove_entry nat_eq_equiv (nat_eq n) (λ x y e. ap (λ k. nat_eq k y) (eqb-true n x e)) m pages distinct
 
-  -- what is found without a page was found before
   pub found_before : (m : ℕ) (page : Page B) → lookup (nat_eq m) (without (nat_eq n) pages) ≡ Some page
       → lookup (nat_eq m) pages ≡ Some page
   found_before m page found = go (nat_eq n m) (sym (lookup-gone m) ∙ found)

@@ -28,7 +28,6 @@ module _ {X : Type 0} where
           ap (λ b. cond b ((p.0, w) ∷ ys) (p ∷ set_value (nat_eq n) ys w)) named
           ∙ ap (λ k. (k, w) ∷ ys) (sym (eqb-true n p.0 named))
 
-  -- a page that is found comes to the front
   pub front-found : (n : ℕ) (xs : List (ℕ × X)) (v : X) → lookup (nat_eq n) xs ≡ Some v
       → front (nat_eq n) xs ≡ (n, v) ∷ without (nat_eq n) xs
   front-found n xs v found = go (lookup_entry (nat_eq n) xs) refl

@@ -1,5 +1,4 @@
--- Lists of entries that are turned round: their keys, what a key finds, removes or writes there, their ends, and whether
--- two of them are equal.
+-- Reversed lists of entries: their keys, what a key finds, removes or writes there, their ends, and their equality.
 use Rattle.std.proofs.Common.{◌≡◌, Bool, true, false, cond, List, [], ◌∷◌, ◌++◌, reverse, Option, Some, None, refl}
 use Rattle.std.proofs.Common.{sym, ap, ◌∙◌, subst, ◌&&◌}
 use Rattle.std.proofs.lemmas.List.{reverse-append, reverse-reverse, append-nil, map-append}

@@ -14,8 +14,8 @@ pub record Memoized (K V S H F : Type 0) : Type 0 where
   pub map : State K V S H
   pub function : F
 
--- The call returned the answer that was stored at the key, whose entry is the newest then. Or none was stored, and it
--- returned the value, which was inserted.
+-- The call returned the answer stored at the key, whose entry is then the newest. Or none was stored, and the call
+-- returned and inserted the value.
 abbrev pub Remembers : {K V S H : Type 0} → Rules K V S → Offers K V S K → (K → K → Bool) → (H → K → ℕ) → K → V
     → State K V S H → State K V S H → Type 0
 Remembers rules offers eq hash_of key value old new = (kept : Result Bool AllocError)
@@ -34,7 +34,7 @@ module _ {K V : Type 0} (eq : K → K → Bool) (post : K → V → Type 0) wher
 abbrev pub loads : {K V E : Type 0} → (K → Result V E → Type 0) → K → V → Type 0
 loads post key value = post key (Ok value)
 
--- The function, which was called at a key, gave a value, and this was read from it, or it failed with this error.
+-- The function gave a value at a key, and this was read from it. Or the function failed with this error.
 pub data ReadsLoaded {V E R : Type 0} (gives : Result V E → Type 0) (reads : V → R → Type 0) (result : Result R E)
     : Type 0 where
   loaded : (value : V) (given : R) → gives (Ok value) → reads value given → result ≡ Ok given →

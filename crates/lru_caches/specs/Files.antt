@@ -5,7 +5,7 @@ use Rattle.std.specs.Prelude.{◌≡◌, ℕ, zero, suc, nat_eq, Bool, if◌then
 abbrev pub Event : Type 0
 Event = ℕ × ℕ × List ℕ
 
--- the kinds of events: a read that failed, one that returned Ok, the same of a write, and of a sync
+-- the kinds of events: a read, a write or a sync that failed, or that returned Ok
 abbrev pub unread : ℕ → Event
 unread n = (0, n, [])
 
@@ -42,7 +42,7 @@ known_after (suc (suc zero)) same bytes old = if same then None else old
 known_after (suc (suc (suc zero))) same bytes old = if same then Some bytes else old
 known_after (suc (suc (suc (suc more)))) same bytes old = old
 
--- the block of each number after these events, of which the newest comes first, if it is known
+-- the block of each number after these events (newest first), if it is known
 abbrev pub known : List Event → ℕ → Option (List ℕ)
 known [] n = None
 known (e ∷ earlier) n = known_after e.0 (nat_eq n e.1) e.2 (known earlier n)
@@ -80,7 +80,7 @@ abbrev pub failures : List Event → ℕ
 failures [] = 0
 failures (e ∷ earlier) = failures_after e.0 (failures earlier)
 
--- a block that was known was read as it was known
+-- a read of a known block returned this block
 abbrev pub Agrees : ℕ → List ℕ → Option (List ℕ) → Type 0
 Agrees (suc zero) bytes (Some block) = bytes ≡ block
 Agrees kind bytes block = Unit {0}

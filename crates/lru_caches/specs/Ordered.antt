@@ -2,7 +2,7 @@
 use Rattle.std.specs.Prelude.{Bool, List, [], ◌∷◌, ◌++◌, is_some, if◌then◌else◌}
 use Rattle.std.specs.Map.{lookup, set_value}
 
--- The entries, oldest first, after an insert of this entry: if the key is there, its entry has the new value, and else
+-- The entries, oldest first, after an insert of this entry: if the key is there, its entry has the new value; otherwise
 -- the new entry comes last.
 abbrev pub put : {K V : Type 0} → (K → Bool) → K × V → List (K × V) → List (K × V)
 put names entry entries =

@@ -58,7 +58,7 @@ module _ {B : Type 0} where
   abbrev pub unpinned_at : ℕ → List (ℕ × Page B) → List (ℕ × Page B)
   unpinned_at n pages = with_no_pin n (lookup (nat_eq n) pages) pages
 
-  -- A page may be evicted if it is not pinned, and in a cache that keeps dirty pages only if it is clean.
+  -- A page may be evicted if it is not pinned. If the cache keeps dirty pages, the page must also be clean.
   abbrev pub may_go : Bool → Page B → Bool
   may_go keeps_dirty page = not (page.is_pinned || keeps_dirty && page.is_dirty)
 
@@ -66,7 +66,7 @@ module _ {B : Type 0} where
   abbrev pub victim : Bool → List (ℕ × Page B) → Option ℕ
   victim keeps_dirty pages = option_map (λ p. p.0) (find (λ p. may_go keeps_dirty p.1) (reverse pages))
 
-  -- the pages without the one of this number, if there is a number
+  -- the pages without the page of this number, if there is a number
   abbrev pub evicted : Option ℕ → List (ℕ × Page B) → List (ℕ × Page B)
   evicted None pages = pages
   evicted (Some n) pages = without (nat_eq n) pages
@@ -76,7 +76,7 @@ module _ {B : Type 0} where
   goes_dirty None pages = false
   goes_dirty (Some n) pages = is_dirty (lookup (nat_eq n) pages)
 
-  -- the pages with room for one more: if there are as many as there may be, the oldest that may go is evicted
+  -- the pages with room for one more: in a full cache, the oldest page that may go is evicted
   abbrev pub with_room : ℕ → Bool → List (ℕ × Page B) → List (ℕ × Page B)
   with_room capacity keeps_dirty pages =
       if nat_lt (length pages) capacity then pages else evicted (victim keeps_dirty pages) pages
@@ -98,16 +98,16 @@ module _ {B D : Type 0} where
   abbrev pub IsCached : ℕ → Cached B D → Type 0
   IsCached n cache = IsTrue (is_some (lookup (nat_eq n) cache.pages))
 
-  -- whether the page of each number is dirty; one that is not cached is not
+  -- whether the page of each number is cached and dirty
   abbrev pub dirty : Cached B D → ℕ → Bool
   dirty cache n = is_dirty (lookup (nat_eq n) cache.pages)
 
-  -- whether the page of each number is pinned; one that is not cached is not
+  -- whether the page of each number is cached and pinned
   abbrev pub pinned : Cached B D → ℕ → Bool
   pinned cache n = is_pinned (lookup (nat_eq n) cache.pages)
 
-  -- the pages after a use of page n: this page, and then the others, but for the oldest that may go if they fill the
-  -- cache
+  -- the pages after a use of page n: this page, and then the others; if these fill the cache, the oldest that may go is
+  -- evicted
   abbrev pub pages_after : ℕ → Page B → Cached B D → List (ℕ × Page B)
   pages_after n page cache =
       (n, page) ∷ with_room cache.capacity cache.keeps_dirty (without (nat_eq n) cache.pages)
@@ -162,12 +162,12 @@ module _ {B D E S : Type 0} (d : device.Ghosts D B E S) where
   IsWritten None block = ⊥
   IsWritten (Some page) block = IsTrue page.is_dirty × ((block ≡ d.seen page.block) ⊎ d.IsTorn block)
 
-  -- what a crash may leave now it might leave before, but for the blocks of pages that were dirty
+  -- a crash may leave no more than before, except for the blocks of pages that were dirty
   abbrev pub CrashAdds : List (ℕ × Page B) → D → D → Type 0
   CrashAdds pages old new = (n : ℕ) (block : S) → d.may_leave new n block
       → d.may_leave old n block ⊎ IsWritten (lookup (nat_eq n) pages) block
 
-  -- what a crash may leave now it might leave before
+  -- a crash may leave no more than before
   abbrev pub CrashKeeps : D → D → Type 0
   CrashKeeps old new = (n : ℕ) (block : S) → d.may_leave new n block → d.may_leave old n block
 
@@ -223,7 +223,7 @@ module _ {B D E S : Type 0} (d : device.Ghosts D B E S) where
   abbrev pub IsFlushCause : D → D → PageError E → Type 0
   IsFlushCause old new e = IsFault old new e ⊎ ((e ≡ Broken) × (d.is_usable old ≡ false))
 
-  -- which pages a call leaves that fails: all or, if it ran out of memory, perhaps all but the oldest that may go
+  -- the pages after a call that failed: all or, if memory ran out, perhaps all except the oldest that may go
   abbrev pub Leaves : Cached B D → Cached B D → PageError E → Type 0
   Leaves old new e = (new.pages ≡ old.pages)
       ⊎ ((e ≡ Memory) × (new.pages ≡ with_room old.capacity old.keeps_dirty old.pages))

@@ -29,8 +29,7 @@ mod more;
 /// An insert of a key that is there keeps the key's place. A removal keeps the order of the other entries, and takes
 /// `O(1)`. The map evicts nothing: if its table cannot grow, an insert fails and changes nothing.
 ///
-/// In the examples of the calls, `map` contains (1, 11) and (2, 20), of which the last is the newest, unless the
-/// example makes another map.
+/// In the examples of the calls, `map` contains (1, 11) and the newest, (2, 20). Some examples make another map.
 ///
 /// ```
 /// let mut map: OrderedMap<u64, u64> = OrderedMap::new(alloc);
@@ -260,7 +259,7 @@ impl<K: Eq + Hash, V, S: KeyHasher<K>> OrderedMap<K, V, S> {
         Keys::new(self.iter())
     }
 
-    /// Returns an iterator over the values, in the order of the entries, oldest first.
+    /// Returns an iterator over the values, oldest first.
     ///
     /// ```
     /// assert!(rt; map.keys().next() == Some(&1) && map.values().next_back() == Some(&20));

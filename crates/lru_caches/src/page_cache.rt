@@ -19,7 +19,7 @@ mod laws;
 mod pages;
 mod pins;
 
-/// Why a call on a page cache failed. A call that fails changes no block that the cache shows, unless a `sync` of the
+/// Why a call on a page cache failed. A failed call changes no block that the cache shows, unless a `sync` of the
 /// device failed in it.
 ///
 /// The text contains the text of the device's error, so a `PageError<E>` is `Display` if `E` is.
@@ -39,8 +39,8 @@ pub enum PageError<E> {
     /// The device has no block of this number.
     #[error("no such block")]
     NoBlock,
-    /// The cache is full, and no page may be evicted for a new one: each is pinned or, if the cache keeps dirty pages,
-    /// dirty. Nothing has changed.
+    /// The cache is full, and no page may be evicted for a new one: each is pinned, or is dirty in a cache that keeps
+    /// dirty pages. Nothing has changed.
     #[error("no page may be evicted")]
     Full,
     /// A `sync` of the device has failed, so what was written before may be lost. Discard the cache.
@@ -53,9 +53,10 @@ pub enum PageError<E> {
 /// It keeps the pages that were used last, up to its capacity, and those that are pinned. A write changes only the
 /// cached page: the page is then dirty, and goes to the device when it is evicted or flushed.
 ///
-/// After a `flush` that returned `Ok`, a crash leaves each block as it was shown at that flush or, if a later call
-/// wrote it, as it was written, or torn; `docs/CACHES.md` says what this supposes of a disk. After a `sync` that
-/// failed, `write`, `flush`, `flush_page` and `close` return `Broken`, and so does a read of a page that is not cached.
+/// After a `flush` that returned `Ok`, a crash leaves each block as it was shown at that flush. If a later call wrote
+/// the block, a crash may also leave it as it was written, or torn. `docs/CACHES.md` says what this supposes of a disk.
+/// `write`, `flush`, `flush_page` and `close` return `Broken` after a `sync` that failed. So does a read of a page that
+/// is not cached.
 ///
 /// Code that drops or forgets a cache does not compile, because its dirty pages would be lost. Call `close` or
 /// `discard`.
@@ -187,7 +188,7 @@ impl<B: Copy, D: BlockDevice<B>, S: KeyHasher<u64>> PageCache<B, D, S> {
     }
 
     /// Returns how many calls that read, write or pin a page found it cached. A call that fails counts nothing. The
-    /// count stays at `u64::MAX`.
+    /// count stops at `u64::MAX`.
     ///
     /// Cost: `O(1)`.
     ///

@@ -1,4 +1,4 @@
-//! Callers whose own contracts rest on those of a page cache and of an ordered map.
+//! Callers of a page cache and of an ordered map, with contracts of their own.
 ghost use Rattle.std.specs.Prelude.{◌≡◌, ◌≢◌, ℕ, nat_eq, true, is_some, Some, OnOk, OnErr};
 ghost use Rattle.std.specs.Map.{lookup, set_value};
 ghost use Rattle.lru_caches.specs.Pages.{shown, ShowsTheSame};

@@ -1,4 +1,4 @@
-//! Tests of what no clause of `lru_caches` says, through its public calls.
+//! Tests of `lru_caches` through its public calls, for what no clause says.
 #![tactic(auto)]
 
 #[cfg(test)]

@@ -28,7 +28,7 @@ pub record Bytes : Type 0 where
   pub limit : ℕ
   -- the sum of the bytes that entries own
   pub owned : ℕ
-  -- the bytes of the greatest table that the map may have, which the limiter permitted last
+  -- the bytes of the table that the limiter permitted last
   pub table : ℕ
 
 abbrev pub left_for_entries : Bytes → ℕ

@@ -1,7 +1,7 @@
 -- What a limiter does, as functions and relations of its states S, each named after its callback.
 --     Rules K V S         what a limiter does with lengths, removed entries, clears and growth
 --     Offers K V S I      what it does with entries whose key is offered as an I
---     Notified K V S      the limiter, key and value after it was notified of an evicted or removed entry
+--     Notified K V S      the limiter, key and value after `on_removed`
 --     Allowed S           the limiter after `on_grow`, and its answer
 --     Replaced K V S      what `on_replace` leaves
 use Rattle.std.specs.Prelude.{ℕ, Bool, Option}
@@ -27,15 +27,14 @@ pub record Replaced (K V S : Type 0) : Type 0 where
 pub record Rules (K V S : Type 0) : Type 0 where
   -- whether a map of n entries is over the limit
   pub is_over_the_limit : S → ℕ → Bool
-  -- the limiter, key and value after it was notified of an evicted or removed entry
   pub on_removed : S → K → V → Notified K V S
   pub on_cleared : S → S
-  -- the limiter after it was asked to permit a table of n bytes, and its answer
+  -- whether a table of n bytes is permitted
   pub on_grow : S → ℕ → Allowed S
 
 pub record Offers (K V S I : Type 0) : Type 1 where
-  -- The limiter and the entry to store, if any, that may result if an entry is offered to a map of n entries. This is a
-  -- relation, because the key to store may be made in fresh memory, whose address nothing determines.
+  -- What may result if an entry is offered to a map of n entries: the limiter, and the entry to store, if any. This is
+  -- a relation, because the key to store may be made in fresh memory, whose address nothing determines.
   pub on_insert : S → ℕ → I → V → S → Option (K × V) → Type 0
   pub may_run_out : S → ℕ → I → V → Type 0
   -- the result for the stored key, the offered key, the old value and the new value

@@ -43,7 +43,6 @@ rules_at of to rules = record {
   on_grow = λ w bytes. let asked = rules.on_grow (of w) bytes in answers (to asked.limiter) asked.allowed;
 }
 
--- the returned entry is the offered one
 pub given-is : {S K V : Type 0} (accepts : Bool) (s : S) (k : K) (v : V) (t : S) (p : K × V)
     → ReturnsPairIf accepts s k v t (Some p) → p ≡ (k, v)
 given-is true s k v t p h = ap (λ o. unwrap_or o (k, v)) h.pair
@@ -57,7 +56,7 @@ given-names {accepts} {s} {t} {i} {k} {v} {w} E reflexive h =
 
 -- Below, s becomes s' if the limiter accepts, and stays s if it does not.
 
--- An accepted entry adds its cost, if s' has its cost more than s.
+-- An accepted entry adds its cost, if s' does.
 pub given-adds : {K V S : Type 0} (cost : K → V → ℕ) (account : S → ℕ) (accepts : Bool) (s s' : S) (i : K) (v : V)
     (t : S) (k : K) (w : V) → account s' ≡ account s + cost i v
     → ReturnsPairIf accepts (if accepts then s' else s) i v t (Some (k, w)) → account t ≡ account s + cost k w

@@ -25,7 +25,7 @@ pub trait Admission<K, V>: Limiter<K, V> {
     fn accepts(&self, length: usize, key: &K, value: &V) -> bool
         ensures { result ≡ terms.accepts self.now length key.now value.now };
 
-    /// Called by an insert with a new key and its value, before it evicts anything from the map, which has `length`
+    /// Called by an insert with a new key and its value, before the insert evicts anything. The map has `length`
     /// entries. Returns whether the entry is accepted; if not, it is dropped, and the map does not change.
     fn admit(&mut self, length: usize, key: &K, value: &V) -> bool
         ensures answer { result ≡ terms.accepts self.old length key.now value.now }
@@ -35,7 +35,7 @@ pub trait Admission<K, V>: Limiter<K, V> {
     fn accepts_in_place(&self, length: usize, key: &K, old_value: &V, new_value: &V) -> bool
         ensures { result ≡ terms.accepts_in_place self.now length key.now old_value.now new_value.now };
 
-    /// Called by an insert or an update before `new_value` replaces `old_value` of a stored key, in a map of `length`
+    /// Called by an insert or an update before `new_value` replaces `old_value` of a stored key. The map has `length`
     /// entries. Returns whether the new value is accepted; if not, the map removes the entry.
     fn admit_in_place(&mut self, length: usize, key: &K, old_value: &V, new_value: &V) -> bool
         ensures answer { result ≡ terms.accepts_in_place self.old length key.now old_value.now new_value.now }
@@ -45,8 +45,8 @@ pub trait Admission<K, V>: Limiter<K, V> {
 impl<K: Eq + Hash + Drop, V: Drop, L: Admission<K, V>> Insertion<K, V, K> for L {
     ghost offers = { offers_of L.terms };
 
-    // Forced inline, so that the caller branches instead of selecting between `Some` and `None`, and takes the entry as
-    // it came.
+    // Forced inline: the caller then takes the entry as it came, and branches instead of selecting between `Some` and
+    // `None`.
     #[inline(always)]
     fn on_insert(
         &mut self,

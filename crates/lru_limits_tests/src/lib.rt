@@ -1,4 +1,4 @@
-//! Tests of what no clause of `lru_limits` says, through its public calls.
+//! Tests of `lru_limits` through its public calls, for what no clause says.
 #![tactic(auto)]
 
 #[cfg(test)]

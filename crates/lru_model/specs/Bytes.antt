@@ -13,7 +13,7 @@ module _ {K V S H : Type 0} (bytes_of : K → V → ℕ) where
       × (table + sum_by (λ pair. bytes_of pair.0 pair.1) st.pairs ≤ n)
 
 module _ {K V H : Type 0} (bytes_of : K → V → ℕ) where
-  -- the limiter counts what the pairs own, and a table that is no smaller than the table of the map
+  -- the limiter counts what the pairs own, and a table no smaller than the map's
   pub record CountsBytes (st : State K V Bytes H) : Type 0 where
     pub table : UsesAtMost st.limiter.table st
     pub owned : IsSummed bytes_of (λ b. b.owned) st

@@ -1,6 +1,6 @@
--- Which pairs a call passes to its callback: each pair that is evicted or removed, and each pair that the limiter
--- returned and the map could not store. The callback gets these pairs as the limiter leaves them, in the order in which
--- the limiter is notified.
+-- Which pairs a call passes to its callback: each evicted or removed pair, and each pair that the limiter returned but
+-- the map could not store. The callback gets these pairs as the limiter leaves them, in the order of the limiter's
+-- notifications.
 --     rules, offers       the limiter's `Rules` and `Offers` (`lru_limits`)
 --     names i k           the inserted key i names k
 --     hash_of h k         the hash of k by the hasher h
@@ -64,7 +64,7 @@ CalledWith closure f pairs g = FoldsTo (λ p pair q. Called closure p (pair.0, (
 
 module _ {K V S H I : Type 0} (rules : Rules K V S) (offers : Offers K V S I) (names : I → K → Bool)
     (hash_of : H → K → ℕ) where
-  -- An insert that passes the pairs `passed` to its callback: it is an insert under the limiter with a list, which is
+  -- An insert that passes the pairs `passed` to its callback is an insert under the limiter with a list. The list is
   -- empty before the call, and `passed` after it.
   abbrev pub InsertPasses : I → V → State K V S H → Result Bool AllocError → List (K × V) → State K V S H → Type 0
   InsertPasses i v old result passed new = Insert (noting rules) (noting_offers offers) names hash_of i v (noted [] old)

@@ -28,8 +28,8 @@ module _ {K V S H : Type 0} where
   abbrev pub written : (K → Bool) → V → State K V S H → State K V S H
   written names value st = record st { pairs = set_value names st.pairs value }
 
-  -- A get lends the value of the named key. Its pair becomes the newest, with the value that was last written through
-  -- the loan (`left`). If the key is not there, nothing changes.
+  -- A get lends the value of the named key. Its pair becomes the newest, with the value last written through the loan
+  -- (`left`). If the key is not there, nothing changes.
   pub data Get (names : K → Bool) (old : State K V S H) (result : Option V) (new : State K V S H) : Type 0 where
     found : (value left : V) → lookup names old.pairs ≡ Some value →
         result ≡ Some value → new ≡ written names left (promoted names old) →

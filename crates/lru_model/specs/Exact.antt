@@ -25,8 +25,8 @@ abbrev pub at_once : Report
 at_once = record { asked = None; evicted = 0; has_bucket = true }
 
 module _ {K V S : Type 0} (rules : Rules K V S) where
-  -- growth is refused, after a query if `asked` names one, and n of these pairs are evicted; without pairs there is no
-  -- bucket
+  -- growth is refused, after the query `asked` if there is one, and n of these pairs are evicted; without pairs there
+  -- is no bucket
   abbrev pub refusal : Option ℕ → ℕ → Contents K V S → Report
   refusal asked n c = record { asked = asked; evicted = n; has_bucket = not (is_empty c.pairs) }
 
@@ -40,7 +40,7 @@ module _ {K V S : Type 0} (rules : Rules K V S) where
 
   -- what the table of a map may report for a pair of this hash
   pub data MayReport {H : Type 0} (hash : ℕ) (st : State K V S H) (report : Report) : Type 0 where
-    -- There is growth left, or a rehash is enough, or, only above 16 buckets, a deleted bucket takes the pair.
+    -- Growth is left, a rehash is enough, or a deleted bucket takes the pair (only above 16 buckets).
     fits : (growth_left st ≡ 0 → full_capacity (buckets st) / 2 < length st.pairs + 1 → 16 < buckets st) →
         report ≡ at_once →
         MayReport hash st report
@@ -50,8 +50,7 @@ module _ {K V S : Type 0} (rules : Rules K V S) where
         report ≡ report_of (table_for 1 st) n (contents st) →
         MayReport hash st report
 
-  -- what the table of a map reports if it has up to 16 buckets: each pair that is no longer in c has given back one of
-  -- the growth left
+  -- what a table of up to 16 buckets reports: each pair that is no longer in c gave back one of the growth left
   abbrev pub small_report : {H : Type 0} → State K V S H → Contents K V S → Report
   small_report st c =
       if nat_lt 0 (growth_left st + length st.pairs - length c.pairs) then at_once
@@ -88,8 +87,8 @@ exchanged rules offers names i v c pair =
     if (replacement rules offers names pair i v c).taken then trimmed rules (with_replaced rules offers names pair i v c)
     else (Ok false, with_removed rules offers names pair i v c)
 
--- What an insert into a list returns and leaves. `Tells s pair report`: the table may report this after the limiter
--- returned the pair and became s.
+-- What an insert into a list returns and leaves. `Tells s pair report`: after the limiter returned the pair and became
+-- s, the table may report this.
 module _ {K V S I : Type 0} (rules : Rules K V S) (offers : Offers K V S I) (names : I → K → Bool)
     (Tells : S → K × V → Report → Type 0) (i : I) (v : V) (old : Contents K V S) (result : Result Bool AllocError)
     (new : Contents K V S) where

@@ -10,7 +10,7 @@ use Rattle.lru_model.specs.Inserts.{Insert}
 
 module _ {K V S H I : Type 0} (rules : Rules K V S) (offers : Offers K V S I) (names : I → K → Bool)
     (hash_of : H → K → ℕ) (old : State K V S H) where
-  -- each pair of the list was inserted, in order; no insert failed, and each left a sound table, as every call does
+  -- each pair of the list was inserted, in order; no insert failed, and each left a sound table
   pub data InsertsAll : List (I × V) → State K V S H → Type 0 where
     no_insert : InsertsAll [] old
     one_insert_more : {pairs : List (I × V)} {before : State K V S H} → InsertsAll pairs before

@@ -26,7 +26,6 @@ module _ {K V S H I E : Type 0} (rules : Rules K V S) (offers : Offers K V S I) 
         MakesNewest rules offers names hash_of (λ v. makes (Ok v)) i old flag new → result ≡ or_memory flag →
         MakesNewestIfMade makes i old result new
 
-  -- what such a call does (`step`), what its result says (`says`), and why it runs out of memory (`out_of_memory`)
   pub record GetsOrInsertsIfMade (makes : Result V E → Type 0) (i : I) (old : State K V S H)
       (result : Result Bool (GetOrInsertError E)) (new : State K V S H) : Type 0 where
     pub step : MakesNewestIfMade makes i old result new

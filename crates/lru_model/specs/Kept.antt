@@ -1,5 +1,5 @@
--- What an insert keeps: it loses no pair; it evicts none if growth is left and the limiter is not over its limit with
--- the new pair; and with `ByLength` it leaves the newest pairs.
+-- What an insert keeps. It loses no pair. If growth is left, and the limiter is not over its limit with the new pair,
+-- it evicts none. With `ByLength` it leaves the newest pairs.
 --     rules, offers       the limiter's `Rules` and `Offers` (`lru_limits`)
 --     names i k           the inserted key i names k
 use Rattle.std.specs.Prelude.{◌≡◌, ◌⊎◌, ℕ, ◌+◌, ◌-◌, ◌^◌, ◌≤◌, ◌<◌, Bool, true, false, not, List, []}
@@ -19,8 +19,8 @@ pub record ChangesNoPair {K V S : Type 0} (rules : Rules K V S) : Type 0 where
   pub value : (s : S) (k : K) (v : V) → (rules.on_removed s k v).value ≡ v
 
 module _ {K V S H I : Type 0} (rules : Rules K V S) (offers : Offers K V S I) (names : I → K → Bool) where
-  -- An insert loses nothing but a value that it replaces: each old pair, and the pair that the limiter returned for a
-  -- new key, is left or was passed to the callback. `passed` lists what the callback got, oldest first.
+  -- An insert loses nothing but a value that it replaces. Each old pair is left or was passed to the callback. So is
+  -- the pair that the limiter returned for a new key. `passed` lists what the callback got, oldest first.
   pub data LosesNothing (i : I) (v : V) (old : State K V S H) (result : Result Bool AllocError)
       (passed : List (K × V)) (new : State K V S H) : Type 0 where
     -- A pair is stored as the newest, before the pairs of other keys. (If no pair is left, this one was evicted, too.)
@@ -41,7 +41,7 @@ module _ {K V S H I : Type 0} (rules : Rules K V S) (offers : Offers K V S I) (n
         ⊎ ((s : S) × MayGive rules offers names i v (contents old) s None × (result ≡ Ok false)) →
         passed ≡ [] → new.pairs ≡ old.pairs →
         LosesNothing i v old result passed new
-    -- The key is new, and the pair that the limiter returns is not stored: it is the last pair that the callback gets.
+    -- The key is new, and the pair that the limiter returns is not stored. The callback gets it last.
     pair_not_stored : lookup_entry (names i) old.pairs ≡ None →
         (s : S) (pair : K × V) → MayGive rules offers names i v (contents old) s (Some pair) →
         (result ≡ Ok true → ⊥) →
@@ -87,8 +87,8 @@ pub record LeavesTheNewest {K V : Type 0} (eq : K → K → Bool) (most : ℕ) (
 abbrev pub most_exact_length : ℕ
 most_exact_length = 939524096
 
--- The map is within its maximum length, and links and bytes reach each table that this length needs: the maximum is at
--- most `most_exact_length`, links have 32 bits, and an entry takes fewer than 2 ^ 32 - 1 bytes.
+-- The map is within its maximum length. Links and bytes reach each table that this length needs: the maximum is at most
+-- `most_exact_length`, links have 32 bits, and an entry takes fewer than 2 ^ 32 - 1 bytes.
 pub record KeepsToLength {K V H : Type 0} (st : State K V ℕ H) : Type 0 where
   pub within : length st.pairs ≤ st.limiter
   pub half : st.limiter ≤ most_exact_length

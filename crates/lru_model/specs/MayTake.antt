@@ -1,5 +1,5 @@
--- What a call requires of its callback: if n pairs may be evicted, removed or rejected, the callback may be called n
--- times, each time with any of them.
+-- What a call requires of its callback. If n pairs may be evicted, removed or rejected, it may be called n times, each
+-- time with any of them.
 --     rules, offers       the limiter's `Rules` and `Offers` (`lru_limits`)
 --     names i k           the inserted key i names k
 --     closure             how the callback may be called
@@ -19,7 +19,7 @@ MayTake {K} {V} {F} closure passes n f = (before : List (K × V)) (g : F) (pair 
     → All passes before → CalledWith closure f before g → passes pair → MayBeCalled closure g (pair.0, (pair.1, tt))
 
 module _ {K V S : Type 0} (rules : Rules K V S) where
-  -- `left` is one of these pairs as the limiter may leave it when it is notified of the removal
+  -- `left` is one of these pairs as `on_removed` may leave it
   abbrev pub IsLeftOf : List (K × V) → K × V → Type 0
   IsLeftOf pairs left = (s : S) × (pair : K × V) × Contains pairs pair × (left_of rules s (Some pair) ≡ Some left)
 

@@ -1,4 +1,4 @@
--- What all insertions into the table cost, even the insertions of a reservation, if no growth was left before it.
+-- What all insertions into the table cost. A reservation may make them, too, if no growth was left before it.
 --     terms, rules        the limiter's `Terms` and `Rules` (`lru_limits`)
 --     eq                  whether two keys are equal
 --     hash_of h k         the hash of k by the hasher h
@@ -10,7 +10,7 @@ use Rattle.lru_model.specs.TryInserts.{TryInsert}
 use Rattle.lru_model.specs.Runs.{AnyStep, calls, reserves}
 
 -- Insertions into the table and the potential together rise by at most 3 for each entry stored, and by 2 for each entry
--- that shrinks rehashed, unless the count of stored or of rehashed entries has stopped at its maximum.
+-- that shrinks rehashed. This holds until the count of stored or of rehashed entries stops at its maximum.
 pub record PaysForInsertions {K V S H : Type 0} (old new : State K V S H) : Type 0 where
   pub placed : old.counts.placed ≤ new.counts.placed
   pub shrunk : old.counts.shrunk ≤ new.counts.shrunk

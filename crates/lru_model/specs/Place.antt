@@ -20,9 +20,8 @@ outcome_of (Ok true) = placed
 outcome_of (Ok false) = refused
 outcome_of (Err e) = no_memory
 
--- The first free bucket that a search for the hash finds is full now, with the newest pair, and no other bucket has
--- changed. If the bucket was empty, the growth left falls by one. If it was deleted, which happens only above 16
--- buckets, the growth left stays.
+-- The newest pair fills the first free bucket that a search for the hash finds. No other bucket has changed. If the
+-- bucket was empty, the growth left falls by one. If it was deleted (only above 16 buckets), the growth left stays.
 pub record FillsBucket (hash : ℕ) (old new : TableState) : Type 0 where
   pub bucket : ℕ
   pub first : IsFirstFree old.states hash bucket
@@ -38,8 +37,8 @@ pub record NoBucketTakes (hash n : ℕ) (states : List BucketState) : Type 0 whe
   pub no_growth_left : growth_left_of states ≡ 0
   pub first_empty : 0 < n → FirstFreeIs empty hash states
 
--- No bucket takes a pair of this hash, and a rehash does not help, because with one pair more the table would be over
--- half full. Either there is no table yet, or the table contains pairs.
+-- No bucket takes a pair of this hash. A rehash does not help: with one pair more, the table would be over half full.
+-- Either there is no table yet, or the table contains pairs.
 pub record IsTooSmallFor (hash n : ℕ) (states : List BucketState) : Type 0 where
   pub no_bucket : NoBucketTakes hash n states
   pub above_half : full_capacity (length states) / 2 < n + 1
@@ -103,7 +102,7 @@ module _ {K V S H : Type 0} (rules : Rules K V S) where
   IsPlacedIfMemory pair count spare moves old no_memory new = new ≡ unstored pair old
   IsPlacedIfMemory pair count spare moves old refused new = ⊥
 
-  -- all entries moved into a table of `count` buckets, in which the pair was stored, unless the map ran out of memory
+  -- all entries moved into a table of `count` buckets, and the pair was stored there, unless the map ran out of memory
   abbrev pub IsPlacedByMove : K × V → ℕ → State K V S H → Outcome → State K V S H → Type 0
   IsPlacedByMove pair count old =
       IsPlacedIfMemory pair count (full_capacity count - length old.pairs - 1) (length old.pairs) old
@@ -115,9 +114,9 @@ module _ {K V S H : Type 0} (rules : Rules K V S) where
     denied : (count bytes : ℕ) → table_for 1 old ≡ new_table count bytes → Denies bytes old →
         mid ≡ asked bytes old → CannotGrow old mid
 
-  -- The oldest pairs of `mid` are evicted until the new pair finds a bucket, or until fewer pairs are left than half of
-  -- what the table may hold; then the table is rehashed. If there is no pair to evict, the new pair is rejected. `old`
-  -- is the map before the limiter was queried for a larger table, and `mid` the map after.
+  -- The oldest pairs of `mid` are evicted until the new pair finds a bucket. If fewer pairs are left than half of what
+  -- the table may hold, the table is rehashed instead. If there is no pair to evict, the new pair is rejected. `old` is
+  -- the map before the limiter was queried for a larger table, and `mid` the map after.
   pub data Evicts (hash : ℕ) (pair : K × V) (old mid : State K V S H) (outcome : Outcome)
       (new : State K V S H) : Type 0 where
     nothing_to_evict : old.pairs ≡ [] →

@@ -16,19 +16,19 @@ module _ {K V S : Type 0} (rules : Rules K V S) where
   answered (pair, true) c = record { pairs = pair ∷ c.pairs; limiter = c.limiter }
   answered (pair, false) c = record { pairs = c.pairs; limiter = notified_of rules (Some pair) c.limiter }
 
-  -- What is left of these pairs, newest first, if the closure returned for each the flag that is paired with it. The
+  -- What is left of these pairs, newest first. Each is listed with the flag that the closure returned for it. The
   -- closure was called with the oldest pair first.
   abbrev pub retained : List ((K × V) × Bool) → S → Contents K V S
   retained [] s = record { pairs = []; limiter = s }
   retained (newest ∷ older) s = answered newest (retained older s)
 
 module _ {K V F : Type 0} (closure : Mut F (Bor K × (Bor V × Unit {0})) Bool) where
-  -- f was called with these pairs, oldest first, returned for each the flag that is paired with it, and is then g
+  -- f was called with these pairs, oldest first, returned the flag of each, and is then g
   abbrev pub Answers : F → List ((K × V) × Bool) → F → Type 0
   Answers f [] g = g ≡ f
   Answers f (newest ∷ older) g = (between : F) × Answers f older between × Asks closure between newest.0 newest.1 g
 
-  -- the closure is called with each pair once, oldest first, and the pairs that it accepts stay, in their order
+  -- the closure is called with each pair once, oldest first; the accepted pairs stay, in their order
   pub record Retains {S H : Type 0} (rules : Rules K V S) (f : F) (old new : State K V S H) : Type 0 where
     pub asked : List ((K × V) × Bool)
     pub each : map (λ one. one.0) asked ≡ old.pairs

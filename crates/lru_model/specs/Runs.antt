@@ -108,7 +108,7 @@ pub data Run {K V S H : Type 0} (IsStep : State K V S H → State K V S H → Ty
       → Run IsStep new old
 
 module _ {K V S H : Type 0} (rules : Rules K V S) (hash_of : H → K → ℕ) where
-  -- a call that inserts nothing, which is a step whatever type the inserted keys have (`without_insert`)
+  -- a call that inserts nothing: it is a step, whatever type the inserted keys have (`without_insert`)
   abbrev pub StepWithoutInsert : (old new : State K V S H) → Type 0
   StepWithoutInsert = Step rules no_offers no_keys hash_of
 

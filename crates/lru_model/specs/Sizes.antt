@@ -21,7 +21,7 @@ usage entry_bytes buckets =
     else (if nat_le (bytes_of entry_bytes buckets) (2 ^ 63 - 16) then Some (bytes_of entry_bytes buckets)
     else None)
 
--- the greatest usage within the budget of a table whose buckets links can number, or 0 if there is no such table
+-- the greatest usage within the budget, among tables whose buckets links can number, or 0 if there is none
 pub record IsGreatestUsage (max entry_bytes budget bytes : ℕ) : Type 0 where
   pub within : bytes ≤ budget
   pub of_table : (bytes ≡ 0)
@@ -29,8 +29,8 @@ pub record IsGreatestUsage (max entry_bytes budget bytes : ℕ) : Type 0 where
   pub greatest : (buckets other : ℕ) → IsPowerFromFour buckets → buckets < max →
       usage entry_bytes buckets ≡ Some other → other ≤ budget → other ≤ bytes
 
--- Into which table a map grows: no table, a table of the same size (a rehash), or a table of this number of buckets and
--- of bytes.
+-- Into which table a map grows: none, one of the same size (a rehash), or one with these numbers of buckets and of
+-- bytes.
 pub data Target : Type 0 where
   no_table same_table : Target
   new_table : ℕ → ℕ → Target
@@ -45,9 +45,8 @@ abbrev pub table_with : ℕ → Option ℕ → Target
 table_with entry_bytes None = no_table
 table_with entry_bytes (Some buckets) = table_of buckets (usage entry_bytes buckets)
 
--- Into which table a table of `buckets` buckets grows for `pairs` pairs that need `need` buckets: a table of `need`
--- buckets, if it has fewer; the same table, if the pairs are at most half of what it may hold; and otherwise a table of
--- twice the buckets.
+-- A table of `buckets` buckets grows for `pairs` pairs, which need `need` buckets. If it has fewer, it grows to `need`.
+-- If the pairs are at most half of what it may hold, it keeps its size. Otherwise it grows to twice its buckets.
 abbrev pub target_from : ℕ → ℕ → ℕ → ℕ → Option ℕ → Target
 target_from max entry_bytes buckets pairs None = no_table
 target_from max entry_bytes buckets pairs (Some need) =

@@ -66,8 +66,8 @@ pub record IsSound (n entry_bytes max : ℕ) (states : List BucketState) (counts
 abbrev pub IsAhead : ℕ → Counts → Type 0
 IsAhead n counts = counts.shrunk < 2 ^ 64 - 1 → counts.moved + n ≤ 2 * counts.placed + counts.shrunk
 
--- Moves are paid for: inserts moved at most two entries for each entry that they stored, plus one for each entry that
--- shrinks rehashed. `potential` more moves are paid for, too.
+-- Moves are paid for: inserts moved at most two entries for each stored entry, plus one for each entry that shrinks
+-- rehashed. `potential` more moves are paid for, too.
 pub record IsPaid (potential : ℕ) (counts : Counts) : Type 0 where
   pub moved : counts.moved ≤ 2 * counts.placed + counts.shrunk
   pub ahead : IsAhead potential counts
@@ -87,7 +87,7 @@ abbrev pub FirstFreeIs : BucketState → ℕ → List BucketState → Type 0
 FirstFreeIs state hash states = (b : ℕ) × IsFirstFree states hash b × (bucket_at states b ≡ state)
 
 -- The bucket of a removed pair, `place`, is free now: it is empty if every 16 neighbouring buckets around it contain an
--- empty bucket, and deleted otherwise. Each other bucket stays as it was.
+-- empty one, and deleted otherwise. Each other bucket stays as it was.
 pub record Frees (place : Option ℕ) (old new : TableState) : Type 0 where
   pub bucket : ℕ
   pub there : place ≡ Some bucket
@@ -151,7 +151,7 @@ module _ {K V S H : Type 0} where
   abbrev pub FreesGrowth : State K V S H → State K V S H → Type 0
   FreesGrowth old new = GivesBack (length old.pairs) (length new.pairs) old.table.states new.table.states
 
-  -- all pairs moved into a table of `count` buckets, none of which is deleted
+  -- all pairs moved into a table of `count` buckets; no bucket is deleted
   pub record MovesTo (count : ℕ) (old new : State K V S H) : Type 0 where
     pub table : buckets new ≡ count
     pub exact : length old.pairs + growth_left new ≡ full_capacity count
@@ -185,7 +185,6 @@ module _ {K V S : Type 0} (rules : Rules K V S) where
   pops zero c = c
   pops (suc n) c = pops n (pop c)
 
-  -- the oldest of n pairs are evicted while the limiter is over its limit
   abbrev pub trim_from : ℕ → Contents K V S → Contents K V S
   trim_from zero c = c
   trim_from (suc n) c = if rules.is_over_the_limit c.limiter (suc n) then trim_from n (pop c) else c
@@ -198,6 +197,6 @@ module _ {K V S : Type 0} (rules : Rules K V S) where
   abbrev pub IsWithin : Contents K V S → Type 0
   IsWithin c = (c.pairs ≡ []) ⊎ (rules.is_over_the_limit c.limiter (length c.pairs) ≡ false)
 
--- the oldest pairs of a map are evicted while its limiter is over its limit
+-- a trim of a map
 abbrev pub Trims : {K V S H : Type 0} → Rules K V S → State K V S H → State K V S H → Type 0
 Trims rules old new = Leaves old (trim rules (contents old)) new

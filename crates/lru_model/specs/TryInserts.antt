@@ -12,7 +12,7 @@ use Rattle.lru_model.specs.Reservations.{Reserve}
 use Rattle.lru_model.specs.Inserts.{Insert}
 use Rattle.lru_model.specs.declared.results.ReserveError.{ReserveError}
 
--- growth is left for one more pair, or a reservation made growth and left a sound table, as every call does
+-- growth is left for one more pair, or a reservation succeeded and left a sound table
 pub data IsReady {K V S H : Type 0} (rules : Rules K V S) (old ready : State K V S H) : Type 0 where
   has_growth : 0 < growth_left old → ready ≡ old →
       IsReady rules old ready
@@ -44,8 +44,8 @@ module _ {K V S : Type 0} (terms : Terms K V S) (rules : Rules K V S) where
         cannot_store : lookup_entry (eq key) old.pairs ≡ None → can_store key value (contents old) ≡ false →
             result ≡ Err (key, value) → new ≡ old →
             TryInsert result new
-        -- The limiter can store the pair, but no growth is left, and a reservation fails, or leaves a limiter that
-        -- cannot store the pair.
+        -- The limiter can store the pair, but no growth is left. A reservation fails, or leaves a limiter that cannot
+        -- store the pair.
         unready : lookup_entry (eq key) old.pairs ≡ None → can_store key value (contents old) ≡ true →
             IsUnready new → result ≡ Err (key, value) →
             TryInsert result new

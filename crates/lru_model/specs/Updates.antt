@@ -37,7 +37,7 @@ module _ {K V S I : Type 0} (rules : Rules K V S) (offers : Offers K V S I) (nam
         result ≡ Absent v → new ≡ old →
         Update i v old result new
 
--- An update that passes the pairs `passed` to its callback: it is an update under the limiter with a list, which is
+-- An update that passes the pairs `passed` to its callback is an update under the limiter with a list. The list is
 -- empty before the call, and `passed` after it.
 abbrev pub UpdatePasses : {K V S H I : Type 0} → Rules K V S → Offers K V S I → (I → K → Bool) → I → V → State K V S H
     → Updated V → List (K × V) → State K V S H → Type 0

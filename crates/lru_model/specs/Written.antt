@@ -16,7 +16,7 @@ module _ {K V F : Type 0} (closure : Mut F (Bor K × (MutBor V × Unit {0})) (Un
     pub called : Called closure f (key, (value, tt)) (tt, (left, tt)) g
     pub writes : left.now ≡ w
 
-  -- f was called with the first pairs, one after another, and wrote the values of the second
+  -- f was called with the pairs of the first list, in order, and wrote the values of the second list
   abbrev pub WritesEach : F → List (K × V) → List (K × V) → F → Type 0
   WritesEach f [] new g = (new ≡ []) × (g ≡ f)
   WritesEach f (pair ∷ pairs) new g = (w : V) × (between : F) × (rest : List (K × V)) × Writes f pair w between

@@ -24,7 +24,7 @@ pub fn usage(entry_bytes: usize, buckets: usize) -> Option<usize>
     }
 }
 
-/// Returns the bytes of a table that exists. It has buckets.
+/// Returns the bytes of a table that exists and has buckets.
 pub fn bytes_of(entry_bytes: usize, buckets: usize) -> usize
     requires { bytes_of entry_bytes buckets ≤ 2 ^ 63 - 16 }
     ensures { result ≡ bytes_of entry_bytes buckets }
@@ -32,9 +32,9 @@ pub fn bytes_of(entry_bytes: usize, buckets: usize) -> usize
     (entry_bytes * buckets + 15) / 16 * 16 + buckets + 16
 }
 
-/// Returns the buckets and the bytes of the table that a table of `buckets` buckets grows into for `pairs` entries. The
-/// entries must be more than half of its capacity. Returns `None` if links cannot number so large a table, or its bytes
-/// would pass `isize::MAX - 15`.
+/// Returns the buckets and the bytes of a larger table: a table of `buckets` buckets grows into it for `pairs` entries.
+/// The entries must be more than half of the capacity of the old table. Returns `None` if links cannot number the
+/// larger table, or if its bytes would pass `isize::MAX - 15`.
 #[tactic(auto, unfolding(crate::specs::Sizes::target))]
 pub fn larger_table(
     max: usize,
@@ -57,7 +57,7 @@ pub fn larger_table(
     Some((count, bytes))
 }
 
-/// Returns the greatest usage within the budget of a table of 4, 8, 16, .. buckets that links can number, or 0.
+/// Returns the greatest usage within the budget, among tables of 4, 8, 16, .. buckets that links can number, or 0.
 pub fn usage_within(max: usize, entry_bytes: usize, budget: usize) -> usize
     ensures { IsGreatestUsage max entry_bytes budget result }
 {

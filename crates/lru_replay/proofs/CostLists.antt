@@ -59,7 +59,6 @@ module _ {K V : Type 0} (weight : K → V → ℕ) where
         ∙ told_last (more + worth pair) next pairs
         ∙ ap spending (omega arith)
 
-    -- a pop removes the oldest pair
     pub popped : (more sum rest : ℕ) (pair : K × V) (pairs : List (K × V)) → sum ≡ more + spent worth (pair ∷ pairs)
         → more + spent worth (without_last (pair ∷ pairs)) ≡ rest
         → pop (by_weight weight) (record { pairs = pair ∷ pairs; limiter = spending sum })

@@ -52,7 +52,6 @@ module _ {K V : Type 0} (weight : K → V → ℕ) (n : ℕ) (fits : n < 2 ^ 63)
       ap (λ s. trim (by_weight weight) (record { pairs = x ∷ rest; limiter = spending weight n s })) is
       ∙ trimmed_is weight n (x ∷ rest)
 
-  -- how the insert ends if the key is there
   there_ends : (p : K × V) → lookup_entry (eq key) pairs ≡ Some p
       → (exchanged (by_weight weight) (weighs weight) eq key v (holding weight n pairs) p).1 ≡ left
   there_ends p found =
@@ -90,7 +89,6 @@ module _ {K V : Type 0} (weight : K → V → ℕ) (n : ℕ) (fits : n < 2 ^ 63)
             (trimmed_to (key, v) (x ∷ xs) (spent costs (x ∷ xs) + weight key v) (omega arith))
       ]
 
-  -- the limiter accepts the pair
   given_is : (s : Budget) (given : Option (K × V))
       → MayGive (by_weight weight) (weighs weight) eq key v (holding weight n pairs) s given
       → (s ≡ spending weight n (spent costs pairs + weight key v)) × (given ≡ Some (key, v))

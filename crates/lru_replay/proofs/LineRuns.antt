@@ -43,7 +43,6 @@ module _ {S : Type 0} (rules : Rules ℕ ℕ S) (offers : Offers ℕ ℕ S ℕ) 
       run_holds (LineStep rules offers reported) (IsMap nat_eq) a lines texts b map run
 
 module _ {S : Type 0} (rules : Rules ℕ ℕ S) (terms : Terms ℕ ℕ S) (reported : S → Option ℕ) where
-  -- after a call `IsMap` holds, if the table is sound
   answered_map : (old new : Map S) (call : Call ℕ ℕ S) (reply : Reply ℕ ℕ)
       → AnswersCall rules (offers_of terms) old call reply new → IsMap nat_eq old → IsSized new → IsMap nat_eq new
   answered_map old new call reply (inl step) map sized =

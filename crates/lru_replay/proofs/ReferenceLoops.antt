@@ -15,7 +15,6 @@ use Rattle.lru_replay.specs.References.{Cache, Reference, Referenced, begins, re
 use Rattle.lru_replay.proofs.StoredCounts.{there, absent, value_there, keys_taken, keys_without}
 
 module _ {K V : Type 0} (eq : K → K → Bool) (key : K) where
-  -- if a look-up finds the key, there is no miss
   pub fault_found : (pairs : List (K × V)) (value : V) → lookup (eq key) pairs ≡ Some value
       → 0 ≡ fault eq key (keys_of pairs)
   fault_found pairs value found =
@@ -76,7 +75,6 @@ module _ {K V S H : Type 0} {cache : Cache K V S H} {old : State K V S H} where
   miss trace missed key mid new run none h = subst (λ n. Referenced cache old (trace ++ key ∷ []) n new)
       (omega (arith, fault_absent cache.eq key mid.pairs none)) (refers key trace missed mid new run h)
 
--- a copy of a text equals it
 pub copy_equal : (copy text : String Global) → string_bytes copy ≡ string_bytes text → string_eq copy text ≡ true
 copy_equal copy text same =
     ap (λ bytes. bytes_eq bytes (string_bytes text)) same ∙ nat_list_eq_equiv.refl (string_bytes text)

@@ -77,7 +77,6 @@ module _ {K V H : Type 0} {eq : K → K → Bool} (laws : IsEquivalence eq) (old
       (did_keys laws old calls small run).0 (did_keys laws other calls large others).0
       (all_calls laws n m few calls (keys_of old.pairs) (keys_of other.pairs) before)
 
--- two maps with limits of cost
 module _ {K V H : Type 0} {eq : K → K → Bool} (laws : IsEquivalence eq) (weight : K → V → ℕ) (cost : K → ℕ)
     (same : (key other : K) → eq key other ≡ true → cost key ≡ cost other) (trace : List K) (missed more : ℕ)
     (old small other large : State K V Budget H) (run : Referenced (of_cost eq weight cost) old trace missed small)

@@ -35,7 +35,6 @@ use Rattle.lru_replay.specs.References.{Cache, Reference, of_length}
 use Rattle.lru_replay.proofs.StoredCounts.{keys_without, keys_taken, there, value_there, insert_counts, same_count}
 
 module _ {K V S H : Type 0} (rules : Rules K V S) (grants : AlwaysGrants rules) where
-  -- a reservation leaves the pairs, the limiter and the count of stored entries
   pub reserve_is : (n : ℕ) (old : State K V S H) (result : Result (Unit {0}) ReserveError) (new : State K V S H)
       → Reserve rules n old result new
       → (new.pairs ≡ old.pairs) × (new.limiter ≡ old.limiter) × (new.counts.placed ≡ old.counts.placed)
@@ -143,7 +142,6 @@ module _ {K V S H : Type 0} {cache : Cache K V S H} {terms : Terms K V S} {rules
             (cond (list_any (λ x. known.laws.congr other key x same i) keys) 0 1));
       }
 
--- the stored key equals the inserted one
 module _ {K V : Type 0} {eq : K → K → Bool} (laws : IsEquivalence eq) where
   pub stored_equal : (key : K) (xs : List (K × V)) → eq (stored_key (eq key) key xs) key ≡ true
   stored_equal key xs = go (lookup_entry (eq key) xs) refl

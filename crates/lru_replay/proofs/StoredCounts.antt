@@ -34,7 +34,6 @@ module _ {K V : Type 0} where
   keys_taken (suc n) [] = refl
   keys_taken (suc n) (x ∷ xs) = ap (λ ks. x.0 ∷ ks) (keys_taken n xs)
 
-  -- a key that a look-up finds is there
   pub there : (test : K → Bool) (xs : List (K × V)) (p : K × V) → lookup_entry test xs ≡ Some p → list_any test
       (keys_of xs) ≡ true
   there test [] p e = absurd (grind (arith, e))
@@ -74,7 +73,6 @@ pub same_count : (n : ℕ) → n < 2 ^ 64 → n ≡ count_up n 0
 same_count n fits = omega (arith, fits)
 
 module _ {K V S H : Type 0} (rules : Rules K V S) (hash_of : H → K → ℕ) where
-  -- an eviction does not change the count of stored entries
   oldest_placed : (hash n : ℕ) (old new : State K V S H) → OldestEvicted rules hash n old new
       → new.counts.placed ≡ old.counts.placed
   oldest_placed hash zero old new e = ap (λ st. st.counts.placed) e
@@ -101,7 +99,6 @@ module _ {K V S H : Type 0} (rules : Rules K V S) (hash_of : H → K → ℕ) wh
   cannot_placed old mid (no_target none same) = ap (λ st. st.counts.placed) same
   cannot_placed old mid (denied count bytes target denies same) = ap (λ st. st.counts.placed) same
 
-  -- a stored pair is counted
   placed_counts : (pair : K × V) (old : State K V S H) (outcome : Outcome) (new : State K V S H) → outcome ≡ placed
       → Place rules hash_of pair old outcome new → new.counts.placed ≡ count_up old.counts.placed 1
   placed_counts pair old outcome new e (in_bucket few some fills is h) = ap (λ st. st.counts.placed) h.state
@@ -112,7 +109,6 @@ module _ {K V S H : Type 0} (rules : Rules K V S) (hash_of : H → K → ℕ) wh
       evicts_placed _ pair old mid outcome new e evicts ∙ ap (λ m. count_up m 1) (cannot_placed old mid cannot)
 
   module _ (offers : Offers K V S K) (eq : K → K → Bool) (key : K) (v : V) (old new : State K V S H) where
-    -- if the key was new, an insert that returned `Ok(true)` counts it
     pub insert_counts : old.counts.placed < 2 ^ 64 → (result : Result Bool AllocError) → IsOk result
         → (lookup_entry (eq key) old.pairs ≡ None → result ≡ Ok true)
         → Insert rules offers eq hash_of key v old result new

@@ -79,8 +79,8 @@ module _ {K V S : Type 0} (rules : Rules K V S) (offers : Offers K V S K) (eq : 
   determined c (calls.SetLimiter s) = Some (done, record c { limiter = s })
   determined c call = None
 
-  -- From the list c, the call may return this and leave d. Nothing is said about reserved growth, a shrink, and all
-  -- figures except the number of pairs, because only a table determines these.
+  -- From the list c, the call may return this and leave d. Nothing is said about reserved growth, a shrink, or figures
+  -- other than the number of pairs: only a table determines these.
   module _ (hash_of : K → ℕ) where
     abbrev pub ListStep : Contents K V S → Call K V S → Reply K V → Contents K V S → Type 0
     ListStep c (calls.Insert key v) reply d = (result : Result Bool AllocError)

@@ -60,13 +60,11 @@ abbrev pub flag_text : Bool → List ℕ
 flag_text true = codes "true"
 flag_text false = codes "false"
 
--- what an update did, and the value that it returned
 abbrev pub updated_text : Updated ℕ → List ℕ
 updated_text (Replaced v) = codes "replaced " ++ decimal v
 updated_text (Rejected v) = codes "rejected " ++ decimal v
 updated_text (Absent v) = codes "absent " ++ decimal v
 
--- whether the key is there, or that memory ran out
 abbrev pub insert_text : Result Bool AllocError → List ℕ
 insert_text (Ok there) = flag_text there
 insert_text (Err e) = codes "no memory"

@@ -52,8 +52,8 @@ abbrev pub SoFar : (List (List ℕ) → List ℕ → Type 0) → List (List ℕ)
 SoFar IsText [] text = text ≡ []
 SoFar IsText (first ∷ others) text = IsText (first ∷ others) text
 
--- What a replay read and wrote, by how it ended. As in `LineRuns`, a reader had the bytes `from` left, if they are known,
--- and has `to` left now. A writer's bytes were `old` and are `new`.
+-- What a replay read and wrote, by how it ended. As in `LineRuns`, a reader had the bytes `from` left, and has `to`
+-- left now. A writer's bytes were `old` and are `new`.
 module _ (from to old new : Option (List ℕ)) where
   -- The first line names a limit, a replay of all the lines was written, and nothing is left to read.
   pub record Finished : Type 0 where
@@ -83,7 +83,6 @@ module _ (from to old new : Option (List ℕ)) where
   Replays (Err errors.Read) = ReadFailed
   Replays (Err errors.Write) = WriteFailed
 
--- 0 if the lines were carried out, 1 if the first line names no limit, and 2 if a read or a write failed
 abbrev pub status_of : Result ReplayEnd ReplayError → ℕ
 status_of (Ok ends.Done) = 0
 status_of (Ok ends.NoLimiter) = 1

@@ -40,7 +40,6 @@ pub data MemoryReport : Type 0 where
   runs_out_with_pairs : MemoryReport
 
 module _ {K V : Type 0} where
-  -- what a reply says about memory
   abbrev pub memory_report : Reply K V → MemoryReport
   memory_report no_memory = runs_out
   memory_report (reserved (Err Memory)) = runs_out

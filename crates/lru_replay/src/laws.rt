@@ -28,10 +28,10 @@ pub fn lists_are_runs<K: Eq + Hash, V, L: Insertion<K, V, K>, S: KeyHasher<K>>()
         × (AllByRecursion SetsNoLimiter calls → Run (StepOrKeptWrite L.rules L.offers K.eq S.hash_of cost) new old) }
 {}
 
-/// If the limiter permits every growth, as `ByLength`, `ByCost` and the unlimited ones do, and the tables that the
-/// pairs may need are within the reach of links and bytes, a run does what it would do to a list of pairs with distinct
-/// keys, without a table: `ListCallStep` says which answers and states the list and the limiter lead to (`exact`). With
-/// n pairs and m calls, those tables are within reach if a table for 8 * (n + m + 1) pairs is (`reached`).
+/// A run does what it would do to a list of pairs with distinct keys, without a table, under two premises. The limiter
+/// permits every growth, as `ByLength`, `ByCost` and the unlimited ones do. Links and bytes reach the tables that the
+/// pairs may need. `ListCallStep` says which answers and states the list and the limiter lead to (`exact`). With n
+/// pairs and m calls, these tables are reached if a table for 8 * (n + m + 1) pairs is (`reached`).
 pub fn granted_calls_are_exact<K: Eq + Hash, V, L: Insertion<K, V, K>, S: KeyHasher<K>>()
     ensures exact { (old new : State K V L S) (calls : List (Call K V L)) (replies : List (Reply K V)) →
         AlwaysGrants L.rules → HasTables old →

@@ -25,9 +25,9 @@ use lru_limits::{Admission, ByLength, Insertion, KeyHasher, Limiter};
 use lru_model::laws;
 use std::hash::Hash;
 
-/// Each of these calls makes a reference if it returns `Ok`: an insert (`inserts`), an insert that evicts nothing
-/// (`tries`), a get that finds the key, whatever is written through the loan (`gets`), a promotion of a key that is
-/// there (`promotes`), and a memo that remembers a value (`remembers`). So if a get returns `None`, an insert makes the
+/// These calls make a reference if they return `Ok`: an insert (`inserts`), an insert that evicts nothing (`tries`),
+/// and a memo that remembers a value (`remembers`). So do a get that finds the key, whatever is written through the
+/// loan (`gets`), and a promotion of a key that is there (`promotes`). If a get returns `None`, an insert makes the
 /// reference. A reference to a key is also a reference to each equal key (`equal`).
 pub fn calls_make_references<K: Eq + Hash + Drop, V: Drop, S: KeyHasher<K>>()
     ensures inserts { (key : K) (value : V) (kept : Bool) (old new : State K V ByLength S) →
@@ -94,9 +94,9 @@ pub fn gets_that_insert_if_made_make_references<
     laws::calls_keep_the_length::<K, V, ByLength, S>();
 }
 
-/// What a call that makes no reference does to the keys: a get or a promotion of a key, which may not be there
-/// (`promotes`), a removal (`removes`), a clear (`clears`), a reservation, a shrink, a write, and a call that changes
-/// nothing (`reserves`, `shrinks`, `writes`, `looks`).
+/// What other calls do to the keys: a get or a promotion, even of a key that is not there (`promotes`), a removal
+/// (`removes`), a clear (`clears`), a reservation (`reserves`), a shrink (`shrinks`), a write (`writes`), and a call
+/// that changes nothing (`looks`).
 pub fn calls_change_the_keys<K: Eq + Hash + Drop, V: Drop, S: KeyHasher<K>>()
     ensures promotes { (names : K → Bool) (key : K) (old new : State K V ByLength S) →
         names ≡ K.eq key → IsSized new → new ≡ promoted names old → Does K.eq (KeyCall.promotes key) old new }
@@ -133,10 +133,10 @@ pub fn programs_make_references<K: Eq + Hash + Drop, V: Drop, S: KeyHasher<K>>()
         Referenced (of_length K.eq) old trace missed new → KeepsToLength old → KeepsToLength new }
 {}
 
-/// A program that makes the references of a trace leaves the keys that were referenced last, `max_length` of them
-/// (`keys`). It misses exactly at the references whose reuse distance is at least `max_length`, and at the first
-/// reference to each key (`misses`). The keys that were in the map before count as referenced, the oldest first. The
-/// map counts the misses (`stored`): `placed`, the count of entries that inserts stored, rises by their number.
+/// A program that makes the references of a trace leaves the `max_length` keys that were referenced last (`keys`). It
+/// misses exactly at the references whose reuse distance is at least `max_length`, and at the first reference to each
+/// key (`misses`). The keys that were in the map before count as referenced, the oldest first. The map counts the
+/// misses (`stored`): `placed`, the count of entries that inserts stored, rises by their number.
 pub fn references_keep_the_newest<K: Eq + Hash + Drop, V: Drop, S: KeyHasher<K>>()
     ensures keys { (trace : List K) (missed : ℕ) (old new : State K V ByLength S) →
         IsDistinct K.eq (keys_of old.pairs) → length old.pairs ≤ old.limiter →
@@ -152,8 +152,8 @@ pub fn references_keep_the_newest<K: Eq + Hash + Drop, V: Drop, S: KeyHasher<K>>
 {}
 
 /// More capacity never means more misses, whichever calls make the references of one trace on two maps. If the keys of
-/// the smaller map are the newest keys of the larger one, they are also after the trace (`front`). Even if the smaller
-/// map is only included in the larger one, it misses at least as often (`misses`).
+/// the smaller map are the newest keys of the larger one, they are so after the trace, too (`front`). Even if the
+/// smaller map is only included in the larger one, it misses at least as often (`misses`).
 pub fn more_capacity_never_misses_more<K: Eq + Hash + Drop, V: Drop, S: KeyHasher<K>>()
     ensures front { (trace : List K) (missed other_missed : ℕ) (old small other large : State K V ByLength S) →
         Referenced (of_length K.eq) old trace missed small → Referenced (of_length K.eq) other trace other_missed large →
@@ -182,9 +182,9 @@ pub fn a_smaller_map_is_included<K: Eq + Hash + Drop, V: Drop, S: KeyHasher<K>>(
 
 /// LRU is competitive, whichever calls make the references. Take any policy with h places, even one that knows the
 /// whole trace in advance. It begins with the keys `first`, and pays `paid` times for the same references. A map with
-/// `ByLength(k)`, h ≤ k, whatever it contains before, misses at most k / (k + 1 - h) * paid + length first times if the
-/// policy stores each key, whether it may load keys ahead (`loads`) or loads only on demand (`demands`). The map misses
-/// at most k / (k - h) * paid + length first times if the policy need not store a key (`bypasses`).
+/// `ByLength(k)`, h ≤ k, may contain any keys before. If the policy stores each key, ahead (`loads`) or on demand
+/// (`demands`), the map misses at most `k / (k + 1 - h) * paid + length first` times. If the policy need not store a
+/// key, the map misses at most `k / (k - h) * paid + length first` times (`bypasses`).
 pub fn maps_are_competitive<K: Eq + Hash + Drop, V: Drop, S: KeyHasher<K>>()
     ensures loads { (trace : List K) (missed : ℕ) (old new : State K V ByLength S) (h paid : ℕ) (first left : List K) →
         IsDistinct K.eq (keys_of old.pairs) → length old.pairs ≤ old.limiter →

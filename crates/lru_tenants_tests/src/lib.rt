@@ -1,4 +1,4 @@
-//! Tests of what no clause of `lru_tenants` says, through its public calls.
+//! Tests of `lru_tenants` through its public calls, for what no clause says.
 #![tactic(auto)]
 
 #[cfg(test)]

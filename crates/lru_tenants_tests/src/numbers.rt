@@ -1,5 +1,4 @@
-//! The cache of numbers that the examples of the docs begin with, and tests of the texts of errors and of keys that are
-//! texts.
+//! The cache of numbers in the examples of the docs. Tests of the texts of errors, and of keys that are texts.
 use lru_tenants::{TenantCache, TenantError, costs_are_within_the_total_limit};
 use std::test::Fail;
 use test_helpers::check;

@@ -1,5 +1,5 @@
--- A demand policy follows a policy that loads keys ahead: it loads each key when it is referenced, and evicts a key that
--- the other policy does not contain.
+-- A demand policy follows a policy that loads keys ahead. It loads each key when it is referenced, and evicts a key
+-- that the other policy does not contain.
 use Rattle.std.proofs.Common.{◌≡◌, ℕ, suc, ◌+◌, ◌≤◌, ◌<◌, Bool, true, false, cond, List, [], ◌∷◌, ◌++◌, length}
 use Rattle.std.proofs.Common.{refl, sym, ap, ◌∙◌, arith, ◌⊎◌, inl, inr, length-append}
 use Rattle.std.proofs.lemmas.Bool.{cases_lt, or_right}
@@ -30,7 +30,7 @@ module _ {K : Type 0} {eq : K → K → Bool} (laws : IsEquivalence eq) where
       go true ih e = refl
       go false ih e = ih (omega (arith, e))
 
-  -- a key can be evicted that is not among `others`, because these are fewer
+  -- a key that is not among `others` can be evicted, because these are fewer
   record Spare (others keys : List K) : Type 0 where
     evicted : K
     fewer : length (remove_key (eq evicted) keys) + 1 ≡ length keys

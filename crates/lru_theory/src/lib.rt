@@ -10,7 +10,7 @@ ghost use Rattle.lru_theory.specs.Policies.{Loads, Demands, Bypasses, Served};
 ghost use Rattle.lru_theory.specs.Best.{min_misses, bypass_misses};
 ghost use Rattle.lru_theory.specs.Inclusion.{KeyCall, after_calls, IsIncluded, IsSubsequence};
 
-/// An LRU cache of n places that contains the n keys that were referenced last contains them after any trace (`keys`).
+/// If an LRU cache of n places contains the n keys that were referenced last, it does so after any trace, too (`keys`).
 /// It misses exactly at the references whose reuse distance is at least n, and at the first reference to each key
 /// (`misses`).
 pub fn a_cache_is_the_newest<K: Eq>()
@@ -25,14 +25,15 @@ pub fn more_places_never_miss_more<K: Eq>()
     ensures { (n m : ℕ) (past trace : List K) → n ≤ m → misses K.eq m past trace ≤ misses K.eq n past trace }
 {}
 
-/// LRU is competitive, from any caches. Take any policy with h places, even one that knows the whole trace in advance,
-/// and an LRU cache of k ≥ h places. The policy begins with the keys `first`, and pays `paid` times. Each miss of LRU
-/// counts.
+/// LRU is competitive, whatever both caches contain at first. Take any policy with h places, even one that knows the
+/// whole trace in advance, and an LRU cache of k ≥ h places. The policy begins with the keys `first`, and pays `paid`
+/// times.
 ///
-/// - If the policy stores each key that is referenced, and may load keys ahead, LRU misses at most k / (k + 1 - h) *
-///   paid + length first times (`loads`).
+/// - If the policy stores each referenced key, and may load keys ahead, LRU misses at most
+///   `k / (k + 1 - h) * paid + length first` times (`loads`).
 /// - The same bound holds for a demand policy, which pays only for its misses (`demands`).
-/// - If the policy need not store the key, LRU misses at most k / (k - h) * paid + length first times (`bypasses`).
+/// - If the policy need not store referenced keys, LRU misses at most `k / (k - h) * paid + length first` times
+///   (`bypasses`).
 pub fn lru_is_competitive<K: Eq>()
     ensures loads { (k h : ℕ) (past trace first left : List K) (paid : ℕ) → h ≤ k →
         Served (Loads K.eq h) left first trace paid →
@@ -45,8 +46,8 @@ pub fn lru_is_competitive<K: Eq>()
         (k - h) * misses K.eq k past trace ≤ k * paid + (k - h) * length first }
 {}
 
-/// Loading keys ahead gains nothing: if a policy with h places that loads keys ahead pays `paid` times, some demand policy
-/// with h places, which begins with the same keys, misses at most `paid` times.
+/// Loading keys ahead gains nothing. If a policy with h places loads keys ahead and pays `paid` times, some demand
+/// policy misses at most `paid` times. It also has h places, and begins with the same keys.
 pub fn loading_ahead_gains_nothing<K: Eq>()
     ensures { (h : ℕ) (trace first left : List K) (paid : ℕ) → length first ≤ h →
         Served (Loads K.eq h) left first trace paid →
@@ -54,9 +55,10 @@ pub fn loading_ahead_gains_nothing<K: Eq>()
 {}
 
 /// A cache of n places is *included* in a cache of m places if its keys are keys of the larger cache, in the same
-/// order, and the larger cache contains at most m - n more. If it is included before some calls, it is included after
-/// them (`included`). So the larger cache finds what the smaller one finds (`finds`), and misses no more often at the
-/// references of a trace (`misses`). The calls may reference keys, make them the newest, remove them or look at them.
+/// order. The larger cache must contain at most m - n more. If the smaller cache is included before some calls, it is
+/// included after them (`included`). So the larger cache finds what the smaller one finds (`finds`), and misses no more
+/// often at the references of a trace (`misses`). The calls may reference keys, make them the newest, remove them or
+/// look at them.
 pub fn a_smaller_cache_is_included<K: Eq>()
     ensures included { (n m : ℕ) (calls : List (KeyCall K)) (small large : List K) → n ≤ m →
         IsIncluded K.eq n m small large →
@@ -67,9 +69,9 @@ pub fn a_smaller_cache_is_included<K: Eq>()
         faults K.eq m large trace ≤ faults K.eq n small trace }
 {}
 
-/// A larger budget never means more misses. Take two LRU caches with limits of cost, and let the keys of the smaller
-/// cache be the newest keys of the larger one. Then they still are after any trace (`front`), and the smaller cache
-/// misses at least as often (`misses`).
+/// A larger budget never means more misses. Take two LRU caches with limits of cost, so that the keys of the smaller
+/// cache are the newest keys of the larger cache. They are so after any trace, too (`front`). The smaller cache misses
+/// at least as often (`misses`).
 pub fn a_larger_budget_never_misses_more<K: Eq>()
     ensures front { (cost : K → ℕ) (n m some : ℕ) (keys trace : List K) → n ≤ m →
         let small = cached_within K.eq cost n (take some keys) trace in
@@ -78,10 +80,10 @@ pub fn a_larger_budget_never_misses_more<K: Eq>()
         faults_within K.eq cost m keys trace ≤ faults_within K.eq cost n (take some keys) trace }
 {}
 
-/// No policy that stores each referenced key pays for fewer loads than MIN misses, whether it loads keys ahead
-/// (`loads`) or only on demand (`demands`). MIN with bypass misses least often of all policies that contain at most n
-/// keys, whatever they leave out or load ahead (`bypasses`). All begin with no keys. MIN is itself a policy of the
-/// first kind, if it has a place (`min`), and MIN with bypass of the second kind (`bypass`).
+/// A policy that stores each referenced key pays at least as often as MIN misses, whether it loads keys ahead (`loads`)
+/// or only on demand (`demands`). A policy that need not store them pays at least as often as MIN with bypass misses
+/// (`bypasses`). All have n places, and begin with no keys. MIN is itself a policy of the first kind, if it has a place
+/// (`min`). MIN with bypass is a policy of the second kind (`bypass`).
 pub fn min_is_best<K: Eq>()
     ensures loads { (n : ℕ) (trace left : List K) (paid : ℕ) → Served (Loads K.eq n) left [] trace paid →
         min_misses K.eq n trace ≤ paid }
@@ -95,9 +97,9 @@ pub fn min_is_best<K: Eq>()
         (left : List K) × Served (Bypasses K.eq n) left [] trace (bypass_misses K.eq n trace) }
 {}
 
-/// How far LRU is from MIN, which begins with no keys. LRU with k ≥ h places misses at most k / (k + 1 - h) times as
-/// often as MIN with h (`min`), and at most k / (k - h) times as often as MIN with bypass (`bypass`), whatever keys LRU
-/// begins with. With the same places it misses at least as often as MIN (`least`).
+/// How far LRU is from MIN, which begins with no keys. LRU with k ≥ h places begins with any keys. It misses at most
+/// `k / (k + 1 - h)` times as often as MIN with h places (`min`), and at most `k / (k - h)` times as often with bypass
+/// (`bypass`). With the same places, and from no keys, LRU misses at least as often as MIN (`least`).
 pub fn lru_is_near_min<K: Eq>()
     ensures min { (k h : ℕ) (past trace : List K) → 0 < h → h ≤ k →
         (k + 1 - h) * misses K.eq k past trace ≤ k * min_misses K.eq h trace }

@@ -20,7 +20,7 @@ use Rattle.lru_theory.proofs.Nexts.{without_absent, later_take, ordered_take, or
 use Rattle.lru_trace.specs.Times.{next_times, with_time}
 
 module _ {K : Type 0} (eq : K → K → Bool) where
-  -- the times of the next references to those keys that occur again, in a trace that begins at time i
+  -- the times of the next references to the keys that occur again, if the trace begins at time i
   abbrev pub times : ℕ → List K → List K → List ℕ
   times i trace [] = []
   times i trace (key ∷ keys) = cond (nat_lt (until eq key trace) (length trace))

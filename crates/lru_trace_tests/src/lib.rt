@@ -1,4 +1,4 @@
-//! Tests of what no clause of `lru_trace` says.
+//! Tests of `lru_trace`, for what no clause says.
 #![tactic(auto)]
 
 #[cfg(test)]

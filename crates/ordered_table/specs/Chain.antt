@@ -126,7 +126,7 @@ module _ {K V N : Type 0} (number : N → ℕ) (link : ℕ → N) (none : N) whe
   abbrev pub OutOfChain : Chain K V N → ℕ → Type 0
   OutOfChain chain b = (order : List ℕ) × KeepsOrder chain order × (Contains order b → ⊥)
 
-  -- the entries have moved into the slots, still with the links that they had in the table before
+  -- the entries have moved into the slots, still with their old links
   abbrev pub Moved : Chain K V N → List N → Type 0
   Moved chain links = (before : List (Slot (Entry K V N))) × (order : List ℕ)
       × IsWhole before chain.newest chain.oldest order × Renumbers number none before chain.table.slots links

@@ -60,7 +60,7 @@ module _ {K V : Type 0} where
   abbrev pub KeysFit : (K → ℕ) → List (Slot (K × V)) → Type 0
   KeysFit hash_of slots = Fits slots (hash_in hash_of slots)
 
-  -- the pair filled the first free bucket that a search for its hash finds, as the newest
+  -- the pair is the newest now, in the first free bucket that a search for its hash finds
   pub record Lands (old new : OrderedTable K V) (hash : ℕ) (pair : K × V) (b : ℕ) : Type 0 where
     pub first : IsFirstFree (bucket_states old.slots) hash b
     pub may : MayFill (bucket_states old.slots) b

@@ -3,7 +3,7 @@ use lru_replay::Call;
 use lru_replay::lines::words;
 use std::alloc::Global;
 
-/// Returns the calls that the lines spell, which may be lines of the program `replay`. A line that spells no call
+/// Returns the calls that the lines spell, also if these are lines of the program `replay`. A line that spells no call
 /// becomes a call for the figures, which is not what its row expects.
 pub fn calls_of<L: Numbered + Drop>(alloc: Global, lines: &str) -> Vec<Call<u64, u64, L>> {
     let mut calls = Vec::new(alloc);

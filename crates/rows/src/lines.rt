@@ -6,7 +6,7 @@ use lru_replay::{ReplayEnd, ReplayError, replay, status};
 use std::alloc::Global;
 use std::io::{BufReader, ErrorKind};
 
-/// The longest input of which each read and each write fails in turn.
+/// The longest input for which each read and each write fails in turn.
 const LONGEST_CUT: usize = 2000;
 
 type End = Result<ReplayEnd, ReplayError>;
@@ -90,7 +90,7 @@ fn with_failing_read(alloc: Global, row: &Row, at: usize) -> bool {
     end == Some(Err(ReplayError::Read)) && writer.has(text, 1)
 }
 
-/// Lets a write fail of a writer that takes single bytes. Returns whether the front of the text is written, no line is
+/// Lets a write fail, on a writer that takes single bytes. Returns whether the front of the text is written, no line is
 /// read after the line that was being answered, and nothing is flushed.
 fn with_failing_write(alloc: Global, row: &Row, at: usize) -> bool {
     let failure = if at % 4 == 0 {

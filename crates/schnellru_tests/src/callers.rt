@@ -226,8 +226,8 @@ fn put_and_keep_half(
     map.insert(key, value)
 }
 
-/// Puts an entry of a new key into a full table, in which a search for the key first meets a bucket whose entry was
-/// removed. The new entry fills that bucket, and all other entries stay.
+/// Puts an entry of a new key into a full table. A search for the key first meets a bucket whose entry was removed. The
+/// new entry fills that bucket, and all other entries stay.
 fn put_into_deleted(
     map: &mut LruMap<String, u64>,
     key: String,

@@ -1,4 +1,4 @@
-//! Tests of what no contract of `schnellru` says, through its public calls.
+//! Tests of `schnellru` through its public calls, for what no contract says.
 //!
 //! `examples` also contains the examples of `lru_model` and `ordered_table`. The worked rows are data of the program
 //! `rows`.

@@ -1,4 +1,4 @@
-//! Tests of the memory of a map, of which no contract speaks.
+//! Tests of the memory of a map. No contract speaks of it.
 mod clones;
 mod live;
 mod refused;

@@ -8,7 +8,7 @@ ghost use Rattle.lru_limits.specs.Texts.{names_text, names_text-lawful, GivesTex
 use lru_limits::{Insertion, Limiter, LookupKey};
 use std::alloc::{AllocError, Global};
 
-/// A text that names the `String` of its bytes.
+/// A text that names the `String` with the same bytes.
 #[derive(Clone, Copy, PartialEq, Eq, Hash)]
 pub struct InsertKey<'a>(pub &'a str);
 

@@ -53,8 +53,8 @@ impl<T> Table<T> {
         self.growth_left
     }
 
-    /// Returns how many insertions the table has made. A moved entry counts as one insertion. A count that reaches
-    /// `u64::MAX` stays there.
+    /// Returns how many insertions the table has made. A moved entry counts as one insertion. Each count stops at
+    /// `u64::MAX`.
     #[inline]
     pub fn insertion_count(&self) -> u64
         ensures value { result ≡ insertion_count self.now.insertions }
@@ -63,8 +63,8 @@ impl<T> Table<T> {
         self.placed.saturating_add(self.moved)
     }
 
-    /// Returns how many entries `place` and `try_place` have inserted. A moved entry is not counted again. A count that
-    /// reaches `u64::MAX` stays there.
+    /// Returns how many entries `place` and `try_place` have inserted. A moved entry is not counted again. The count
+    /// stops at `u64::MAX`.
     ///
     /// ```
     /// let mut table = Table::with_buckets(alloc, 8)?;
@@ -86,7 +86,7 @@ impl<T> Table<T> {
         bytes_of::<T>()
     }
 
-    /// Returns whether there is a bucket of this number that holds an entry.
+    /// Returns whether bucket `b` exists and holds an entry.
     #[inline]
     pub fn is_full(&self, b: usize) -> bool
         ensures full { IsTrue result ↔ IsFull self.now.slots b }

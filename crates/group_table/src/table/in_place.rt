@@ -43,7 +43,7 @@ pub(crate) fn place_again<T, N: LinkType, H: Fn(&T) -> u64>(
         (slots_of control.new entries.new) links.new.items hash_at }
 {
     for b in 0..before.buckets() {
-        // Another entry was moved here, or none was ever here.
+        // Another entry was moved here, or none was here before.
         if control.byte(b) < DELETED || before.byte(b) >= DELETED {
             continue;
         }
@@ -57,7 +57,7 @@ pub(crate) fn place_again<T, N: LinkType, H: Fn(&T) -> u64>(
         let mut next = Some(entries.read(b));
         'turns: while let Some(entry) = next {
             let place = first_free(control, hash);
-            // No entry up to here waits.
+            // No entry in a place up to `b` waits.
             let byte = if place <= b {
                 EMPTY
             } else {

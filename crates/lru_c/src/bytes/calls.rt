@@ -30,7 +30,7 @@ pub fn put(alloc: Global, map: &mut BytesMap, key: &[u8], value: &[u8]) -> u32
 {
     let _len = map.len();
     let limit = map.limiter().limit();
-    // The key is not hashed, so that a length that is far too great reads no memory.
+    // The key is not hashed, so a far too great length reads no memory.
     if key.len() as u64 > limit {
         return REJECTED;
     }

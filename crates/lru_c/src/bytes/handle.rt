@@ -86,7 +86,7 @@ impl BytesSlot {
 }
 
 /// A handle: a map of byte strings on the heap, or none. The entries of the map weigh what its running total says, and
-/// at most its budget. As of an [`Lru`](crate::handle::Lru), nothing drops a handle.
+/// at most its budget. Nothing drops a handle, as for [`Lru`](crate::handle::Lru).
 #[repr(C)]
 pub struct LruBytes {
     pub(crate) slot: BytesSlot,

@@ -181,8 +181,8 @@ impl<
         read_stored::<K, V, Q, L, S, R, U>(&mut self.map, key, read)
     }
 
-    /// Stores an answer at a key, as the newest, and returns whether it is stored. If the table runs out of memory or its
-    /// limiter rejects the answer, no answer is stored at the key.
+    /// Stores an answer at a key, as the newest, and returns whether it is stored. If memory runs out or the limiter
+    /// rejects the answer, no answer is stored at the key.
     ///
     /// ```
     /// squares.store(3, 9);

@@ -12,7 +12,7 @@ use crate::page_cache::{PageCache, PageError};
 use schnellru::KeyHasher;
 
 impl<B: Copy, D: BlockDevice<B>, S: KeyHasher<u64>> PageCache<B, D, S> {
-    /// Makes a page the newest, after it was read if it is not cached.
+    /// Makes a page the newest. If it is not cached, it is read first.
     pub(super) fn bring(&mut self, n: u64) -> Result<(), PageError<D::Error>>
         ensures page { OnOk result ((block : B)
             × (D.IsHonest self.new.device → shown D.BlockDevice self.new n ≡ Some (D.seen block))
@@ -44,9 +44,9 @@ impl<B: Copy, D: BlockDevice<B>, S: KeyHasher<u64>> PageCache<B, D, S> {
 
     /// Returns a block, and makes its page the newest.
     ///
-    /// If the cache is full, the oldest page that may go is evicted for it, after that page was written to the device
-    /// if it is dirty. Each page may go that is not pinned and, if the cache [keeps dirty pages](Self::set_keeps_dirty),
-    /// clean.
+    /// If the page is not cached and the cache is full, the oldest page that may go is evicted. If this page is dirty,
+    /// it is written to the device first. A pinned page may not go, nor a dirty one if the cache [keeps dirty
+    /// pages](Self::set_keeps_dirty).
     ///
     /// ```
     /// assert_eq!(rt; (cache.read(1), cache.len()), (Ok(20), 1));

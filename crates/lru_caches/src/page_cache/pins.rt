@@ -9,7 +9,7 @@ use crate::page_cache::{PageCache, PageError};
 use schnellru::KeyHasher;
 
 impl<B: Copy, D: BlockDevice<B>, S: KeyHasher<u64>> PageCache<B, D, S> {
-    /// Pins a page and makes it the newest, after it was read if it is not cached. It is not evicted until `unpin`.
+    /// Pins a page and makes it the newest. If it is not cached, it is read first. It is not evicted until `unpin`.
     ///
     /// One `unpin` ends any number of pins of a page. A flush writes pinned pages, too.
     ///
@@ -85,8 +85,8 @@ impl<B: Copy, D: BlockDevice<B>, S: KeyHasher<u64>> PageCache<B, D, S> {
         self.keeps_dirty
     }
 
-    /// Sets whether dirty pages are kept until a flush. If they are, reads, writes and pins write nothing to the device,
-    /// so a log of the writes can be written and synced before.
+    /// Sets whether dirty pages are kept until a flush. If they are, reads, writes and pins write nothing to the
+    /// device. So a log of the writes can be written and synced first.
     ///
     /// A call that needs room for a page then returns `Full` if each page is dirty or pinned.
     ///

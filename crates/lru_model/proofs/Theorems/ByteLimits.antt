@@ -214,7 +214,7 @@ module _ {K V : Type 0} (bytes_of : K → V → ℕ) where
     evicted_calm hash (suc n) old new (before, more, none, l) = calm_trans old before new
         (evicted_calm hash n old before more) (leaves_calm before _ new l (pop_frees (contents before)))
 
-    -- What an insertion of a pair leaves, if the limiter counts the pair already: the pair is stored, or the limiter was
+    -- What an insertion leaves of a pair that the limiter counts already: the pair is stored, or the limiter was
     -- notified of it.
     abbrev pub Lands : Outcome → State K V Bytes H → Type 0
     Lands outcome new = Counts new × ((outcome ≡ placed) ⊎ Within 0 new)

@@ -1,4 +1,4 @@
--- A deleted bucket takes the new pair if it is the first free one that a search finds.
+-- A deleted bucket takes the new pair if it is the first free bucket that a search finds.
 use Rattle.std.proofs.Common.{◌≡◌, ℕ, ◌+◌, ◌<◌, inl, inr, length, sym, ap, ◌∙◌, subst, arith}
 use Rattle.group_table.specs.Sizes.{IsBucketCount}
 use Rattle.group_table.proofs.SizeLemmas.{power_pos}

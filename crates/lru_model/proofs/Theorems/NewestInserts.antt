@@ -68,7 +68,6 @@ module _ {K V : Type 0} where
       go (no loose) = rw (le-ltb most (length pairs + 1) (omega (arith, loose)))
           (ap (λ xs. record { pairs = xs; limiter = most }) (sym (take_all (most - 1) pairs (omega (arith, loose)))))
 
--- a pair is returned to be stored only if the length is not 0
 more_than_none : {K V : Type 0} (most : ℕ) (key : K) (value : V) (s : ℕ) (pair : K × V)
     → ReturnsPairIf (nat_lt 0 most) most key value s (Some pair) → 0 < most
 more_than_none most key value s pair n = elim (dec_lt 0 most) [

@@ -11,17 +11,17 @@ ghost use Rattle.lru_model.specs.Theorems.{PaysForMoves, UsesAtMost, IsSummed, o
 use lru_limits::{Budgeted, Insertion, KeyHasher, Limiter, LookupKey};
 use std::hash::Hash;
 
-/// After any calls, whatever is written through the references that they lend, no two keys are equal, and inserts moved
-/// at most twice as many entries as they stored, plus those that shrinks rehashed. The table is sound after each call,
-/// as clause `map` of each call says (`Run`).
+/// After any calls, and any writes through the references that they lend, no two keys are equal. Inserts moved at most
+/// twice as many entries as they stored, plus those that shrinks rehashed. The table is sound after each call, as
+/// clause `map` of each call says (`Run`).
 pub fn runs_keep_maps<K: Eq + Hash, V, I: LookupKey<K>, L: Insertion<K, V, I>, S: KeyHasher<K>>()
     ensures map { (old new : State K V L S) →
         Run (AnyStep L.rules L.offers I.names S.hash_of) new old →
         IsMap K.eq old → IsMap K.eq new }
 {}
 
-/// If a limiter's running total was the sum of the costs, it is their sum after any calls, and any writes of values
-/// that cost what the old values cost.
+/// A limiter's running total stays the sum of the costs after any calls, and any writes of values that cost what the
+/// old values cost.
 pub fn runs_keep_sums<K: Eq + Hash, V, I: LookupKey<K>, L: Insertion<K, V, I>, S: KeyHasher<K>>()
     ensures sum { (cost : K → V → ℕ) (account : L → ℕ) → IsAccount L.rules L.offers cost account →
         (old new : State K V L S) →
@@ -29,8 +29,8 @@ pub fn runs_keep_sums<K: Eq + Hash, V, I: LookupKey<K>, L: Insertion<K, V, I>, S
         IsSummed cost account old → IsSummed cost account new }
 {}
 
-/// Over any calls the count of moved entries and the potential together rise by at most two for each entry that inserts
-/// store, and by one for each entry that shrinks rehash, until the count of stored or of rehashed entries reaches
+/// Over any calls the count of moved entries and the potential together rise by at most two for each stored entry, and
+/// by one for each entry that shrinks rehash. This holds until the count of stored or of rehashed entries reaches
 /// `u64::MAX`.
 pub fn runs_pay_for_moves<
     K: Eq + Hash,
@@ -58,9 +58,8 @@ pub fn runs_evict_the_oldest<
         IsFront (others test new.pairs) (others test old.pairs) }
 {}
 
-/// Each insert of a run evicts only from the old end, whatever the other calls of the run are, even `pop_newest`. The
-/// only other entry that it may remove is the entry whose replacement is rejected. The same holds for each get that
-/// inserts.
+/// Each insert of a run evicts only from the old end, whatever the other calls of the run are, even `pop_newest`. It
+/// may also remove the entry of its key, if the replacement is rejected. The same holds for each get that inserts.
 pub fn each_insert_of_a_run_evicts_the_oldest<
     K: Eq + Hash,
     V,
@@ -101,7 +100,7 @@ pub fn runs_keep_the_budget<K: Eq + Hash, V, L: Budgeted<K, V>, S: KeyHasher<K>>
         Run (StepOrWrite L.rules (offers_of L.terms) K.eq S.hash_of) new old → L.budget_of new.limiter ≡ L.budget_of old.limiter }
 {}
 
-/// A new map, which contains no entries and no buckets, satisfies `IsMap`, the premise of `runs_keep_maps`.
+/// A new map, without entries or buckets, satisfies `IsMap`, the premise of `runs_keep_maps`.
 pub fn runs_begin_with_maps<K: Eq + Hash, V, L: Limiter<K, V>, S: KeyHasher<K>>()
     ensures empty { (limiter : L) (hasher : S) (entry_bytes : ℕ) →
         IsMap K.eq (empty_map {K = K} {V = V} limiter hasher entry_bytes (L.LinkType.number L.LinkType.MAX)) }

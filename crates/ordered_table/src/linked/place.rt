@@ -21,7 +21,6 @@ impl<K, V, N: LinkType> LinkedTable<K, V, N> {
         self.chain.link_placed(b, first);
     }
 
-    // Does what `place` does, for any table.
     pub(crate) fn try_place(&mut self, hash: u64, pair: (K, V)) -> Result<(), (K, V)>
         ensures placed { OnOk result ((b : ℕ) × Lands self.old self.new hash pair b) }
         ensures fits { OnOk result ((hash_of : K → ℕ) → KeysFit hash_of self.old.slots → hash_of pair.0 ≡ hash

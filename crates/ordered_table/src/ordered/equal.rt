@@ -3,7 +3,7 @@ ghost use Rattle.ordered_table.specs.OrderedTable.{pairs_of};
 use crate::ordered::OrderedTable;
 use group_table::LinkType;
 
-/// Two tables are equal if they have equal pairs in the same order, in whichever buckets these are.
+/// Two tables are equal if they have equal pairs in the same order, in any buckets.
 ///
 /// Cost: `O(n)` for n pairs, and `O(1)` if the lengths differ.
 impl<K: PartialEq, V: PartialEq, N: LinkType> PartialEq for OrderedTable<K, V, N> {

@@ -35,8 +35,8 @@ module _ (K V L S N H : RattleType) (key : HashMembers K.Denot)
       (record { hash_of = hashed.hash_of }) (record { build_hasher = hashed.build_hasher }) hash
 
   module _ (m : MutBor (State K.Denot V.Denot L.Denot S.Denot)) where
-    -- The map ends as `base`, with the last value that was written through r for the named key. If r is `None`, it
-    -- stays as it is.
+    -- The map ends as `base`, with the last value written through r for the named key. If r is `None`, the map stays as
+    -- it is.
     abbrev pub lends_value : (K.Denot → Bool) → State K.Denot V.Denot L.Denot S.Denot → Option (MutBor V.Denot) → Fml
     lends_value names base r = LendsIf map_row V m r (λ last. written names last base) m.now
 
@@ -44,8 +44,8 @@ module _ (K V L S N H : RattleType) (key : HashMembers K.Denot)
     abbrev pub ends_as : State K.Denot V.Denot L.Denot S.Denot → Fml
     ends_as last = follows_so map_row map_row m.ghost_name none (λ _ _. ⊤) (λ n. n ≡ last)
 
-    -- The map ends as `turned` makes it for the key of a pair that satisfies `gives`, with the last value that was
-    -- written through r for that key. If r is `None`, it stays as it is.
+    -- The map ends as `turned` makes it for the key of a pair that satisfies `gives`. This key has the last value
+    -- written through r. If r is `None`, the map stays as it is.
     abbrev pub lends_given : (K.Denot × V.Denot → Type 0)
         → ((K.Denot → Bool) → State K.Denot V.Denot L.Denot S.Denot → State K.Denot V.Denot L.Denot S.Denot)
         → Option (MutBor V.Denot) → Fml
@@ -54,8 +54,7 @@ module _ (K V L S N H : RattleType) (key : HashMembers K.Denot)
         × (n ≡ written (key.eq pair.0) last (turned (key.eq pair.0) m.now))))
         (λ n. IfNone r (n ≡ m.now))
 
-    -- The newest pair of the map ends with the last value that was written through r. If r is `None`, the map stays as
-    -- it is.
+    -- The newest pair of the map ends with the last value written through r. If r is `None`, the map stays as it is.
     abbrev pub lends_newest : Option (MutBor V.Denot) → Fml
     lends_newest r = LendsIf map_row V m r (λ last. record m.now { pairs = set_newest m.now.pairs last }) m.now
 
@@ -63,15 +62,15 @@ module _ (K V L S N H : RattleType) (key : HashMembers K.Denot)
     abbrev pub lends_newest_value : MutBor V.Denot → Fml
     lends_newest_value r = Lends map_row V m r (λ last. record m.now { pairs = set_newest m.now.pairs last })
 
-    -- the pair in bucket b ends with the last value that was written through r
+    -- the pair in bucket b ends with the last value written through r
     abbrev pub lends_value_in : ℕ → MutBor V.Denot → Fml
     lends_value_in b r = Lends map_row V m r (λ last. written_in b last m.now)
 
-    -- the pair at position i ends with the last value that was written through r
+    -- the pair at position i ends with the last value written through r
     abbrev pub lends_value_at : ℕ → Bor K.Denot × MutBor V.Denot → Fml
     lends_value_at i r = follows map_row V m.ghost_name r.1.ghost_name
         (λ last. record m.now { pairs = set_value_at m.now.pairs i last })
 
-    -- the map ends with the last limiter that was written through r
+    -- the map ends with the last limiter written through r
     abbrev pub lends_limiter : MutBor L.Denot → Fml
     lends_limiter r = Lends map_row L m r (λ last. record m.now { limiter = last })

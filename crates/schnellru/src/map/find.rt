@@ -1,4 +1,4 @@
-//! The search for a key, with which every look-up begins, and what follows: a promotion, a demotion or a removal.
+//! The search for a key, and what follows it: a promotion, a demotion or a removal.
 ghost use Rattle.std.specs.Prelude.{◌≡◌, Bool, Some, None, IfSome, IfNone, IsTrue, Contains};
 ghost use Rattle.lru_model.specs.Lists.{lookup_entry};
 ghost use Rattle.lru_model.specs.State.{place_in, Frees, IsMap};
