@@ -25,8 +25,8 @@ least_power n = first_power_from 64 n 1
 abbrev pub below : ℕ → ℕ → Option ℕ
 below limit n = if nat_lt n limit then Some n else None
 
--- how many buckets n entries need, if links can number them: 0 for none, 4 for up to 3, 8 for up to 7, and for more the
--- least power of two that is at least eight sevenths of n
+-- How many buckets n entries need, if links can number them. No entries need 0, up to 3 need 4, and up to 7 need 8. More
+-- entries need the least power of two that is at least eight sevenths of n.
 unfoldable pub buckets_for : ℕ → ℕ → Option ℕ
 buckets_for max entries =
     if entries == 0 then Some 0

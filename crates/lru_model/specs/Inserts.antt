@@ -11,8 +11,8 @@ use Rattle.lru_model.specs.declared.results.Inserted.{Inserted}
 use Rattle.lru_model.specs.State.{State, buckets, growth_left, Contents, contents, Leaves, pop, trim}
 use Rattle.lru_model.specs.Place.{Place, Outcome, placed, refused, no_memory}
 
--- the value that the map does not keep after a new value was offered: the old value if the limiter accepted the new
--- one, and otherwise the new value
+-- After a new value was offered, the map keeps one of two values, and not this one: the old value if the limiter
+-- accepted the new value, and otherwise the new value.
 abbrev pub unkept_of : {K V S : Type 0} → Replaced K V S → V
 unkept_of r = if r.taken then r.old_value else r.new_value
 
@@ -27,7 +27,7 @@ make_room rules c = if rules.is_over_the_limit c.limiter (length c.pairs + 1) th
 
 module _ {K V S H : Type 0} (rules : Rules K V S) where
   -- What follows an insertion into the table. If the pair was stored, the oldest pairs are evicted while the limiter is
-  -- over its limit, and the result is whether a pair is left. Otherwise nothing follows.
+  -- over its limit. The result is then whether a pair is left. If the pair was not stored, nothing follows.
   abbrev pub Settles : Outcome → State K V S H → Result Bool AllocError → State K V S H → Type 0
   Settles placed landed result new =
       (result ≡ Ok (not (is_empty new.pairs))) × Leaves landed (trim rules (contents landed)) new
@@ -81,7 +81,7 @@ module _ {K V S I : Type 0} (rules : Rules K V S) (offers : Offers K V S I) (nam
   module _ {H : Type 0} (hash_of : H → K → ℕ) where
     pub data Insert (i : I) (v : V) (old : State K V S H) (result : Result Bool AllocError)
         (new : State K V S H) : Type 0 where
-      -- The key is there, and the limiter accepts the new value: the pair becomes the newest with this value, and the
+      -- The key is there, and the limiter accepts the new value. The pair becomes the newest with this value. The
       -- oldest pairs are evicted while the limiter is over its limit.
       replaced : (pair : K × V) → lookup_entry (names i) old.pairs ≡ Some pair →
           (replacement pair i v (contents old)).taken ≡ true →
@@ -107,8 +107,8 @@ module _ {K V S I : Type 0} (rules : Rules K V S) (offers : Offers K V S I) (nam
           PlacesNew rules hash_of pair (record old { limiter = s }) result new →
           Insert i v old result new
 
-    -- The table may need memory for the pair that the limiter returned: no growth is left, and either there are no
-    -- buckets, or the map contains a pair even after `make_room`. (A rehash of a table without pairs needs no memory.)
+    -- The table may need memory for the pair that the limiter returned. No growth is left. Either there are no buckets,
+    -- or the map contains a pair even after `make_room`: a rehash of a table without pairs needs no memory.
     pub record NeedsMemory (i : I) (v : V) (old : State K V S H) : Type 0 where
       pub no_growth_left : growth_left old ≡ 0
       pub s : S
@@ -116,8 +116,8 @@ module _ {K V S I : Type 0} (rules : Rules K V S) (offers : Offers K V S I) (nam
       pub given : MayGive i v (contents old) s (Some pair)
       pub needed : (buckets old ≡ 0) ⊎ (0 < length (make_room rules (record { pairs = old.pairs; limiter = s })).pairs)
 
-    -- Why an insert runs out of memory: the key is new, and either `on_insert` of the limiter ran out of memory, which
-    -- changed nothing, or the table needed memory.
+    -- Why an insert runs out of memory. The key is new. Either `on_insert` of the limiter ran out of memory, and nothing
+    -- changed, or the table needed memory.
     abbrev pub IsOutOfMemory : I → V → State K V S H → State K V S H → Type 0
     IsOutOfMemory i v old new = (lookup_entry (names i) old.pairs ≡ None)
         × ((offers.may_run_out old.limiter (length old.pairs) i v × (new ≡ old)) ⊎ NeedsMemory i v old)

@@ -12,15 +12,15 @@ use Rattle.lru_model.specs.State.{State, Counts, buckets, contents, potential}
 use Rattle.lru_model.specs.Place.{HasPairsButNoGrowth, CannotGrow}
 use Rattle.lru_model.specs.Inserts.{replacement, with_new_value, MayGive, IsOutOfMemory}
 
--- the count of insertions into the table rises by the entries moved and the entries stored, unless a count has stopped
--- at its maximum
+-- The count of insertions into the table rises by the entries moved and the entries stored. This holds until a count
+-- stops at its maximum.
 abbrev pub CountsInsertions : Counts → Counts → Type 0
 CountsInsertions old new = new.insertions < 2 ^ 64 - 1 → new.moved < 2 ^ 64 - 1 → new.placed < 2 ^ 64 - 1 →
     new.insertions + old.moved + old.placed ≡ old.insertions + new.moved + new.placed
 
 module _ {K V S H : Type 0} where
-  -- `moved` and the potential together rise by at most 2 for each entry stored, unless the count of stored entries has
-  -- stopped at its maximum. No entry is counted as rehashed by a shrink.
+  -- `moved` and the potential together rise by at most 2 for each entry stored. This holds until the count of stored
+  -- entries stops at its maximum. No entry is counted as rehashed by a shrink.
   pub record PaysByStoring (old new : State K V S H) : Type 0 where
     pub placed : old.counts.placed ≤ new.counts.placed
     pub shrunk : new.counts.shrunk ≡ old.counts.shrunk
@@ -29,7 +29,7 @@ module _ {K V S H : Type 0} where
         ≤ old.counts.moved + potential old + 2 * new.counts.placed
 
   -- `moved` and the potential together rise by at most 2 for each entry stored, and by 1 for each entry that shrinks
-  -- rehashed, unless the count of stored or of rehashed entries has stopped at its maximum
+  -- rehashed. This holds until the count of stored or of rehashed entries stops at its maximum.
   pub record PaysForMoves (old new : State K V S H) : Type 0 where
     pub placed : old.counts.placed ≤ new.counts.placed
     pub shrunk : old.counts.shrunk ≤ new.counts.shrunk
@@ -86,8 +86,8 @@ module _ {K V S H : Type 0} (rules : Rules K V S) where
   SaysWhether names result new = lookup_entry names new.pairs ≡ None
 
 module _ {K V S H I : Type 0} (rules : Rules K V S) (offers : Offers K V S I) (names : I → K → Bool) where
-  -- the pair that an insert stores: the stored key with the new value, as the replacement left both, or the pair that
-  -- the limiter returned for a new key
+  -- The pair that an insert stores. If the key was there, it is the stored key with the new value, as the replacement
+  -- left both. For a new key it is the pair that the limiter returned.
   pub data Stores (i : I) (v : V) (old : State K V S H) (pair : K × V) : Type 0 where
     left : (was : K × V) → lookup_entry (names i) old.pairs ≡ Some was
         → (replacement rules offers names was i v (contents old)).taken ≡ true →
@@ -97,9 +97,9 @@ module _ {K V S H I : Type 0} (rules : Rules K V S) (offers : Offers K V S I) (n
         (s : S) → MayGive rules offers names i v (contents old) s (Some pair) →
         Stores i v old pair
 
-  -- How an insert ends. What it returned says whether the key is there (`says`). If it is, the newest pair is the pair
-  -- that the insert stores (`stores`). An error comes only without memory for a new key (`out_of_memory`), and only
-  -- the oldest pairs may be gone then (`keeps`).
+  -- How an insert ends. Its result says whether the key is there (`says`). If the key is there, the newest pair is the
+  -- pair that the insert stores (`stores`). Only an insert of a new key runs out of memory (`out_of_memory`), and then
+  -- it keeps all pairs but some of the oldest (`keeps`).
   pub record InsertEnds (hash_of : H → K → ℕ) (i : I) (v : V) (old : State K V S H) (result : Result Bool AllocError)
       (new : State K V S H) : Type 0 where
     pub says : SaysWhether rules (names i) result new
