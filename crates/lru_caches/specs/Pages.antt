@@ -2,7 +2,7 @@
 --     d    the ghost members of the device: what contracts see of a block, the blocks, what a crash may leave of them
 use Rattle.std.specs.Prelude.{◌≡◌, ◌≢◌, ◌⊎◌, ◌+◌, ◌-◌, ◌^◌, ℕ, min, Bool, true, false, not, ◌&&◌, ◌||◌}
 use Rattle.std.specs.Prelude.{if◌then◌else◌, List, [], ◌∷◌, ◌++◌, map, length, reverse, filter, nat_eq, nat_lt, Option}
-use Rattle.std.specs.Prelude.{Some, None, option_map, is_some, IsTrue, IsPermutation}
+use Rattle.std.specs.Prelude.{Some, None, option_map, is_some, IsTrue, IsPermutation, Result, Err, IfErr, OnOk, OnErr}
 use Rattle.std.specs.List.{find}
 use Rattle.std.specs.List.Sorted.{IsStrictlyIncreasing}
 use Rattle.std.specs.Map.{lookup, keys_of, set_value}
@@ -232,3 +232,20 @@ module _ {B D E S : Type 0} (d : device.Ghosts D B E S) where
   abbrev pub IsCause : ℕ → Cached B D → D → PageError E → Type 0
   IsCause n old new e = IsFault old.device new e ⊎ ((e ≡ Broken) × (d.is_usable old.device ≡ false))
       ⊎ ((e ≡ NoBlock) × (d.has old.device n ≡ false)) ⊎ (e ≡ Memory) ⊎ ((e ≡ Full) × IsFull n old)
+
+  -- what each call that reads, writes or pins page n does
+  pub record UsesPage {A : Type 0} (n : ℕ) (old : Cached B D) (result : Result A (PageError E)) (new : Cached B D)
+      : Type 0 where
+    -- the device gets at most dirty pages, and nothing if the cache keeps these or has page n
+    pub crash : CrashAdds old.pages old.device new.device
+    pub unwritten : IsTrue old.keeps_dirty → CrashKeeps old.device new.device
+    pub untouched : IsCached n old → new.device ≡ old.device
+    pub serves : Serves old.device new.device
+    -- why it fails, and what it leaves then
+    pub cause : IfErr result (IsCause n old new.device)
+    pub left : IfErr result (Leaves old new)
+    pub full : result ≡ Err Full → new ≡ old
+    pub capacity : new.capacity ≡ old.capacity
+    pub mode : new.keeps_dirty ≡ old.keeps_dirty
+    pub counted : OnOk result (new.counts ≡ counted n old)
+    pub uncounted : OnErr result (new.counts ≡ old.counts)

@@ -1,8 +1,7 @@
 //! Reads and writes of the blocks of a page cache.
-ghost use Rattle.std.specs.Prelude.{◌≡◌, ◌≢◌, ◌⊎◌, ℕ, Some, false, IsTrue, IfErr, IfOk, OnOk, OnErr, IsOk};
+ghost use Rattle.std.specs.Prelude.{◌≡◌, ◌≢◌, ◌⊎◌, ℕ, Some, false, IsTrue, IfOk, OnOk, OnErr, IsOk};
 ghost use Rattle.std.specs.Fn.{FnOnceReturnsAt, FnOnceReturnsAtMut};
-ghost use Rattle.lru_caches.specs.Pages.{shown, counted, pages_read, pages_written, IsCached, IsGood, ShowsTheSame};
-ghost use Rattle.lru_caches.specs.Pages.{CrashAdds, CrashKeeps, Serves, IsCause, Leaves};
+ghost use Rattle.lru_caches.specs.Pages.{shown, pages_read, pages_written, IsCached, IsGood, ShowsTheSame, UsesPage};
 
 use crate::device::BlockDevice;
 use crate::page_cache::evict::{find_room, replace};
@@ -18,20 +17,9 @@ impl<B: Copy, D: BlockDevice<B>, S: KeyHasher<u64>> PageCache<B, D, S> {
             × (D.IsHonest self.new.device → shown D.BlockDevice self.new n ≡ Some (D.seen block))
             × (self.new.pages ≡ pages_read n block self.old)) }
         ensures keeps { ShowsTheSame D.BlockDevice self.old self.new }
-        ensures crash { CrashAdds D.BlockDevice self.old.pages self.old.device self.new.device }
-        ensures unwritten { IsTrue self.old.keeps_dirty
-            → CrashKeeps D.BlockDevice self.old.device self.new.device }
         ensures hit { IsCached n self.old → IsOk result }
-        ensures untouched { IsCached n self.old → self.new.device ≡ self.old.device }
         ensures broken { D.is_usable self.old.device ≡ false → IsOk result ⊎ (result ≡ Err PageError.Broken) }
-        ensures full { result ≡ Err PageError.Full → self.new ≡ self.old }
-        ensures left { IfErr result (Leaves D.BlockDevice self.old self.new) }
-        ensures cause { IfErr result (IsCause D.BlockDevice n self.old self.new.device) }
-        ensures serves { Serves D.BlockDevice self.old.device self.new.device }
-        ensures capacity { self.new.capacity ≡ self.old.capacity }
-        ensures mode { self.new.keeps_dirty ≡ self.old.keeps_dirty }
-        ensures counted { OnOk result (self.new.counts ≡ counted n self.old) }
-        ensures uncounted { OnErr result (self.new.counts ≡ self.old.counts) }
+        ensures uses { UsesPage D.BlockDevice n self.old result self.new }
     {
         if promote(&mut self.map, &mut self.counts, n) {
             return Ok(());
@@ -65,20 +53,9 @@ impl<B: Copy, D: BlockDevice<B>, S: KeyHasher<u64>> PageCache<B, D, S> {
             → shown D.BlockDevice self.new n ≡ Some (D.seen block)) }
         ensures pages { IfOk result (λ block. self.new.pages ≡ pages_read n block self.old) }
         ensures keeps { ShowsTheSame D.BlockDevice self.old self.new }
-        ensures crash { CrashAdds D.BlockDevice self.old.pages self.old.device self.new.device }
-        ensures unwritten { IsTrue self.old.keeps_dirty
-            → CrashKeeps D.BlockDevice self.old.device self.new.device }
         ensures hit { IsCached n self.old → IsOk result }
-        ensures untouched { IsCached n self.old → self.new.device ≡ self.old.device }
         ensures broken { D.is_usable self.old.device ≡ false → IsOk result ⊎ (result ≡ Err PageError.Broken) }
-        ensures full { result ≡ Err PageError.Full → self.new ≡ self.old }
-        ensures left { IfErr result (Leaves D.BlockDevice self.old self.new) }
-        ensures cause { IfErr result (IsCause D.BlockDevice n self.old self.new.device) }
-        ensures serves { Serves D.BlockDevice self.old.device self.new.device }
-        ensures capacity { self.new.capacity ≡ self.old.capacity }
-        ensures mode { self.new.keeps_dirty ≡ self.old.keeps_dirty }
-        ensures counted { OnOk result (self.new.counts ≡ counted n self.old) }
-        ensures uncounted { OnErr result (self.new.counts ≡ self.old.counts) }
+        ensures uses { UsesPage D.BlockDevice n self.old result self.new }
     {
         self.read_with(n, |block| *block)
     }
@@ -104,20 +81,9 @@ impl<B: Copy, D: BlockDevice<B>, S: KeyHasher<u64>> PageCache<B, D, S> {
             × (D.IsHonest self.new.device → shown D.BlockDevice self.new n ≡ Some (D.seen block))
             × (self.new.pages ≡ pages_read n block self.old)) }
         ensures keeps { ShowsTheSame D.BlockDevice self.old self.new }
-        ensures crash { CrashAdds D.BlockDevice self.old.pages self.old.device self.new.device }
-        ensures unwritten { IsTrue self.old.keeps_dirty
-            → CrashKeeps D.BlockDevice self.old.device self.new.device }
         ensures hit { IsCached n self.old → IsOk result }
-        ensures untouched { IsCached n self.old → self.new.device ≡ self.old.device }
         ensures broken { D.is_usable self.old.device ≡ false → IsOk result ⊎ (result ≡ Err PageError.Broken) }
-        ensures full { result ≡ Err PageError.Full → self.new ≡ self.old }
-        ensures left { IfErr result (Leaves D.BlockDevice self.old self.new) }
-        ensures cause { IfErr result (IsCause D.BlockDevice n self.old self.new.device) }
-        ensures serves { Serves D.BlockDevice self.old.device self.new.device }
-        ensures capacity { self.new.capacity ≡ self.old.capacity }
-        ensures mode { self.new.keeps_dirty ≡ self.old.keeps_dirty }
-        ensures counted { OnOk result (self.new.counts ≡ counted n self.old) }
-        ensures uncounted { OnErr result (self.new.counts ≡ self.old.counts) }
+        ensures uses { UsesPage D.BlockDevice n self.old result self.new }
     {
         self.bring(n)?;
         Ok(read_newest(&self.map, read))
@@ -143,20 +109,9 @@ impl<B: Copy, D: BlockDevice<B>, S: KeyHasher<u64>> PageCache<B, D, S> {
             (m : ℕ) → m ≢ n → shown D.BlockDevice self.new m ≡ shown D.BlockDevice self.old m }
         ensures failed { OnErr result (ShowsTheSame D.BlockDevice self.old self.new) }
         ensures pages { OnOk result (self.new.pages ≡ pages_written n block self.old) }
-        ensures crash { CrashAdds D.BlockDevice self.old.pages self.old.device self.new.device }
-        ensures unwritten { IsTrue self.old.keeps_dirty
-            → CrashKeeps D.BlockDevice self.old.device self.new.device }
         ensures hit { IsCached n self.old → IsTrue (D.is_usable self.old.device) → IsOk result }
-        ensures untouched { IsCached n self.old → self.new.device ≡ self.old.device }
         ensures broken { D.is_usable self.old.device ≡ false → result ≡ Err PageError.Broken }
-        ensures full { result ≡ Err PageError.Full → self.new ≡ self.old }
-        ensures left { IfErr result (Leaves D.BlockDevice self.old self.new) }
-        ensures cause { IfErr result (IsCause D.BlockDevice n self.old self.new.device) }
-        ensures serves { Serves D.BlockDevice self.old.device self.new.device }
-        ensures capacity { self.new.capacity ≡ self.old.capacity }
-        ensures mode { self.new.keeps_dirty ≡ self.old.keeps_dirty }
-        ensures counted { OnOk result (self.new.counts ≡ counted n self.old) }
-        ensures uncounted { OnErr result (self.new.counts ≡ self.old.counts) }
+        ensures uses { UsesPage D.BlockDevice n self.old result self.new }
     {
         admit(&self.device, n)?;
         if overwrite(&mut self.map, &mut self.counts, n, block) {
@@ -207,20 +162,9 @@ impl<B: Copy, D: BlockDevice<B>, S: KeyHasher<u64>> PageCache<B, D, S> {
         ensures others { IsGood D.BlockDevice self.new.device → (m : ℕ) (b : D.Seen) → m ≢ n
             → shown D.BlockDevice self.old m ≡ Some b → shown D.BlockDevice self.new m ≡ Some b }
         ensures failed { OnErr result (ShowsTheSame D.BlockDevice self.old self.new) }
-        ensures crash { CrashAdds D.BlockDevice self.old.pages self.old.device self.new.device }
-        ensures unwritten { IsTrue self.old.keeps_dirty
-            → CrashKeeps D.BlockDevice self.old.device self.new.device }
         ensures hit { IsCached n self.old → IsTrue (D.is_usable self.old.device) → IsOk result }
-        ensures untouched { IsCached n self.old → self.new.device ≡ self.old.device }
         ensures broken { D.is_usable self.old.device ≡ false → result ≡ Err PageError.Broken }
-        ensures full { result ≡ Err PageError.Full → self.new ≡ self.old }
-        ensures left { IfErr result (Leaves D.BlockDevice self.old self.new) }
-        ensures cause { IfErr result (IsCause D.BlockDevice n self.old self.new.device) }
-        ensures serves { Serves D.BlockDevice self.old.device self.new.device }
-        ensures capacity { self.new.capacity ≡ self.old.capacity }
-        ensures mode { self.new.keeps_dirty ≡ self.old.keeps_dirty }
-        ensures counted { OnOk result (self.new.counts ≡ counted n self.old) }
-        ensures uncounted { OnErr result (self.new.counts ≡ self.old.counts) }
+        ensures uses { UsesPage D.BlockDevice n self.old result self.new }
     {
         if !self.device.is_usable() {
             return Err(PageError::Broken);

@@ -1,7 +1,6 @@
 //! Pages that may not be evicted: pinned ones and, if the cache keeps them, dirty ones.
-ghost use Rattle.std.specs.Prelude.{◌≡◌, ◌⊎◌, ℕ, Some, false, IsTrue, IfErr, OnOk, OnErr, IsOk};
-ghost use Rattle.lru_caches.specs.Pages.{shown, counted, pages_pinned, pinned, unpinned_at, IsCached, ShowsTheSame};
-ghost use Rattle.lru_caches.specs.Pages.{CrashAdds, CrashKeeps, Serves, IsCause, Leaves};
+ghost use Rattle.std.specs.Prelude.{◌≡◌, ◌⊎◌, ℕ, Some, false, OnOk, IsOk};
+ghost use Rattle.lru_caches.specs.Pages.{shown, pages_pinned, pinned, unpinned_at, IsCached, ShowsTheSame, UsesPage};
 
 use crate::device::BlockDevice;
 use crate::page_cache::pages::{is_pinned_at, pin_newest, unpin_page};
@@ -24,20 +23,9 @@ impl<B: Copy, D: BlockDevice<B>, S: KeyHasher<u64>> PageCache<B, D, S> {
             × (D.IsHonest self.new.device → shown D.BlockDevice self.new n ≡ Some (D.seen block))
             × (self.new.pages ≡ pages_pinned n block self.old)) }
         ensures keeps { ShowsTheSame D.BlockDevice self.old self.new }
-        ensures crash { CrashAdds D.BlockDevice self.old.pages self.old.device self.new.device }
-        ensures unwritten { IsTrue self.old.keeps_dirty
-            → CrashKeeps D.BlockDevice self.old.device self.new.device }
         ensures hit { IsCached n self.old → IsOk result }
-        ensures untouched { IsCached n self.old → self.new.device ≡ self.old.device }
         ensures broken { D.is_usable self.old.device ≡ false → IsOk result ⊎ (result ≡ Err PageError.Broken) }
-        ensures full { result ≡ Err PageError.Full → self.new ≡ self.old }
-        ensures left { IfErr result (Leaves D.BlockDevice self.old self.new) }
-        ensures cause { IfErr result (IsCause D.BlockDevice n self.old self.new.device) }
-        ensures serves { Serves D.BlockDevice self.old.device self.new.device }
-        ensures capacity { self.new.capacity ≡ self.old.capacity }
-        ensures mode { self.new.keeps_dirty ≡ self.old.keeps_dirty }
-        ensures counted { OnOk result (self.new.counts ≡ counted n self.old) }
-        ensures uncounted { OnErr result (self.new.counts ≡ self.old.counts) }
+        ensures uses { UsesPage D.BlockDevice n self.old result self.new }
     {
         self.bring(n)?;
         pin_newest(&mut self.map);

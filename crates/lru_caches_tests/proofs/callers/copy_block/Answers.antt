@@ -8,7 +8,7 @@ on_err (Err e) f p = f p
 pub returns-clause-failed : goal.returns-clause-failed
 returns-clause-failed g c = on_err c.write.result (λ later good n block was.
     later good n block (c.read.ensures.keeps
-    (subst IsTrue c.write.ensures.serves.usable good.0, c.write.ensures.serves.honest good.1) n block was))
+    (subst IsTrue c.write.ensures.uses.serves.usable good.0, c.write.ensures.uses.serves.honest good.1) n block was))
     c.write.ensures.failed
 
 usable_if_ok : {T E : Type 0} {P : Type 0} (r : Result T E) (e : E) (usable : Bool) → (usable ≡ false → r ≡ Err e)
@@ -21,4 +21,4 @@ pub returns-clause-others : goal.returns-clause-others
 returns-clause-others g c =
     usable_if_ok c.write.result _ (g.D.BlockDevice.is_usable c.read.new.self.device) c.write.ensures.broken
     (λ usable honest m b apart was. c.write.ensures.others honest m apart
-    ∙ c.read.ensures.keeps (usable, c.write.ensures.serves.honest honest) m b was)
+    ∙ c.read.ensures.keeps (usable, c.write.ensures.uses.serves.honest honest) m b was)

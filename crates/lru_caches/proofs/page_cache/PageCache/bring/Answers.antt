@@ -1,4 +1,4 @@
-use Rattle.std.proofs.Common.{◌≡◌, ◌⊎◌, ◌∷◌, nat_eq, IfErr, subst, false, sym, ap, ◌∙◌}
+use Rattle.std.proofs.Common.{rules, ◌≡◌, ◌⊎◌, ◌∷◌, nat_eq, IfErr, subst, false, sym, ap, ◌∙◌}
 use Rattle.std.specs.Map.{lookup}
 use Rattle.lru_model.specs.Lists.{without}
 use Rattle.lru_caches.specs.Pages.{evicted, is_dirty, is_pinned, block_or, with_room}
@@ -39,14 +39,27 @@ returns-clause-page g c =
           ∷ with_room it.capacity it.keeps_dirty (without (nat_eq n) was)) (sym none)),
     )) c.load.ensures.page
 
-pub returns-clause-left : goal.returns-clause-left
-returns-clause-left g c =
+pub returns-clause-uses : goal.returns-clause-uses
+returns-clause-uses g c =
     let it = c.self.inside in
     let was = c.promote.new.map.pairs in
     let new = c.load.new.map.pairs in
     let gone = c.in_ok-gone.gone in
     let stays = c.promote.ensures.stays c.if-promote.false in
     let room = c.in_ok-gone.ensures.room ∙ ap (with_room it.capacity it.keeps_dirty) stays in
-    rw (← c.self.view_is) (subst (λ l. IfErr c.load.result (λ e. (new ≡ it.map.pairs) ⊎ ((e ≡ Memory) × (new ≡ l))))
-    room (subst (λ l. IfErr c.load.result (λ e. (new ≡ l) ⊎ ((e ≡ Memory) × (new ≡ evicted gone was))))
-    stays c.load.ensures.left))
+    record {
+      crash = search rules;
+      unwritten = search rules;
+      untouched = search rules;
+      serves = search rules;
+      cause = search rules;
+      left =
+        rw (← c.self.view_is) (subst (λ l. IfErr c.load.result (λ e. (new ≡ it.map.pairs) ⊎ ((e ≡ Memory) × (new ≡ l))))
+        room (subst (λ l. IfErr c.load.result (λ e. (new ≡ l) ⊎ ((e ≡ Memory) × (new ≡ evicted gone was))))
+        stays c.load.ensures.left));
+      full = search rules;
+      capacity = search rules;
+      mode = search rules;
+      counted = search rules;
+      uncounted = search rules;
+    }
