@@ -99,11 +99,15 @@ bool lru_clone(struct lru *lru, struct lru *copy);
 
 /* Inserts a key with a value, as the newest entry. A key that is there gets the new value, and the old one is
  * returned. If the map is full, the oldest entry is evicted first, and written to `*evicted`, which otherwise stays as
- * it is. One insert evicts at most one entry, unless max_length is above 939,524,096 (tested).
+ * it is. One insert evicts at most one entry, unless max_length is above 939,524,096.
  *
  * LRU_OUT_OF_MEMORY: the key was new, and is not there; an evicted entry would have been evicted by a successful insert
  * too. LRU_REJECTED: max_length is 0. */
 struct lru_inserted lru_insert(struct lru *lru, uint64_t key, uint64_t value, struct lru_entry *evicted);
+
+/* If the key is there, makes its entry the newest, and returns its value as the old value (`replaced` is true).
+ * Otherwise inserts this value, as lru_insert does. */
+struct lru_inserted lru_get_or_insert(struct lru *lru, uint64_t key, uint64_t value, struct lru_entry *evicted);
 
 /* The same as lru_insert, but returns the code alone. Do not call it if you own what the values point to: nothing says
  * which entry was evicted. */

@@ -52,12 +52,14 @@ static bool try_insert(struct lru *lru, struct list *list, uint64_t key, uint64_
     int i = find(list, key);
     struct lru_pair evicted = i < 0 && list->most && list->len == list->most ? at(list, 0) : at(list, list->len);
     struct lru_entry out = {3, 4};
-    struct lru_inserted in = lru_insert(lru, key, value, &out);
+    bool gets = next() % 2;
+    struct lru_inserted in = gets ? lru_get_or_insert(lru, key, value, &out) : lru_insert(lru, key, value, &out);
     CHECK(in.evicted == evicted.found);
     CHECK(out.key == (evicted.found ? evicted.key : 3) && out.value == (evicted.found ? evicted.value : 4));
     CHECK(in.replaced == (i >= 0) && in.old_value == (i >= 0 ? list->value[i] : 0));
     if (in.code == LRU_OUT_OF_MEMORY) CHECK(fail_each && i < 0 && list->most);
     else CHECK(in.code == (list->most ? LRU_STORED : LRU_REJECTED));
+    if (gets && i >= 0) value = list->value[i];
     if (i >= 0) drop(list, i);
     if (evicted.found) drop(list, 0);
     if (in.code == LRU_STORED) add(list, key, value);
@@ -154,6 +156,8 @@ static bool try_nothing(struct lru *lru) {
     struct lru_entry entry = {3, 4};
     struct lru_inserted in = lru_insert(lru, 1, 2, &entry);
     CHECK(in.code == LRU_NO_MAP && !in.evicted && !in.replaced && lru_put(lru, 1, 2) == LRU_NO_MAP);
+    in = lru_get_or_insert(lru, 1, 2, &entry);
+    CHECK(in.code == LRU_NO_MAP && !in.evicted && !in.replaced);
     CHECK(!lru_get(lru, 1).found && !lru_peek(lru, 1).found && !lru_remove(lru, 1).found);
     CHECK(!lru_contains(lru, 1) && !lru_promote(lru, 1) && !lru_reserve(lru, 1) && !lru_shrink(lru));
     CHECK(same(lru_pop_oldest(lru), none) && same(lru_peek_oldest(lru), none) && same(lru_peek_newest(lru), none));

@@ -2,6 +2,7 @@ pub mod Addresses
 pub mod ByteCopies
 pub mod FilledSlots
 pub mod NotedPairs
+pub mod OneEvicted
 pub mod StoredBytes
-pub mod Within
+pub mod HandleMaps
 pub mod WithinBudget

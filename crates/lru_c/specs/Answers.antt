@@ -1,10 +1,13 @@
 -- What the calls from C return.
-use Rattle.std.specs.Prelude.{◌≡◌, ℕ, suc, Bool, true, false, Option, None, Some, Result, Ok, Err, List, [], ◌∷◌}
-use Rattle.std.specs.Prelude.{if◌then◌else◌, nat_eq}
+use Rattle.std.specs.Prelude.{◌≡◌, ◌≤◌, length, ℕ, suc, Bool, true, false, Option, None, Some, Result, Ok, Err, List, [], ◌∷◌}
+use Rattle.std.specs.Prelude.{if◌then◌else◌, nat_eq, MatchOption}
 use Rattle.std.specs.declared.alloc.AllocError.{AllocError}
 use Rattle.lru_limits.specs.Limiters.{length_rules, length_offers}
 use Rattle.lru_model.specs.Callbacks.{InsertPasses}
+use Rattle.lru_model.specs.Calls.{promoted}
+use Rattle.lru_model.specs.Kept.{most_exact_length}
 use Rattle.lru_model.specs.Lists.{lookup}
+use Rattle.lru_model.specs.Theorems.{others}
 use Rattle.lru_c.specs.Handle.{Map, hash_of}
 use Rattle.lru_c.specs.declared.answers.Entry.{Entry}
 use Rattle.lru_c.specs.declared.answers.Found.{Found}
@@ -66,7 +69,16 @@ pub record Inserts (key value : ℕ) (old : Map) (answer : Inserted) (place left
   pub step : InsertPasses length_rules length_offers nat_eq hash_of key value old result passed new
   pub evicted : noted_pair answer.evicted left ≡ first_other key passed
   pub untouched : answer.evicted ≡ false → left ≡ place
+  -- no other pair was evicted, unless the maximum length is above 939,524,096
+  pub one_evicted : old.limiter ≤ most_exact_length → length (others (nat_eq key) passed) ≤ 1
   pub returned : answer ≡ inserted_of (put_code result) (lookup (nat_eq key) old.pairs) answer.evicted
+
+-- A get that inserts. If the key is there, it becomes the newest, and its value is returned as the old value. Otherwise
+-- the value is inserted.
+abbrev pub GetsOrInserts : ℕ → ℕ → Map → Inserted → Entry → Entry → Map → Type 0
+GetsOrInserts key value old answer place left new = MatchOption (lookup (nat_eq key) old.pairs)
+    (Inserts key value old answer place left new)
+    (λ there. (answer ≡ inserted_of 0 (Some there) false) × (left ≡ place) × (new ≡ promoted (nat_eq key) old))
 
 -- A call on a handle. If there is a map, it makes this step. Otherwise there is no map afterwards, and the call returns
 -- nothing.

@@ -1,5 +1,5 @@
 -- What a handle owns.
-use Rattle.std.specs.Prelude.{◌≤◌, ℕ, length, Option, None, Some}
+use Rattle.std.specs.Prelude.{◌≡◌, ◌≤◌, ℕ, length, Option, None, Some}
 use Rattle.std.specs.Borrow.{Fml, RattleType, u32, u64}
 use Rattle.std.specs.Box.Ownership.{box_owns}
 use Rattle.std.specs.declared.alloc.Global.{Global}
@@ -18,6 +18,7 @@ use Rattle.lru_limits.specs.contracts.hasher.RandomState as random_state
 use Rattle.lru_limits.specs.contracts.hasher.RandomStateBuildHasher.TheImpl as random_builds
 use Rattle.lru_limits.specs.contracts.limiters.by_length.ByLength as by_length
 use Rattle.lru_limits.specs.contracts.limiters.by_length.ByLengthLimiter.TheImpl as length_limits
+use Rattle.lru_model.specs.Sizes.{max_of_32_bits}
 use Rattle.lru_model.specs.State.{State}
 use Rattle.schnellru.specs.contracts.map.LruMap as lru_map
 
@@ -25,9 +26,11 @@ use Rattle.schnellru.specs.contracts.map.LruMap as lru_map
 abbrev pub Map : Type 0
 Map = State ℕ ℕ ℕ Mixer
 
--- the map has at most its maximum length of entries
-abbrev pub IsWithinLength : Map → Type 0
-IsWithinLength map = length map.pairs ≤ map.limiter
+-- what holds of the map of each handle: it has at most its maximum length of entries, of 24 bytes, and links of 32 bits
+pub record FitsHandle (map : Map) : Type 0 where
+  pub within : length map.pairs ≤ map.limiter
+  pub entry : map.entry_bytes ≡ 24
+  pub links : map.max ≡ max_of_32_bits
 
 abbrev pub hash_of : Mixer → ℕ → ℕ
 hash_of = hash_by u64_hash.ghosts.hash_input random_builds.ghosts default_hashes.ghosts

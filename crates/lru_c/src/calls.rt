@@ -1,23 +1,28 @@
 //! The calls on a map that return structs for C.
-ghost use Rattle.std.specs.Prelude.{◌≡◌, ℕ, nat_eq, false, List, Option, None, IfOk, OnErr, IfSome};
+ghost use Rattle.std.specs.Prelude.{◌≡◌, ◌≤◌, ℕ, nat_eq, false, length, List, Option, None, IfOk, OnErr, IfSome};
 ghost use Rattle.lru_limits.specs.Limiters.{length_rules, length_offers};
 ghost use Rattle.lru_model.specs.Calls.{Remove, PopOldest, promoted};
 ghost use Rattle.lru_model.specs.Lists.{lookup, first, last};
 ghost use Rattle.lru_model.specs.Callbacks.{InsertPasses};
 ghost use Rattle.lru_model.specs.Inserts.{kept_of};
-ghost use Rattle.lru_c.specs.Answers.{found_of, pair_of, noted_pair, filled, fitting, first_other, Inserts};
-ghost use Rattle.lru_c.specs.Handle.{hash_of};
+ghost use Rattle.lru_model.specs.Kept.{most_exact_length};
+ghost use Rattle.lru_model.specs.Theorems.{others};
+ghost use Rattle.lru_c.specs.Answers.{found_of, pair_of, noted_pair, filled, fitting, first_other};
+ghost use Rattle.lru_c.specs.Answers.{Inserts, GetsOrInserts};
+ghost use Rattle.lru_c.specs.Handle.{FitsHandle, hash_of};
 
 use crate::answers::{
-    Entry, Found, Inserted, OUT_OF_MEMORY, Pair, as_code, as_found, as_inserted, as_pair,
+    Entry, Found, Inserted, OUT_OF_MEMORY, Pair, STORED, as_code, as_found, as_inserted, as_pair,
     note_other,
 };
 use crate::handle::Map;
+use schnellru::{ByLength, RandomState, laws};
 use std::alloc::{AllocError, Global};
 
 /// Inserts a value, and writes the evicted entry, if there is one, to a place. Returns which value was replaced.
 #[inline]
 pub fn insert(map: &mut Map, key: u64, value: u64, place: &mut Entry) -> Inserted
+    requires fits { FitsHandle map.old }
     ensures { Inserts key value map.old result place.old place.new map.new }
 {
     let mut noted = false;
@@ -25,6 +30,20 @@ pub fn insert(map: &mut Map, key: u64, value: u64, place: &mut Entry) -> Inserte
         Ok(inserted) => as_inserted(as_code(Ok(inserted.kept)), inserted.unkept, noted),
         Err(_) => as_inserted(OUT_OF_MEMORY, None, noted),
     }
+}
+
+/// Returns the value of a key, as the replaced one, and makes its entry the newest. If the key is not there, inserts
+/// this value as `insert` does.
+#[inline]
+pub fn get_or_insert(map: &mut Map, key: u64, value: u64, place: &mut Entry) -> Inserted
+    requires fits { FitsHandle map.old }
+    ensures { GetsOrInserts key value map.old result place.old place.new map.new }
+{
+    let found = get(map, key);
+    if found.found {
+        return as_inserted(STORED, Some(found.value), false);
+    }
+    insert(map, key, value, place)
 }
 
 #[inline]
@@ -35,13 +54,19 @@ fn insert_and_note(
     noted: &mut bool,
     place: &mut Entry,
 ) -> Result<schnellru::Inserted<u64>, AllocError>
-    requires { noted.old ≡ false }
+    requires fits { FitsHandle map.old }
+    requires none { noted.old ≡ false }
     ensures passed { (passed : List (ℕ × ℕ)) × (noted_pair noted.new place.new ≡ first_other key passed)
-        × InsertPasses length_rules length_offers nat_eq hash_of key value map.old (kept_of result) passed map.new }
+        × InsertPasses length_rules length_offers nat_eq hash_of key value map.old (kept_of result) passed map.new
+        × (map.old.limiter ≤ most_exact_length → length (others (nat_eq key) passed) ≤ 1) }
     ensures untouched { noted.new ≡ false → place.new ≡ place.old }
     ensures replaced { IfOk result (λ inserted. inserted.unkept ≡ lookup (nat_eq key) map.old.pairs) }
     ensures out_of_memory { OnErr result (lookup (nat_eq key) map.old.pairs ≡ None) }
 {
+    laws::inserts_leave_the_newest::<u64, u64, RandomState>();
+    laws::nothing_is_lost::<u64, u64, u64, ByLength, RandomState>();
+    // Does nothing at run time. It shows the prover that the table is sound.
+    let _len = map.len();
     map.insert_full(key, value, &mut |k, v| note_other(noted, place, key, k, v))
 }
 

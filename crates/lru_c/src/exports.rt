@@ -15,14 +15,16 @@ ghost use Rattle.lru_model.specs.Shrinks.{Shrink};
 ghost use Rattle.lru_model.specs.Sizes.{max_of_32_bits, usage};
 ghost use Rattle.lru_model.specs.State.{empty_map, buckets, contents, growth_left, Trims, IsWithin};
 ghost use Rattle.lru_model.specs.declared.results.ReserveError.{ReserveError};
-ghost use Rattle.lru_c.specs.Answers.{found_of, pair_of, inserted_of, filled, fitting, Inserts, OnMap, put_code};
+ghost use Rattle.lru_c.specs.Answers.{found_of, pair_of, inserted_of, filled, fitting, Inserts, GetsOrInserts, OnMap};
+ghost use Rattle.lru_c.specs.Answers.{put_code};
 ghost use Rattle.lru_c.specs.Handle.{hash_of};
 
 use crate::answers::{
     Entry, Found, Inserted, NO_MAP, Pair, as_code, as_found, as_inserted, as_pair,
 };
 use crate::calls::{
-    copied, copy_entries, get, insert, peek, peek_newest, peek_oldest, pop_oldest, remove,
+    copied, copy_entries, get, get_or_insert, insert, peek, peek_newest, peek_oldest, pop_oldest,
+    remove,
 };
 use crate::handle::{Lru, with_map};
 use schnellru::{ByLength, LruMap};
@@ -81,6 +83,25 @@ pub extern "C" fn lru_insert(
 }
 
 #[unsafe(no_mangle)]
+pub extern "C" fn lru_get_or_insert(
+    alloc: Global,
+    lru: &mut Lru,
+    key: u64,
+    value: u64,
+    evicted: &mut Entry,
+) -> Inserted
+    ensures { OnMap ((result ≡ inserted_of 3 None false) × (evicted.new ≡ evicted.old))
+        (λ old new. GetsOrInserts key value old result evicted.old evicted.new new) lru.old.map lru.new.map }
+{
+    with_map!(
+        lru,
+        alloc,
+        |map| get_or_insert(&mut map, key, value, evicted),
+        as_inserted(NO_MAP, None, false)
+    )
+}
+
+#[unsafe(no_mangle)]
 pub extern "C" fn lru_put(alloc: Global, lru: &mut Lru, key: u64, value: u64) -> u32
     ensures { OnMap (result ≡ 3) (λ old new. (done : Result Bool AllocError) × (result ≡ put_code done)
         × Insert length_rules length_offers nat_eq hash_of key value old done new) lru.old.map lru.new.map }
@@ -89,7 +110,7 @@ pub extern "C" fn lru_put(alloc: Global, lru: &mut Lru, key: u64, value: u64) ->
 }
 
 #[unsafe(no_mangle)]
-#[tactic(auto, using(crate::proofs::Within::got_within))]
+#[tactic(auto, using(crate::proofs::HandleMaps::got_fits))]
 pub extern "C" fn lru_get(alloc: Global, lru: &mut Lru, key: u64) -> Found
     ensures { OnMap (result ≡ found_of None) (λ old new. (result ≡ found_of (lookup (nat_eq key) old.pairs))
         × (new ≡ promoted (nat_eq key) old)) lru.old.map lru.new.map }
@@ -114,7 +135,7 @@ pub extern "C" fn lru_contains(alloc: Global, lru: &mut Lru, key: u64) -> bool
 }
 
 #[unsafe(no_mangle)]
-#[tactic(auto, using(crate::proofs::Within::got_within))]
+#[tactic(auto, using(crate::proofs::HandleMaps::got_fits))]
 pub extern "C" fn lru_promote(alloc: Global, lru: &mut Lru, key: u64) -> bool
     ensures { OnMap (result ≡ false) (λ old new. (result ≡ is_some (lookup (nat_eq key) old.pairs))
         × (new ≡ promoted (nat_eq key) old)) lru.old.map lru.new.map }
@@ -123,7 +144,7 @@ pub extern "C" fn lru_promote(alloc: Global, lru: &mut Lru, key: u64) -> bool
 }
 
 #[unsafe(no_mangle)]
-#[tactic(auto, using(crate::proofs::Within::removed_within))]
+#[tactic(auto, using(crate::proofs::HandleMaps::removed_fits))]
 pub extern "C" fn lru_remove(alloc: Global, lru: &mut Lru, key: u64) -> Found
     ensures { OnMap (result ≡ found_of None) (λ old new. (value : Option ℕ) × (result ≡ found_of value)
         × Remove length_rules (nat_eq key) old value new) lru.old.map lru.new.map }
@@ -132,7 +153,7 @@ pub extern "C" fn lru_remove(alloc: Global, lru: &mut Lru, key: u64) -> Found
 }
 
 #[unsafe(no_mangle)]
-#[tactic(auto, using(crate::proofs::Within::popped_within))]
+#[tactic(auto, using(crate::proofs::HandleMaps::popped_fits))]
 pub extern "C" fn lru_pop_oldest(alloc: Global, lru: &mut Lru) -> Pair
     ensures { OnMap (result ≡ pair_of None) (λ old new. (pair : Option (ℕ × ℕ)) × (result ≡ pair_of pair)
         × PopOldest length_rules old pair new) lru.old.map lru.new.map }
@@ -197,7 +218,7 @@ pub extern "C" fn lru_memory_usage(alloc: Global, lru: &mut Lru) -> usize
 }
 
 #[unsafe(no_mangle)]
-#[tactic(auto, using(crate::proofs::Within::cleared_within))]
+#[tactic(auto, using(crate::proofs::HandleMaps::cleared_fits))]
 pub extern "C" fn lru_clear(alloc: Global, lru: &mut Lru)
     ensures { OnMap ⊤ (λ old new. new ≡ cleared length_rules old) lru.old.map lru.new.map }
 {
@@ -205,7 +226,7 @@ pub extern "C" fn lru_clear(alloc: Global, lru: &mut Lru)
 }
 
 #[unsafe(no_mangle)]
-#[tactic(auto, using(crate::proofs::Within::reserved_within))]
+#[tactic(auto, using(crate::proofs::HandleMaps::reserved_fits))]
 pub extern "C" fn lru_reserve(alloc: Global, lru: &mut Lru, additional: usize) -> bool
     ensures { OnMap (result ≡ false) (λ old new. (done : Result (Unit {0}) ReserveError) × (result ≡ is_ok done)
         × Reserve length_rules additional old done new) lru.old.map lru.new.map }
@@ -214,7 +235,7 @@ pub extern "C" fn lru_reserve(alloc: Global, lru: &mut Lru, additional: usize) -
 }
 
 #[unsafe(no_mangle)]
-#[tactic(auto, using(crate::proofs::Within::shrunk_within))]
+#[tactic(auto, using(crate::proofs::HandleMaps::shrunk_fits))]
 pub extern "C" fn lru_shrink(alloc: Global, lru: &mut Lru) -> bool
     ensures { OnMap (result ≡ false) (λ old new. (done : Result Bool AllocError) × (result ≡ is_ok done)
         × Shrink old done new) lru.old.map lru.new.map }
@@ -223,7 +244,7 @@ pub extern "C" fn lru_shrink(alloc: Global, lru: &mut Lru) -> bool
 }
 
 #[unsafe(no_mangle)]
-#[tactic(auto, using(crate::proofs::Within::is_within))]
+#[tactic(auto, using(crate::proofs::HandleMaps::limited_fits))]
 pub extern "C" fn lru_set_max_length(alloc: Global, lru: &mut Lru, max_length: u32)
     ensures { OnMap ⊤ (λ old new. Trims length_rules (record old { limiter = max_length }) new
         × IsWithin length_rules (contents new)) lru.old.map lru.new.map }

@@ -1,6 +1,6 @@
 //! What C keeps for a map.
 ghost use Rattle.std.specs.Prelude.{◌≡◌, None, Some, IfSome, option_map};
-ghost use Rattle.lru_c.specs.Handle.{map_row, maybe_row, owns_boxed, IsWithinLength};
+ghost use Rattle.lru_c.specs.Handle.{map_row, maybe_row, owns_boxed, FitsHandle};
 
 use crate::raw_box::RawBox;
 use schnellru::LruMap;
@@ -94,8 +94,8 @@ impl Slot {
     }
 }
 
-/// A handle: a map on the heap, or none. The map has at most its maximum length of entries. A contract sees the map; C
-/// sees an address, which is null if there is no map.
+/// A handle: a map on the heap, or none. The map has at most its maximum length of entries (`FitsHandle`). A contract sees
+/// the map; C sees an address, which is null if there is no map.
 ///
 /// Nothing drops a handle, because its map cannot be freed without an allocator. Each call takes the map out and puts
 /// it back.
@@ -106,7 +106,7 @@ pub struct Lru {
 
 impl Model for Lru {
     ghost use Rattle.std.specs.Prelude.{IfSome};
-    ghost use Rattle.lru_c.specs.Handle.{IsWithinLength};
+    ghost use Rattle.lru_c.specs.Handle.{FitsHandle};
     ghost use Rattle.lru_c.specs.declared.handle.Slot.{Slot};
 
     ghost Value = { Slot };
@@ -115,14 +115,14 @@ impl Model for Lru {
 
     ghost inverse = { λ slot. record { slot = slot } };
 
-    ghost invariant = { λ lru. IfSome lru.slot.map IsWithinLength };
+    ghost invariant = { λ lru. IfSome lru.slot.map FitsHandle };
 }
 
 impl Lru {
     #[inline]
     pub fn take(&mut self, alloc: Global) -> Option<Box<Map>>
         ensures map { option_map (λ map. map.value) result ≡ self.old.map }
-        ensures within { IfSome result (λ map. IsWithinLength map.value) }
+        ensures fits { IfSome result (λ map. FitsHandle map.value) }
         ensures none { self.new.map ≡ None }
     {
         self.slot.take(alloc)
@@ -131,7 +131,7 @@ impl Lru {
     #[inline]
     pub fn put(&mut self, map: Box<Map>)
         requires none { self.old.map ≡ None }
-        requires within { IsWithinLength map.value }
+        requires fits { FitsHandle map.value }
         ensures { self.new.map ≡ Some map.value }
     {
         self.slot.put(map)

@@ -1,5 +1,5 @@
 use Rattle.std.proofs.Common.{rules, refl}
-use Rattle.lru_c.proofs.Within.{on_map}
+use Rattle.lru_c.proofs.HandleMaps.{on_map}
 use Rattle.lru_c.proofs.bytes.exports.lru_bytes_contains.Goals as goal
 
 pub returns-in-Some : goal.returns-in-Some

@@ -1,5 +1,5 @@
 use Rattle.std.proofs.Common.{rules}
-use Rattle.lru_c.proofs.Within.{on_map}
+use Rattle.lru_c.proofs.HandleMaps.{on_map}
 use Rattle.lru_c.proofs.WithinBudget.{pop_in_budget}
 use Rattle.lru_c.proofs.bytes.exports.lru_bytes_pop_oldest.Goals as goal
 

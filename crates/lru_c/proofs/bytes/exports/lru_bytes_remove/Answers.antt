@@ -1,6 +1,6 @@
 use Rattle.std.proofs.Common.{rules}
 use Rattle.lru_c.specs.Bytes.{names_bytes}
-use Rattle.lru_c.proofs.Within.{on_map}
+use Rattle.lru_c.proofs.HandleMaps.{on_map}
 use Rattle.lru_c.proofs.WithinBudget.{removed_in_budget}
 use Rattle.lru_c.proofs.bytes.exports.lru_bytes_remove.Goals as goal
 
