@@ -1,4 +1,5 @@
--- What a record of the calls on a file says of the blocks of the file.
+-- What a record of the calls on a file says of the blocks of the file. A block is known if the record determines its
+-- bytes.
 use Rattle.std.specs.Prelude.{◌≡◌, ℕ, zero, suc, nat_eq, Bool, if◌then◌else◌, List, [], ◌∷◌, Option, Some, None, slice_index}
 
 -- A call with its result: which call, the number of the block, and the bytes that were read or written.

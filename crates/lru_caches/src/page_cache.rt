@@ -33,7 +33,7 @@ pub enum PageError<E> {
     /// The device failed, with this error.
     #[error("the device failed: {0}")]
     Device(E),
-    /// Out of memory for one more page, or there are 1,879,048,192 pages, the most that the table links.
+    /// Out of memory for one more page, or there are 1,879,048,192 pages, the most that the table holds.
     #[error("out of memory")]
     Memory,
     /// The device has no block of this number.
@@ -55,8 +55,6 @@ pub enum PageError<E> {
 ///
 /// After a `flush` that returned `Ok`, a crash leaves each block as it was shown at that flush. If a later call wrote
 /// the block, a crash may also leave it as it was written, or torn. `docs/CACHES.md` says what this supposes of a disk.
-/// `write`, `flush`, `flush_page` and `close` return `Broken` after a `sync` that failed. So does a read of a page that
-/// is not cached.
 ///
 /// Code that drops or forgets a cache does not compile, because its dirty pages would be lost. Call `close` or
 /// `discard`.
@@ -241,8 +239,8 @@ impl<B: Copy, D: BlockDevice<B>, S: KeyHasher<u64>> PageCache<B, D, S> {
     ///
     /// # Errors
     ///
-    /// `Device`: a write or the `sync` failed. All pages stay as dirty as before. If it was a write, the next flush
-    /// writes them again. If it was the `sync`, the device is not usable from then on. `Broken`: a `sync` had failed
+    /// `Device`: a write or the `sync` failed. The same pages are dirty as before. If a write failed, the next flush
+    /// writes them again. If the `sync` failed, the device is not usable from then on. `Broken`: a `sync` had failed
     /// before.
     pub fn flush(&mut self) -> Result<(), PageError<D::Error>>
         ensures keeps { ShowsTheSame D.BlockDevice self.old self.new }

@@ -30,7 +30,7 @@ module _ {K V : Type 0} (weight : K → V → ℕ) where
   abbrev pub worth : K × V → ℕ
   worth pair = weight pair.0 pair.1
 
-  -- all pairs cost what the pair of a key costs, plus what the others cost
+  -- all pairs together cost what the pair of a key costs, plus what the others cost
   pub spent_without : (test : K → Bool) (pairs : List (K × V)) (p : K × V) → lookup_entry test pairs ≡ Some p
       → spent worth pairs ≡ worth p + spent worth (without test pairs)
   spent_without test [] p e = absurd cc
@@ -83,7 +83,7 @@ module _ {K V : Type 0} (weight : K → V → ℕ) where
           (ap holding (sym (affords_all worth n (x ∷ pairs) within)))
     ]
 
-    -- a trim removes the oldest pairs while all cost too much
+    -- a trim removes the oldest pairs while the pairs together cost too much
     pub trimmed_is : (pairs : List (K × V)) → trim (by_weight weight) (holding pairs) ≡ holding (affordable worth n pairs)
     unfolding trim
     trimmed_is pairs = trimmed_from (length pairs) pairs refl

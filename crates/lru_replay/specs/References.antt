@@ -31,8 +31,8 @@ pub record CostsAlike {K V : Type 0} (eq : K → K → Bool) (weight : K → V �
   pub keys : (key other : K) → eq key other ≡ true → cost key ≡ cost other
   pub pairs : (key other : K) (value : V) → eq key other ≡ true → weight key value ≡ weight other value
 
--- Each pair costs what its key costs. The total is the sum of the costs, and at most the limit. No more than `most`
--- keys cost at most the limit together, and there is a table for 8 * (most + 1) pairs.
+-- Each pair costs what its key costs. The total is the sum of the costs, and at most the limit. Any `most` + 1 keys,
+-- even equal ones, together cost more than the limit, and there is a table for 8 * (most + 1) pairs.
 pub record KeepsToCost {K V H : Type 0} (weight : K → V → ℕ) (cost : K → ℕ) (st : State K V Budget H) : Type 0 where
   pub each : AllByRecursion (λ pair. weight pair.0 pair.1 ≡ cost pair.0) st.pairs
   pub summed : IsSummed weight (λ budget. budget.cost) st

@@ -27,8 +27,8 @@ use std::hash::Hash;
 
 /// These calls make a reference if they return `Ok`: an insert (`inserts`), an insert that evicts nothing (`tries`),
 /// and a memo that remembers a value (`remembers`). So do a get that finds the key, whatever is written through the
-/// loan (`gets`), and a promotion of a key that is there (`promotes`). If a get returns `None`, an insert makes the
-/// reference. A reference to a key is also a reference to each equal key (`equal`).
+/// loan (`gets`), and a promotion of a key that is there (`promotes`). If a get returns `None`, the insert after it
+/// makes the reference. A reference to a key is also a reference to each equal key (`equal`).
 pub fn calls_make_references<K: Eq + Hash + Drop, V: Drop, S: KeyHasher<K>>()
     ensures inserts { (key : K) (value : V) (kept : Bool) (old new : State K V ByLength S) →
         KeepsToLength old → IsSized new →
@@ -152,7 +152,7 @@ pub fn references_keep_the_newest<K: Eq + Hash + Drop, V: Drop, S: KeyHasher<K>>
 {}
 
 /// More capacity never means more misses, whichever calls make the references of one trace on two maps. If the keys of
-/// the smaller map are the newest keys of the larger one, they are so after the trace, too (`front`). Even if the
+/// the smaller map are the newest keys of the larger map, this is so after the trace, too (`front`). Even if the
 /// smaller map is only included in the larger one, it misses at least as often (`misses`).
 pub fn more_capacity_never_misses_more<K: Eq + Hash + Drop, V: Drop, S: KeyHasher<K>>()
     ensures front { (trace : List K) (missed other_missed : ℕ) (old small other large : State K V ByLength S) →
