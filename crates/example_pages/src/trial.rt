@@ -35,7 +35,7 @@ pub struct Counts {
     pub dropped: u64,
     /// Pages that were torn, and are whole again.
     pub torn: u64,
-    /// Crashes after which a committed record was gone, or half a transaction there.
+    /// Crashes after which a committed record was gone, or a part of a transaction was there.
     pub lost: u64,
 }
 

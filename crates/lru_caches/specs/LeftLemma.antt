@@ -4,7 +4,7 @@ use Rattle.std.proofs.Common.{sym, ◌∙◌, ap, subst, unwrap_or, option_map}
 use Rattle.std.proofs.lemmas.Option.{none-some}
 use Rattle.lru_caches.specs.Files.{Event, known, known_after, left, left_after, or_else, IsLeft, synced, unsynced}
 
--- if `kept` is there, `block` is there, too, and is the same
+-- if `kept` is some bytes, `block` is the same bytes
 abbrev pub Fits : Option (List ℕ) → Option (List ℕ) → Type 0
 Fits kept block = (x : List ℕ) → kept ≡ Some x → block ≡ Some x
 

@@ -28,7 +28,7 @@ mod more;
 ///
 /// The map evicts nothing: if its table cannot grow, an insert fails and changes nothing.
 ///
-/// In the examples of the calls, `map` contains (1, 11) and the newest, (2, 20). Some examples make another map.
+/// In the examples of the calls, `map` contains (1, 11) and the newest, (2, 20).
 ///
 /// ```
 /// let mut map: OrderedMap<u64, u64> = OrderedMap::new(alloc);

@@ -50,7 +50,7 @@ pub enum PageError<E> {
 
 /// A write-back cache of the blocks of a device.
 ///
-/// It keeps the pages that were used last, up to its capacity, and those that are pinned. A write changes only the
+/// It keeps the pinned pages and the pages that were used last, together at most its capacity. A write changes only the
 /// cached page: the page is then dirty, and goes to the device when it is evicted or flushed.
 ///
 /// After a `flush` that returned `Ok`, a crash leaves each block as it was shown at that flush. If a later call wrote
@@ -287,7 +287,8 @@ impl<B: Copy, D: BlockDevice<B>, S: KeyHasher<u64>> PageCache<B, D, S> {
     ///
     /// # Errors
     ///
-    /// The flush failed. The error contains the cache as `flush` left it, with the same pages, each as dirty as before.
+    /// The flush failed. The error contains the cache as `flush` left it: it has the same pages, and the same pages are
+    /// dirty.
     pub fn close(mut self) -> Result<D, Unclosed<B, D, S>>
     where
         S: Drop,

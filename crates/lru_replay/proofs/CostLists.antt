@@ -12,7 +12,7 @@ use Rattle.lru_model.specs.State.{Contents, notified_of, pop, trim, trim_from}
 use Rattle.lru_theory.specs.Budgets.{affordable}
 use Rattle.lru_theory.proofs.Affordable.{spent, affords_all}
 
--- if the items cost more than n, dropping the last one does not change which are affordable
+-- if the items together cost more than n, dropping the last item does not change which items are affordable
 pub fewer : {X : Type 0} (cost : X → ℕ) (n : ℕ) (xs : List X) → n < spent cost xs
     → affordable cost n (without_last xs) ≡ affordable cost n xs
 fewer cost n [] over = refl

@@ -55,10 +55,10 @@ pub fn loading_ahead_gains_nothing<K: Eq>()
 {}
 
 /// A cache of n places is *included* in a cache of m places if its keys are keys of the larger cache, in the same
-/// order. The larger cache must contain at most m - n more. If the smaller cache is included before some calls, it is
-/// included after them (`included`). So the larger cache finds what the smaller one finds (`finds`), and misses no more
-/// often at the references of a trace (`misses`). The calls may reference keys, make them the newest, remove them or
-/// look at them.
+/// order. The larger cache must contain at most m - n more keys. If the smaller cache is included before some calls, it
+/// is included after them (`included`). So the larger cache finds what the smaller one finds (`finds`), and misses no
+/// more often at the references of a trace (`misses`). The calls may reference keys, make them the newest, remove them
+/// or look at them.
 pub fn a_smaller_cache_is_included<K: Eq>()
     ensures included { (n m : ℕ) (calls : List (KeyCall K)) (small large : List K) → n ≤ m →
         IsIncluded K.eq n m small large →
