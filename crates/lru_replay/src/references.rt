@@ -166,9 +166,8 @@ pub fn more_capacity_never_misses_more<K: Eq + Hash + Drop, V: Drop, S: KeyHashe
         other_missed ≤ missed }
 {}
 
-/// If a smaller map is included in a larger map, it is so after the same calls, too (`included`): its keys are keys of
-/// the larger map, in the same order. So what the smaller map finds, the larger map finds (`finds`). The calls may
-/// reference keys, get, promote, look, write, remove, clear, reserve and shrink, in any order.
+/// If a smaller map is included in a larger map, it is so after the same calls, too (`included`). So what the smaller
+/// map finds, the larger map finds (`finds`). The calls are those of `calls_change_the_keys`, and references.
 pub fn a_smaller_map_is_included<K: Eq + Hash + Drop, V: Drop, S: KeyHasher<K>>()
     ensures included { (calls : List (KeyCall K)) (old small other large : State K V ByLength S) →
         Did K.eq old calls small → Did K.eq other calls large → old.limiter ≤ other.limiter →
