@@ -3,7 +3,7 @@ use crate::disk::Disk;
 use crate::page::{Header, PAGE, Page, header_of};
 use lru_caches::{BlockDevice, FileError, HashedFileDevice};
 
-/// The pages of the transactions since the last checkpoint, in order. Behind them are pages of earlier ones.
+/// The pages of the transactions since the last checkpoint, in order. Behind them are pages of earlier transactions.
 #[derive(Drop)]
 pub struct Log<'a> {
     device: HashedFileDevice<Disk<'a>, PAGE>,

@@ -30,12 +30,12 @@ type Files<'a> = (Disk<'a>, Disk<'a>);
 pub struct Counts {
     pub crashes: u64,
     pub commits: u64,
-    /// Crashes that interrupted a commit, which had then taken place, or not.
+    /// Crashes that interrupted a commit, which took place (`kept`) or not (`dropped`).
     pub kept: u64,
     pub dropped: u64,
     /// Pages that were torn, and are whole again.
     pub torn: u64,
-    /// Crashes after which a committed record was gone, or half a transaction there.
+    /// Crashes after which a committed record was gone, or a part of a transaction was there.
     pub lost: u64,
 }
 

@@ -25,7 +25,7 @@ module _ {B : Type 0} (keeps : Bool) where
       ≡ option_map (λ q. q.0) (cond (may_go keeps p.1) (Some p) (find goes (reverse pages)))
   victim-push pages p = ap (λ l. option_map (λ q. q.0) (find goes l)) (reverse-append pages (p ∷ []))
 
-  -- the page at the old end goes
+  -- the oldest page is the victim
   pub victim-goes : (pages : List (ℕ × Page B)) (p : ℕ × Page B) → may_go keeps p.1 ≡ true
       → victim keeps (pages ++ p ∷ []) ≡ Some p.0
   victim-goes pages p e = victim-push pages p

@@ -26,7 +26,7 @@ module _ {K V : Type 0} (eq : K → K → Bool) (post : K → V → Type 0) wher
   abbrev pub IsAnswer : K → V → Type 0
   IsAnswer key value = (k : K) × (eq key k ≡ true) × post k value
 
-  -- each stored value is such an answer at its key
+  -- each stored value is an answer (`IsAnswer`) at its key
   abbrev pub AreAnswers : List (K × V) → Type 0
   AreAnswers known = All (λ p. IsAnswer p.0 p.1) known
 

@@ -1,4 +1,5 @@
--- What a record of the calls on a file says of the blocks of the file.
+-- What a record of the calls on a file says of the blocks of the file. A block is known if the record determines its
+-- bytes.
 use Rattle.std.specs.Prelude.{◌≡◌, ℕ, zero, suc, nat_eq, Bool, if◌then◌else◌, List, [], ◌∷◌, Option, Some, None, slice_index}
 
 -- A call with its result: which call, the number of the block, and the bytes that were read or written.
@@ -47,7 +48,7 @@ abbrev pub known : List Event → ℕ → Option (List ℕ)
 known [] n = None
 known (e ∷ earlier) n = known_after e.0 (nat_eq n e.1) e.2 (known earlier n)
 
--- What a crash leaves of a block after an event, if that is determined. `block` is what is known of it.
+-- What a crash leaves of a block after an event, if that is determined. `block` is the block, if it is known.
 abbrev pub left_after : ℕ → Bool → Option (List ℕ) → Option (List ℕ) → Option (List ℕ)
 left_after zero same block old = old
 left_after (suc zero) same block old = old

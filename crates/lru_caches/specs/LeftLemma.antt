@@ -1,10 +1,10 @@
--- What a crash leaves of a file, if that is determined, is what is known of it.
+-- If a record of calls determines what a crash leaves of a block, this is the known block.
 use Rattle.std.specs.Prelude.{◌≡◌, ℕ, zero, suc, nat_eq, Bool, true, false, if◌then◌else◌, List, [], ◌∷◌, Option, Some, None, refl}
 use Rattle.std.proofs.Common.{sym, ◌∙◌, ap, subst, unwrap_or, option_map}
 use Rattle.std.proofs.lemmas.Option.{none-some}
 use Rattle.lru_caches.specs.Files.{Event, known, known_after, left, left_after, or_else, IsLeft, synced, unsynced}
 
--- if `kept` is there, `block` is there, too, and is the same
+-- if `kept` is some bytes, `block` is the same bytes
 abbrev pub Fits : Option (List ℕ) → Option (List ℕ) → Type 0
 Fits kept block = (x : List ℕ) → kept ≡ Some x → block ≡ Some x
 
@@ -26,7 +26,7 @@ left_fits (e ∷ earlier) n =
     fits_step e.0 e.2 (nat_eq n e.1) (left earlier n) (known earlier n) (left_fits earlier n)
 
 module _ (seen : List ℕ → List ℕ) (events : List Event) (n : ℕ) where
-  -- a crash may leave what is known
+  -- if the bytes of block n are known, a crash may leave them
   pub left_is_known : (bytes : List ℕ) → known events n ≡ Some bytes → IsLeft seen (left events n) (seen bytes)
   left_is_known bytes is = go (left events n) refl
     where
@@ -44,7 +44,7 @@ module _ (seen : List ℕ → List ℕ) (events : List Event) (n : ℕ) where
       go None e = tt
       go (Some x) e = subst (λ o. IsLeft seen o block) (left_fits events n x e) is
 
-  -- a crash may leave what is known, as it is seen
+  -- `left_is_known`, for what contracts see of the bytes
   pub left_is_seen : (block : List ℕ) → option_map seen (known events n) ≡ Some block
       → IsLeft seen (left events n) block
   left_is_seen block is = go (known events n) refl is

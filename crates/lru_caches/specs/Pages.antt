@@ -153,7 +153,7 @@ module _ {B D E S : Type 0} (d : device.Ghosts D B E S) where
   abbrev pub IsGood : D → Type 0
   IsGood device = IsTrue (d.is_usable device) × d.IsHonest device
 
-  -- each block that was shown is shown, if the device is good
+  -- each block that was shown is still shown, if the device is good
   abbrev pub ShowsTheSame : Cached B D → Cached B D → Type 0
   ShowsTheSame old new = IsGood new.device → (n : ℕ) (block : S) → shown old n ≡ Some block → shown new n ≡ Some block
 
@@ -171,7 +171,7 @@ module _ {B D E S : Type 0} (d : device.Ghosts D B E S) where
   abbrev pub CrashKeeps : D → D → Type 0
   CrashKeeps old new = (n : ℕ) (block : S) → d.may_leave new n block → d.may_leave old n block
 
-  -- each clean page is as on the device, if that is good
+  -- each clean page is as on the device, if the device is good
   abbrev pub AreClean : List (ℕ × Page B) → D → Type 0
   AreClean pages device = IsGood device → (n : ℕ) (page : Page B) → lookup (nat_eq n) pages ≡ Some page
       → page.is_dirty ≡ false → d.blocks device n ≡ Some (d.seen page.block)
@@ -180,7 +180,7 @@ module _ {B D E S : Type 0} (d : device.Ghosts D B E S) where
   abbrev pub AreThere : List (ℕ × Page B) → D → Type 0
   AreThere pages device = (n : ℕ) (page : Page B) → lookup (nat_eq n) pages ≡ Some page → IsTrue (d.has device n)
 
-  -- the device has the same numbers, is usable if it was, and was honest if it is
+  -- the device has the same numbers, and is usable exactly if it was; if it is honest now, it was honest before
   pub record Serves (old new : D) : Type 0 where
     pub numbers : (n : ℕ) → d.has new n ≡ d.has old n
     pub usable : d.is_usable new ≡ d.is_usable old
@@ -236,7 +236,7 @@ module _ {B D E S : Type 0} (d : device.Ghosts D B E S) where
   -- what each call that reads, writes or pins page n does
   pub record UsesPage {A : Type 0} (n : ℕ) (old : Cached B D) (result : Result A (PageError E)) (new : Cached B D)
       : Type 0 where
-    -- the device gets at most dirty pages, and nothing if the cache keeps these or has page n
+    -- at most dirty pages are written to the device, and none if the cache keeps them or has page n
     pub crash : CrashAdds old.pages old.device new.device
     pub unwritten : IsTrue old.keeps_dirty → CrashKeeps old.device new.device
     pub untouched : IsCached n old → new.device ≡ old.device

@@ -33,7 +33,7 @@ pub enum PageError<E> {
     /// The device failed, with this error.
     #[error("the device failed: {0}")]
     Device(E),
-    /// Out of memory for one more page, or there are 1,879,048,192 pages, the most that the table links.
+    /// Out of memory for one more page, or there are 1,879,048,192 pages, the most that the table holds.
     #[error("out of memory")]
     Memory,
     /// The device has no block of this number.
@@ -50,13 +50,11 @@ pub enum PageError<E> {
 
 /// A write-back cache of the blocks of a device.
 ///
-/// It keeps the pages that were used last, up to its capacity, and those that are pinned. A write changes only the
+/// It keeps the pinned pages and the pages that were used last, together at most its capacity. A write changes only the
 /// cached page: the page is then dirty, and goes to the device when it is evicted or flushed.
 ///
 /// After a `flush` that returned `Ok`, a crash leaves each block as it was shown at that flush. If a later call wrote
 /// the block, a crash may also leave it as it was written, or torn. `docs/CACHES.md` says what this supposes of a disk.
-/// `write`, `flush`, `flush_page` and `close` return `Broken` after a `sync` that failed. So does a read of a page that
-/// is not cached.
 ///
 /// Code that drops or forgets a cache does not compile, because its dirty pages would be lost. Call `close` or
 /// `discard`.
@@ -241,8 +239,8 @@ impl<B: Copy, D: BlockDevice<B>, S: KeyHasher<u64>> PageCache<B, D, S> {
     ///
     /// # Errors
     ///
-    /// `Device`: a write or the `sync` failed. All pages stay as dirty as before. If it was a write, the next flush
-    /// writes them again. If it was the `sync`, the device is not usable from then on. `Broken`: a `sync` had failed
+    /// `Device`: a write or the `sync` failed. The same pages are dirty as before. If a write failed, the next flush
+    /// writes them again. If the `sync` failed, the device is not usable from then on. `Broken`: a `sync` had failed
     /// before.
     pub fn flush(&mut self) -> Result<(), PageError<D::Error>>
         ensures keeps { ShowsTheSame D.BlockDevice self.old self.new }
@@ -289,7 +287,8 @@ impl<B: Copy, D: BlockDevice<B>, S: KeyHasher<u64>> PageCache<B, D, S> {
     ///
     /// # Errors
     ///
-    /// The flush failed. The error contains the cache as `flush` left it, with the same pages, each as dirty as before.
+    /// The flush failed. The error contains the cache as `flush` left it: it has the same pages, and the same pages are
+    /// dirty.
     pub fn close(mut self) -> Result<D, Unclosed<B, D, S>>
     where
         S: Drop,

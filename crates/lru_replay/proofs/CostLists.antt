@@ -12,7 +12,7 @@ use Rattle.lru_model.specs.State.{Contents, notified_of, pop, trim, trim_from}
 use Rattle.lru_theory.specs.Budgets.{affordable}
 use Rattle.lru_theory.proofs.Affordable.{spent, affords_all}
 
--- if the items cost more than n, dropping the last one does not change which are affordable
+-- if the items together cost more than n, dropping the last item does not change which items are affordable
 pub fewer : {X : Type 0} (cost : X → ℕ) (n : ℕ) (xs : List X) → n < spent cost xs
     → affordable cost n (without_last xs) ≡ affordable cost n xs
 fewer cost n [] over = refl
@@ -30,7 +30,7 @@ module _ {K V : Type 0} (weight : K → V → ℕ) where
   abbrev pub worth : K × V → ℕ
   worth pair = weight pair.0 pair.1
 
-  -- all pairs cost what the pair of a key costs, plus what the others cost
+  -- all pairs together cost what the pair of a key costs, plus what the others cost
   pub spent_without : (test : K → Bool) (pairs : List (K × V)) (p : K × V) → lookup_entry test pairs ≡ Some p
       → spent worth pairs ≡ worth p + spent worth (without test pairs)
   spent_without test [] p e = absurd cc
@@ -83,7 +83,7 @@ module _ {K V : Type 0} (weight : K → V → ℕ) where
           (ap holding (sym (affords_all worth n (x ∷ pairs) within)))
     ]
 
-    -- a trim removes the oldest pairs while all cost too much
+    -- a trim removes the oldest pairs while the pairs together cost too much
     pub trimmed_is : (pairs : List (K × V)) → trim (by_weight weight) (holding pairs) ≡ holding (affordable worth n pairs)
     unfolding trim
     trimmed_is pairs = trimmed_from (length pairs) pairs refl

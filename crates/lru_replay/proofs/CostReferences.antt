@@ -79,7 +79,7 @@ module _ {K V H : Type 0} {eq : K → K → Bool} (laws : IsEquivalence eq) (wei
       sized = sized;
     }
 
-  -- `new` has a pair of an equal key in front, and then the others as far as the limit goes
+  -- `new` has a pair of an equal key in front, and then the other pairs that the limit permits
   module _ (old new : State K V Budget H) (keeps : Keeps old) (key x : K) (v : V) (same : eq x key ≡ true)
       (priced : weight key v ≡ cost key) (is : contents new ≡ holding weight old.limiter.limit
       (affordable (worth weight) old.limiter.limit ((x, v) ∷ without (eq key) old.pairs)))

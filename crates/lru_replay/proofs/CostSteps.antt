@@ -38,7 +38,7 @@ module _ {K V : Type 0} (weight : K → V → ℕ) (n : ℕ) (fits : n < 2 ^ 63)
   abbrev Left : Type 0
   Left = Contents K V Budget
 
-  -- the contents after the insert: the new pair first, and then the others as far as the limit goes
+  -- the contents after the insert: the new pair first, and then the other pairs that the limit permits
   abbrev pub left : Left
   left = holding weight n (affordable costs n ((stored_key (eq key) key pairs, v) ∷ without (eq key) pairs))
 

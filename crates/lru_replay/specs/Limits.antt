@@ -4,11 +4,11 @@ use Rattle.std.specs.Prelude.{ℕ, Option, Some, None}
 use Rattle.lru_limits.specs.Rules.{Rules, Offers}
 use Rattle.lru_limits.specs.Budget.{Budget, by_cost, charges}
 
--- a running total above the limit is over it, and any growth is permitted; a value costs itself
+-- a map is over the limit if the running total is above it; any growth is permitted; a value costs itself
 abbrev pub cost_rules : Rules ℕ ℕ Budget
 cost_rules = by_cost (λ value. value)
 
--- pairs are stored as they come, if their cost alone is within the limit and the sum has 64 bits
+-- a pair is stored unchanged, if its cost alone is within the limit and the sum has 64 bits
 abbrev pub cost_offers : Offers ℕ ℕ Budget ℕ
 cost_offers = charges (λ value. value)
 

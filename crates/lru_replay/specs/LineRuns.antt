@@ -67,7 +67,8 @@ module _ (IsText : List (List ℕ) → List ℕ → Type 0) (from : Option (List
       × IsText lines text × TakesLines from to lines part × Wrote text
 
 module _ (IsText IsTextSoFar : List (List ℕ) → List ℕ → Type 0) (from to old new : Option (List ℕ)) where
-  -- a beginning of a text was written: a text of all the lines, if all were read, or of the lines that were read whole
+  -- either all lines were read, and a beginning of a text of them was written; or some lines were read whole, and a
+  -- beginning of a text of these was written
   abbrev pub BeginsText : Type 0
   BeginsText = (OfAll IsText from (Begins old new) × OnSome from (IsAtEnd to))
       ⊎ OfRead IsTextSoFar from to (Begins old new)

@@ -1,4 +1,5 @@
--- Calls on a list of pairs under a limiter, newest first: what each returns and leaves if there is no table.
+-- Calls on a list of pairs and its limiter, as if there were no table and a bucket were always free: what each call may
+-- return, and which list (newest first) and limiter it may leave.
 --     rules, offers, eq   as in `Steps`
 --     hash_of k           the hash of the key k
 use Rattle.std.specs.Prelude.{◌≡◌, ℕ, ◌++◌, Bool, List, [], Option, Some, None, Result, MatchOption, is_some, length}
@@ -79,8 +80,8 @@ module _ {K V S : Type 0} (rules : Rules K V S) (offers : Offers K V S K) (eq : 
   determined c (calls.SetLimiter s) = Some (done, record c { limiter = s })
   determined c call = None
 
-  -- From the list c, the call may return this and leave d. Nothing is said about reserved growth, a shrink, or figures
-  -- other than the number of pairs: only a table determines these.
+  -- From the list c, the call may return this and leave d. Only a table determines the results of a reservation and of
+  -- a shrink, and the figures other than the number of pairs.
   module _ (hash_of : K → ℕ) where
     abbrev pub ListStep : Contents K V S → Call K V S → Reply K V → Contents K V S → Type 0
     ListStep c (calls.Insert key v) reply d = (result : Result Bool AllocError)

@@ -31,8 +31,8 @@ pub record CostsAlike {K V : Type 0} (eq : K → K → Bool) (weight : K → V �
   pub keys : (key other : K) → eq key other ≡ true → cost key ≡ cost other
   pub pairs : (key other : K) (value : V) → eq key other ≡ true → weight key value ≡ weight other value
 
--- Each pair costs what its key costs. The total is the sum of the costs, and at most the limit. No more than `most`
--- keys cost at most the limit together, and there is a table for 8 * (most + 1) pairs.
+-- Each pair costs what its key costs. The total is the sum of the costs, and at most the limit. Any `most` + 1 keys,
+-- even equal ones, together cost more than the limit, and there is a table for 8 * (most + 1) pairs.
 pub record KeepsToCost {K V H : Type 0} (weight : K → V → ℕ) (cost : K → ℕ) (st : State K V Budget H) : Type 0 where
   pub each : AllByRecursion (λ pair. weight pair.0 pair.1 ≡ cost pair.0) st.pairs
   pub summed : IsSummed weight (λ budget. budget.cost) st
@@ -59,14 +59,14 @@ module _ {K V H : Type 0} (eq : K → K → Bool) where
   }
 
 module _ {K V S H : Type 0} (cache : Cache K V S H) where
-  -- The map has these keys now, and the same limit.
+  -- The map has these keys now, and the limit is the same as before.
   pub record LeavesKeys (left : List K) (old new : State K V S H) : Type 0 where
     pub keys : AreEqual cache.eq (keys_of new.pairs) left
     pub limit : cache.limit new.limiter ≡ cache.limit old.limiter
     pub keeps : cache.Keeps old → cache.Keeps new
 
-  -- A reference to a key. The key is the newest afterwards, and the others keep their order, up to the limit (`does`).
-  -- An entry was stored if the key was not there, unless nothing can be stored (`stored`).
+  -- A reference to a key. The key is the newest afterwards, and the others follow in their order, as far as the limit
+  -- permits (`does`). An entry was stored if the key was not there, unless nothing can be stored (`stored`).
   pub record Reference (key : K) (old new : State K V S H) : Type 0 where
     pub does : LeavesKeys (cache.refer (cache.limit old.limiter) key (keys_of old.pairs)) old new
     pub stored : cache.Stores (cache.limit old.limiter)

@@ -33,7 +33,7 @@ IsTextUnder (limits.Cost most) =
 IsTextUnder limits.Compact =
     IsTextOf {S = UnlimitedCompact} no_rules all_offers no_cost (empty (record {}) plain_entry_bytes max_of_32_bits)
 
--- The first line names a limit, and this text answers the others, from the empty map under that limit.
+-- The first line names a limit, and this text answers the other lines, from the empty map under that limit.
 abbrev pub IsReplay : List (List ℕ) → List ℕ → Type 0
 IsReplay lines text = (limit : Limit) × (first : List ℕ) × (others : List (List ℕ))
     × (lines ≡ first ∷ others) × SpellsLimit first limit × IsTextUnder limit others text

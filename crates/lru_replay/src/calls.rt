@@ -16,7 +16,7 @@ use std::alloc::AllocError;
 #[derive(Debug, Drop)]
 pub enum Call<K, V, L> {
     Insert(K, V),
-    /// Does what `insert` does, and returns the pairs that the map loses.
+    /// Does what `insert_with` does, and returns the pairs that the closure gets.
     InsertWith(K, V),
     /// `get_or_insert`: inserts the key with this value if it is not there, and returns the value of the key.
     GetOrInsert(K, V),

@@ -1,5 +1,5 @@
 //! Programs that make references on a map with a limit of cost, such as `ByCost` and `ByWeight`: the theorems of
-//! `references`, for any `weight` of an entry. The functions do nothing: their contracts are the theorems.
+//! `references`, for any `weight` of an entry.
 ghost use Rattle.std.specs.Prelude.{◌≡◌, ℕ, ◌-◌, ◌*◌, ◌^◌, ◌≤◌, ◌<◌, Bool, List, length, take, true};
 ghost use Rattle.std.specs.Prelude.{Some, Ok, Result, IsOk};
 ghost use Rattle.std.specs.declared.alloc.AllocError.{AllocError};
@@ -19,8 +19,8 @@ ghost use Rattle.lru_replay.specs.References.{KeepsToCost, CostsAlike, Reference
 use lru_limits::KeyHasher;
 use std::hash::Hash;
 
-/// A new map keeps to its cost under these premises. Its limit is below 2 ^ 63, and below the cost of 234,881,023
-/// entries of any key. An entry takes fewer than 2 ^ 32 - 1 bytes, and links can number 2 ^ 31 buckets.
+/// A new map keeps to its cost under these premises. Its limit is below 2 ^ 63 and, for each key, below 234,881,023
+/// times the cost of the key. An entry takes fewer than 2 ^ 32 - 1 bytes, and the link type can number 2 ^ 31 buckets.
 pub fn maps_keep_to_their_cost<K: Eq + Hash + Drop, V: Drop, S: KeyHasher<K>>()
     ensures { (weight : K → V → ℕ) (cost : K → ℕ) (limit entry_bytes max : ℕ) (hasher : S) →
         limit < 2 ^ 63 → ((key : K) → limit < 234881023 * cost key) → entry_bytes < 2 ^ 32 - 1 →
@@ -29,8 +29,8 @@ pub fn maps_keep_to_their_cost<K: Eq + Hash + Drop, V: Drop, S: KeyHasher<K>>()
         max) }
 {}
 
-/// Each of these calls makes a reference if it returns `Ok`. An inserted entry must cost what its key costs, within the
-/// limit. A value written through a get must cost what the old value costs.
+/// Each of these calls makes a reference if it returns `Ok`. An inserted entry must cost what its key costs, and at
+/// most the limit. A value written through a get must cost what the old value costs.
 pub fn calls_make_references<K: Eq + Hash + Drop, V: Drop, S: KeyHasher<K>>()
     ensures inserts { (weight : K → V → ℕ) (cost : K → ℕ) (key : K) (value : V) (kept : Bool)
         (old new : State K V Budget S) →
@@ -93,9 +93,9 @@ pub fn gets_that_insert_if_made_make_references<
         Reference (of_cost K.eq weight cost) key old new }
 {}
 
-/// A program that makes the references of a trace leaves the keys of an LRU cache with this limit of cost (`keys`), and
-/// misses as often (`misses`). The map counts the misses (`stored`): `placed`, the count of entries that inserts
-/// stored, rises by their number. Equal keys must cost the same.
+/// A program that makes the references of a trace leaves the keys that an LRU cache with this limit of cost contains
+/// (`keys`), and misses as often as that cache (`misses`). The map counts the misses (`stored`): `placed`, the count of
+/// entries that inserts stored, rises by their number. Equal keys must cost the same.
 pub fn references_keep_the_newest<K: Eq + Hash + Drop, V: Drop, S: KeyHasher<K>>()
     ensures keys { (weight : K → V → ℕ) (cost : K → ℕ) (trace : List K) (missed : ℕ) (old new : State K V Budget S) →
         CostsAlike K.eq weight cost → Referenced (of_cost K.eq weight cost) old trace missed new →
@@ -109,8 +109,8 @@ pub fn references_keep_the_newest<K: Eq + Hash + Drop, V: Drop, S: KeyHasher<K>>
 {}
 
 /// More capacity never means more misses, whichever calls make the references of one trace on two maps. If the keys of
-/// the map with the smaller limit are the newest keys of the other map, they are so after the trace, too (`front`).
-/// Then the map with the smaller limit misses at least as often (`misses`).
+/// the map with the smaller limit are the newest keys of the other map, this is so after the trace, too (`front`). Then
+/// the map with the smaller limit misses at least as often as the other map (`misses`).
 pub fn more_capacity_never_misses_more<K: Eq + Hash + Drop, V: Drop, S: KeyHasher<K>>()
     ensures front { (weight : K → V → ℕ) (cost : K → ℕ) (trace : List K) (missed other_missed : ℕ)
         (old small other large : State K V Budget S) →

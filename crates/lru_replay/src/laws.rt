@@ -1,5 +1,4 @@
-//! What is proved about runs of calls, in addition to the contracts of `run_calls` and `run_summing`. The functions do
-//! nothing: their contracts are the theorems.
+//! What is proved about runs of calls, in addition to the contracts of `run_calls` and `run_summing`.
 ghost use Rattle.std.specs.Prelude.{ℕ, ◌+◌, ◌*◌, length, List};
 ghost use Rattle.std.specs.List.{AllByRecursion, IsDistinct};
 ghost use Rattle.lru_model.specs.Exact.{AlwaysGrants, HasTables, HasTableFor};
@@ -15,8 +14,8 @@ use lru_limits::{Insertion, KeyHasher};
 use lru_model::laws;
 use std::hash::Hash;
 
-/// A list of calls is a run of steps of the map, so the laws on runs hold of it (`calls`). So is a list under a limiter
-/// with a running total, if its writes keep the cost (`summing`).
+/// A list of calls is a run of steps of the map, so the laws on runs hold of it (`calls`). The same holds of a list
+/// that `run_summing` carries out, and its writes keep the cost (`summing`).
 pub fn lists_are_runs<K: Eq + Hash, V, L: Insertion<K, V, K>, S: KeyHasher<K>>()
     ensures calls { (old new : State K V L S) (calls : List (Call K V L)) (replies : List (Reply K V)) →
         IsRun (CallStep L.rules L.offers K.eq S.hash_of) (IsMap K.eq) old calls replies new →
@@ -29,9 +28,9 @@ pub fn lists_are_runs<K: Eq + Hash, V, L: Insertion<K, V, K>, S: KeyHasher<K>>()
 {}
 
 /// A run does what it would do to a list of pairs with distinct keys, without a table, under two premises. The limiter
-/// permits every growth, as `ByLength`, `ByCost` and the unlimited ones do. Links and bytes reach the tables that the
-/// pairs may need. `ListCallStep` says which answers and states the list and the limiter lead to (`exact`). With n
-/// pairs and m calls, these tables are reached if a table for 8 * (n + m + 1) pairs is (`reached`).
+/// permits every growth, as `ByLength`, `ByCost` and the unlimited ones do. The link type and memory permit the tables
+/// that the pairs may need. `ListCallStep` says which answers and states the list and the limiter lead to (`exact`).
+/// With n pairs and m calls, it is enough that they permit a table for 8 * (n + m + 1) pairs (`reached`).
 pub fn granted_calls_are_exact<K: Eq + Hash, V, L: Insertion<K, V, K>, S: KeyHasher<K>>()
     ensures exact { (old new : State K V L S) (calls : List (Call K V L)) (replies : List (Reply K V)) →
         AlwaysGrants L.rules → HasTables old →

@@ -27,8 +27,8 @@ use std::hash::Hash;
 
 /// These calls make a reference if they return `Ok`: an insert (`inserts`), an insert that evicts nothing (`tries`),
 /// and a memo that remembers a value (`remembers`). So do a get that finds the key, whatever is written through the
-/// loan (`gets`), and a promotion of a key that is there (`promotes`). If a get returns `None`, an insert makes the
-/// reference. A reference to a key is also a reference to each equal key (`equal`).
+/// loan (`gets`), and a promotion of a key that is there (`promotes`). If a get returns `None`, the insert after it
+/// makes the reference. A reference to a key is also a reference to each equal key (`equal`).
 pub fn calls_make_references<K: Eq + Hash + Drop, V: Drop, S: KeyHasher<K>>()
     ensures inserts { (key : K) (value : V) (kept : Bool) (old new : State K V ByLength S) →
         KeepsToLength old → IsSized new →
@@ -152,7 +152,7 @@ pub fn references_keep_the_newest<K: Eq + Hash + Drop, V: Drop, S: KeyHasher<K>>
 {}
 
 /// More capacity never means more misses, whichever calls make the references of one trace on two maps. If the keys of
-/// the smaller map are the newest keys of the larger one, they are so after the trace, too (`front`). Even if the
+/// the smaller map are the newest keys of the larger map, this is so after the trace, too (`front`). Even if the
 /// smaller map is only included in the larger one, it misses at least as often (`misses`).
 pub fn more_capacity_never_misses_more<K: Eq + Hash + Drop, V: Drop, S: KeyHasher<K>>()
     ensures front { (trace : List K) (missed other_missed : ℕ) (old small other large : State K V ByLength S) →
@@ -166,9 +166,8 @@ pub fn more_capacity_never_misses_more<K: Eq + Hash + Drop, V: Drop, S: KeyHashe
         other_missed ≤ missed }
 {}
 
-/// After the same calls a smaller map is included in a larger map, if it was before: its keys are keys of the larger
-/// map, in the same order (`included`). So what the smaller map finds, the larger map finds (`finds`). The calls may
-/// reference keys, get, promote, look, write, remove, clear, reserve and shrink, in any order.
+/// If a smaller map is included in a larger map, it is so after the same calls, too (`included`). So what the smaller
+/// map finds, the larger map finds (`finds`). The calls are those of `calls_change_the_keys`, and references.
 pub fn a_smaller_map_is_included<K: Eq + Hash + Drop, V: Drop, S: KeyHasher<K>>()
     ensures included { (calls : List (KeyCall K)) (old small other large : State K V ByLength S) →
         Did K.eq old calls small → Did K.eq other calls large → old.limiter ≤ other.limiter →

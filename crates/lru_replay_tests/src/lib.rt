@@ -1,7 +1,5 @@
 //! Tests of `lru_replay` through its public calls, for what no contract says: runs that run out of memory, and the
 //! printed texts.
-//!
-//! The program `rows` has the worked rows as data, readers and writers that fail, and random calls.
 #![tactic(auto)]
 
 #[cfg(test)]

@@ -30,7 +30,7 @@ module _ {K : Type 0} {eq : K → K → Bool} (laws : IsEquivalence eq) where
       go true ih e = refl
       go false ih e = ih (omega (arith, e))
 
-  -- a key that is not among `others` can be evicted, because these are fewer
+  -- a key that is not among `others` can be evicted, because `others` has fewer keys
   record Spare (others keys : List K) : Type 0 where
     evicted : K
     fewer : length (remove_key (eq evicted) keys) + 1 ≡ length keys
@@ -86,7 +86,7 @@ module _ {K : Type 0} {eq : K → K → Bool} (laws : IsEquivalence eq) where
     Demanded keys trace most = (demanded : ℕ) × (other : List K) × Served (Demands eq h) other keys trace demanded
         × (demanded ≤ most)
 
-    -- it contains the keys of the other policy, except for some that it owes
+    -- the demand policy contains the keys of the other policy, except for some that it owes
     abbrev Follows : List K → List K → ℕ → Type 0
     Follows ahead trace paid = (keys owed : List K) → length keys ≤ h → Within eq ahead (owed ++ keys)
         → Demanded keys trace (length owed + paid)

@@ -9,7 +9,7 @@ use Rattle.lru_theory.specs.Traces.{is_in}
 use Rattle.lru_theory.specs.Best.{until, put}
 
 module _ {K : Type 0} (eq : K → K → Bool) where
-  -- the others differ from the key, and their next references come no sooner
+  -- the others differ from the key, and their next references come no sooner than that of the key
   abbrev pub Later : List K → K → List K → Type 0
   Later trace key [] = Unit {0}
   Later trace key (other ∷ keys) =

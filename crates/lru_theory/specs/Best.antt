@@ -17,7 +17,8 @@ module _ {K : Type 0} (eq : K → K → Bool) where
       else other ∷ put trace key keys
 
   -- The keys of MIN with n places after a reference to the key, in the order of their next references in the trace that
-  -- follows. It stores the key. If that is one key too many, it evicts the key whose next reference comes last.
+  -- follows. It stores the key. If that is one key too many, it evicts one of the others: the key whose next reference
+  -- comes last.
   abbrev pub min_refer : ℕ → K → List K → List K → List K
   min_refer zero key trace keys = []
   min_refer (suc n) key trace keys = put trace key (take n (remove_key (eq key) keys))

@@ -5,7 +5,7 @@ use Rattle.std.specs.Set.{remove_key}
 use Rattle.lru_theory.specs.Traces.{is_in, fault}
 
 module _ {K : Type 0} (eq : K → K → Bool) where
-  -- how many of the keys are not among the others
+  -- how many of the keys are not among `others`
   abbrev pub outside : List K → List K → ℕ
   outside others [] = 0
   outside others (key ∷ keys) = fault eq key others + outside others keys

@@ -55,10 +55,10 @@ pub fn loading_ahead_gains_nothing<K: Eq>()
 {}
 
 /// A cache of n places is *included* in a cache of m places if its keys are keys of the larger cache, in the same
-/// order. The larger cache must contain at most m - n more. If the smaller cache is included before some calls, it is
-/// included after them (`included`). So the larger cache finds what the smaller one finds (`finds`), and misses no more
-/// often at the references of a trace (`misses`). The calls may reference keys, make them the newest, remove them or
-/// look at them.
+/// order. The larger cache must contain at most m - n more keys. If the smaller cache is included before some calls, it
+/// is included after them (`included`). So the larger cache finds what the smaller one finds (`finds`), and misses no
+/// more often at the references of a trace (`misses`). The calls may reference keys, make them the newest, remove them
+/// or look at them.
 pub fn a_smaller_cache_is_included<K: Eq>()
     ensures included { (n m : ℕ) (calls : List (KeyCall K)) (small large : List K) → n ≤ m →
         IsIncluded K.eq n m small large →
@@ -69,9 +69,9 @@ pub fn a_smaller_cache_is_included<K: Eq>()
         faults K.eq m large trace ≤ faults K.eq n small trace }
 {}
 
-/// A larger budget never means more misses. Take two LRU caches with limits of cost, so that the keys of the smaller
-/// cache are the newest keys of the larger cache. They are so after any trace, too (`front`). The smaller cache misses
-/// at least as often (`misses`).
+/// A larger budget never means more misses. If the keys of the cache with the smaller limit of cost are the newest keys
+/// of the other cache, this is so after any trace, too (`front`). The smaller cache misses at least as often
+/// (`misses`).
 pub fn a_larger_budget_never_misses_more<K: Eq>()
     ensures front { (cost : K → ℕ) (n m some : ℕ) (keys trace : List K) → n ≤ m →
         let small = cached_within K.eq cost n (take some keys) trace in
@@ -81,9 +81,9 @@ pub fn a_larger_budget_never_misses_more<K: Eq>()
 {}
 
 /// A policy that stores each referenced key pays at least as often as MIN misses, whether it loads keys ahead (`loads`)
-/// or only on demand (`demands`). A policy that need not store them pays at least as often as MIN with bypass misses
-/// (`bypasses`). All have n places, and begin with no keys. MIN is itself a policy of the first kind, if it has a place
-/// (`min`). MIN with bypass is a policy of the second kind (`bypass`).
+/// or only on demand (`demands`). A policy that need not store referenced keys pays at least as often as MIN with
+/// bypass misses (`bypasses`). All these policies have n places, and begin with no keys. MIN is itself a policy of the
+/// first kind, if it has a place (`min`). MIN with bypass is a policy of the second kind (`bypass`).
 pub fn min_is_best<K: Eq>()
     ensures loads { (n : ℕ) (trace left : List K) (paid : ℕ) → Served (Loads K.eq n) left [] trace paid →
         min_misses K.eq n trace ≤ paid }
@@ -98,8 +98,9 @@ pub fn min_is_best<K: Eq>()
 {}
 
 /// How far LRU is from MIN, which begins with no keys. LRU with k ≥ h places begins with any keys. It misses at most
-/// `k / (k + 1 - h)` times as often as MIN with h places (`min`), and at most `k / (k - h)` times as often with bypass
-/// (`bypass`). With the same places, and from no keys, LRU misses at least as often as MIN (`least`).
+/// `k / (k + 1 - h)` times as often as MIN with h places (`min`), and at most `k / (k - h)` times as often as MIN with
+/// bypass and h places (`bypass`). If LRU begins with no keys, and has as many places as MIN, it misses at least as
+/// often (`least`).
 pub fn lru_is_near_min<K: Eq>()
     ensures min { (k h : ℕ) (past trace : List K) → 0 < h → h ≤ k →
         (k + 1 - h) * misses K.eq k past trace ≤ k * min_misses K.eq h trace }

@@ -1,11 +1,4 @@
 //! Runs the rows of data files, and rows of random calls. `docs/ROWS.md` explains their form.
-//!
-//! - `row`, `escapes`: a row of a data file.
-//! - `lines`, `streams`: carry out a row of lines, through readers and writers that take few bytes in each call, and
-//!   with a call that fails.
-//! - `maps`, `calls`, `limiters`, `hasher`: carry out a row of calls on the map that its first line names.
-//! - `trials`, `plain`, `table`: random calls with the answers of a plain list.
-//! - `answers`, `results`, `text`, `report`: write answers, compare them, and print the first difference.
 #![tactic(auto)]
 
 mod answers;

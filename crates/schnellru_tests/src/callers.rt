@@ -177,8 +177,8 @@ fn exchange(
     map.insert(new, text)
 }
 
-/// Inserts an entry, pops it, and inserts another entry. Each insert evicts only from the old end, both pay for the
-/// entries that they move, and no two keys are equal afterwards.
+/// Inserts an entry, pops it, and inserts another entry. Each insert evicts only from the old end, both inserts pay for
+/// the entries that they move, and no two keys are equal afterwards.
 fn put_two(
     map: &mut LruMap<String, u64>,
     first: String,

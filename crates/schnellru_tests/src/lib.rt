@@ -1,7 +1,6 @@
 //! Tests of `schnellru` through its public calls, for what no contract says.
 //!
-//! `examples` also contains the examples of `lru_model` and `ordered_table`. The worked rows are data of the program
-//! `rows`.
+//! `examples` also contains the examples of `lru_model` and `ordered_table`.
 #![tactic(auto)]
 
 #[cfg(test)]

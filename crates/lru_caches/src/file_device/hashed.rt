@@ -16,7 +16,7 @@ use std::io::{Read, Seek, Write};
 ///
 /// A write replaces the last 8 bytes by the hash of the other bytes and of the block's number. So contracts see all
 /// bytes of a block except the last 8. A read returns `Ok` only if the block has its checksum. So a read finds blocks
-/// that are torn, damaged or of another number, also after a restart, and needs no memory for that.
+/// that are torn, damaged or of another number, also after a restart.
 ///
 /// [`FileDevice`]: crate::FileDevice
 ///

@@ -18,8 +18,6 @@ use std::marker::Model;
 /// Each value is right. A failure changes nothing. Any other call is a step of a map, as for a `Memo` (`step` of
 /// `load`).
 ///
-/// The function may borrow what it reads by `&`.
-///
 /// ```
 /// let disk = [10, 11, 12];
 /// let mut blocks = Loader::new(alloc, ByLength::new(9), |n: &usize| disk.get(*n).copied().ok_or(*n));

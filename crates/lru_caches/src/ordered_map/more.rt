@@ -64,7 +64,7 @@ impl<K: Eq + Hash, V, S: KeyHasher<K>> OrderedMap<K, V, S> {
         self.map.try_reserve(n)
     }
 
-    /// Shrinks the table to the least number of buckets that holds the entries. Returns whether it had more.
+    /// Shrinks the table to the least number of buckets that holds the entries. Returns whether it had more buckets.
     ///
     /// ```
     /// assert_eq!(rt; map.try_reserve(100), Ok(()));

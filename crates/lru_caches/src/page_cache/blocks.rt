@@ -45,8 +45,8 @@ impl<B: Copy, D: BlockDevice<B>, S: KeyHasher<u64>> PageCache<B, D, S> {
     ///
     /// # Errors
     ///
-    /// None if the page is cached. `Broken`: a `sync` has failed. `NoBlock`: the device has no such number. `Full`: no
-    /// page may go. `Device`: the read failed, or a page could not be written back; all pages stay. `Memory`: out of
+    /// No error if the page is cached. `Broken`: a `sync` has failed. `NoBlock`: the device has no such number. `Full`:
+    /// no page may go. `Device`: the read failed, or a page could not be written back; all pages stay. `Memory`: out of
     /// memory for one page more; a page may have been evicted.
     pub fn read(&mut self, n: u64) -> Result<B, PageError<D::Error>>
         ensures block { IfOk result (λ block. D.IsHonest self.new.device
@@ -101,7 +101,7 @@ impl<B: Copy, D: BlockDevice<B>, S: KeyHasher<u64>> PageCache<B, D, S> {
     ///
     /// # Errors
     ///
-    /// `Broken`: a `sync` has failed. `NoBlock`: the device has no such number. Nothing else if the page is cached.
+    /// `Broken`: a `sync` has failed. `NoBlock`: the device has no such number. No other error if the page is cached.
     /// `Full`, `Device` and `Memory` as for `read`. After an error the block is not replaced.
     pub fn write(&mut self, n: u64, block: B) -> Result<(), PageError<D::Error>>
         ensures written { OnOk result (shown D.BlockDevice self.new n ≡ Some (D.seen block)) }

@@ -60,7 +60,7 @@ impl<B: Copy, D: BlockDevice<B>, S: KeyHasher<u64>> PageCache<B, D, S> {
         is_pinned_at(&self.map, n)
     }
 
-    /// Returns whether dirty pages are kept until a flush. They are not in a new cache.
+    /// Returns whether dirty pages are kept until a flush. A new cache does not keep them.
     ///
     /// ```
     /// assert_eq!(rt; (cache.keeps_dirty(), cache.write(0, 10), cache.read(2)), (true, Ok(()), Err(PageError::Full)));
@@ -74,7 +74,7 @@ impl<B: Copy, D: BlockDevice<B>, S: KeyHasher<u64>> PageCache<B, D, S> {
     }
 
     /// Sets whether dirty pages are kept until a flush. If they are, reads, writes and pins write nothing to the
-    /// device. So a log of the writes can be written and synced first.
+    /// device.
     ///
     /// A call that needs room for a page then returns `Full` if each page is dirty or pinned.
     ///

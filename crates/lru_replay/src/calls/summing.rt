@@ -14,7 +14,7 @@ use schnellru::{KeyHasher, LruMap, Summing};
 use std::alloc::{AllocError, Global};
 use std::hash::Hash;
 
-/// Carries out the calls on the map as `run_calls` does, except for those that would make the limiter's total wrong.
+/// Carries out the calls on the map as `run_calls` does, except for calls that would make the limiter's total wrong.
 ///
 /// A write is answered `CostDiffers`, and changes nothing, if it would change the cost of its entry. So is a call that
 /// sets a limiter with another total. So a total that is the sum of the costs stays their sum.

@@ -54,9 +54,9 @@ returns-clause-uses g c =
       serves = search rules;
       cause = search rules;
       left =
-        rw (← c.self.view_is) (subst (λ l. IfErr c.load.result (λ e. (new ≡ it.map.pairs) ⊎ ((e ≡ Memory) × (new ≡ l))))
-        room (subst (λ l. IfErr c.load.result (λ e. (new ≡ l) ⊎ ((e ≡ Memory) × (new ≡ evicted gone was))))
-        stays c.load.ensures.left));
+          rw (← c.self.view_is) (subst (λ l. IfErr c.load.result (λ e. (new ≡ it.map.pairs) ⊎ ((e ≡ Memory) × (new ≡ l))))
+          room (subst (λ l. IfErr c.load.result (λ e. (new ≡ l) ⊎ ((e ≡ Memory) × (new ≡ evicted gone was))))
+          stays c.load.ensures.left));
       full = search rules;
       capacity = search rules;
       mode = search rules;

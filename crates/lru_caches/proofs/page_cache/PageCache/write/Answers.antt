@@ -46,9 +46,9 @@ returns-clause-uses g c =
       serves = search rules;
       cause = search rules;
       left =
-        rw (← c.self.view_is) (subst (λ l. IfErr c.replace.result (λ e. (new ≡ it.map.pairs) ⊎ ((e ≡ Memory) × (new ≡ l))))
-        room (subst (λ l. IfErr c.replace.result (λ e. (new ≡ l) ⊎ ((e ≡ Memory) × (new ≡ evicted gone was))))
-        stays c.replace.ensures.left));
+          rw (← c.self.view_is) (subst (λ l. IfErr c.replace.result (λ e. (new ≡ it.map.pairs) ⊎ ((e ≡ Memory) × (new ≡ l))))
+          room (subst (λ l. IfErr c.replace.result (λ e. (new ≡ l) ⊎ ((e ≡ Memory) × (new ≡ evicted gone was))))
+          stays c.replace.ensures.left));
       full = search rules;
       capacity = search rules;
       mode = search rules;
