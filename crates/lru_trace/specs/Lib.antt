@@ -3,6 +3,7 @@ pub mod Nodes
 pub mod Slots
 pub mod Counted
 pub mod Lines
+pub mod References
 pub mod Sizes
 pub mod Rows
 pub mod Svg

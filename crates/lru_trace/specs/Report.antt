@@ -8,7 +8,8 @@ use Rattle.lru_trace.specs.declared.options.Form.TheVariants as forms
 use Rattle.lru_trace.specs.declared.rows.BestMisses.{BestMisses}
 use Rattle.lru_trace.specs.declared.rows.Counts.{Counts}
 use Rattle.lru_trace.specs.declared.rows.Row.{Row}
-use Rattle.lru_trace.specs.Lines.{texts_of, trace_of, malformed_in}
+use Rattle.lru_trace.specs.Lines.{texts_of, malformed_in}
+use Rattle.lru_trace.specs.References.{warm_in, counted_in, wants_best}
 use Rattle.lru_trace.specs.Rows.{keys, row_of, powers_in, points}
 use Rattle.lru_trace.specs.Sizes.{sizes_from}
 use Rattle.lru_trace.specs.Svg.{part, svg_text}
@@ -61,25 +62,26 @@ csv_head best = if best then codes "size,hits,misses,ratio,min,bypass\n" else co
 abbrev pub csv_of : Bool → List Row → List ℕ
 csv_of best rows = csv_head best ++ flat_map csv_line rows
 
-module _ (trace : List (List ℕ)) (sizes : List ℕ) (malformed : ℕ) where
+module _ (warm trace : List (List ℕ)) (sizes : List ℕ) (malformed : ℕ) where
   -- how many references, keys and malformed lines there are
   abbrev pub counts_of : Counts
-  counts_of = record { references = length trace; keys = keys trace; malformed = malformed }
+  counts_of = record { references = length trace; keys = keys warm trace; malformed = malformed }
 
   -- the rows of the named sizes and of the powers of two, with the misses of the best possible policies if `best` is
   -- true
   abbrev pub point_rows : Bool → List Row
-  point_rows best = map (row_of trace best) (points sizes (powers_in trace))
+  point_rows best = map (row_of warm trace best) (points sizes (powers_in warm trace))
 
   abbrev pub written : Form → Bool → List ℕ
-  written forms.Text best = text_of counts_of (map (row_of trace best) sizes) (map (row_of trace false) (powers_in trace))
+  written forms.Text best = text_of counts_of (map (row_of warm trace best) sizes)
+      (map (row_of warm trace false) (powers_in warm trace))
   written forms.Csv best = csv_of best (point_rows best)
-  written forms.Svg best = svg_text counts_of best (powers_in trace) (point_rows best)
+  written forms.Svg best = svg_text counts_of best (powers_in warm trace) (point_rows best)
 
 -- What is written for these lines: nothing unless the first line names sizes.
 abbrev pub output : Options → List (List ℕ) → Option (List ℕ)
 output options [] = None
 output options (first ∷ lines) =
-    let texts : List (List ℕ) = texts_of options.column lines in
-    option_map (λ sizes. written (trace_of texts) sizes (malformed_in texts) options.form options.best)
-    (sizes_from [] None first)
+    let malformed : ℕ = malformed_in (texts_of options.column lines) in
+    option_map (λ sizes. written (warm_in options lines) (counted_in options lines) sizes malformed options.form
+    (wants_best options.policies)) (sizes_from [] None first)

@@ -8,22 +8,24 @@ use Rattle.lru_theory.specs.Traces.{misses, recency, past_after}
 use Rattle.lru_trace.specs.declared.rows.BestMisses.{BestMisses}
 use Rattle.lru_trace.specs.declared.rows.Row.{Row}
 
-module _ (trace : List (List ℕ)) where
-  -- how many references miss in n places
+-- how often the best possible policies miss on a trace in n places, if `best` is true
+abbrev pub best_in : List (List ℕ) → Bool → ℕ → Option BestMisses
+best_in trace false n = None
+best_in trace true n = Some (record { min = min_misses bytes_eq n trace; bypass = bypass_misses bytes_eq n trace })
+
+-- the counted references, and those of the warm-up before them
+module _ (warm trace : List (List ℕ)) where
+  -- how many counted references miss in n places
   abbrev pub missed : ℕ → ℕ
-  missed n = misses bytes_eq n [] trace
+  missed n = misses bytes_eq n (past_after [] warm) trace
 
+  -- how many keys there are, with those of the warm-up
   abbrev pub keys : ℕ
-  keys = length (recency bytes_eq (past_after [] trace))
-
-  -- how often the best possible policies miss in n places, if `best` is true
-  abbrev pub best_in : Bool → ℕ → Option BestMisses
-  best_in false n = None
-  best_in true n = Some (record { min = min_misses bytes_eq n trace; bypass = bypass_misses bytes_eq n trace })
+  keys = length (recency bytes_eq (past_after (past_after [] warm) trace))
 
   abbrev pub row_of : Bool → ℕ → Row
   row_of best n =
-      record { size = n; hits = length trace - missed n; misses = missed n; best = best_in best n }
+      record { size = n; hits = length trace - missed n; misses = missed n; best = best_in trace best n }
 
 -- the powers of two from 2 ^ level on, up to the first that is at least `most`, but at most n of them
 unfoldable pub powers : ℕ → ℕ → ℕ → List ℕ
@@ -31,8 +33,8 @@ powers most zero level = []
 powers most (suc n) level = 2 ^ level ∷ (if nat_le most (2 ^ level) then [] else powers most n (suc level))
 
 -- the powers of two up to the first that is at least the number of keys
-abbrev pub powers_in : List (List ℕ) → List ℕ
-powers_in trace = powers (keys trace) 64 0
+abbrev pub powers_in : List (List ℕ) → List (List ℕ) → List ℕ
+powers_in warm trace = powers (keys warm trace) 64 0
 
 -- sizes in rising order, with n among them
 abbrev pub with_size : List ℕ → ℕ → List ℕ

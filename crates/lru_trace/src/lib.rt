@@ -19,12 +19,14 @@ mod sizes;
 mod svg;
 mod traces;
 mod tree;
+mod warm_ups;
 
 pub use best::Best;
 pub use curve::Curve;
 pub use distances::Distances;
 pub use lines::read_keys;
-pub use options::{Column, Form, Options};
+pub use options::{Column, Form, Options, Policies};
 pub use outcome::{TraceEnd, TraceError, status};
 pub use progress::Progress;
 pub use traces::trace;
+pub use warm_ups::a_warm_up_is_left_out;

@@ -1,13 +1,13 @@
 //! The lines of a trace, each of which is a key.
 ghost use Rattle.std.specs.Prelude.{◌≡◌, ◌≢◌, ℕ, ◌+◌, ◌-◌, ◌^◌, ◌<◌, ◌≤◌, List, [], ◌∷◌, ◌++◌, true, false, is_some};
 ghost use Rattle.std.specs.Prelude.{IfOk, OnOk, OnErr, IfErr, MatchOption};
-ghost use Rattle.lru_trace.specs.Counted.{IsOf};
+ghost use Rattle.lru_trace.specs.Counted.{IsOf, Follows};
 ghost use Rattle.lru_trace.specs.Lines.{text_in, is_key, fed, trace_of, EndsSo, TakesLine};
 ghost use Rattle.lru_trace.specs.Outcome.{KeysRead, SomeRead};
 
 use crate::columns::text_in;
 use crate::curve::Curve;
-use crate::options::Column;
+use crate::options::{Column, Options};
 use crate::outcome::TraceError;
 use crate::progress::Progress;
 use std::alloc::AllocError;
@@ -64,24 +64,42 @@ fn key_of(line: &[u8]) -> Option<&str>
     }
 }
 
-/// References the key that the line spells in this column, if there is one, and returns whether there is.
-fn refer_line(curve: &mut Curve, column: Option<Column>, line: &[u8]) -> Result<bool, AllocError>
+fn refer_key(curve: &mut Curve, warm: bool, key: &str) -> Result<(), AllocError>
+    requires { curve.old.references < 2 ^ 64 - 1 }
+    ensures ok { OnOk result (Follows warm curve.old (key.now ∷ []) curve.new) }
+    ensures references { curve.new.references ≤ curve.old.references + 1 }
+    ensures keeps { is_some curve.new.kept ≡ is_some curve.old.kept }
+{
+    if warm {
+        return curve.warm_up(key);
+    }
+    curve.refer(key)
+}
+
+/// References the key that the line spells in this column, if there is one, and returns whether there is. The reference
+/// is counted unless it is one of the warm-up.
+fn refer_line(
+    curve: &mut Curve,
+    column: Option<Column>,
+    warm: bool,
+    line: &[u8],
+) -> Result<bool, AllocError>
     requires { curve.old.references < 2 ^ 64 - 1 }
     ensures key { IfOk result (λ is. is ≡ is_key (text_in column line.now)) }
-    ensures ok { OnOk result ((trace : List (List ℕ)) → IsOf trace curve.old →
-        IsOf (trace ++ trace_of (text_in column line.now ∷ [])) curve.new) }
+    ensures ok { OnOk result (Follows warm curve.old (trace_of (text_in column line.now ∷ [])) curve.new) }
     ensures references { curve.new.references ≤ curve.old.references + 1 }
     ensures keeps { is_some curve.new.kept ≡ is_some curve.old.kept }
 {
     let Some(key) = key_of(text_in(line, column)) else {
         return Ok(false);
     };
-    curve.refer(key)?;
+    refer_key(curve, warm, key)?;
     Ok(true)
 }
 
 /// References the key of each line that is left, and returns how many lines spell no key. A key is text of 1 to 64
-/// bytes: the line, or this column of it. The number of lines is written to `progress` after each million.
+/// bytes: the line, or a column of it. The first keys may be a warm-up, which is not counted. The number of lines is
+/// written to `progress` after each million.
 ///
 /// # Errors
 ///
@@ -89,23 +107,27 @@ fn refer_line(curve: &mut Curve, column: Option<Column>, line: &[u8]) -> Result<
 pub fn read_keys<R: BufRead, P: Write>(
     reader: &mut R,
     line: &mut Vec<u8>,
-    column: Option<Column>,
+    options: Options,
     curve: &mut Curve,
     progress: &mut Progress<P>,
 ) -> Result<u64, TraceError>
-    requires { IsOf [] curve.old }
+    requires { IsOf [] [] curve.old }
     ensures ok { IfOk result (λ malformed.
-        KeysRead (R.remaining reader.old) (R.remaining reader.new) column curve.new malformed) }
+        KeysRead (R.remaining reader.old) (R.remaining reader.new) options curve.new malformed) }
     ensures err { OnErr result (SomeRead (R.remaining reader.old) (R.remaining reader.new)) }
     ensures keeps { is_some curve.new.kept ≡ is_some curve.old.kept }
     ensures kind { IfErr result (λ e. e ≢ TraceError.Write) }
 {
+    let (column, warm_up) = (options.column, options.policies.warm_up());
     let mut malformed = 0;
     for lines in 0..u64::MAX - 1 {
         progress.note(lines);
+        let warm = lines - malformed < warm_up;
         match read_line(reader, line)? {
-            Ending::Feed => malformed += u64::from(!refer_line(curve, column, line)?),
-            Ending::InputEnd => return Ok(malformed + u64::from(!refer_line(curve, column, line)?)),
+            Ending::Feed => malformed += u64::from(!refer_line(curve, column, warm, line)?),
+            Ending::InputEnd => {
+                return Ok(malformed + u64::from(!refer_line(curve, column, warm, line)?));
+            }
             Ending::Nothing => return Ok(malformed),
         }
     }

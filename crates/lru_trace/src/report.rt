@@ -3,6 +3,7 @@ ghost use Rattle.std.specs.Prelude.{◌≡◌, ◌≤◌, ◌+◌, ◌^◌, ◌<
 ghost use Rattle.std.specs.String.{string_bytes};
 ghost use Rattle.lru_trace.specs.Counted.{IsOf};
 ghost use Rattle.lru_trace.specs.Report.{missed_part, ratio_text, best_text, size_text, bar_text, text_of};
+ghost use Rattle.lru_trace.specs.References.{wants_best};
 ghost use Rattle.lru_trace.specs.Rows.{row_of, points};
 ghost use Rattle.lru_trace.specs.Times.{KnowsRest};
 ghost use Rattle.lru_trace.specs.Report.{csv_best, csv_line, csv_head, csv_of, written};
@@ -173,9 +174,9 @@ fn text_rows(
     sizes: &[usize],
     powers: &[usize],
 ) -> Result<Vec<u8>, AllocError>
-    ensures { IfOk result (λ text. (trace : List (List ℕ)) → IsOf trace curve.now → KnowsRest trace best.now →
-        text.items ≡ text_of counts (map (row_of trace (is_some best.now)) sizes.now)
-        (map (row_of trace false) powers.now)) }
+    ensures { IfOk result (λ text. (warm trace : List (List ℕ)) → IsOf warm trace curve.now → KnowsRest trace best.now →
+        text.items ≡ text_of counts (map (row_of warm trace (is_some best.now)) sizes.now)
+        (map (row_of warm trace false) powers.now)) }
 {
     let rows = rows_of(alloc, curve, best, sizes)?;
     let bars = rows_of(alloc, curve, &None, powers)?;
@@ -190,8 +191,8 @@ fn point_rows(
     sizes: &[usize],
     powers: &[usize],
 ) -> Result<Vec<Row>, AllocError>
-    ensures { IfOk result (λ rows. (trace : List (List ℕ)) → IsOf trace curve.now → KnowsRest trace best.now →
-        rows.items ≡ map (row_of trace (is_some best.now)) (points sizes.now powers.now)) }
+    ensures { IfOk result (λ rows. (warm trace : List (List ℕ)) → IsOf warm trace curve.now → KnowsRest trace best.now →
+        rows.items ≡ map (row_of warm trace (is_some best.now)) (points sizes.now powers.now)) }
 {
     let points = points(alloc, sizes, powers)?;
     let rows = rows_of(alloc, curve, best, &points)?;
@@ -205,9 +206,9 @@ pub fn report_of(
     malformed: u64,
     sizes: &[usize],
 ) -> Result<Vec<u8>, AllocError>
-    requires { is_some curve.now.kept ≡ options.best }
-    ensures { IfOk result (λ report. (trace : List (List ℕ)) → IsOf trace curve.now →
-        report.items ≡ written trace sizes.now malformed options.form options.best) }
+    requires { is_some curve.now.kept ≡ wants_best options.policies }
+    ensures { IfOk result (λ report. (warm trace : List (List ℕ)) → IsOf warm trace curve.now →
+        report.items ≡ written warm trace sizes.now malformed options.form (wants_best options.policies)) }
 {
     let (references, keys) = (curve.references(), curve.keys());
     let counts = Counts {
@@ -224,12 +225,12 @@ pub fn report_of(
         }
         Form::Csv => {
             let rows = point_rows(alloc, curve, &best, sizes, &powers)?;
-            let csv = csv_of(alloc, options.best, &rows)?;
+            let csv = csv_of(alloc, options.policies.best(), &rows)?;
             Ok(csv)
         }
         Form::Svg => {
             let rows = point_rows(alloc, curve, &best, sizes, &powers)?;
-            let svg = svg_of(alloc, counts, options.best, &powers, &rows)?;
+            let svg = svg_of(alloc, counts, options.policies.best(), &powers, &rows)?;
             Ok(svg)
         }
     }

@@ -44,8 +44,8 @@ fn best_in(best: &Option<Best>, size: usize) -> Result<Option<BestMisses>, Alloc
 }
 
 fn row_of(curve: &Curve, best: &Option<Best>, size: usize) -> Result<Row, AllocError>
-    ensures { IfOk result (λ row. (trace : List (List ℕ)) → IsOf trace curve.now → KnowsRest trace best.now →
-        row ≡ row_of trace (is_some best.now) size) }
+    ensures { IfOk result (λ row. (warm trace : List (List ℕ)) → IsOf warm trace curve.now → KnowsRest trace best.now →
+        row ≡ row_of warm trace (is_some best.now) size) }
 {
     let misses = curve.misses(size);
     let hits = curve.references() - misses;
@@ -64,8 +64,8 @@ pub fn rows_of(
     best: &Option<Best>,
     sizes: &[usize],
 ) -> Result<Vec<Row>, AllocError>
-    ensures { IfOk result (λ rows. (trace : List (List ℕ)) → IsOf trace curve.now → KnowsRest trace best.now →
-        rows.items ≡ map (row_of trace (is_some best.now)) sizes.now) }
+    ensures { IfOk result (λ rows. (warm trace : List (List ℕ)) → IsOf warm trace curve.now → KnowsRest trace best.now →
+        rows.items ≡ map (row_of warm trace (is_some best.now)) sizes.now) }
 {
     let mut rows = Vec::new(alloc);
     for size in sizes {

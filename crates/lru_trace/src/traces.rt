@@ -22,7 +22,7 @@ struct Lines {
 }
 
 fn empty_curve(alloc: Global, best: bool) -> Result<Curve, AllocError>
-    ensures of { IfOk result (IsOf []) }
+    ensures of { IfOk result (IsOf [] []) }
     ensures keeps { IfOk result (λ curve. is_some curve.kept ≡ best) }
 {
     if best {
@@ -48,7 +48,7 @@ fn read_trace<R: BufRead, P: Write>(
     let Some(sizes) = sizes_of(alloc, &line)? else {
         return Ok(None);
     };
-    let mut curve = empty_curve(alloc, options.best)?;
+    let mut curve = empty_curve(alloc, options.policies.best())?;
     let Ending::Feed = ending else {
         let malformed = 0;
         return Ok(Some(Lines {
@@ -57,7 +57,7 @@ fn read_trace<R: BufRead, P: Write>(
             malformed,
         }));
     };
-    let malformed = read_keys(reader, &mut line, options.column, &mut curve, progress)?;
+    let malformed = read_keys(reader, &mut line, options, &mut curve, progress)?;
     Ok(Some(Lines {
         sizes,
         curve,
@@ -69,11 +69,12 @@ fn read_trace<R: BufRead, P: Write>(
 /// written: `docs/TRACE.md` shows it.
 ///
 /// The first line names sizes, and each other line, or a column of it, is a key that is referenced: text of 1 to 64
-/// bytes. Other lines are counted as malformed. If `best` is true, the misses of the best possible policies are
-/// written, too: in the text form for each named size, and in the other forms also for each power of two.
+/// bytes. Other lines are counted as malformed. `Policies::Lru` may leave out a warm-up. `Policies::Best` also writes the
+/// misses of the best possible policies: in the text form for each named size, and in the other forms also for each
+/// power of two.
 ///
 /// Cost: `O(log n)` expected for each line and n keys. The memory is in proportion to the number of keys and the
-/// longest line. With `best` it is in proportion to the number of lines, and each size costs `O(log n)` for each line.
+/// longest line. With `Policies::Best` it is in proportion to the number of lines, and each size costs `O(log n)` for each line.
 ///
 /// # Errors
 ///

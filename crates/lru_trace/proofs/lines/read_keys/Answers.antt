@@ -1,7 +1,7 @@
-use Rattle.std.proofs.Common.{◌≡◌, ℕ, ◌+◌, ◌≤◌, Bool, true, false, List, [], ◌∷◌, ◌++◌, ◌∙◌, arith, refl, cond, ap, sym, subst}
-use Rattle.std.specs.Prelude.{not}
+use Rattle.std.proofs.Common.{◌≡◌, ◌+◌, ◌-◌, ◌≤◌, Bool, true, false, [], ◌∷◌, ◌∙◌, arith, refl, cond, ap, sym, subst}
+use Rattle.std.specs.Prelude.{not, nat_lt}
 use Rattle.std.specs.Int.{from_bool}
-use Rattle.lru_trace.specs.Counted.{IsOf}
+use Rattle.lru_trace.specs.Counted.{Follows}
 use Rattle.lru_trace.specs.Lines.{fed, text_in, is_key, trace_of}
 use Rattle.lru_trace.specs.Outcome.{KeysRead}
 use Rattle.lru_trace.proofs.ReadLines.{ReadSoFar, none_read, line_read, last_read, some_part}
@@ -35,39 +35,43 @@ returns-in_err-refer_line-in-InputEnd-clause-err g c =
 pub returns-in-InputEnd-clause-ok : goal.returns-in-InputEnd-clause-ok
 returns-in-InputEnd-clause-ok g c =
     let line = c.read_line.new.line.items in
-    let column = c.args.column in
+    let options = c.args.options in
+    let column = options.column in
+    let read = c.loop-lines.lines - c.loop-lines.malformed in
     let from = g.R.Read.remaining c.args.reader.now in
     let to = g.R.Read.remaining c.read_line.new.reader in
     let taken = rw c.in-InputEnd.is at c.in_ok-read_line.ensures.ok in
     let is = c.in_ok-refer_line-in-InputEnd.ensures in
     let same = c.deref-in-InputEnd.ensures.value in
-    let follows = subst (λ l. (trace : List (List ℕ)) → IsOf trace c.loop-lines.curve
-    → IsOf (trace ++ trace_of (text_in column l ∷ [])) c.refer_line-in-InputEnd.new.curve) same is.ok in
+    let follows = subst (λ l. Follows (nat_lt read c.warm_up-warm_up.result) c.loop-lines.curve (trace_of (text_in column l ∷ []))
+    c.refer_line-in-InputEnd.new.curve) same is.ok in
     let count = c.from-in-InputEnd.ensures ∙ bit _ ∙ ap (λ b. cond (not b) 1 0) is.key
     ∙ ap (λ l. cond (not (is_key (text_in column l))) 1 0) same in
-    subst (λ n. KeysRead from to column c.refer_line-in-InputEnd.new.curve (c.loop-lines.malformed + n)) (sym count)
-    (last_read c.loop-lines.invariant.3 to line c.refer_line-in-InputEnd.new.curve follows taken.0 taken.1)
+    subst (λ n. KeysRead from to options c.refer_line-in-InputEnd.new.curve (c.loop-lines.malformed + n)) (sym count)
+    (last_read c.loop-lines.invariant.3 to line c.refer_line-in-InputEnd.new.curve (nat_lt read c.warm_up-warm_up.result) (ap (nat_lt read) c.warm_up-warm_up.ensures) follows taken.0 taken.1)
 
 pub loop-lines-preserved : goal.loop-lines-preserved
 loop-lines-preserved g c =
     let line = c.read_line.new.line.items in
-    let column = c.args.column in
+    let options = c.args.options in
+    let column = options.column in
+    let read = c.loop-lines.lines - c.loop-lines.malformed in
     let from = g.R.Read.remaining c.args.reader.now in
     let to = g.R.Read.remaining c.read_line.new.reader in
     let inv = c.loop-lines.invariant in
     let taken = rw c.in-Feed.is at c.in_ok-read_line.ensures.ok in
     let is = c.in_ok-refer_line-in-Feed.ensures in
     let same = c.deref.ensures.value in
-    let follows = subst (λ l. (trace : List (List ℕ)) → IsOf trace c.loop-lines.curve
-    → IsOf (trace ++ trace_of (text_in column l ∷ [])) c.refer_line.new.curve) same is.ok in
+    let follows = subst (λ l. Follows (nat_lt read c.warm_up-warm_up.result) c.loop-lines.curve (trace_of (text_in column l ∷ []))
+    c.refer_line.new.curve) same is.ok in
     let count = c.from.ensures ∙ bit _ ∙ ap (λ b. cond (not b) 1 0) is.key
     ∙ ap (λ l. cond (not (is_key (text_in column l))) 1 0) same in
     let few = few_more (is_key (text_in column line)) in (
       omega (arith, inv.0, count, few),
       omega (arith, inv.1, is.references),
       is.keeps ∙ inv.2,
-      subst (λ n. ReadSoFar from to column c.refer_line.new.curve (c.loop-lines.malformed + n)) (sym count)
-          (line_read inv.3 to line c.refer_line.new.curve follows taken),
+      subst (λ n. ReadSoFar from to options c.refer_line.new.curve (c.loop-lines.lines + 1) (c.loop-lines.malformed + n)) (sym count)
+          (line_read inv.3 to line c.refer_line.new.curve (nat_lt read c.warm_up-warm_up.result) (ap (nat_lt read) c.warm_up-warm_up.ensures) follows taken),
     )
   where
     few_more : (b : Bool) → cond (not b) 1 0 ≤ 1
