@@ -18,7 +18,9 @@ use Rattle.lru_trace.specs.Counted.{Counted, IsOf, Follows}
 use Rattle.lru_trace.specs.Lines.{lines_of, onto_first, fed, LacksFeed, EndsSo, TakesRest, TakesLine, is_key}
 use Rattle.lru_trace.specs.Lines.{text_in, texts_of, trace_of, malformed_in}
 use Rattle.lru_trace.specs.declared.options.Options.{Options}
-use Rattle.lru_trace.specs.References.{keys_read, warm_in, counted_in, warm_up_of}
+use Rattle.lru_trace.specs.References.{keys_read, warm_in, counted_in, others_in, warm_up_of, bits_of}
+use Rattle.lru_trace.specs.declared.lines.Others.{Others}
+use Rattle.lru_trace.specs.Samples.{sampled, skipped, is_sampled}
 use Rattle.lru_trace.specs.declared.lines.Ending.{Ending}
 use Rattle.lru_trace.specs.declared.lines.Ending.TheVariants as endings
 use Rattle.lru_trace.specs.Outcome.{KeysRead}
@@ -113,116 +115,167 @@ pub some_part : {A E : Type 0} (r : Result A E) (a b c : Option (List ℕ)) (byt
 some_part (Ok x) a b c bytes more p q = tt
 some_part (Err e) a b c bytes more p q = (bytes ++ more, Consumes-trans a b c bytes more p q)
 
--- These whole lines were read. The curve is of the references that they make, and `malformed` of them spell no key.
-pub record ReadSoFar (from to : Option (List ℕ)) (options : Options) (curve : Counted) (lines malformed : ℕ) : Type 0 where
+-- These whole lines were read. The curve is of the references that they make.
+pub record ReadSoFar (from to : Option (List ℕ)) (options : Options) (curve : Counted) (lines : ℕ) (others : Others)
+    : Type 0 where
   pub bytes : List ℕ
   pub whole : (rest : List ℕ) → lines_of (bytes ++ rest) ≡ lines_of bytes ++ lines_of rest
   pub reads : Consumes from to bytes
   pub curve_of : IsOf (warm_in options (lines_of bytes)) (counted_in options (lines_of bytes)) curve
-  pub others : malformed ≡ malformed_in (texts_of options.column (lines_of bytes))
-  pub all : lines ≡ malformed + length (keys_read options (lines_of bytes))
+  pub left_out : others ≡ others_in options (lines_of bytes)
+  pub all : lines ≡ others.malformed + length (keys_read options (lines_of bytes))
 
 pub nothing_read : (options : Options) (curve : Counted) → IsOf [] [] curve
     → IsOf (warm_in options []) (counted_in options []) curve
-nothing_read options curve is = subst (λ ks. IsOf ks (drop w []) curve) (sym (take_all w [] (omega arith)))
-    (subst (λ ks. IsOf [] ks curve) (sym (drop_all w [] (omega arith))) is)
+nothing_read options curve is =
+    subst (λ ks. IsOf (sampled bits ks) (sampled bits (drop w [])) curve) (sym (take_all w [] (omega arith)))
+    (subst (λ ks. IsOf [] (sampled bits ks) curve) (sym (drop_all w [] (omega arith))) is)
   where
+    bits : ℕ
+    bits = bits_of options
+
     w : ℕ
     w = warm_up_of options.policies
 
 pub none_read : (from : Option (List ℕ)) (options : Options) (curve : Counted) → IsOf [] [] curve
-    → ReadSoFar from from options curve 0 0
+    → ReadSoFar from from options curve 0 (record { malformed = 0; skipped = 0 })
 none_read from options curve is = record {
   bytes = [];
   whole = λ rest. refl;
   reads = Consumes-nil from;
   curve_of = nothing_read options curve is;
-  others = refl;
+  left_out = refl;
   all = refl;
 }
 
-malformed_more : (lines : List (List ℕ)) (line : List ℕ)
-    → malformed_in (lines ++ line ∷ []) ≡ malformed_in lines + cond (not (is_key line)) 1 0
-malformed_more lines line = ap length (filter-append (λ l. not (is_key l)) lines (line ∷ []))
-    ∙ length-append (filter (λ l. not (is_key l)) lines) (filter (λ l. not (is_key l)) (line ∷ []))
-    ∙ ap (λ n. malformed_in lines + n) (go (not (is_key line)))
+abbrev pub both : Others → Others → Others
+both a b = record { malformed = a.malformed + b.malformed; skipped = a.skipped + b.skipped }
+
+filtered_more : (p : List ℕ → Bool) (xs ys : List (List ℕ))
+    → length (filter p (xs ++ ys)) ≡ length (filter p xs) + length (filter p ys)
+filtered_more p xs ys = ap length (filter-append p xs ys) ∙ length-append (filter p xs) (filter p ys)
+
+module _ (options : Options) (lines : List (List ℕ)) (line : List ℕ) where
+  texts_more : texts_of options.column (lines ++ line ∷ [])
+      ≡ texts_of options.column lines ++ texts_of options.column (line ∷ [])
+  texts_more = map-append (text_in options.column) lines (line ∷ [])
+
+  keys_more : keys_read options (lines ++ line ∷ []) ≡ keys_read options lines ++ keys_read options (line ∷ [])
+  keys_more = ap trace_of texts_more
+      ∙ filter-append is_key (texts_of options.column lines) (texts_of options.column (line ∷ []))
+
+  others_more : others_in options (lines ++ line ∷ []) ≡ both (others_in options lines) (others_in options (line ∷ []))
+  others_more = λ i. record {
+    malformed = (ap malformed_in texts_more ∙ filtered_more (λ text. not (is_key text)) (texts_of options.column lines)
+        (texts_of options.column (line ∷ []))) i;
+    skipped = (ap (skipped (bits_of options)) keys_more ∙ filtered_more (λ key. not (is_sampled (bits_of options) key))
+        (keys_read options lines) (keys_read options (line ∷ []))) i;
+  }
+
+  one_line : (others_in options (line ∷ [])).malformed + length (keys_read options (line ∷ [])) ≡ 1
+  one_line = split (is_key (text_in options.column line))
+    where
+      split : (t : Bool) → length (cond (not t) (text_in options.column line ∷ []) [])
+          + length (cond t (text_in options.column line ∷ []) []) ≡ 1
+      split true = refl
+      split false = refl
+
+pub few_others : (options : Options) (line : List ℕ) → ((others_in options (line ∷ [])).malformed ≤ 1)
+    × ((others_in options (line ∷ [])).skipped ≤ 1)
+few_others options line = (few (λ text. not (is_key text)) (text_in options.column line), go (is_key key))
   where
-    go : (t : Bool) → length (cond t (line ∷ []) []) ≡ cond t 1 0
-    go true = refl
-    go false = refl
+    key : List ℕ
+    key = text_in options.column line
+
+    few : (p : List ℕ → Bool) (x : List ℕ) → length (filter p (x ∷ [])) ≤ 1
+    few p x = go (p x)
+      where
+        go : (t : Bool) → length (cond t (x ∷ []) []) ≤ 1
+        go true = omega arith
+        go false = omega arith
+
+    go : (t : Bool) → skipped (bits_of options) (cond t (key ∷ []) []) ≤ 1
+    go true = few (λ key. not (is_sampled (bits_of options) key)) key
+    go false = omega arith
 
 -- what one line more adds to the references
-module _ (w : ℕ) (keys more : List (List ℕ)) (few : length more ≤ 1) (old new : Counted) (is_warm : Bool)
-    (is : is_warm ≡ nat_lt (length keys) w) (follows : Follows is_warm old more new) where
-  one_more : IsOf (take w keys) (drop w keys) old → IsOf (take w (keys ++ more)) (drop w (keys ++ more)) new
+module _ (bits w : ℕ) (keys more : List (List ℕ)) (few : length more ≤ 1) (old new : Counted) (is_warm : Bool)
+    (is : is_warm ≡ nat_lt (length keys) w) (follows : Follows is_warm old (sampled bits more) new) where
+  one_more : IsOf (sampled bits (take w keys)) (sampled bits (drop w keys)) old
+      → IsOf (sampled bits (take w (keys ++ more))) (sampled bits (drop w (keys ++ more))) new
   one_more of = go is_warm refl
     where
-      go : (b : Bool) → is_warm ≡ b → IsOf (take w (keys ++ more)) (drop w (keys ++ more)) new
+      go : (b : Bool) → is_warm ≡ b
+          → IsOf (sampled bits (take w (keys ++ more))) (sampled bits (drop w (keys ++ more))) new
       go true e =
           let less = ltb-true (length keys) w (sym is ∙ e) in
           let short : length (keys ++ more) ≤ w = omega (arith, less, few, length-append keys more) in
-          subst (λ ks. IsOf ks (drop w (keys ++ more)) new) (sym (take_all w (keys ++ more) short))
-          (subst (λ ks. IsOf (keys ++ more) ks new) (sym (drop_all w (keys ++ more) short))
-          (follows.warmed e keys (subst (λ ks. IsOf ks [] old) (take_all w keys (omega (arith, less)))
-          (subst (λ ks. IsOf (take w keys) ks old) (drop_all w keys (omega (arith, less))) of))))
+          subst (λ ks. IsOf (sampled bits ks) (sampled bits (drop w (keys ++ more))) new)
+          (sym (take_all w (keys ++ more) short))
+          (subst (λ ks. IsOf (sampled bits (keys ++ more)) (sampled bits ks) new)
+          (sym (drop_all w (keys ++ more) short))
+          (subst (λ ks. IsOf ks [] new) (sym (filter-append (is_sampled bits) keys more))
+          (follows.warmed e (sampled bits keys)
+          (subst (λ ks. IsOf (sampled bits ks) [] old) (take_all w keys (omega (arith, less)))
+          (subst (λ ks. IsOf (sampled bits (take w keys)) (sampled bits ks) old)
+          (drop_all w keys (omega (arith, less))) of)))))
       go false e =
           let long = ltb-false (length keys) w (sym is ∙ e) in
-          subst (λ ks. IsOf ks (drop w (keys ++ more)) new) (sym (take-append-le w keys more long))
-          (subst (λ ks. IsOf (take w keys) ks new) (sym (drop-append-le w keys more long))
-          (follows.counted e (take w keys) (drop w keys) of))
+          subst (λ ks. IsOf (sampled bits ks) (sampled bits (drop w (keys ++ more))) new)
+          (sym (take-append-le w keys more long))
+          (subst (λ ks. IsOf (sampled bits (take w keys)) (sampled bits ks) new)
+          (sym (drop-append-le w keys more long))
+          (subst (λ ks. IsOf (sampled bits (take w keys)) ks new)
+          (sym (filter-append (is_sampled bits) (drop w keys) more))
+          (follows.counted e (sampled bits (take w keys)) (sampled bits (drop w keys)) of)))
 
-module _ {from mid : Option (List ℕ)} {options : Options} {old : Counted} {lines malformed : ℕ}
-    (so_far : ReadSoFar from mid options old lines malformed)
+module _ {from mid : Option (List ℕ)} {options : Options} {old : Counted} {lines : ℕ} {others : Others}
+    (so_far : ReadSoFar from mid options old lines others)
     (to : Option (List ℕ)) (line : List ℕ) where
-  pub all_read : TakesRest mid to line → line ≡ [] → KeysRead from to options old malformed
+  pub all_read : TakesRest mid to line → line ≡ [] → KeysRead from to options old others
   all_read taken none = record {
     input = so_far.bytes ++ line;
     reads = Consumes-trans from mid to so_far.bytes line so_far.reads taken.1;
     at_end = ended_before from mid to so_far.bytes so_far.reads taken.2;
     curve_of = subst (λ ls. IsOf (warm_in options ls) (counted_in options ls) old) same so_far.curve_of;
-    others = so_far.others ∙ ap (λ ls. malformed_in (texts_of options.column ls)) same;
+    left_out = so_far.left_out ∙ ap (others_in options) same;
   }
     where
       same : lines_of so_far.bytes ≡ lines_of (so_far.bytes ++ line)
       same = ap lines_of (sym (append-nil so_far.bytes) ∙ ap (λ l. so_far.bytes ++ l) (sym none))
 
-  abbrev text : List ℕ
-  text = text_in options.column line
-
   abbrev w : ℕ
   w = warm_up_of options.policies
 
-  module _ (new : Counted) (is_warm : Bool) (is : is_warm ≡ nat_lt (lines - malformed) w)
-      (follows : Follows is_warm old (trace_of (text ∷ [])) new) where
-    abbrev more : ℕ
-    more = malformed + cond (not (is_key text)) 1 0
+  abbrev bits : ℕ
+  bits = bits_of options
+
+  abbrev it : List (List ℕ)
+  it = keys_read options (line ∷ [])
+
+  module _ (new : Counted) (is_warm : Bool) (is : is_warm ≡ nat_lt (lines - others.malformed) w)
+      (follows : Follows is_warm old (sampled bits it) new) where
+    abbrev more : Others
+    more = both others (others_in options (line ∷ []))
 
     counted : (bytes : List ℕ) → lines_of bytes ≡ lines_of so_far.bytes ++ line ∷ []
         → IsOf (warm_in options (lines_of bytes)) (counted_in options (lines_of bytes)) new
-        × (more ≡ malformed_in (texts_of options.column (lines_of bytes)))
-        × (lines + 1 ≡ more + length (keys_read options (lines_of bytes)))
+        × (more ≡ others_in options (lines_of bytes))
+        × (lines + 1 ≡ more.malformed + length (keys_read options (lines_of bytes)))
     counted bytes same =
-        let texts = texts_of options.column (lines_of so_far.bytes) in
-        let keys = trace_of texts in
-        let are : texts ++ text ∷ [] ≡ texts_of options.column (lines_of bytes) =
-        sym (ap (texts_of options.column) same ∙ map-append (text_in options.column) (lines_of so_far.bytes) (line ∷ []))
-        in
-        let longer : keys ++ trace_of (text ∷ []) ≡ keys_read options (lines_of bytes) =
-        sym (filter-append is_key texts (text ∷ [])) ∙ ap trace_of are in
-        let read : lines - malformed ≡ length keys = omega (arith, so_far.all) in
-        let one = split (is_key text) in (
-          subst (λ ks. IsOf (take w ks) (drop w ks) new) longer
-              (one_more w keys (trace_of (text ∷ [])) (omega (arith, one.0)) old new is_warm
+        let before = lines_of so_far.bytes in
+        let keys = keys_read options before in
+        let longer : keys ++ it ≡ keys_read options (lines_of bytes) =
+        sym (ap (keys_read options) same ∙ keys_more options before line) in
+        let read : lines - others.malformed ≡ length keys = omega (arith, so_far.all) in
+        let one = one_line options before line in (
+          subst (λ ks. IsOf (sampled bits (take w ks)) (sampled bits (drop w ks)) new) longer
+              (one_more bits w keys it (omega (arith, one)) old new is_warm
               (is ∙ ap (λ n. nat_lt n w) read) follows so_far.curve_of),
-          ap (λ n. n + cond (not (is_key text)) 1 0) so_far.others ∙ sym (malformed_more texts text)
-              ∙ ap malformed_in are,
-          omega (arith, so_far.all, one.1, sym (ap length longer), length-append keys (trace_of (text ∷ []))),
+          ap (λ o. both o (others_in options (line ∷ []))) so_far.left_out ∙ sym (others_more options before line)
+              ∙ ap (others_in options) (sym same),
+          omega (arith, so_far.all, one, sym (ap length longer), length-append keys it),
         )
-      where
-        split : (t : Bool) → (length (cond t (text ∷ []) []) ≤ 1)
-            × (cond (not t) 1 0 + length (cond t (text ∷ []) []) ≡ 1)
-        split true = (omega arith, refl)
-        split false = (omega arith, refl)
 
     pub line_read : TakesLine mid to endings.Feed line → ReadSoFar from to options new (lines + 1) more
     line_read taken =
@@ -239,7 +292,7 @@ module _ {from mid : Option (List ℕ)} {options : Options} {old : Counted} {lin
               ∙ ap (λ ls. ls ++ lines_of rest) (sym is);
           reads = Consumes-trans from mid to so_far.bytes (fed line) so_far.reads taken.1;
           curve_of = count.0;
-          others = count.1;
+          left_out = count.1;
           all = count.2;
         }
 
@@ -253,5 +306,5 @@ module _ {from mid : Option (List ℕ)} {options : Options} {old : Counted} {lin
           reads = Consumes-trans from mid to so_far.bytes line so_far.reads taken.1;
           at_end = ended_before from mid to so_far.bytes so_far.reads taken.2;
           curve_of = count.0;
-          others = count.1;
+          left_out = count.1;
         }

@@ -1,5 +1,5 @@
-ghost use Rattle.std.specs.Prelude.{◌≡◌};
-ghost use Rattle.lru_trace.specs.References.{warm_up_of, wants_best};
+ghost use Rattle.std.specs.Prelude.{◌≡◌, ◌≤◌};
+ghost use Rattle.lru_trace.specs.References.{warm_up_of, wants_best, bits_of};
 
 /// The form of what is written.
 #[derive(Clone, Copy, Debug, PartialEq, Eq)]
@@ -37,6 +37,18 @@ pub struct Options {
     pub form: Form,
     /// Whose misses are counted.
     pub policies: Policies,
+    /// How many of the lowest bits of a key's hash are 0 if the key is in the sample; above 20 it means 20. Other keys are
+    /// no references.
+    pub sample: u32,
+}
+
+impl Options {
+    pub(crate) fn bits(self) -> u32
+        ensures value { result ≡ bits_of self }
+        ensures few { result ≤ 20 }
+    {
+        self.sample.min(20)
+    }
 }
 
 impl Policies {

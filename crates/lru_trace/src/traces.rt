@@ -4,7 +4,7 @@ ghost use Rattle.lru_trace.specs.Counted.{IsOf};
 ghost use Rattle.lru_trace.specs.Outcome.{Ends, TraceRead, NoSizesRead, SomeRead};
 
 use crate::curve::Curve;
-use crate::lines::{Ending, read_keys, read_line};
+use crate::lines::{Ending, Others, read_keys, read_line};
 use crate::options::Options;
 use crate::outcome::{TraceEnd, TraceError};
 use crate::output::write_bytes;
@@ -18,7 +18,7 @@ use std::io::{BufRead, Write};
 struct Lines {
     sizes: Vec<usize>,
     curve: Curve,
-    malformed: u64,
+    others: Others,
 }
 
 fn empty_curve(alloc: Global, best: bool) -> Result<Curve, AllocError>
@@ -39,7 +39,7 @@ fn read_trace<R: BufRead, P: Write>(
 ) -> Result<Option<Lines>, TraceError>
     ensures ok { IfOk result (λ read.
         MatchOption read (NoSizesRead (R.remaining reader.old) (R.remaining reader.new))
-        (λ t. TraceRead (R.remaining reader.old) (R.remaining reader.new) options t.sizes.items t.curve t.malformed)) }
+        (λ t. TraceRead (R.remaining reader.old) (R.remaining reader.new) options t.sizes.items t.curve t.others)) }
     ensures err { OnErr result (SomeRead (R.remaining reader.old) (R.remaining reader.new)) }
     ensures kind { IfErr result (λ e. e ≢ TraceError.Write) }
 {
@@ -50,18 +50,21 @@ fn read_trace<R: BufRead, P: Write>(
     };
     let mut curve = empty_curve(alloc, options.policies.best())?;
     let Ending::Feed = ending else {
-        let malformed = 0;
+        let others = Others {
+            malformed: 0,
+            skipped: 0,
+        };
         return Ok(Some(Lines {
             sizes,
             curve,
-            malformed,
+            others,
         }));
     };
-    let malformed = read_keys(reader, &mut line, options, &mut curve, progress)?;
+    let others = read_keys(reader, &mut line, options, &mut curve, progress)?;
     Ok(Some(Lines {
         sizes,
         curve,
-        malformed,
+        others,
     }))
 }
 
@@ -93,7 +96,7 @@ pub fn trace<R: BufRead, W: Write, P: Write>(
     let Some(read) = read_trace(alloc, options, reader, progress)? else {
         return Ok(TraceEnd::NoSizes);
     };
-    let report = report_of(alloc, options, &read.curve, read.malformed, &read.sizes)?;
+    let report = report_of(alloc, options, &read.curve, read.others, &read.sizes)?;
     if !write_bytes(writer, &report) {
         return Err(TraceError::Write);
     }

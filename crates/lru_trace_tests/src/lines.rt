@@ -8,6 +8,7 @@ const TEXT: Options = Options {
     column: None,
     form: Form::Text,
     policies: Policies::Lru { warm_up: 0 },
+    sample: 0,
 };
 
 #[derive(Drop)]

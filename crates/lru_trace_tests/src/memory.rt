@@ -16,6 +16,7 @@ fn fails_without_memory(alloc: Global, form: Form) -> Result<bool, TraceError> {
         column: None,
         form,
         policies: Policies::Lru { warm_up: 0 },
+        sample: 0,
     };
     let mut report = Vec::with_capacity(alloc, 9999)?;
     let mut progress = Progress::new(alloc, None::<Vec<u8>>);

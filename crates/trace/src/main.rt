@@ -11,8 +11,11 @@ const NO_BUFFER: u8 = 3;
 
 const UNKNOWN: u8 = 4;
 
+/// The most bits of a sample.
+const MOST_BITS: u32 = 20;
+
 const HELP: &str = "\
-trace [--best | --warm-up N] [--csv | --svg] [--column N [--separator C]] < LINES
+trace [--best | --warm-up N] [--sample R] [--csv | --svg] [--column N [--separator C]] < LINES
     Prints how often an LRU cache of each size misses the keys that were referenced.
 
 The first line has sizes with a space between each two, such as 1 10 100 1000. Each other line is a key, of 1 to 64
@@ -24,6 +27,8 @@ The output is a line for each named size, and then a bar for each power of two: 
                out. It takes 16 to 32 bytes more for each reference.
 --warm-up N    takes the first N keys as a warm-up: they fill the caches, but are not counted as references, hits or
                misses. It cannot be combined with --best.
+--sample R     takes only the keys whose FNV-1a hash of 64 bits has its R lowest bits 0, about one key in 2^R, and
+               counts the others as skipped. A size n stands for n / 2^R places. R is 0 to 20.
 --csv          prints a record for each named size and each power of two, below a header.
 --svg          prints a picture of the curves. Of --csv and --svg the last one counts.
 --column N     takes the Nth column of each line as its key. The first line still has sizes.
@@ -40,6 +45,7 @@ enum Next {
     Number,
     Separator,
     WarmUp,
+    Sample,
 }
 
 /// What the arguments so far ask for.
@@ -48,6 +54,7 @@ struct Asked {
     best: bool,
     warm_up: Option<u64>,
     form: Form,
+    sample: u32,
     column: Option<usize>,
     separator: u8,
     next: Next,
@@ -70,6 +77,10 @@ impl Asked {
                 Ok(number) => self.warm_up = Some(number),
                 Err(_) => return false,
             },
+            Next::Sample => match argument.parse::<u32>() {
+                Ok(bits) if bits <= MOST_BITS => self.sample = bits,
+                _ => return false,
+            },
         }
         self.next = Next::Word;
         true
@@ -83,6 +94,7 @@ impl Asked {
             "--column" => self.next = Next::Number,
             "--separator" => self.next = Next::Separator,
             "--warm-up" => self.next = Next::WarmUp,
+            "--sample" => self.next = Next::Sample,
             _ => return false,
         }
         true
@@ -105,6 +117,7 @@ impl Asked {
             column: self.column.map(|index| Column { index, separator }),
             form: self.form,
             policies,
+            sample: self.sample,
         }
     }
 }
@@ -117,6 +130,7 @@ fn main(rt: HostRuntime) -> ExitCode {
         best: false,
         warm_up: None,
         form: Form::Text,
+        sample: 0,
         column: None,
         separator: b',',
         next: Next::Word,

@@ -70,6 +70,10 @@ fn arguments() {
         &["--warm-up", "18446744073709551616"],
         &["--csv", "--warm-up"],
         &["--warm-up", "0", "--best"],
+        &["--sample", "21"],
+        &["--sample", "-1"],
+        &["--sample", "x"],
+        &["--best", "--sample"],
     ] {
         let run = Command::new(env!("CARGO_BIN_EXE_trace")).args(arguments).stdin(Stdio::null()).output().unwrap();
         assert_eq!((run.status.code(), run.stdout.as_slice()), (Some(4), &b""[..]), "{arguments:?}");
