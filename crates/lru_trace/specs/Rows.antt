@@ -43,7 +43,7 @@ powers most (suc n) level = 2 ^ level ∷ (if nat_le most (2 ^ level) then [] el
 abbrev pub axis_in : ℕ → List (List ℕ) → List (List ℕ) → List ℕ
 axis_in bits warm trace = powers (max (keys warm trace) 1 * 2 ^ bits) 64 0
 
--- those of them that stand for a place
+-- those of them that stand for at least one place
 abbrev pub powers_in : ℕ → List (List ℕ) → List (List ℕ) → List ℕ
 powers_in bits warm trace = drop bits (axis_in bits warm trace)
 

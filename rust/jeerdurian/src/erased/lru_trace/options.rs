@@ -23,7 +23,7 @@ pub struct Column {
 /// Whose misses are counted.
 #[derive(Clone, Copy, Debug, PartialEq, Eq)]
 pub enum Policies {
-    /// LRU's. A warm-up of this many references comes before the references that are counted.
+    /// LRU's. The first keys are a warm-up, this many: they fill the caches, and are not counted.
     Lru { warm_up: u64 },
     /// LRU's, and those of the best possible policies, which begin with no keys.
     Best,
@@ -38,8 +38,7 @@ pub struct Options {
     pub form: Form,
     /// Whose misses are counted.
     pub policies: Policies,
-    /// How many of the lowest bits of a key's hash are 0 if the key is in the sample; above 20 it means 20. Other keys are
-    /// no references.
+    /// A key is referenced only if its hash ends with this many zero bits. A number above 20 means 20.
     pub sample: u32,
 }
 
