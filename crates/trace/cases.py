@@ -64,13 +64,21 @@ def text(line):
     return 1 <= len(line) <= 64
 
 
-def misses(keys, places):
-    """Counts the misses in a list of the newest keys."""
+def fnv_1a(key):
+    """Returns the FNV-1a hash of 64 bits."""
+    value = 0xcbf29ce484222325
+    for byte in key:
+        value = (value ^ byte) * 0x100000001b3 & 2**64 - 1
+    return value
+
+
+def misses(keys, places, warm_up=0):
+    """Counts the misses behind the warm-up in a list of the newest keys."""
     cache, count = [], 0
-    for key in keys:
+    for now, key in enumerate(keys):
         if key in cache:
             cache.remove(key)
-        else:
+        elif now >= warm_up:
             count += 1
         cache = ([key] + cache)[:places]
     return count
@@ -98,7 +106,7 @@ def best_misses(keys, places, bypass):
 class Read:
     """What a trace says, or that its first line names no sizes."""
 
-    def __init__(self, trace, column=0, separator=b""):
+    def __init__(self, trace, column=0, separator=b"", warm_up=0, sample=0):
         lines = trace.split(b"\n")
         if lines[-1] == b"":
             lines.pop()
@@ -112,19 +120,30 @@ class Read:
             texts = [cells[0] if cells else b"" for cells in texts]
         self.keys = [line for line in texts if text(line)]
         self.malformed = len(lines) - 1 - len(self.keys)
+        hit = [fnv_1a(key) & (1 << sample) - 1 == 0 for key in self.keys]
+        self.skipped = hit.count(False) if sample else None
+        self.warm_up = sum(hit[:warm_up])
+        self.keys = [key for key, is_in in zip(self.keys, hit) if is_in]
+        self.references = len(self.keys) - self.warm_up
         self.different = len(set(self.keys))
-        self.powers = [1]
-        while self.powers[-1] < self.different:
-            self.powers.append(2 * self.powers[-1])
+        self.scale = 1 << sample
+        self.axis = [1]
+        while self.axis[-1] < max(1, self.different) * self.scale:
+            self.axis.append(2 * self.axis[-1])
+        self.powers = [power for power in self.axis if power >= self.scale]
 
     def part(self, missed, scale):
-        return missed * scale // len(self.keys) if self.keys else 0
+        return missed * scale // self.references if self.references else 0
+
+    def misses(self, places):
+        return misses(self.keys, places // self.scale, self.warm_up)
 
     def ratio(self, missed):
         ratio = self.part(missed, 10000)
         return f"{ratio // 10000}.{ratio % 10000:04}"
 
     def best(self, places):
+        places //= self.scale
         return best_misses(self.keys, places, False), best_misses(self.keys, places, True)
 
     def points(self):
@@ -133,16 +152,17 @@ class Read:
 
 def report(read, best):
     """Returns the report for people."""
-    n = len(read.keys)
-    out = f"references {n} keys {read.different} malformed {read.malformed}\n"
+    n = read.references
+    out = f"references {n} keys {read.different} malformed {read.malformed}"
+    out += "\n" if read.skipped is None else f" skipped {read.skipped}\n"
     for places in read.sizes:
-        missed = misses(read.keys, places)
+        missed = read.misses(places)
         out += f"places {places} hits {n - missed} misses {missed} ratio {read.ratio(missed)}"
         if best:
             out += " min %d bypass %d" % read.best(places)
         out += "\n"
     for places in read.powers:
-        out += f"{places:>12} |" + "#" * read.part(misses(read.keys, places), 50) + "\n"
+        out += f"{places:>12} |" + "#" * read.part(read.misses(places), 50) + "\n"
     return out
 
 
@@ -150,15 +170,15 @@ def csv(read, best):
     """Returns the records for programs."""
     out = "size,hits,misses,ratio" + (",min,bypass" if best else "") + "\n"
     for places in read.points():
-        missed = misses(read.keys, places)
-        out += f"{places},{len(read.keys) - missed},{missed},{read.ratio(missed)}"
+        missed = read.misses(places)
+        out += f"{places},{read.references - missed},{missed},{read.ratio(missed)}"
         out += (",%d,%d" % read.best(places) if best else "") + "\n"
     return out
 
 
 def svg(read, best):
     """Returns the picture."""
-    octaves = max(1, len(read.powers) - 1)
+    octaves = max(1, len(read.axis) - 1)
 
     def across(size):
         level = size.bit_length() - 1
@@ -167,14 +187,15 @@ def svg(read, best):
         assert abs(log - 1000 * math.log2(size)) < 9
         return 900 + log * 6400 // (1000 * octaves)
 
-    out = FRAME + f"<text x='900' y='290'>{len(read.keys)} references to {read.different} keys, "
-    out += f"{read.malformed} malformed lines</text>\n"
-    for level, size in enumerate(read.powers):
+    out = FRAME + f"<text x='900' y='290'>{read.references} references to {read.different} keys, "
+    out += f"{read.malformed} malformed lines" + ("" if read.skipped is None else f", {read.skipped} skipped")
+    out += "</text>\n"
+    for level, size in enumerate(read.axis):
         if level % (1 + octaves // 9) == 0:
             out += f"<path class='grid' d='M{across(size)} 700v3200'/>"
             out += f"<text class='tick' x='{across(size)}' y='4080'>{size}</text>\n"
     shown = [size for size in read.points() if size and across(size) <= 7300]
-    curves = {"lru": [misses(read.keys, size) for size in shown]}
+    curves = {"lru": [read.misses(size) for size in shown]}
     if best:
         curves["min"], curves["bypass"] = zip(*map(read.best, shown))
     for policy, counts in curves.items():
@@ -186,10 +207,12 @@ def svg(read, best):
     return out + "</svg>\n"
 
 
-def write(name, trace, words, form=report, column=0, separator=b","):
-    """Writes a case with these arguments, of which `words` does not name the column."""
-    read = Read(trace, column, separator)
-    words = words + (["--column", column] if column else [])
+def write(name, trace, words, form=report, column=0, separator=b",", warm_up=None, sample=None):
+    """Writes a case with these arguments, of which `words` names no column, no warm-up and no sample."""
+    read = Read(trace, column, separator, warm_up or 0, sample or 0)
+    words = words + (["--warm-up", warm_up] if warm_up is not None else [])
+    words += ["--sample", sample] if sample is not None else []
+    words += ["--column", column] if column else []
     words += ["--separator", separator.decode()] if separator != b"," else []
     (FOLDER / name).write_bytes(trace)
     if words:
@@ -211,4 +234,24 @@ for column in 1, 2, 3, 9:
     write(f"columns_{column}", CASES["columns"], ["--csv"], csv, column)
 write("columns_of_k", CASES["columns"], ["--best"], report, 2, b"k")
 write("columns_of_semicolons", CASES["steps"], [], report, 2**64 - 1, b";")
+for warm_up in 0, 1, 6, 40, 41, 2**64 - 1:
+    write(f"cycle_warm_up_{warm_up}", CASES["cycle"], [], report, warm_up=warm_up)
+write("steps_warm_up_csv", CASES["steps"], ["--csv"], csv, warm_up=17)
+write("steps_warm_up_svg", CASES["steps"], ["--svg"], svg, warm_up=150)
+write("all_different_warm_up", CASES["all_different"], [], report, warm_up=4)
+write("no_text_warm_up", CASES["no_text"], [], report, warm_up=1)
+write("sizes_alone_warm_up", CASES["sizes_alone"], [], report, warm_up=3)
+write("columns_warm_up", CASES["columns"], ["--csv"], csv, 2, warm_up=10)
+for sample in 0, 1, 2, 3, 20:
+    write(f"steps_sample_{sample}", CASES["steps"], [], report, sample=sample)
+write("steps_sample_best", CASES["steps"], ["--best"], report, sample=1)
+write("steps_sample_best_csv", CASES["steps"], ["--csv", "--best"], csv, sample=2)
+write("steps_sample_svg", CASES["steps"], ["--svg"], svg, sample=2)
+write("steps_sample_none_svg", CASES["steps"], ["--svg"], svg, sample=20)
+write("steps_sample_warm_up", CASES["steps"], [], report, warm_up=50, sample=1)
+write("steps_sample_warm_up_csv", CASES["steps"], ["--csv"], csv, warm_up=197, sample=1)
+write("all_different_sample", CASES["all_different"], [], report, sample=1)
+write("limits_sample", CASES["limits"], [], report, sample=1)
+write("sizes_alone_sample", CASES["sizes_alone"], [], report, sample=4)
+write("columns_sample", CASES["columns"], ["--csv"], csv, 2, sample=1)
 (HERE / "stdout").write_text(report(Read((HERE / "stdin").read_bytes()), True))

@@ -20,7 +20,7 @@ use Rattle.lru_trace.specs.Counted.{Counted, IsOf, number_in}
 use Rattle.lru_trace.specs.Slots.{position}
 use Rattle.lru_trace.proofs.Logs.{without_none}
 use Rattle.std.proofs.lemmas.Option.{same_Some}
-use Rattle.lru_trace.proofs.Numbered.{named_on, counted, position_within}
+use Rattle.lru_trace.proofs.Numbered.{Named, named_from, named_on, counted, position_within}
 
 pub position_some : (key d : ℕ) (xs : List ℕ) → position key xs ≡ Some d
     → (is_in nat_eq key xs ≡ true) × (length (since nat_eq key xs) ≡ d)
@@ -73,9 +73,9 @@ pub none_kept : {Z : Type 0} (kept : Option (Vec ℕ Z)) → IfSome kept (λ v. 
 none_kept None none = tt
 none_kept (Some v) none = none
 
-pub kept_still : (past : List (List ℕ)) (old new : Counted) → new ≡ record old { kept = new.kept } → IsOf past old
-    → IsOf past (record new { kept = old.kept })
-kept_still past old new rest of = subst (λ v. IsOf past (record v { kept = old.kept })) (sym rest) of
+pub kept_still : (warm past : List (List ℕ)) (old new : Counted) → new ≡ record old { kept = new.kept }
+    → IsOf warm past old → IsOf warm past (record new { kept = old.kept })
+kept_still warm past old new rest of = subst (λ v. IsOf warm past (record v { kept = old.kept })) (sym rest) of
 
 module _ (before : Option (List ℕ)) (number : ℕ) (kept : Option (List ℕ)) where
   pub kept_some : kept ≡ option_map (λ ns. ns ++ number ∷ []) before → is_some kept ≡ is_some before
@@ -94,12 +94,17 @@ module _ (before : Option (List ℕ)) (number : ℕ) (kept : Option (List ℕ)) 
       go None e = none e
       go (Some ns) e = some ns number e
 
-module _ {trace : List (List ℕ)} {v : Counted} (of : IsOf trace v) where
+module _ {warm trace : List (List ℕ)} {v : Counted} (of : IsOf warm trace v) where
+  abbrev warm_past : List ℕ
+  warm_past = past_after [] of.before
+
   pub of_names : (names : List (String Global × ℕ))
       → ((x : List ℕ) (n : ℕ) → number_in v.names x ≡ Some n → number_in names x ≡ Some n)
-      → IsOf trace (record v { names = names })
+      → IsOf warm trace (record v { names = names })
   of_names names keeps = record {
+    before = of.before;
     numbers = of.numbers;
+    warmed = named_on (number_in v.names) (number_in names) keeps warm of.before of.warmed;
     named = named_on (number_in v.names) (number_in names) keeps trace of.numbers of.named;
     order = of.order;
     hits = of.hits;
@@ -108,19 +113,21 @@ module _ {trace : List (List ℕ)} {v : Counted} (of : IsOf trace v) where
   }
 
   pub of_counts : (counts : List ℕ) → ((n : ℕ) → sum (take n counts) ≡ sum (take n v.counts))
-      → IsOf trace (record v { counts = counts })
+      → IsOf warm trace (record v { counts = counts })
   of_counts counts same = record {
+    before = of.before;
     numbers = of.numbers;
+    warmed = of.warmed;
     named = of.named;
     order = of.order;
-    hits = λ n. ap (λ m. misses nat_eq n [] of.numbers + m) (same n) ∙ of.hits n;
+    hits = λ n. ap (λ m. misses nat_eq n warm_past of.numbers + m) (same n) ∙ of.hits n;
     all = of.all;
     kept = of.kept;
   }
 
   module _ (key : List ℕ) (number : ℕ) (is : number_in v.names key ≡ Some number) where
     abbrev past : List ℕ
-    past = past_after [] of.numbers
+    past = past_after warm_past of.numbers
 
     is_in_trace : is_in nat_eq number v.recency ≡ is_in nat_eq number past
     is_in_trace = ap (is_in nat_eq number) of.order ∙ is_in_recency nat_eq_equiv number past
@@ -131,10 +138,10 @@ module _ {trace : List (List ℕ)} {v : Counted} (of : IsOf trace v) where
         ∙ sym (map-append Some of.numbers (number ∷ []))
 
     order_more : number ∷ remove_key (nat_eq number) v.recency
-        ≡ recency nat_eq (past_after [] (of.numbers ++ number ∷ []))
+        ≡ recency nat_eq (past_after warm_past (of.numbers ++ number ∷ []))
     order_more =
         ap (λ xs. number ∷ remove_key (nat_eq number) xs) of.order
-        ∙ ap (recency nat_eq) (sym (past_more [] of.numbers number))
+        ∙ ap (recency nat_eq) (sym (past_more warm_past of.numbers number))
 
     longer : length (trace ++ key ∷ []) ≡ length trace + 1
     longer = omega (arith, length-append trace (key ∷ []))
@@ -146,7 +153,7 @@ module _ {trace : List (List ℕ)} {v : Counted} (of : IsOf trace v) where
 
     pub of_found : (d : ℕ) → position number v.recency ≡ Some d → d < length v.counts
         → (kept : Option (List ℕ)) → kept ≡ option_map (λ ns. ns ++ number ∷ []) v.kept
-        → IsOf (trace ++ key ∷ []) (record v {
+        → IsOf warm (trace ++ key ∷ []) (record v {
           recency = number ∷ remove_key (nat_eq number) v.recency;
           counts = set v.counts d (get_or v.counts d 0 + 1);
           references = v.references + 1;
@@ -158,14 +165,16 @@ module _ {trace : List (List ℕ)} {v : Counted} (of : IsOf trace v) where
         let far : distance nat_eq number past ≡ d =
         ap length (sym (since_recency nat_eq_equiv number past) ∙ sym (ap (since nat_eq number) of.order)) ∙ there.1 in
         record {
+          before = of.before;
           numbers = of.numbers ++ number ∷ [];
+          warmed = of.warmed;
           named = named_more;
           order = order_more;
           hits = λ n.
-              let more : misses nat_eq n [] (of.numbers ++ number ∷ [])
-              ≡ misses nat_eq n [] of.numbers + cond (nat_le n d) 1 0 =
-              misses_more nat_eq n [] of.numbers number
-              ∙ (λ i. misses nat_eq n [] of.numbers + cond (not (inside i) || nat_le n (far i)) 1 0) in
+              let more : misses nat_eq n warm_past (of.numbers ++ number ∷ [])
+              ≡ misses nat_eq n warm_past of.numbers + cond (nat_le n d) 1 0 =
+              misses_more nat_eq n warm_past of.numbers number
+              ∙ (λ i. misses nat_eq n warm_past of.numbers + cond (not (inside i) || nat_le n (far i)) 1 0) in
               omega (arith, more, of.hits n, counted d n v.counts within, split (nat_le n d));
           all = omega (arith, of.all, longer);
           kept = kept_more v.kept kept is of.kept;
@@ -177,7 +186,7 @@ module _ {trace : List (List ℕ)} {v : Counted} (of : IsOf trace v) where
 
     pub of_first : position number v.recency ≡ None
         → (kept : Option (List ℕ)) → kept ≡ option_map (λ ns. ns ++ number ∷ []) v.kept
-        → IsOf (trace ++ key ∷ []) (record v {
+        → IsOf warm (trace ++ key ∷ []) (record v {
           recency = number ∷ remove_key (nat_eq number) v.recency;
           references = v.references + 1;
           kept = kept;
@@ -185,18 +194,54 @@ module _ {trace : List (List ℕ)} {v : Counted} (of : IsOf trace v) where
     of_first at_place kept is =
         let outside = sym is_in_trace ∙ position_none number v.recency at_place in
         record {
+          before = of.before;
           numbers = of.numbers ++ number ∷ [];
+          warmed = of.warmed;
           named = named_more;
           order = order_more;
           hits = λ n.
-              let more : misses nat_eq n [] (of.numbers ++ number ∷ []) ≡ misses nat_eq n [] of.numbers + 1 =
-              misses_more nat_eq n [] of.numbers number
-              ∙ (λ i. misses nat_eq n [] of.numbers
+              let more : misses nat_eq n warm_past (of.numbers ++ number ∷ []) ≡ misses nat_eq n warm_past of.numbers + 1 =
+              misses_more nat_eq n warm_past of.numbers number
+              ∙ (λ i. misses nat_eq n warm_past of.numbers
               + cond (not (outside i) || nat_le n (distance nat_eq number past)) 1 0) in
               omega (arith, more, of.hits n);
           all = omega (arith, of.all, longer);
           kept = kept_more v.kept kept is of.kept;
         }
+
+module _ {warm : List (List ℕ)} {v : Counted} (of : IsOf warm [] v) where
+  none_counted : of.numbers ≡ []
+  none_counted = go of.numbers (named_from (number_in v.names) [] of.numbers of.named)
+    where
+      go : (ns : List ℕ) → Named (number_in v.names) [] ns → ns ≡ []
+      go [] h = refl
+      go (n ∷ ns) h = absurd h
+
+  pub of_warm : (key : List ℕ) (number : ℕ) → number_in v.names key ≡ Some number
+      → IsOf (warm ++ key ∷ []) [] (record v { recency = number ∷ remove_key (nat_eq number) v.recency })
+  of_warm key number is = record {
+    before = of.before ++ number ∷ [];
+    numbers = [];
+    warmed = map-append (number_in v.names) warm (key ∷ []) ∙ (λ i. of.warmed i ++ is i ∷ [])
+        ∙ sym (map-append Some of.before (number ∷ []));
+    named = refl;
+    order = ap (λ xs. number ∷ remove_key (nat_eq number) xs)
+        (of.order ∙ ap (λ ns. recency nat_eq (past_after (past_after [] of.before) ns)) none_counted)
+        ∙ ap (recency nat_eq) (sym (past_more [] of.before number));
+    hits = λ n. sym (ap (λ ns. misses nat_eq n (past_after [] of.before) ns + sum (take n v.counts)) none_counted)
+        ∙ of.hits n;
+    all = of.all;
+    kept = subst (λ ns. IfSome v.kept (λ kept. kept ≡ ns)) none_counted of.kept;
+  }
+
+pub renamed : (warm past : List (List ℕ)) (old new : Counted) → new ≡ record old { names = new.names }
+    → ((x : List ℕ) (n : ℕ) → number_in old.names x ≡ Some n → number_in new.names x ≡ Some n)
+    → IsOf warm past old → IsOf warm past new
+renamed warm past old new rest keeps of = subst (IsOf warm past) (sym rest) (of_names of new.names keeps)
+
+pub recounted : (warm past : List (List ℕ)) (old new : Counted) → new ≡ record old { counts = new.counts }
+    → ((n : ℕ) → sum (take n new.counts) ≡ sum (take n old.counts)) → IsOf warm past old → IsOf warm past new
+recounted warm past old new rest same of = subst (IsOf warm past) (sym rest) (of_counts of new.counts same)
 
 pub on_ok : {A E P Q : Type 0} (r : Result A E) → (P → Q) → OnOk r P → OnOk r Q
 on_ok (Ok x) f p = f p

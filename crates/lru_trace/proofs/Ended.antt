@@ -7,23 +7,25 @@ use Rattle.std.proofs.KnownBytes.{Consumes-trans, Appends-kept}
 use Rattle.std.specs.Option.{option_map}
 use Rattle.std.proofs.lemmas.List.{append-nil}
 use Rattle.lru_trace.specs.Counted.{Counted, IsOf}
-use Rattle.lru_trace.specs.Lines.{lines_of, fed, TakesLine, texts_of, trace_of, malformed_in}
+use Rattle.lru_trace.specs.Lines.{lines_of, fed, TakesLine}
+use Rattle.lru_trace.specs.References.{warm_in, counted_in, others_in, bits_of, wants_best}
+use Rattle.lru_trace.specs.declared.lines.Others.{Others}
 use Rattle.lru_trace.specs.Sizes.{sizes_from}
 use Rattle.lru_trace.specs.Report.{output, written}
 use Rattle.lru_trace.specs.declared.options.Options.{Options}
 use Rattle.lru_trace.specs.Outcome.{KeysRead, TraceRead, NoSizesRead, Reported, Begins}
 use Rattle.lru_trace.specs.declared.lines.Ending.{Ending}
 use Rattle.lru_trace.specs.declared.lines.Ending.TheVariants as endings
-use Rattle.lru_trace.proofs.ReadLines.{lines_of-fed, lines_of-last, ended_before}
+use Rattle.lru_trace.proofs.ReadLines.{lines_of-fed, lines_of-last, ended_before, nothing_read}
 
 output_of : (options : Options) (lines : List (List ℕ)) (first : List ℕ) (others : List (List ℕ)) (named : Option (List ℕ))
     → lines ≡ first ∷ others → sizes_from [] None first ≡ named
     → output options lines
-    ≡ option_map (λ sizes. written (trace_of (texts_of options.column others)) sizes
-    (malformed_in (texts_of options.column others)) options.form options.best) named
+    ≡ option_map (λ sizes. written (bits_of options) (warm_in options others) (counted_in options others) sizes
+    (others_in options others) options.form (wants_best options.policies)) named
 output_of options lines first others named is are = ap (output options) is
-    ∙ ap (option_map (λ sizes. written (trace_of (texts_of options.column others)) sizes
-    (malformed_in (texts_of options.column others)) options.form options.best)) are
+    ∙ ap (option_map (λ sizes. written (bits_of options) (warm_in options others) (counted_in options others) sizes
+    (others_in options others) options.form (wants_best options.policies))) are
 
 module _ (from mid : Option (List ℕ)) (first : List ℕ) where
   fed_alone : TakesLine from mid endings.Feed first → lines_of (fed first) ≡ first ∷ []
@@ -51,44 +53,45 @@ module _ (from mid : Option (List ℕ)) (first : List ℕ) where
   }
 
   pub only_sizes : (options : Options) (ending : Ending) (sizes : List ℕ) (curve : Counted) → (ending ≡ endings.Feed → ⊥)
-      → TakesLine from mid ending first → Some sizes ≡ sizes_from [] None first → IsOf [] curve
-      → is_some curve.kept ≡ options.best → TraceRead from mid options sizes curve 0
+      → TakesLine from mid ending first → Some sizes ≡ sizes_from [] None first → IsOf [] [] curve
+      → is_some curve.kept ≡ wants_best options.policies → TraceRead from mid options sizes curve (record { malformed = 0; skipped = 0 })
   only_sizes options endings.Feed sizes curve other taken named of keeps = absurd (other refl)
   only_sizes options endings.Nothing sizes curve other (taken, nothing) named of keeps =
       let e : Some sizes ≡ None = named ∙ ap (sizes_from [] None) nothing in absurd cc
   only_sizes options endings.InputEnd sizes curve other (taken, some) named of keeps = record {
     input = first;
     first = first;
-    others = [];
+    rest = [];
     reads = taken.1;
     at_end = taken.2;
     lines = lines_of-last first taken.0 some;
     named = sym named;
-    curve_of = of;
+    curve_of = nothing_read options curve of;
     keeps = keeps;
-    count = refl;
+    left_out = refl;
   }
 
-  pub with_keys : (to : Option (List ℕ)) (options : Options) (sizes : List ℕ) (curve : Counted) (malformed : ℕ)
+  pub with_keys : (to : Option (List ℕ)) (options : Options) (sizes : List ℕ) (curve : Counted) (others : Others)
       → TakesLine from mid endings.Feed first → Some sizes ≡ sizes_from [] None first
-      → KeysRead mid to options.column curve malformed → is_some curve.kept ≡ options.best
-      → TraceRead from to options sizes curve malformed
-  with_keys to options sizes curve malformed taken named keys keeps = record {
+      → KeysRead mid to options curve others → is_some curve.kept ≡ wants_best options.policies
+      → TraceRead from to options sizes curve others
+  with_keys to options sizes curve others taken named keys keeps = record {
     input = fed first ++ keys.input;
     first = first;
-    others = lines_of keys.input;
+    rest = lines_of keys.input;
     reads = Consumes-trans from mid to (fed first) keys.input taken.1 keys.reads;
     at_end = ended_before from mid to (fed first) taken.1 keys.at_end;
     lines = lines_of-fed first keys.input taken.0;
     named = sym named;
     curve_of = keys.curve_of;
     keeps = keeps;
-    count = keys.others;
+    left_out = keys.left_out;
   }
 
-module _ {from to : Option (List ℕ)} (options : Options) {sizes : List ℕ} {curve : Counted} {malformed : ℕ}
-    (read : TraceRead from to options sizes curve malformed) (report : List ℕ)
-    (is : (trace : List (List ℕ)) → IsOf trace curve → report ≡ written trace sizes malformed options.form options.best)
+module _ {from to : Option (List ℕ)} (options : Options) {sizes : List ℕ} {curve : Counted} {others : Others}
+    (read : TraceRead from to options sizes curve others) (report : List ℕ)
+    (is : (warm trace : List (List ℕ)) → IsOf warm trace curve
+    → report ≡ written (bits_of options) warm trace sizes others options.form (wants_best options.policies))
   where
     pub reported : (IsWritten : List ℕ → Type 0) → IsWritten report → Reported from to options IsWritten
     reported IsWritten put = record {
@@ -96,9 +99,10 @@ module _ {from to : Option (List ℕ)} (options : Options) {sizes : List ℕ} {c
       text = report;
       reads = read.reads;
       at_end = read.at_end;
-      determined = output_of options (lines_of read.input) read.first read.others (Some sizes) read.lines read.named
-          ∙ ap Some (ap (λ n. written (trace_of (texts_of options.column read.others)) sizes n options.form options.best) (sym read.count)
-          ∙ sym (is (trace_of (texts_of options.column read.others)) read.curve_of));
+      determined = output_of options (lines_of read.input) read.first read.rest (Some sizes) read.lines read.named
+          ∙ ap Some (ap (λ o. written (bits_of options) (warm_in options read.rest) (counted_in options read.rest) sizes o
+          options.form (wants_best options.policies)) (sym read.left_out)
+          ∙ sym (is (warm_in options read.rest) (counted_in options read.rest) read.curve_of));
       written = put;
     }
 

@@ -138,17 +138,16 @@ module _ (number : List ℕ → Option ℕ)
       (recency_named (since bytes_eq y past) (since nat_eq k ps) (since_named y k h.0 past ps before)) in
       rw (misses_named n (y ∷ past) (k ∷ ps) xs ns (h.0, before) h.1, is_in_named y k h.0 past ps before, far) refl
 
-  past_named : (past : List (List ℕ)) (ps : List ℕ) (xs : List (List ℕ)) (ns : List ℕ) → Named number past ps
+  pub past_named : (past : List (List ℕ)) (ps : List ℕ) (xs : List (List ℕ)) (ns : List ℕ) → Named number past ps
       → Named number xs ns → Named number (past_after past xs) (past_after ps ns)
   past_named past ps [] [] before h = before
   past_named past ps [] (k ∷ ns) before h = absurd h
   past_named past ps (y ∷ xs) [] before h = absurd h
   past_named past ps (y ∷ xs) (k ∷ ns) before h = past_named (y ∷ past) (k ∷ ps) xs ns (h.0, before) h.1
 
-  pub keys_named : (xs : List (List ℕ)) (ns : List ℕ) → Named number xs ns
-      → length (recency bytes_eq (past_after [] xs)) ≡ length (recency nat_eq (past_after [] ns))
-  keys_named xs ns h = length_named (recency bytes_eq (past_after [] xs)) (recency nat_eq (past_after [] ns))
-      (recency_named (past_after [] xs) (past_after [] ns) (past_named [] [] xs ns tt h))
+  pub keys_named : (past : List (List ℕ)) (ps : List ℕ) → Named number past ps
+      → length (recency bytes_eq past) ≡ length (recency nat_eq ps)
+  keys_named past ps h = length_named (recency bytes_eq past) (recency nat_eq ps) (recency_named past ps h)
 
 pub position_within : (key : ℕ) (xs : List ℕ) → is_in nat_eq key xs ≡ true → length (since nat_eq key xs) < length xs
 position_within key [] e = absurd cc

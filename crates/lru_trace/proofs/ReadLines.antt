@@ -1,23 +1,26 @@
 -- Lines that are read one after another from what is left of an input.
 use Rattle.std.proofs.Common.{◌≡◌, ℕ, ◌+◌, ◌<◌, Bool, true, false, cond, List, [], ◌∷◌, ◌++◌, length}
-use Rattle.std.proofs.Common.{take, get_or, ◌==◌, ◌≤◌, ◌-◌, IfSome, zero, suc, Option, Some, None, OnSome, refl, sym, ap, ◌∙◌, subst, arith, append_assoc}
-use Rattle.std.specs.Prelude.{not, Result, Ok, Err, OnErr}
+use Rattle.std.proofs.Common.{take, drop, get_or, ◌==◌, ◌≤◌, ◌-◌, IfSome, zero, suc, Option, Some, None, OnSome, refl, sym, ap, ◌∙◌, subst, arith, append_assoc}
+use Rattle.std.specs.Prelude.{not, nat_lt, Result, Ok, Err, OnErr}
 use Rattle.std.specs.List.{filter, All}
 use Rattle.std.specs.Io.{StopsAt}
 use Rattle.std.specs.Io.BufRead.{take_through, drop_through, DropsThrough}
 use Rattle.std.specs.Io.KnownBytes.{Consumes, IsAtEnd}
 use Rattle.std.proofs.KnownBytes.{Consumes-trans, Consumes-nil}
 use Rattle.std.proofs.lemmas.Bool.{ne_eqb, eqb-true, le-leb}
-use Rattle.std.proofs.lemmas.Bool.{lt-ltb}
+use Rattle.std.proofs.lemmas.Bool.{lt-ltb, ltb-true, ltb-false}
 use Rattle.std.proofs.lemmas.Str.{IsUtf8-from_is_utf8, is_utf8-from_IsUtf8}
 use Rattle.std.specs.Str.{IsUtf8, is_utf8}
-use Rattle.std.proofs.lemmas.List.{append-nil, map-append, length-append, take-append-le, take_all, take_more}
+use Rattle.std.proofs.lemmas.List.{append-nil, map-append, length-append, take-append-le, drop-append-le, take_all, drop_all, take_more}
 use Rattle.std.proofs.lemmas.List.Elements.{recursion_from_All}
 use Rattle.std.proofs.lemmas.List.Elements.{filter-append}
-use Rattle.lru_trace.specs.Counted.{Counted, IsOf}
+use Rattle.lru_trace.specs.Counted.{Counted, IsOf, Follows}
 use Rattle.lru_trace.specs.Lines.{lines_of, onto_first, fed, LacksFeed, EndsSo, TakesRest, TakesLine, is_key}
 use Rattle.lru_trace.specs.Lines.{text_in, texts_of, trace_of, malformed_in}
-use Rattle.lru_trace.specs.declared.options.Column.{Column}
+use Rattle.lru_trace.specs.declared.options.Options.{Options}
+use Rattle.lru_trace.specs.References.{keys_read, warm_in, counted_in, others_in, warm_up_of, bits_of}
+use Rattle.lru_trace.specs.declared.lines.Others.{Others}
+use Rattle.lru_trace.specs.Samples.{sampled, skipped, is_sampled}
 use Rattle.lru_trace.specs.declared.lines.Ending.{Ending}
 use Rattle.lru_trace.specs.declared.lines.Ending.TheVariants as endings
 use Rattle.lru_trace.specs.Outcome.{KeysRead}
@@ -112,92 +115,196 @@ pub some_part : {A E : Type 0} (r : Result A E) (a b c : Option (List ℕ)) (byt
 some_part (Ok x) a b c bytes more p q = tt
 some_part (Err e) a b c bytes more p q = (bytes ++ more, Consumes-trans a b c bytes more p q)
 
--- Whole lines were read. The curve counts the keys that they spell in this column, and `malformed` of them spell none.
-pub record ReadSoFar (from to : Option (List ℕ)) (column : Option Column) (curve : Counted) (malformed : ℕ) : Type 0 where
+-- These whole lines were read. The curve is of the references that they make.
+pub record ReadSoFar (from to : Option (List ℕ)) (options : Options) (curve : Counted) (lines : ℕ) (others : Others)
+    : Type 0 where
   pub bytes : List ℕ
   pub whole : (rest : List ℕ) → lines_of (bytes ++ rest) ≡ lines_of bytes ++ lines_of rest
   pub reads : Consumes from to bytes
-  pub curve_of : IsOf (trace_of (texts_of column (lines_of bytes))) curve
-  pub others : malformed ≡ malformed_in (texts_of column (lines_of bytes))
+  pub curve_of : IsOf (warm_in options (lines_of bytes)) (counted_in options (lines_of bytes)) curve
+  pub left_out : others ≡ others_in options (lines_of bytes)
+  pub all : lines ≡ others.malformed + length (keys_read options (lines_of bytes))
 
-pub none_read : (from : Option (List ℕ)) (column : Option Column) (curve : Counted) → IsOf [] curve
-    → ReadSoFar from from column curve 0
-none_read from column curve is =
-    record { bytes = []; whole = λ rest. refl; reads = Consumes-nil from; curve_of = is; others = refl }
-
-malformed_more : (lines : List (List ℕ)) (line : List ℕ)
-    → malformed_in (lines ++ line ∷ []) ≡ malformed_in lines + cond (not (is_key line)) 1 0
-malformed_more lines line = ap length (filter-append (λ l. not (is_key l)) lines (line ∷ []))
-    ∙ length-append (filter (λ l. not (is_key l)) lines) (filter (λ l. not (is_key l)) (line ∷ []))
-    ∙ ap (λ n. malformed_in lines + n) (go (not (is_key line)))
+pub nothing_read : (options : Options) (curve : Counted) → IsOf [] [] curve
+    → IsOf (warm_in options []) (counted_in options []) curve
+nothing_read options curve is =
+    subst (λ ks. IsOf (sampled bits ks) (sampled bits (drop w [])) curve) (sym (take_all w [] (omega arith)))
+    (subst (λ ks. IsOf [] (sampled bits ks) curve) (sym (drop_all w [] (omega arith))) is)
   where
-    go : (t : Bool) → length (cond t (line ∷ []) []) ≡ cond t 1 0
-    go true = refl
-    go false = refl
+    bits : ℕ
+    bits = bits_of options
 
-module _ {from mid : Option (List ℕ)} {column : Option Column} {old : Counted} {malformed : ℕ}
-    (so_far : ReadSoFar from mid column old malformed)
+    w : ℕ
+    w = warm_up_of options.policies
+
+pub none_read : (from : Option (List ℕ)) (options : Options) (curve : Counted) → IsOf [] [] curve
+    → ReadSoFar from from options curve 0 (record { malformed = 0; skipped = 0 })
+none_read from options curve is = record {
+  bytes = [];
+  whole = λ rest. refl;
+  reads = Consumes-nil from;
+  curve_of = nothing_read options curve is;
+  left_out = refl;
+  all = refl;
+}
+
+abbrev pub both : Others → Others → Others
+both a b = record { malformed = a.malformed + b.malformed; skipped = a.skipped + b.skipped }
+
+filtered_more : (p : List ℕ → Bool) (xs ys : List (List ℕ))
+    → length (filter p (xs ++ ys)) ≡ length (filter p xs) + length (filter p ys)
+filtered_more p xs ys = ap length (filter-append p xs ys) ∙ length-append (filter p xs) (filter p ys)
+
+module _ (options : Options) (lines : List (List ℕ)) (line : List ℕ) where
+  texts_more : texts_of options.column (lines ++ line ∷ [])
+      ≡ texts_of options.column lines ++ texts_of options.column (line ∷ [])
+  texts_more = map-append (text_in options.column) lines (line ∷ [])
+
+  keys_more : keys_read options (lines ++ line ∷ []) ≡ keys_read options lines ++ keys_read options (line ∷ [])
+  keys_more = ap trace_of texts_more
+      ∙ filter-append is_key (texts_of options.column lines) (texts_of options.column (line ∷ []))
+
+  others_more : others_in options (lines ++ line ∷ []) ≡ both (others_in options lines) (others_in options (line ∷ []))
+  others_more = λ i. record {
+    malformed = (ap malformed_in texts_more ∙ filtered_more (λ text. not (is_key text)) (texts_of options.column lines)
+        (texts_of options.column (line ∷ []))) i;
+    skipped = (ap (skipped (bits_of options)) keys_more ∙ filtered_more (λ key. not (is_sampled (bits_of options) key))
+        (keys_read options lines) (keys_read options (line ∷ []))) i;
+  }
+
+  one_line : (others_in options (line ∷ [])).malformed + length (keys_read options (line ∷ [])) ≡ 1
+  one_line = split (is_key (text_in options.column line))
+    where
+      split : (t : Bool) → length (cond (not t) (text_in options.column line ∷ []) [])
+          + length (cond t (text_in options.column line ∷ []) []) ≡ 1
+      split true = refl
+      split false = refl
+
+pub few_others : (options : Options) (line : List ℕ) → ((others_in options (line ∷ [])).malformed ≤ 1)
+    × ((others_in options (line ∷ [])).skipped ≤ 1)
+few_others options line = (few (λ text. not (is_key text)) (text_in options.column line), go (is_key key))
+  where
+    key : List ℕ
+    key = text_in options.column line
+
+    few : (p : List ℕ → Bool) (x : List ℕ) → length (filter p (x ∷ [])) ≤ 1
+    few p x = go (p x)
+      where
+        go : (t : Bool) → length (cond t (x ∷ []) []) ≤ 1
+        go true = omega arith
+        go false = omega arith
+
+    go : (t : Bool) → skipped (bits_of options) (cond t (key ∷ []) []) ≤ 1
+    go true = few (λ key. not (is_sampled (bits_of options) key)) key
+    go false = omega arith
+
+-- what one line more adds to the references
+module _ (bits w : ℕ) (keys more : List (List ℕ)) (few : length more ≤ 1) (old new : Counted) (is_warm : Bool)
+    (is : is_warm ≡ nat_lt (length keys) w) (follows : Follows is_warm old (sampled bits more) new) where
+  one_more : IsOf (sampled bits (take w keys)) (sampled bits (drop w keys)) old
+      → IsOf (sampled bits (take w (keys ++ more))) (sampled bits (drop w (keys ++ more))) new
+  one_more of = go is_warm refl
+    where
+      go : (b : Bool) → is_warm ≡ b
+          → IsOf (sampled bits (take w (keys ++ more))) (sampled bits (drop w (keys ++ more))) new
+      go true e =
+          let less = ltb-true (length keys) w (sym is ∙ e) in
+          let short : length (keys ++ more) ≤ w = omega (arith, less, few, length-append keys more) in
+          subst (λ ks. IsOf (sampled bits ks) (sampled bits (drop w (keys ++ more))) new)
+          (sym (take_all w (keys ++ more) short))
+          (subst (λ ks. IsOf (sampled bits (keys ++ more)) (sampled bits ks) new)
+          (sym (drop_all w (keys ++ more) short))
+          (subst (λ ks. IsOf ks [] new) (sym (filter-append (is_sampled bits) keys more))
+          (follows.warmed e (sampled bits keys)
+          (subst (λ ks. IsOf (sampled bits ks) [] old) (take_all w keys (omega (arith, less)))
+          (subst (λ ks. IsOf (sampled bits (take w keys)) (sampled bits ks) old)
+          (drop_all w keys (omega (arith, less))) of)))))
+      go false e =
+          let long = ltb-false (length keys) w (sym is ∙ e) in
+          subst (λ ks. IsOf (sampled bits ks) (sampled bits (drop w (keys ++ more))) new)
+          (sym (take-append-le w keys more long))
+          (subst (λ ks. IsOf (sampled bits (take w keys)) (sampled bits ks) new)
+          (sym (drop-append-le w keys more long))
+          (subst (λ ks. IsOf (sampled bits (take w keys)) ks new)
+          (sym (filter-append (is_sampled bits) (drop w keys) more))
+          (follows.counted e (sampled bits (take w keys)) (sampled bits (drop w keys)) of)))
+
+module _ {from mid : Option (List ℕ)} {options : Options} {old : Counted} {lines : ℕ} {others : Others}
+    (so_far : ReadSoFar from mid options old lines others)
     (to : Option (List ℕ)) (line : List ℕ) where
-  pub all_read : TakesRest mid to line → line ≡ [] → KeysRead from to column old malformed
+  pub all_read : TakesRest mid to line → line ≡ [] → KeysRead from to options old others
   all_read taken none = record {
     input = so_far.bytes ++ line;
     reads = Consumes-trans from mid to so_far.bytes line so_far.reads taken.1;
     at_end = ended_before from mid to so_far.bytes so_far.reads taken.2;
-    curve_of = subst (λ ls. IsOf (trace_of (texts_of column ls)) old) same so_far.curve_of;
-    others = so_far.others ∙ ap (λ ls. malformed_in (texts_of column ls)) same;
+    curve_of = subst (λ ls. IsOf (warm_in options ls) (counted_in options ls) old) same so_far.curve_of;
+    left_out = so_far.left_out ∙ ap (others_in options) same;
   }
     where
       same : lines_of so_far.bytes ≡ lines_of (so_far.bytes ++ line)
       same = ap lines_of (sym (append-nil so_far.bytes) ∙ ap (λ l. so_far.bytes ++ l) (sym none))
 
-  abbrev text : List ℕ
-  text = text_in column line
+  abbrev w : ℕ
+  w = warm_up_of options.policies
 
-  module _ (new : Counted) (follows : (trace : List (List ℕ)) → IsOf trace old → IsOf (trace ++ trace_of (text ∷ [])) new)
-    where
-      abbrev more : ℕ
-      more = malformed + cond (not (is_key text)) 1 0
+  abbrev bits : ℕ
+  bits = bits_of options
 
-      counted : (bytes : List ℕ) → lines_of bytes ≡ lines_of so_far.bytes ++ line ∷ []
-          → IsOf (trace_of (texts_of column (lines_of bytes))) new
-          × (more ≡ malformed_in (texts_of column (lines_of bytes)))
-      counted bytes is =
-          let texts = texts_of column (lines_of so_far.bytes) in
-          let are : texts ++ text ∷ [] ≡ texts_of column (lines_of bytes) =
-          sym (ap (texts_of column) is ∙ map-append (text_in column) (lines_of so_far.bytes) (line ∷ [])) in (
-            subst (λ ks. IsOf ks new) (sym (filter-append is_key texts (text ∷ [])) ∙ ap trace_of are)
-                (follows (trace_of texts) so_far.curve_of),
-            ap (λ n. n + cond (not (is_key text)) 1 0) so_far.others ∙ sym (malformed_more texts text)
-                ∙ ap malformed_in are,
-          )
+  abbrev it : List (List ℕ)
+  it = keys_read options (line ∷ [])
 
-      pub line_read : TakesLine mid to endings.Feed line → ReadSoFar from to column new more
-      line_read taken =
-          let one : (rest : List ℕ) → lines_of (so_far.bytes ++ (fed line ++ rest))
-          ≡ lines_of so_far.bytes ++ (line ∷ lines_of rest) = λ rest. so_far.whole (fed line ++ rest)
-          ∙ ap (λ ls. lines_of so_far.bytes ++ ls) (lines_of-fed line rest taken.0) in
-          let is : lines_of (so_far.bytes ++ fed line) ≡ lines_of so_far.bytes ++ line ∷ []
-          = ap (λ bs. lines_of (so_far.bytes ++ bs)) (sym (append-nil (fed line))) ∙ one [] in
-          let count = counted (so_far.bytes ++ fed line) is in
-          record {
-            bytes = so_far.bytes ++ fed line;
-            whole = λ rest. ap lines_of (append_assoc so_far.bytes (fed line) rest) ∙ one rest
-                ∙ sym (append_assoc (lines_of so_far.bytes) (line ∷ []) (lines_of rest))
-                ∙ ap (λ ls. ls ++ lines_of rest) (sym is);
-            reads = Consumes-trans from mid to so_far.bytes (fed line) so_far.reads taken.1;
-            curve_of = count.0;
-            others = count.1;
-          }
+  module _ (new : Counted) (is_warm : Bool) (is : is_warm ≡ nat_lt (lines - others.malformed) w)
+      (follows : Follows is_warm old (sampled bits it) new) where
+    abbrev more : Others
+    more = both others (others_in options (line ∷ []))
 
-      pub last_read : TakesRest mid to line → 0 < length line → KeysRead from to column new more
-      last_read taken some =
-          let is : lines_of (so_far.bytes ++ line) ≡ lines_of so_far.bytes ++ line ∷ []
-          = so_far.whole line ∙ ap (λ ls. lines_of so_far.bytes ++ ls) (lines_of-last line taken.0 some) in
-          let count = counted (so_far.bytes ++ line) is in
-          record {
-            input = so_far.bytes ++ line;
-            reads = Consumes-trans from mid to so_far.bytes line so_far.reads taken.1;
-            at_end = ended_before from mid to so_far.bytes so_far.reads taken.2;
-            curve_of = count.0;
-            others = count.1;
-          }
+    counted : (bytes : List ℕ) → lines_of bytes ≡ lines_of so_far.bytes ++ line ∷ []
+        → IsOf (warm_in options (lines_of bytes)) (counted_in options (lines_of bytes)) new
+        × (more ≡ others_in options (lines_of bytes))
+        × (lines + 1 ≡ more.malformed + length (keys_read options (lines_of bytes)))
+    counted bytes same =
+        let before = lines_of so_far.bytes in
+        let keys = keys_read options before in
+        let longer : keys ++ it ≡ keys_read options (lines_of bytes) =
+        sym (ap (keys_read options) same ∙ keys_more options before line) in
+        let read : lines - others.malformed ≡ length keys = omega (arith, so_far.all) in
+        let one = one_line options before line in (
+          subst (λ ks. IsOf (sampled bits (take w ks)) (sampled bits (drop w ks)) new) longer
+              (one_more bits w keys it (omega (arith, one)) old new is_warm
+              (is ∙ ap (λ n. nat_lt n w) read) follows so_far.curve_of),
+          ap (λ o. both o (others_in options (line ∷ []))) so_far.left_out ∙ sym (others_more options before line)
+              ∙ ap (others_in options) (sym same),
+          omega (arith, so_far.all, one, sym (ap length longer), length-append keys it),
+        )
+
+    pub line_read : TakesLine mid to endings.Feed line → ReadSoFar from to options new (lines + 1) more
+    line_read taken =
+        let one : (rest : List ℕ) → lines_of (so_far.bytes ++ (fed line ++ rest))
+        ≡ lines_of so_far.bytes ++ (line ∷ lines_of rest) = λ rest. so_far.whole (fed line ++ rest)
+        ∙ ap (λ ls. lines_of so_far.bytes ++ ls) (lines_of-fed line rest taken.0) in
+        let is : lines_of (so_far.bytes ++ fed line) ≡ lines_of so_far.bytes ++ line ∷ []
+        = ap (λ bs. lines_of (so_far.bytes ++ bs)) (sym (append-nil (fed line))) ∙ one [] in
+        let count = counted (so_far.bytes ++ fed line) is in
+        record {
+          bytes = so_far.bytes ++ fed line;
+          whole = λ rest. ap lines_of (append_assoc so_far.bytes (fed line) rest) ∙ one rest
+              ∙ sym (append_assoc (lines_of so_far.bytes) (line ∷ []) (lines_of rest))
+              ∙ ap (λ ls. ls ++ lines_of rest) (sym is);
+          reads = Consumes-trans from mid to so_far.bytes (fed line) so_far.reads taken.1;
+          curve_of = count.0;
+          left_out = count.1;
+          all = count.2;
+        }
+
+    pub last_read : TakesRest mid to line → 0 < length line → KeysRead from to options new more
+    last_read taken some =
+        let is : lines_of (so_far.bytes ++ line) ≡ lines_of so_far.bytes ++ line ∷ []
+        = so_far.whole line ∙ ap (λ ls. lines_of so_far.bytes ++ ls) (lines_of-last line taken.0 some) in
+        let count = counted (so_far.bytes ++ line) is in
+        record {
+          input = so_far.bytes ++ line;
+          reads = Consumes-trans from mid to so_far.bytes line so_far.reads taken.1;
+          at_end = ended_before from mid to so_far.bytes so_far.reads taken.2;
+          curve_of = count.0;
+          left_out = count.1;
+        }

@@ -1,5 +1,5 @@
 -- The curve of a trace, as its references are counted.
-use Rattle.std.specs.Prelude.{◌≡◌, ℕ, ◌+◌, ◌≤◌, ◌<◌, List, [], length, map, take, sum, Option, Some, IfSome, nat_eq, String}
+use Rattle.std.specs.Prelude.{◌≡◌, ℕ, ◌+◌, ◌≤◌, ◌<◌, Bool, true, false, List, [], ◌++◌, length, map, take, sum, Option, Some, IfSome, nat_eq, String}
 use Rattle.std.specs.Global.{Global}
 use Rattle.std.specs.Map.{lookup}
 use Rattle.std.specs.Str.{bytes_eq}
@@ -11,10 +11,10 @@ pub record Counted : Type 0 where
   pub names : List (String Global × ℕ)
   -- the numbers of the keys, the last referenced first
   pub recency : List ℕ
-  -- how many references had each reuse distance
+  -- how many counted references had each reuse distance
   pub counts : List ℕ
   pub references : ℕ
-  -- the number of the key of each reference, if the curve keeps them
+  -- the number of the key of each counted reference, if the curve keeps them
   pub kept : Option (List ℕ)
 
 abbrev pub number_in : List (String Global × ℕ) → List ℕ → Option ℕ
@@ -25,13 +25,21 @@ pub record AreNumbered (names : List (String Global × ℕ)) (n : ℕ) : Type 0 
   pub small : (key : List ℕ) (number : ℕ) → number_in names key ≡ Some number → number < n
   pub apart : (a b : List ℕ) (number : ℕ) → number_in names a ≡ Some number → number_in names b ≡ Some number → a ≡ b
 
-pub record IsOf (trace : List (List ℕ)) (curve : Counted) : Type 0 where
+-- the curve of a trace that comes behind a warm-up, whose references are not counted
+pub record IsOf (warm trace : List (List ℕ)) (curve : Counted) : Type 0 where
+  pub before : List ℕ
   pub numbers : List ℕ
+  pub warmed : map (number_in curve.names) warm ≡ map Some before
   pub named : map (number_in curve.names) trace ≡ map Some numbers
-  pub order : curve.recency ≡ recency nat_eq (past_after [] numbers)
-  pub hits : (n : ℕ) → misses nat_eq n [] numbers + sum (take n curve.counts) ≡ curve.references
+  pub order : curve.recency ≡ recency nat_eq (past_after (past_after [] before) numbers)
+  pub hits : (n : ℕ) → misses nat_eq n (past_after [] before) numbers + sum (take n curve.counts) ≡ curve.references
   pub all : curve.references ≡ length trace
   pub kept : IfSome curve.kept (λ kept. kept ≡ numbers)
+
+-- A curve was `old`, and is `new` after these references, which are counted unless they are a warm-up.
+pub record Follows (is_warm : Bool) (old : Counted) (references : List (List ℕ)) (new : Counted) : Type 0 where
+  pub counted : is_warm ≡ false → (warm trace : List (List ℕ)) → IsOf warm trace old → IsOf warm (trace ++ references) new
+  pub warmed : is_warm ≡ true → (warm : List (List ℕ)) → IsOf warm [] old → IsOf (warm ++ references) [] new
 
 -- what is true of every curve
 pub record IsCounted (names : List (String Global × ℕ)) (recent : Recent) (counts : List ℕ) (first references : ℕ)

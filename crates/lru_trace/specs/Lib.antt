@@ -3,6 +3,8 @@ pub mod Nodes
 pub mod Slots
 pub mod Counted
 pub mod Lines
+pub mod Samples
+pub mod References
 pub mod Sizes
 pub mod Rows
 pub mod Svg

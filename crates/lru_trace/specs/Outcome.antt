@@ -1,39 +1,41 @@
 -- How a trace ends: what was read and written.
 use Rattle.std.specs.Prelude.{◌≡◌, ℕ, ◌≤◌, List, [], ◌∷◌, ◌++◌, length, Option, OnSome, Some, None, is_some, Result, Ok, Err}
 use Rattle.std.specs.Io.KnownBytes.{Consumes, IsAtEnd, Appends, Keeps}
-use Rattle.lru_trace.specs.declared.options.Column.{Column}
 use Rattle.lru_trace.specs.declared.options.Options.{Options}
 use Rattle.lru_trace.specs.declared.outcome.TraceEnd.{TraceEnd}
 use Rattle.lru_trace.specs.declared.outcome.TraceEnd.TheVariants as ends
 use Rattle.lru_trace.specs.declared.outcome.TraceError.{TraceError}
 use Rattle.lru_trace.specs.declared.outcome.TraceError.TheVariants as errors
 use Rattle.lru_trace.specs.Counted.{Counted, IsOf}
-use Rattle.lru_trace.specs.Lines.{lines_of, texts_of, trace_of, malformed_in}
+use Rattle.lru_trace.specs.Lines.{lines_of}
+use Rattle.lru_trace.specs.References.{warm_in, counted_in, others_in, wants_best}
+use Rattle.lru_trace.specs.declared.lines.Others.{Others}
 use Rattle.lru_trace.specs.Report.{output}
 use Rattle.lru_trace.specs.Sizes.{sizes_from}
 
 -- A reader had the bytes `from` left, if they are known, and has `to` left now. All that was left was read, and this is
--- the curve of the keys that this column of its lines spells.
-pub record KeysRead (from to : Option (List ℕ)) (column : Option Column) (curve : Counted) (malformed : ℕ) : Type 0 where
+-- the curve of the references that its lines make.
+pub record KeysRead (from to : Option (List ℕ)) (options : Options) (curve : Counted) (others : Others) : Type 0 where
   pub input : List ℕ
   pub reads : Consumes from to input
   pub at_end : OnSome from (IsAtEnd to)
-  pub curve_of : IsOf (trace_of (texts_of column (lines_of input))) curve
-  pub others : malformed ≡ malformed_in (texts_of column (lines_of input))
+  pub curve_of : IsOf (warm_in options (lines_of input)) (counted_in options (lines_of input)) curve
+  pub left_out : others ≡ others_in options (lines_of input)
 
--- All that was left was read. The first line names the sizes, and this is the curve of the keys that the others spell.
-pub record TraceRead (from to : Option (List ℕ)) (options : Options) (sizes : List ℕ) (curve : Counted) (malformed : ℕ)
+-- All that was left was read. The first line names the sizes, and this is the curve of the references that the others
+-- make.
+pub record TraceRead (from to : Option (List ℕ)) (options : Options) (sizes : List ℕ) (curve : Counted) (others : Others)
     : Type 0 where
   pub input : List ℕ
   pub first : List ℕ
-  pub others : List (List ℕ)
+  pub rest : List (List ℕ)
   pub reads : Consumes from to input
   pub at_end : OnSome from (IsAtEnd to)
-  pub lines : lines_of input ≡ first ∷ others
+  pub lines : lines_of input ≡ first ∷ rest
   pub named : sizes_from [] None first ≡ Some sizes
-  pub curve_of : IsOf (trace_of (texts_of options.column others)) curve
-  pub keeps : is_some curve.kept ≡ options.best
-  pub count : malformed ≡ malformed_in (texts_of options.column others)
+  pub curve_of : IsOf (warm_in options rest) (counted_in options rest) curve
+  pub keeps : is_some curve.kept ≡ wants_best options.policies
+  pub left_out : others ≡ others_in options rest
 
 -- At most one line was read, and it names no sizes, so no options determine an output.
 pub record NoSizesRead (from to : Option (List ℕ)) : Type 0 where

@@ -1,15 +1,16 @@
 -- What is written for a trace, in each form.
-use Rattle.std.specs.Prelude.{ℕ, ◌+◌, ◌-◌, ◌/◌, ◌%◌, if◌then◌else◌, List, [], ◌∷◌, ◌++◌, length, map}
+use Rattle.std.specs.Prelude.{ℕ, ◌+◌, ◌-◌, ◌/◌, ◌%◌, ◌==◌, if◌then◌else◌, List, [], ◌∷◌, ◌++◌, length, map}
 use Rattle.std.specs.Prelude.{flat_map, replicate, decimal, codes, Bool, false, Option, Some, None}
 use Rattle.std.specs.Option.{option_map}
 use Rattle.lru_trace.specs.declared.options.Options.{Options}
 use Rattle.lru_trace.specs.declared.options.Form.{Form}
 use Rattle.lru_trace.specs.declared.options.Form.TheVariants as forms
+use Rattle.lru_trace.specs.declared.lines.Others.{Others}
 use Rattle.lru_trace.specs.declared.rows.BestMisses.{BestMisses}
 use Rattle.lru_trace.specs.declared.rows.Counts.{Counts}
 use Rattle.lru_trace.specs.declared.rows.Row.{Row}
-use Rattle.lru_trace.specs.Lines.{texts_of, trace_of, malformed_in}
-use Rattle.lru_trace.specs.Rows.{keys, row_of, powers_in, points}
+use Rattle.lru_trace.specs.References.{warm_in, counted_in, others_in, bits_of, wants_best}
+use Rattle.lru_trace.specs.Rows.{keys, row_of, axis_in, powers_in, points}
 use Rattle.lru_trace.specs.Sizes.{sizes_from}
 use Rattle.lru_trace.specs.Svg.{part, svg_text}
 
@@ -37,9 +38,14 @@ abbrev pub bar_text : Row → List ℕ
 bar_text row = replicate (12 - length (decimal row.size)) 32 ++ (decimal row.size ++ (codes " |"
     ++ (replicate (missed_part row 50) 35 ++ codes "\n")))
 
+-- how many keys are not in the sample, if `--sample` asks for one
+abbrev pub skipped_text : Option ℕ → List ℕ
+skipped_text None = []
+skipped_text (Some n) = codes " skipped " ++ decimal n
+
 abbrev pub head_text : Counts → List ℕ
 head_text counts = codes "references " ++ (decimal counts.references ++ (codes " keys " ++ (decimal counts.keys
-    ++ (codes " malformed " ++ (decimal counts.malformed ++ codes "\n")))))
+    ++ (codes " malformed " ++ (decimal counts.malformed ++ (skipped_text counts.skipped ++ codes "\n"))))))
 
 -- the text for people: a line for each named size, and a bar for each power of two
 abbrev pub text_of : Counts → List Row → List Row → List ℕ
@@ -61,25 +67,31 @@ csv_head best = if best then codes "size,hits,misses,ratio,min,bypass\n" else co
 abbrev pub csv_of : Bool → List Row → List ℕ
 csv_of best rows = csv_head best ++ flat_map csv_line rows
 
-module _ (trace : List (List ℕ)) (sizes : List ℕ) (malformed : ℕ) where
-  -- how many references, keys and malformed lines there are
-  abbrev pub counts_of : Counts
-  counts_of = record { references = length trace; keys = keys trace; malformed = malformed }
+-- how many references, keys, malformed lines and skipped keys there are
+abbrev pub counts_of : ℕ → List (List ℕ) → List (List ℕ) → Others → Counts
+counts_of bits warm trace others = record {
+  references = length trace;
+  keys = keys warm trace;
+  malformed = others.malformed;
+  skipped = if bits == 0 then None else Some others.skipped;
+}
 
+module _ (bits : ℕ) (warm trace : List (List ℕ)) (sizes : List ℕ) (others : Others) where
   -- the rows of the named sizes and of the powers of two, with the misses of the best possible policies if `best` is
   -- true
   abbrev pub point_rows : Bool → List Row
-  point_rows best = map (row_of trace best) (points sizes (powers_in trace))
+  point_rows best = map (row_of warm trace bits best) (points sizes (powers_in bits warm trace))
 
   abbrev pub written : Form → Bool → List ℕ
-  written forms.Text best = text_of counts_of (map (row_of trace best) sizes) (map (row_of trace false) (powers_in trace))
+  written forms.Text best = text_of (counts_of bits warm trace others) (map (row_of warm trace bits best) sizes)
+      (map (row_of warm trace bits false) (powers_in bits warm trace))
   written forms.Csv best = csv_of best (point_rows best)
-  written forms.Svg best = svg_text counts_of best (powers_in trace) (point_rows best)
+  written forms.Svg best =
+      svg_text (counts_of bits warm trace others) best (axis_in bits warm trace) (point_rows best)
 
 -- What is written for these lines: nothing unless the first line names sizes.
 abbrev pub output : Options → List (List ℕ) → Option (List ℕ)
 output options [] = None
 output options (first ∷ lines) =
-    let texts : List (List ℕ) = texts_of options.column lines in
-    option_map (λ sizes. written (trace_of texts) sizes (malformed_in texts) options.form options.best)
-    (sizes_from [] None first)
+    option_map (λ sizes. written (bits_of options) (warm_in options lines) (counted_in options lines) sizes
+    (others_in options lines) options.form (wants_best options.policies)) (sizes_from [] None first)

@@ -1,5 +1,5 @@
 -- The numbers that are written for each size.
-use Rattle.std.specs.Prelude.{ℕ, zero, suc, ◌-◌, ◌^◌, nat_lt, nat_le, ◌==◌, if◌then◌else◌, List, [], ◌∷◌, length}
+use Rattle.std.specs.Prelude.{ℕ, zero, suc, max, ◌-◌, ◌*◌, ◌/◌, ◌^◌, nat_lt, nat_le, ◌==◌, if◌then◌else◌, List, [], ◌∷◌, length, drop}
 use Rattle.std.specs.Prelude.{Bool, true, false, Option, Some, None}
 use Rattle.std.specs.List.{fold}
 use Rattle.std.specs.Str.{bytes_eq}
@@ -8,31 +8,44 @@ use Rattle.lru_theory.specs.Traces.{misses, recency, past_after}
 use Rattle.lru_trace.specs.declared.rows.BestMisses.{BestMisses}
 use Rattle.lru_trace.specs.declared.rows.Row.{Row}
 
-module _ (trace : List (List ℕ)) where
-  -- how many references miss in n places
+-- how often the best possible policies miss on a trace in n places, if `best` is true
+abbrev pub best_in : List (List ℕ) → Bool → ℕ → Option BestMisses
+best_in trace false n = None
+best_in trace true n = Some (record { min = min_misses bytes_eq n trace; bypass = bypass_misses bytes_eq n trace })
+
+-- the counted references, and those of the warm-up before them
+module _ (warm trace : List (List ℕ)) where
+  -- how many counted references miss in n places
   abbrev pub missed : ℕ → ℕ
-  missed n = misses bytes_eq n [] trace
+  missed n = misses bytes_eq n (past_after [] warm) trace
 
+  -- how many keys there are, with those of the warm-up
   abbrev pub keys : ℕ
-  keys = length (recency bytes_eq (past_after [] trace))
+  keys = length (recency bytes_eq (past_after (past_after [] warm) trace))
 
-  -- how often the best possible policies miss in n places, if `best` is true
-  abbrev pub best_in : Bool → ℕ → Option BestMisses
-  best_in false n = None
-  best_in true n = Some (record { min = min_misses bytes_eq n trace; bypass = bypass_misses bytes_eq n trace })
-
-  abbrev pub row_of : Bool → ℕ → Row
-  row_of best n =
-      record { size = n; hits = length trace - missed n; misses = missed n; best = best_in best n }
+  -- The row of a size. In a sample of one key in 2 ^ bits, the size n stands for n / 2 ^ bits places.
+  abbrev pub row_of : ℕ → Bool → ℕ → Row
+  row_of bits best n =
+      let places : ℕ = n / 2 ^ bits in
+      record {
+        size = n;
+        hits = length trace - missed places;
+        misses = missed places;
+        best = best_in trace best places;
+      }
 
 -- the powers of two from 2 ^ level on, up to the first that is at least `most`, but at most n of them
 unfoldable pub powers : ℕ → ℕ → ℕ → List ℕ
 powers most zero level = []
 powers most (suc n) level = 2 ^ level ∷ (if nat_le most (2 ^ level) then [] else powers most n (suc level))
 
--- the powers of two up to the first that is at least the number of keys
-abbrev pub powers_in : List (List ℕ) → List ℕ
-powers_in trace = powers (keys trace) 64 0
+-- the powers of two up to the first that is at least the number of keys, times 2 ^ bits
+abbrev pub axis_in : ℕ → List (List ℕ) → List (List ℕ) → List ℕ
+axis_in bits warm trace = powers (max (keys warm trace) 1 * 2 ^ bits) 64 0
+
+-- those of them that stand for at least one place
+abbrev pub powers_in : ℕ → List (List ℕ) → List (List ℕ) → List ℕ
+powers_in bits warm trace = drop bits (axis_in bits warm trace)
 
 -- sizes in rising order, with n among them
 abbrev pub with_size : List ℕ → ℕ → List ℕ

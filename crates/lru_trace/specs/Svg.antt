@@ -67,12 +67,17 @@ abbrev pub tick_text : ℕ → ℕ → List ℕ
 tick_text octaves power =
     if level_of 63 power % (1 + octaves / 9) == 0 then grid_text (x_of octaves power) power else []
 
+abbrev pub skipped_part : Option ℕ → List ℕ
+skipped_part None = []
+skipped_part (Some n) = codes ", " ++ (decimal n ++ codes " skipped")
+
 abbrev pub title_text : Counts → List ℕ
 title_text counts = codes "<text x='900' y='290'>" ++ (decimal counts.references ++ (codes " references to "
-    ++ (decimal counts.keys ++ (codes " keys, " ++ (decimal counts.malformed ++ codes " malformed lines</text>\n")))))
+    ++ (decimal counts.keys ++ (codes " keys, " ++ (decimal counts.malformed ++ (codes " malformed lines"
+    ++ (skipped_part counts.skipped ++ codes "</text>\n")))))))
 
 abbrev pub octaves_of : List ℕ → ℕ
-octaves_of powers = max (length powers - 1) 1
+octaves_of axis = max (length axis - 1) 1
 
 -- the curves of LRU, and of the best possible policies if `best` is true
 abbrev pub curves_text : Bool → ℕ → List Row → List ℕ
@@ -80,5 +85,5 @@ curves_text best octaves rows = curve_text octaves rows policies.Lru
     ++ (if best then curve_text octaves rows policies.Min ++ curve_text octaves rows policies.Bypass else [])
 
 abbrev pub svg_text : Counts → Bool → List ℕ → List Row → List ℕ
-svg_text counts best powers rows = START.now ++ (title_text counts
-    ++ (flat_map (tick_text (octaves_of powers)) powers ++ (curves_text best (octaves_of powers) rows ++ codes "</svg>\n")))
+svg_text counts best axis rows = START.now ++ (title_text counts
+    ++ (flat_map (tick_text (octaves_of axis)) axis ++ (curves_text best (octaves_of axis) rows ++ codes "</svg>\n")))

@@ -1,9 +1,10 @@
 //! The misses of a trace in LRU caches of every size.
 ghost use Rattle.std.specs.Prelude.{◌≡◌, ◌+◌, ◌-◌, ◌<◌, ◌≤◌, ◌^◌, ℕ, List, [], ◌∷◌, ◌++◌, IfOk, OnOk, OnErr, length};
-ghost use Rattle.std.specs.Prelude.{take, sum, Option, Some, None, IfSome, is_some};
+ghost use Rattle.std.specs.Prelude.{take, sum, Option, Some, None, IfSome, is_some, nat_eq};
+ghost use Rattle.std.specs.Set.{remove_key};
 ghost use Rattle.std.specs.Option.{option_map};
 ghost use Rattle.std.specs.Str.{bytes_eq};
-ghost use Rattle.lru_theory.specs.Traces.{misses};
+ghost use Rattle.lru_theory.specs.Traces.{misses, past_after};
 ghost use Rattle.lru_trace.specs.Counted.{Counted, IsOf, number_in};
 ghost use Rattle.lru_trace.specs.Rows.{keys};
 ghost use Rattle.lru_trace.specs.Times.{KnowsRest};
@@ -60,7 +61,7 @@ impl Model for Curve {
 impl Curve {
     /// Makes the curve of a trace without references.
     pub fn new(alloc: Global) -> Result<Self, AllocError>
-        ensures of { IfOk result (IsOf []) }
+        ensures of { IfOk result (IsOf [] []) }
         ensures kept { IfOk result (λ curve. curve.kept ≡ None) }
     {
         Curve::make(alloc, None)
@@ -82,7 +83,7 @@ impl Curve {
     /// }
     /// ```
     pub fn keeping_references(alloc: Global) -> Result<Self, AllocError>
-        ensures of { IfOk result (IsOf []) }
+        ensures of { IfOk result (IsOf [] []) }
         ensures kept { IfOk result (λ curve. curve.kept ≡ Some []) }
     {
         Curve::make(alloc, Some(Vec::new(alloc)))
@@ -90,7 +91,7 @@ impl Curve {
 
     fn make(alloc: Global, kept: Option<Vec<usize>>) -> Result<Self, AllocError>
         requires { IfSome kept (λ v. v.items ≡ []) }
-        ensures of { IfOk result (IsOf []) }
+        ensures of { IfOk result (IsOf [] []) }
         ensures kept { IfOk result (λ curve. curve.kept ≡ option_map (λ v. v.items) kept) }
     {
         Ok(Curve {
@@ -157,9 +158,9 @@ impl Curve {
         requires fits { self.old.references < 2 ^ 64 - 1 }
         requires number { number_in self.old.names key.now ≡ Some number }
         requires spare { length self.old.recency < length self.old.counts }
-        ensures ok { OnOk result ((trace : List (List ℕ)) (before : Option (List ℕ)) →
-            self.old.kept ≡ option_map (λ ns. ns ++ number ∷ []) before → IsOf trace (record self.old { kept = before }) →
-            IsOf (trace ++ key.now ∷ []) self.new) }
+        ensures ok { OnOk result ((warm trace : List (List ℕ)) (before : Option (List ℕ)) →
+            self.old.kept ≡ option_map (λ ns. ns ++ number ∷ []) before →
+            IsOf warm trace (record self.old { kept = before }) → IsOf warm (trace ++ key.now ∷ []) self.new) }
         ensures kept { self.new.kept ≡ self.old.kept }
         ensures err { OnErr result (self.new ≡ self.old) }
         ensures references { self.new.references ≤ self.old.references + 1 }
@@ -172,7 +173,53 @@ impl Curve {
         Ok(())
     }
 
-    /// References a key.
+    fn place(&mut self, number: usize) -> Result<(), AllocError>
+        requires number { (key : List ℕ) × (number_in self.old.names key ≡ Some number) }
+        requires spare { length self.old.recency < length self.old.counts }
+        ensures ok { OnOk result (self.new ≡ record self.old {
+          recency = number ∷ remove_key (nat_eq number) self.old.recency;
+        }) }
+        ensures err { OnErr result (self.new ≡ self.old) }
+    {
+        if self.distances.refer(number)?.is_none() {
+            self.firsts += 1;
+        }
+        Ok(())
+    }
+
+    /// References a key before the references that are counted.
+    ///
+    /// Cost: as `refer`.
+    ///
+    /// # Errors
+    ///
+    /// Out of memory. The key was not referenced.
+    ///
+    /// ```
+    /// let mut curve = Curve::new(alloc)?;
+    /// curve.warm_up("a")?;
+    /// curve.warm_up("b")?;
+    /// for key in ["a", "c", "b"] {
+    ///     if curve.references() < u64::MAX {
+    ///         curve.refer(key)?;
+    ///     }
+    /// }
+    /// assert_eq!(rt; (curve.references(), curve.misses(2), curve.misses(3)), (3, 2, 1));
+    /// ```
+    pub fn warm_up(&mut self, key: &str) -> Result<(), AllocError>
+        ensures ok { OnOk result ((warm : List (List ℕ)) → IsOf warm [] self.old →
+            IsOf (warm ++ key.now ∷ []) [] self.new) }
+        ensures err { OnErr result ((warm trace : List (List ℕ)) → IsOf warm trace self.old →
+            IsOf warm trace self.new) }
+        ensures references { self.new.references ≡ self.old.references }
+        ensures kept { self.new.kept ≡ self.old.kept }
+    {
+        let number = self.number_of(key)?;
+        self.make_count()?;
+        self.place(number)
+    }
+
+    /// References a key, and counts the reference.
     ///
     /// Cost: `O(log n)` expected for n keys, amortised over the references.
     ///
@@ -181,9 +228,10 @@ impl Curve {
     /// Out of memory. The reference is not counted.
     pub fn refer(&mut self, key: &str) -> Result<(), AllocError>
         requires { self.old.references < 2 ^ 64 - 1 }
-        ensures ok { OnOk result ((trace : List (List ℕ)) → IsOf trace self.old →
-            IsOf (trace ++ key.now ∷ []) self.new) }
-        ensures err { OnErr result ((trace : List (List ℕ)) → IsOf trace self.old → IsOf trace self.new) }
+        ensures ok { OnOk result ((warm trace : List (List ℕ)) → IsOf warm trace self.old →
+            IsOf warm (trace ++ key.now ∷ []) self.new) }
+        ensures err { OnErr result ((warm trace : List (List ℕ)) → IsOf warm trace self.old →
+            IsOf warm trace self.new) }
         ensures references { self.new.references ≤ self.old.references + 1 }
         ensures keeps { is_some self.new.kept ≡ is_some self.old.kept }
     {
@@ -209,7 +257,8 @@ impl Curve {
     /// Out of memory.
     pub fn best(&self) -> Result<Option<Best>, AllocError>
         ensures some { IfOk result (λ best. is_some best ≡ is_some self.now.kept) }
-        ensures all { IfOk result (λ best. (trace : List (List ℕ)) → IsOf trace self.now → KnowsRest trace best) }
+        ensures all { IfOk result (λ best. (warm trace : List (List ℕ)) → IsOf warm trace self.now →
+            KnowsRest trace best) }
     {
         match &self.kept {
             Some(kept) => Ok(Some(Best::new(self.alloc, kept)?)),
@@ -220,7 +269,7 @@ impl Curve {
     /// Returns how many references there were.
     pub fn references(&self) -> u64
         ensures value { result ≡ self.now.references }
-        ensures all { (trace : List (List ℕ)) → IsOf trace self.now → result ≡ length trace }
+        ensures all { (warm trace : List (List ℕ)) → IsOf warm trace self.now → result ≡ length trace }
     {
         self.references
     }
@@ -228,7 +277,7 @@ impl Curve {
     /// Returns how many keys were referenced.
     pub fn keys(&self) -> usize
         ensures value { result ≡ length self.now.recency }
-        ensures all { (trace : List (List ℕ)) → IsOf trace self.now → result ≡ keys trace }
+        ensures all { (warm trace : List (List ℕ)) → IsOf warm trace self.now → result ≡ keys warm trace }
     {
         self.firsts
     }
@@ -237,8 +286,8 @@ impl Curve {
     ///
     /// Cost: in proportion to the smaller of `places` and the number of keys.
     pub fn misses(&self, places: usize) -> u64
-        ensures all { (trace : List (List ℕ)) → IsOf trace self.now →
-            result ≡ misses bytes_eq places [] trace }
+        ensures all { (warm trace : List (List ℕ)) → IsOf warm trace self.now →
+            result ≡ misses bytes_eq places (past_after [] warm) trace }
         ensures most { result ≤ self.now.references }
     {
         let mut misses = self.references;

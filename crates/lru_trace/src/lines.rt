@@ -1,15 +1,18 @@
 //! The lines of a trace, each of which is a key.
 ghost use Rattle.std.specs.Prelude.{◌≡◌, ◌≢◌, ℕ, ◌+◌, ◌-◌, ◌^◌, ◌<◌, ◌≤◌, List, [], ◌∷◌, ◌++◌, true, false, is_some};
 ghost use Rattle.std.specs.Prelude.{IfOk, OnOk, OnErr, IfErr, MatchOption};
-ghost use Rattle.lru_trace.specs.Counted.{IsOf};
-ghost use Rattle.lru_trace.specs.Lines.{text_in, is_key, fed, trace_of, EndsSo, TakesLine};
+ghost use Rattle.lru_trace.specs.Counted.{IsOf, Follows};
+ghost use Rattle.lru_trace.specs.Lines.{is_key, fed, EndsSo, TakesLine};
+ghost use Rattle.lru_trace.specs.References.{bits_of, keys_read, others_in};
+ghost use Rattle.lru_trace.specs.Samples.{sampled};
 ghost use Rattle.lru_trace.specs.Outcome.{KeysRead, SomeRead};
 
 use crate::columns::text_in;
 use crate::curve::Curve;
-use crate::options::Column;
+use crate::options::Options;
 use crate::outcome::TraceError;
 use crate::progress::Progress;
+use crate::samples::is_sampled;
 use std::alloc::AllocError;
 use std::io::{BufRead, ErrorKind, Write};
 
@@ -21,6 +24,29 @@ pub enum Ending {
     Feed,
     InputEnd,
     Nothing,
+}
+
+/// How many lines make no reference.
+#[derive(Clone, Copy, Debug, PartialEq, Eq)]
+pub struct Others {
+    /// How many lines spell no key.
+    pub malformed: u64,
+    /// How many keys are not in the sample.
+    pub skipped: u64,
+}
+
+impl Others {
+    fn add(&mut self, more: Others)
+        requires malformed { self.old.malformed + more.malformed < 2 ^ 64 }
+        requires skipped { self.old.skipped + more.skipped < 2 ^ 64 }
+        ensures { self.new ≡ record {
+          malformed = self.old.malformed + more.malformed;
+          skipped = self.old.skipped + more.skipped;
+        } }
+    {
+        self.malformed += more.malformed;
+        self.skipped += more.skipped;
+    }
 }
 
 fn take_feed(line: &mut Vec<u8>) -> Ending
@@ -64,24 +90,55 @@ fn key_of(line: &[u8]) -> Option<&str>
     }
 }
 
-/// References the key that the line spells in this column, if there is one, and returns whether there is.
-fn refer_line(curve: &mut Curve, column: Option<Column>, line: &[u8]) -> Result<bool, AllocError>
+fn refer_key(curve: &mut Curve, warm: bool, key: &str) -> Result<(), AllocError>
     requires { curve.old.references < 2 ^ 64 - 1 }
-    ensures key { IfOk result (λ is. is ≡ is_key (text_in column line.now)) }
-    ensures ok { OnOk result ((trace : List (List ℕ)) → IsOf trace curve.old →
-        IsOf (trace ++ trace_of (text_in column line.now ∷ [])) curve.new) }
+    ensures ok { OnOk result (Follows warm curve.old (key.now ∷ []) curve.new) }
     ensures references { curve.new.references ≤ curve.old.references + 1 }
     ensures keeps { is_some curve.new.kept ≡ is_some curve.old.kept }
 {
-    let Some(key) = key_of(text_in(line, column)) else {
-        return Ok(false);
-    };
-    curve.refer(key)?;
-    Ok(true)
+    if warm {
+        return curve.warm_up(key);
+    }
+    curve.refer(key)
 }
 
-/// References the key of each line that is left, and returns how many lines spell no key. A key is text of 1 to 64
-/// bytes: the line, or this column of it. The number of lines is written to `progress` after each million.
+/// References the key that the line spells, if there is one and the sample has it, and returns what the line adds to the
+/// lines that make no reference. The reference is counted unless it is one of the warm-up.
+fn refer_line(
+    curve: &mut Curve,
+    options: Options,
+    warm: bool,
+    line: &[u8],
+) -> Result<Others, AllocError>
+    requires { curve.old.references < 2 ^ 64 - 1 }
+    ensures others { IfOk result (λ others. others ≡ others_in options (line.now ∷ [])) }
+    ensures ok { OnOk result (Follows warm curve.old
+        (sampled (bits_of options) (keys_read options (line.now ∷ []))) curve.new) }
+    ensures references { curve.new.references ≤ curve.old.references + 1 }
+    ensures keeps { is_some curve.new.kept ≡ is_some curve.old.kept }
+{
+    let Some(key) = key_of(text_in(line, options.column)) else {
+        return Ok(Others {
+            malformed: 1,
+            skipped: 0,
+        });
+    };
+    if !is_sampled(key.as_bytes(), options.bits()) {
+        return Ok(Others {
+            malformed: 0,
+            skipped: 1,
+        });
+    }
+    refer_key(curve, warm, key)?;
+    Ok(Others {
+        malformed: 0,
+        skipped: 0,
+    })
+}
+
+/// References the key of each line that is left, if the sample has it, and returns how many lines make no reference. A
+/// key is text of 1 to 64 bytes: the line, or a column of it. The first keys may be a warm-up, which is not counted. The
+/// number of lines is written to `progress` after each million.
 ///
 /// # Errors
 ///
@@ -89,24 +146,32 @@ fn refer_line(curve: &mut Curve, column: Option<Column>, line: &[u8]) -> Result<
 pub fn read_keys<R: BufRead, P: Write>(
     reader: &mut R,
     line: &mut Vec<u8>,
-    column: Option<Column>,
+    options: Options,
     curve: &mut Curve,
     progress: &mut Progress<P>,
-) -> Result<u64, TraceError>
-    requires { IsOf [] curve.old }
-    ensures ok { IfOk result (λ malformed.
-        KeysRead (R.remaining reader.old) (R.remaining reader.new) column curve.new malformed) }
+) -> Result<Others, TraceError>
+    requires { IsOf [] [] curve.old }
+    ensures ok { IfOk result (λ others.
+        KeysRead (R.remaining reader.old) (R.remaining reader.new) options curve.new others) }
     ensures err { OnErr result (SomeRead (R.remaining reader.old) (R.remaining reader.new)) }
     ensures keeps { is_some curve.new.kept ≡ is_some curve.old.kept }
     ensures kind { IfErr result (λ e. e ≢ TraceError.Write) }
 {
-    let mut malformed = 0;
+    let warm_up = options.policies.warm_up();
+    let mut others = Others {
+        malformed: 0,
+        skipped: 0,
+    };
     for lines in 0..u64::MAX - 1 {
         progress.note(lines);
+        let warm = lines - others.malformed < warm_up;
         match read_line(reader, line)? {
-            Ending::Feed => malformed += u64::from(!refer_line(curve, column, line)?),
-            Ending::InputEnd => return Ok(malformed + u64::from(!refer_line(curve, column, line)?)),
-            Ending::Nothing => return Ok(malformed),
+            Ending::Feed => others.add(refer_line(curve, options, warm, line)?),
+            Ending::InputEnd => {
+                others.add(refer_line(curve, options, warm, line)?);
+                return Ok(others);
+            }
+            Ending::Nothing => return Ok(others),
         }
     }
     Err(TraceError::Read)

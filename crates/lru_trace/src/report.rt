@@ -3,14 +3,16 @@ ghost use Rattle.std.specs.Prelude.{◌≡◌, ◌≤◌, ◌+◌, ◌^◌, ◌<
 ghost use Rattle.std.specs.String.{string_bytes};
 ghost use Rattle.lru_trace.specs.Counted.{IsOf};
 ghost use Rattle.lru_trace.specs.Report.{missed_part, ratio_text, best_text, size_text, bar_text, text_of};
+ghost use Rattle.lru_trace.specs.References.{bits_of, wants_best};
 ghost use Rattle.lru_trace.specs.Rows.{row_of, points};
 ghost use Rattle.lru_trace.specs.Times.{KnowsRest};
-ghost use Rattle.lru_trace.specs.Report.{csv_best, csv_line, csv_head, csv_of, written};
+ghost use Rattle.lru_trace.specs.Report.{csv_best, csv_line, csv_head, csv_of, skipped_text, head_text, counts_of, written};
 
 use crate::best::Best;
 use crate::curve::Curve;
+use crate::lines::Others;
 use crate::options::{Form, Options};
-use crate::rows::{BestMisses, Counts, Row, points, powers, rows_of};
+use crate::rows::{BestMisses, Counts, Row, end_of, points, powers, powers_in, rows_of};
 use crate::svg::svg_of;
 use std::alloc::{AllocError, Global};
 
@@ -103,6 +105,23 @@ fn add_bars(alloc: Global, report: &mut Vec<u8>, rows: &[Row]) -> Result<(), All
     Ok(())
 }
 
+fn skipped_text(alloc: Global, skipped: Option<u64>) -> Result<String, AllocError>
+    ensures { IfOk result (λ text. string_bytes text ≡ skipped_text skipped) }
+{
+    match skipped {
+        Some(skipped) => format!(in alloc; " skipped {skipped}"),
+        None => Ok(String::new(alloc)),
+    }
+}
+
+fn head_text(alloc: Global, counts: Counts) -> Result<String, AllocError>
+    ensures { IfOk result (λ text. string_bytes text ≡ head_text counts) }
+{
+    let (references, keys, malformed) = (counts.references, counts.keys, counts.malformed);
+    let skipped = skipped_text(alloc, counts.skipped)?;
+    format!(in alloc; "references {references} keys {keys} malformed {malformed}{skipped}\n")
+}
+
 fn text_of(
     alloc: Global,
     counts: Counts,
@@ -111,8 +130,7 @@ fn text_of(
 ) -> Result<Vec<u8>, AllocError>
     ensures { IfOk result (λ report. report.items ≡ text_of counts named.now bars.now) }
 {
-    let (references, keys, malformed) = (counts.references, counts.keys, counts.malformed);
-    let head = format!(in alloc; "references {references} keys {keys} malformed {malformed}\n")?;
+    let head = head_text(alloc, counts)?;
     let mut report = Vec::from_slice(alloc, head.as_bytes())?;
     add_sizes(alloc, &mut report, named)?;
     add_bars(alloc, &mut report, bars)?;
@@ -170,15 +188,17 @@ fn text_rows(
     curve: &Curve,
     counts: Counts,
     best: &Option<Best>,
+    bits: u32,
     sizes: &[usize],
     powers: &[usize],
 ) -> Result<Vec<u8>, AllocError>
-    ensures { IfOk result (λ text. (trace : List (List ℕ)) → IsOf trace curve.now → KnowsRest trace best.now →
-        text.items ≡ text_of counts (map (row_of trace (is_some best.now)) sizes.now)
-        (map (row_of trace false) powers.now)) }
+    requires { bits ≤ 20 }
+    ensures { IfOk result (λ text. (warm trace : List (List ℕ)) → IsOf warm trace curve.now → KnowsRest trace best.now →
+        text.items ≡ text_of counts (map (row_of warm trace bits (is_some best.now)) sizes.now)
+        (map (row_of warm trace bits false) powers.now)) }
 {
-    let rows = rows_of(alloc, curve, best, sizes)?;
-    let bars = rows_of(alloc, curve, &None, powers)?;
+    let rows = rows_of(alloc, curve, best, bits, sizes)?;
+    let bars = rows_of(alloc, curve, &None, bits, powers)?;
     let text = text_of(alloc, counts, &rows, &bars)?;
     Ok(text)
 }
@@ -187,49 +207,63 @@ fn point_rows(
     alloc: Global,
     curve: &Curve,
     best: &Option<Best>,
+    bits: u32,
     sizes: &[usize],
     powers: &[usize],
 ) -> Result<Vec<Row>, AllocError>
-    ensures { IfOk result (λ rows. (trace : List (List ℕ)) → IsOf trace curve.now → KnowsRest trace best.now →
-        rows.items ≡ map (row_of trace (is_some best.now)) (points sizes.now powers.now)) }
+    requires { bits ≤ 20 }
+    ensures { IfOk result (λ rows. (warm trace : List (List ℕ)) → IsOf warm trace curve.now → KnowsRest trace best.now →
+        rows.items ≡ map (row_of warm trace bits (is_some best.now)) (points sizes.now powers.now)) }
 {
     let points = points(alloc, sizes, powers)?;
-    let rows = rows_of(alloc, curve, best, &points)?;
+    let rows = rows_of(alloc, curve, best, bits, &points)?;
     Ok(rows)
+}
+
+fn counts_of(bits: u32, curve: &Curve, others: Others) -> Counts
+    ensures { (warm trace : List (List ℕ)) → IsOf warm trace curve.now → result ≡ counts_of bits warm trace others }
+{
+    Counts {
+        references: curve.references(),
+        keys: curve.keys(),
+        malformed: others.malformed,
+        skipped: if bits == 0 {
+            None
+        } else {
+            Some(others.skipped)
+        },
+    }
 }
 
 pub fn report_of(
     alloc: Global,
     options: Options,
     curve: &Curve,
-    malformed: u64,
+    others: Others,
     sizes: &[usize],
 ) -> Result<Vec<u8>, AllocError>
-    requires { is_some curve.now.kept ≡ options.best }
-    ensures { IfOk result (λ report. (trace : List (List ℕ)) → IsOf trace curve.now →
-        report.items ≡ written trace sizes.now malformed options.form options.best) }
+    requires { is_some curve.now.kept ≡ wants_best options.policies }
+    ensures { IfOk result (λ report. (warm trace : List (List ℕ)) → IsOf warm trace curve.now →
+        report.items ≡ written (bits_of options) warm trace sizes.now others options.form (wants_best options.policies)) }
 {
-    let (references, keys) = (curve.references(), curve.keys());
-    let counts = Counts {
-        references,
-        keys,
-        malformed,
-    };
-    let powers = powers(alloc, keys)?;
+    let bits = options.bits();
+    let counts = counts_of(bits, curve, others);
+    let axis = powers(alloc, end_of(counts.keys, bits))?;
+    let powers = powers_in(&axis, bits);
     let best = curve.best()?;
     match options.form {
         Form::Text => {
-            let text = text_rows(alloc, curve, counts, &best, sizes, &powers)?;
+            let text = text_rows(alloc, curve, counts, &best, bits, sizes, powers)?;
             Ok(text)
         }
         Form::Csv => {
-            let rows = point_rows(alloc, curve, &best, sizes, &powers)?;
-            let csv = csv_of(alloc, options.best, &rows)?;
+            let rows = point_rows(alloc, curve, &best, bits, sizes, powers)?;
+            let csv = csv_of(alloc, options.policies.best(), &rows)?;
             Ok(csv)
         }
         Form::Svg => {
-            let rows = point_rows(alloc, curve, &best, sizes, &powers)?;
-            let svg = svg_of(alloc, counts, options.best, &powers, &rows)?;
+            let rows = point_rows(alloc, curve, &best, bits, sizes, powers)?;
+            let svg = svg_of(alloc, counts, options.policies.best(), &axis, &rows)?;
             Ok(svg)
         }
     }

@@ -1,4 +1,4 @@
-ghost use Rattle.std.specs.Prelude.{◌≡◌, ◌<◌, ℕ, List, IfOk, OnOk, is_some, map};
+ghost use Rattle.std.specs.Prelude.{◌≡◌, ◌<◌, ◌≤◌, ◌*◌, ◌^◌, max, ℕ, List, IfOk, OnOk, is_some, map, drop};
 ghost use Rattle.std.specs.List.{All, fold};
 ghost use Rattle.lru_trace.specs.Counted.{IsOf};
 ghost use Rattle.lru_trace.specs.Rows.{best_in, row_of, powers, points, with_size};
@@ -14,6 +14,7 @@ pub struct Counts {
     pub references: u64,
     pub keys: usize,
     pub malformed: u64,
+    pub skipped: Option<u64>,
 }
 
 /// The misses of MIN, and of MIN with bypass.
@@ -43,13 +44,15 @@ fn best_in(best: &Option<Best>, size: usize) -> Result<Option<BestMisses>, Alloc
     Ok(Some(BestMisses { min, bypass }))
 }
 
-fn row_of(curve: &Curve, best: &Option<Best>, size: usize) -> Result<Row, AllocError>
-    ensures { IfOk result (λ row. (trace : List (List ℕ)) → IsOf trace curve.now → KnowsRest trace best.now →
-        row ≡ row_of trace (is_some best.now) size) }
+fn row_of(curve: &Curve, best: &Option<Best>, bits: u32, size: usize) -> Result<Row, AllocError>
+    requires { bits ≤ 20 }
+    ensures { IfOk result (λ row. (warm trace : List (List ℕ)) → IsOf warm trace curve.now → KnowsRest trace best.now →
+        row ≡ row_of warm trace bits (is_some best.now) size) }
 {
-    let misses = curve.misses(size);
+    let places = size >> bits;
+    let misses = curve.misses(places);
     let hits = curve.references() - misses;
-    let best = best_in(best, size)?;
+    let best = best_in(best, places)?;
     Ok(Row {
         size,
         hits,
@@ -62,31 +65,48 @@ pub fn rows_of(
     alloc: Global,
     curve: &Curve,
     best: &Option<Best>,
+    bits: u32,
     sizes: &[usize],
 ) -> Result<Vec<Row>, AllocError>
-    ensures { IfOk result (λ rows. (trace : List (List ℕ)) → IsOf trace curve.now → KnowsRest trace best.now →
-        rows.items ≡ map (row_of trace (is_some best.now)) sizes.now) }
+    requires { bits ≤ 20 }
+    ensures { IfOk result (λ rows. (warm trace : List (List ℕ)) → IsOf warm trace curve.now → KnowsRest trace best.now →
+        rows.items ≡ map (row_of warm trace bits (is_some best.now)) sizes.now) }
 {
     let mut rows = Vec::new(alloc);
     for size in sizes {
-        rows.push(row_of(curve, best, *size)?)?;
+        rows.push(row_of(curve, best, bits, *size)?)?;
     }
     Ok(rows)
 }
 
-pub fn powers(alloc: Global, keys: usize) -> Result<Vec<usize>, AllocError>
-    ensures all { IfOk result (λ all. all.items ≡ powers keys 64 0) }
+/// Returns where the axis of sizes ends, at the next power of two.
+pub fn end_of(keys: usize, bits: u32) -> u128
+    requires { bits ≤ 20 }
+    ensures { result ≡ max keys 1 * 2 ^ bits }
+{
+    (keys.max(1) as u128) << bits
+}
+
+pub fn powers(alloc: Global, most: u128) -> Result<Vec<usize>, AllocError>
+    ensures all { IfOk result (λ all. all.items ≡ powers most 64 0) }
     ensures some { IfOk result (λ all. All (λ power. 0 < power) all.items) }
 {
     let mut powers = Vec::new(alloc);
     for level in 0..usize::BITS {
         let power = 1_usize << level;
         powers.push(power)?;
-        if keys <= power {
+        if most <= power as u128 {
             return Ok(powers);
         }
     }
     Ok(powers)
+}
+
+/// Returns those powers of the axis that stand for a place.
+pub fn powers_in(axis: &[usize], bits: u32) -> &[usize]
+    ensures { result.now ≡ drop bits axis.now }
+{
+    &axis[axis.len().min(bits as usize)..]
 }
 
 fn add_point(points: &mut Vec<usize>, size: usize) -> Result<(), AllocError>

@@ -2,7 +2,8 @@
 ghost use Rattle.std.specs.Prelude.{◌≡◌, ◌≤◌, ◌<◌, ◌+◌, ◌*◌, ◌^◌, ◌++◌, OnOk, IfOk, length, flat_map};
 ghost use Rattle.std.specs.List.{All};
 ghost use Rattle.lru_trace.specs.Svg.{part, level_of, log_of, x_of, missed_by, y_of, point_text, legend, curve_text};
-ghost use Rattle.lru_trace.specs.Svg.{tick_text, curves_text, svg_text};
+ghost use Rattle.lru_trace.specs.Svg.{tick_text, skipped_part, title_text, curves_text, svg_text};
+ghost use Rattle.std.specs.String.{string_bytes};
 
 use crate::rows::{BestMisses, Counts, Row};
 use std::alloc::{AllocError, Global};
@@ -225,24 +226,40 @@ fn add_curves(
     Ok(())
 }
 
+fn skipped_part(alloc: Global, skipped: Option<u64>) -> Result<String, AllocError>
+    ensures { IfOk result (λ text. string_bytes text ≡ skipped_part skipped) }
+{
+    match skipped {
+        Some(skipped) => format!(in alloc; ", {skipped} skipped"),
+        None => Ok(String::new(alloc)),
+    }
+}
+
+fn title_text(alloc: Global, counts: Counts) -> Result<String, AllocError>
+    ensures { IfOk result (λ text. string_bytes text ≡ title_text counts) }
+{
+    let (references, keys, malformed) = (counts.references, counts.keys, counts.malformed);
+    let skipped = skipped_part(alloc, counts.skipped)?;
+    format!(in alloc;
+        "<text x='900' y='290'>{references} references to {keys} keys, {malformed} malformed lines{skipped}</text>\n"
+    )
+}
+
 pub fn svg_of(
     alloc: Global,
     counts: Counts,
     best: bool,
-    powers: &[usize],
+    axis: &[usize],
     rows: &[Row],
 ) -> Result<Vec<u8>, AllocError>
-    requires { All (λ power. 0 < power) powers.now }
-    ensures { IfOk result (λ svg. svg.items ≡ svg_text counts best powers.now rows.now) }
+    requires { All (λ power. 0 < power) axis.now }
+    ensures { IfOk result (λ svg. svg.items ≡ svg_text counts best axis.now rows.now) }
 {
-    let octaves = powers.len().saturating_sub(1).max(1) as u128;
-    let (references, keys, malformed) = (counts.references, counts.keys, counts.malformed);
-    let title = format!(in alloc;
-        "<text x='900' y='290'>{references} references to {keys} keys, {malformed} malformed lines</text>\n"
-    )?;
+    let octaves = axis.len().saturating_sub(1).max(1) as u128;
+    let title = title_text(alloc, counts)?;
     let mut svg = Vec::from_slice(alloc, START.as_bytes())?;
     svg.extend_from_slice(title.as_bytes())?;
-    add_ticks(alloc, &mut svg, octaves, powers)?;
+    add_ticks(alloc, &mut svg, octaves, axis)?;
     add_curves(alloc, &mut svg, best, octaves, rows)?;
     svg.extend_from_slice(b"</svg>\n")?;
     Ok(svg)

@@ -4,7 +4,7 @@ ghost use Rattle.lru_trace.specs.Counted.{IsOf};
 ghost use Rattle.lru_trace.specs.Outcome.{Ends, TraceRead, NoSizesRead, SomeRead};
 
 use crate::curve::Curve;
-use crate::lines::{Ending, read_keys, read_line};
+use crate::lines::{Ending, Others, read_keys, read_line};
 use crate::options::Options;
 use crate::outcome::{TraceEnd, TraceError};
 use crate::output::write_bytes;
@@ -18,11 +18,11 @@ use std::io::{BufRead, Write};
 struct Lines {
     sizes: Vec<usize>,
     curve: Curve,
-    malformed: u64,
+    others: Others,
 }
 
 fn empty_curve(alloc: Global, best: bool) -> Result<Curve, AllocError>
-    ensures of { IfOk result (IsOf []) }
+    ensures of { IfOk result (IsOf [] []) }
     ensures keeps { IfOk result (λ curve. is_some curve.kept ≡ best) }
 {
     if best {
@@ -39,7 +39,7 @@ fn read_trace<R: BufRead, P: Write>(
 ) -> Result<Option<Lines>, TraceError>
     ensures ok { IfOk result (λ read.
         MatchOption read (NoSizesRead (R.remaining reader.old) (R.remaining reader.new))
-        (λ t. TraceRead (R.remaining reader.old) (R.remaining reader.new) options t.sizes.items t.curve t.malformed)) }
+        (λ t. TraceRead (R.remaining reader.old) (R.remaining reader.new) options t.sizes.items t.curve t.others)) }
     ensures err { OnErr result (SomeRead (R.remaining reader.old) (R.remaining reader.new)) }
     ensures kind { IfErr result (λ e. e ≢ TraceError.Write) }
 {
@@ -48,20 +48,23 @@ fn read_trace<R: BufRead, P: Write>(
     let Some(sizes) = sizes_of(alloc, &line)? else {
         return Ok(None);
     };
-    let mut curve = empty_curve(alloc, options.best)?;
+    let mut curve = empty_curve(alloc, options.policies.best())?;
     let Ending::Feed = ending else {
-        let malformed = 0;
+        let others = Others {
+            malformed: 0,
+            skipped: 0,
+        };
         return Ok(Some(Lines {
             sizes,
             curve,
-            malformed,
+            others,
         }));
     };
-    let malformed = read_keys(reader, &mut line, options.column, &mut curve, progress)?;
+    let others = read_keys(reader, &mut line, options, &mut curve, progress)?;
     Ok(Some(Lines {
         sizes,
         curve,
-        malformed,
+        others,
     }))
 }
 
@@ -69,11 +72,12 @@ fn read_trace<R: BufRead, P: Write>(
 /// written: `docs/TRACE.md` shows it.
 ///
 /// The first line names sizes, and each other line, or a column of it, is a key that is referenced: text of 1 to 64
-/// bytes. Other lines are counted as malformed. If `best` is true, the misses of the best possible policies are
-/// written, too: in the text form for each named size, and in the other forms also for each power of two.
+/// bytes. Other lines are counted as malformed, and keys that are not in the sample as skipped. `Policies::Lru` may leave
+/// out a warm-up. `Policies::Best` also writes the misses of the best possible policies: in the text form for each named
+/// size, and in the other forms also for each power of two.
 ///
 /// Cost: `O(log n)` expected for each line and n keys. The memory is in proportion to the number of keys and the
-/// longest line. With `best` it is in proportion to the number of lines, and each size costs `O(log n)` for each line.
+/// longest line. With `Policies::Best` it is in proportion to the number of lines, and each size costs `O(log n)` for each line.
 ///
 /// # Errors
 ///
@@ -92,7 +96,7 @@ pub fn trace<R: BufRead, W: Write, P: Write>(
     let Some(read) = read_trace(alloc, options, reader, progress)? else {
         return Ok(TraceEnd::NoSizes);
     };
-    let report = report_of(alloc, options, &read.curve, read.malformed, &read.sizes)?;
+    let report = report_of(alloc, options, &read.curve, read.others, &read.sizes)?;
     if !write_bytes(writer, &report) {
         return Err(TraceError::Write);
     }

@@ -1,5 +1,5 @@
 //! Tests the progress of traces, and a flush that fails.
-use lru_trace::{Form, Options, Progress, TraceEnd, TraceError, trace};
+use lru_trace::{Form, Options, Policies, Progress, TraceEnd, TraceError, trace};
 use std::io::{self, ErrorKind, Write};
 use std::test::Fail;
 use test_helpers::check;
@@ -7,7 +7,8 @@ use test_helpers::check;
 const TEXT: Options = Options {
     column: None,
     form: Form::Text,
-    best: false,
+    policies: Policies::Lru { warm_up: 0 },
+    sample: 0,
 };
 
 #[derive(Drop)]

@@ -1,5 +1,5 @@
 //! Traces that run out of memory.
-use lru_trace::{Curve, Form, Options, Progress, TraceError, status, trace};
+use lru_trace::{Curve, Form, Options, Policies, Progress, TraceError, status, trace};
 use std::alloc::Global;
 use std::test::Fail;
 use test_helpers::{Hog, check};
@@ -15,7 +15,8 @@ fn fails_without_memory(alloc: Global, form: Form) -> Result<bool, TraceError> {
     let options = Options {
         column: None,
         form,
-        best: false,
+        policies: Policies::Lru { warm_up: 0 },
+        sample: 0,
     };
     let mut report = Vec::with_capacity(alloc, 9999)?;
     let mut progress = Progress::new(alloc, None::<Vec<u8>>);

@@ -58,14 +58,22 @@ fn arguments() {
         assert!(String::from_utf8_lossy(&unknown.stderr).contains("unknown argument -x"));
     }
     for arguments in [
-        ["--best", "-x"],
-        ["--column", "0"],
-        ["--column", "-1"],
-        ["--column", "18446744073709551616"],
-        ["--separator", ""],
-        ["--separator", ",;"],
-        ["--best", "--column"],
-        ["--csv", "--separator"],
+        &["--best", "-x"][..],
+        &["--column", "0"],
+        &["--column", "-1"],
+        &["--column", "18446744073709551616"],
+        &["--separator", ""],
+        &["--separator", ",;"],
+        &["--best", "--column"],
+        &["--csv", "--separator"],
+        &["--warm-up", "-1"],
+        &["--warm-up", "18446744073709551616"],
+        &["--csv", "--warm-up"],
+        &["--warm-up", "0", "--best"],
+        &["--sample", "21"],
+        &["--sample", "-1"],
+        &["--sample", "x"],
+        &["--best", "--sample"],
     ] {
         let run = Command::new(env!("CARGO_BIN_EXE_trace")).args(arguments).stdin(Stdio::null()).output().unwrap();
         assert_eq!((run.status.code(), run.stdout.as_slice()), (Some(4), &b""[..]), "{arguments:?}");

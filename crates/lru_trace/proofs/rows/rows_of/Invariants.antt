@@ -6,5 +6,5 @@ use Rattle.lru_trace.specs.Times.{KnowsRest}
 use Rattle.lru_trace.proofs.rows.rows_of.Given as goal
 
 abbrev pub invariant-loop-size : goal.invariant-loop-size
-invariant-loop-size l = (trace : List (List ℕ)) → IsOf trace l.curve → KnowsRest trace l.best
-    → l.rows.items ≡ map (row_of trace (is_some l.best)) (take l.size-index l.sizes)
+invariant-loop-size l = (warm trace : List (List ℕ)) → IsOf warm trace l.curve → KnowsRest trace l.best
+    → l.rows.items ≡ map (row_of warm trace l.bits (is_some l.best)) (take l.size-index l.sizes)

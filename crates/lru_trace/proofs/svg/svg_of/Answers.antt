@@ -10,15 +10,15 @@ in_a_row a b c d e = append_assoc ((a ++ b) ++ c) d e ∙ append_assoc (a ++ b) 
 
 pub returns : goal.returns
 returns c =
-    let powers = c.args.powers.now in
+    let axis = c.args.axis.now in
     let octaves = c.max-octaves.result in
-    let is : octaves ≡ octaves_of powers = c.max-octaves.ensures ∙ ap (λ n. max n 1) c.saturating_sub.ensures in
+    let is : octaves ≡ octaves_of axis = c.max-octaves.ensures ∙ ap (λ n. max n 1) c.saturating_sub.ensures in
     let title = title_text c.args.counts in
-    let ticks : ℕ → List ℕ = λ octaves. flat_map (tick_text octaves) powers in
+    let ticks : ℕ → List ℕ = λ octaves. flat_map (tick_text octaves) axis in
     let curves : ℕ → List ℕ = λ octaves. curves_text c.args.best octaves c.args.rows.now in
     c.in_ok-extend_from_slice-2.ensures.items ∙ ap (λ l. l ++ codes "</svg>\n") (c.in_ok-add_curves.ensures
     ∙ ap (λ l. l ++ curves octaves) (c.in_ok-add_ticks.ensures ∙ ap (λ l. l ++ ticks octaves)
     (c.in_ok-extend_from_slice.ensures.items ∙ (λ i. (c.in_ok-svg.ensures.items ∙ c.as_bytes.ensures.value) i
-    ++ (c.as_bytes-2.ensures.value ∙ c.in_ok-title.ensures.ok) i))))
+    ++ (c.as_bytes-2.ensures.value ∙ c.in_ok-title.ensures) i))))
     ∙ in_a_row START.now title (ticks octaves) (curves octaves) (codes "</svg>\n")
     ∙ ap (λ o. START.now ++ (title ++ (ticks o ++ (curves o ++ codes "</svg>\n")))) is

@@ -17,21 +17,22 @@ returns-in_default-ending g c =
     record {
       ok = only_sizes _ _ c.read_line.new.line.items c.args.options c.in_ok-ending.ending c.in-Some.sizes.items c.in_ok-curve.curve
           c.in_default-ending.not-Feed c.in_ok-ending.ensures.ok
-          (named ∙ ap (sizes_from [] None) c.deref.ensures.value) c.in_ok-curve.ensures.of c.in_ok-curve.ensures.keeps;
+          (named ∙ ap (sizes_from [] None) c.deref.ensures.value) c.in_ok-curve.ensures.of
+          (c.in_ok-curve.ensures.keeps ∙ c.best.ensures);
       err = tt;
       kind = tt;
     }
 
-pub returns-in_err-malformed-clause-err : goal.returns-in_err-malformed-clause-err
-returns-in_err-malformed-clause-err g c =
+pub returns-in_err-others-clause-err : goal.returns-in_err-others-clause-err
+returns-in_err-others-clause-err g c =
     let taken = rw c.in-Feed.is at c.in_ok-ending.ensures.ok in
-    let (part, reads) = c.in_err-malformed.ensures.err in
+    let (part, reads) = c.in_err-others.ensures.err in
     some_part _ _ _ _ (fed c.read_line.new.line.items) part taken.1 reads
 
 pub returns-clause-ok : goal.returns-clause-ok
 returns-clause-ok g c =
     let taken = rw c.in-Feed.is at c.in_ok-ending.ensures.ok in
     let named = rw c.in-Some.is at c.in_ok-sizes.ensures in
-    with_keys _ _ c.read_line.new.line.items _ c.args.options c.in-Some.sizes.items c.read_keys.new.curve c.in_ok-malformed.malformed
-    taken (named ∙ ap (sizes_from [] None) c.deref.ensures.value) c.in_ok-malformed.ensures.ok
-    (c.read_keys.ensures.keeps ∙ c.in_ok-curve.ensures.keeps)
+    with_keys _ _ c.read_line.new.line.items _ c.args.options c.in-Some.sizes.items c.read_keys.new.curve c.in_ok-others.others
+    taken (named ∙ ap (sizes_from [] None) c.deref.ensures.value) c.in_ok-others.ensures.ok
+    (c.read_keys.ensures.keeps ∙ c.in_ok-curve.ensures.keeps ∙ c.best.ensures)

@@ -113,7 +113,39 @@ impl Curve {
         Ok(())
     }
 
-    /// References a key.
+    fn place(&mut self, number: usize) -> Result<(), AllocError> {
+        if self.distances.refer(number)?.is_none() {
+            self.firsts += 1;
+        }
+        Ok(())
+    }
+
+    /// References a key before the references that are counted.
+    ///
+    /// Cost: as `refer`.
+    ///
+    /// # Errors
+    ///
+    /// Out of memory. The key was not referenced.
+    ///
+    /// ```text
+    /// let mut curve = Curve::new(alloc)?;
+    /// curve.warm_up("a")?;
+    /// curve.warm_up("b")?;
+    /// for key in ["a", "c", "b"] {
+    ///     if curve.references() < u64::MAX {
+    ///         curve.refer(key)?;
+    ///     }
+    /// }
+    /// assert_eq!(rt; (curve.references(), curve.misses(2), curve.misses(3)), (3, 2, 1));
+    /// ```
+    pub fn warm_up(&mut self, key: &str) -> Result<(), AllocError> {
+        let number = self.number_of(key)?;
+        self.make_count()?;
+        self.place(number)
+    }
+
+    /// References a key, and counts the reference.
     ///
     /// Cost: `O(log n)` expected for n keys, amortised over the references.
     ///

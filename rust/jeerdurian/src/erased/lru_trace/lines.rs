@@ -6,9 +6,10 @@ use crate::rattle_std::prelude::*;
 
 use crate::erased::lru_trace::columns::text_in;
 use crate::erased::lru_trace::curve::Curve;
-use crate::erased::lru_trace::options::Column;
+use crate::erased::lru_trace::options::Options;
 use crate::erased::lru_trace::outcome::TraceError;
 use crate::erased::lru_trace::progress::Progress;
+use crate::erased::lru_trace::samples::is_sampled;
 use crate::rattle_std::alloc::AllocError;
 use crate::rattle_std::io::{BufRead, ErrorKind, Write};
 
@@ -20,6 +21,22 @@ pub enum Ending {
     Feed,
     InputEnd,
     Nothing,
+}
+
+/// How many lines make no reference.
+#[derive(Clone, Copy, Debug, PartialEq, Eq)]
+pub struct Others {
+    /// How many lines spell no key.
+    pub malformed: u64,
+    /// How many keys are not in the sample.
+    pub skipped: u64,
+}
+
+impl Others {
+    fn add(&mut self, more: Others) {
+        self.malformed += more.malformed;
+        self.skipped += more.skipped;
+    }
 }
 
 fn take_feed(line: &mut Vec<u8>) -> Ending {
@@ -54,17 +71,29 @@ fn key_of(line: &[u8]) -> Option<&str> {
     }
 }
 
-/// References the key that the line spells in this column, if there is one, and returns whether there is.
-fn refer_line(curve: &mut Curve, column: Option<Column>, line: &[u8]) -> Result<bool, AllocError> {
-    let Some(key) = key_of(text_in(line, column)) else {
-        return Ok(false);
-    };
-    curve.refer(key)?;
-    Ok(true)
+fn refer_key(curve: &mut Curve, warm: bool, key: &str) -> Result<(), AllocError> {
+    if warm {
+        return curve.warm_up(key);
+    }
+    curve.refer(key)
 }
 
-/// References the key of each line that is left, and returns how many lines spell no key. A key is text of 1 to 64
-/// bytes: the line, or this column of it. The number of lines is written to `progress` after each million.
+/// References the key that the line spells, if there is one and the sample has it, and returns what the line adds to the
+/// lines that make no reference. The reference is counted unless it is one of the warm-up.
+fn refer_line(curve: &mut Curve, options: Options, warm: bool, line: &[u8]) -> Result<Others, AllocError> {
+    let Some(key) = key_of(text_in(line, options.column)) else {
+        return Ok(Others { malformed: 1, skipped: 0 });
+    };
+    if !is_sampled(key.as_bytes(), options.bits()) {
+        return Ok(Others { malformed: 0, skipped: 1 });
+    }
+    refer_key(curve, warm, key)?;
+    Ok(Others { malformed: 0, skipped: 0 })
+}
+
+/// References the key of each line that is left, if the sample has it, and returns how many lines make no reference. A
+/// key is text of 1 to 64 bytes: the line, or a column of it. The first keys may be a warm-up, which is not counted. The
+/// number of lines is written to `progress` after each million.
 ///
 /// # Errors
 ///
@@ -72,17 +101,22 @@ fn refer_line(curve: &mut Curve, column: Option<Column>, line: &[u8]) -> Result<
 pub fn read_keys<R: BufRead, P: Write>(
     reader: &mut R,
     line: &mut Vec<u8>,
-    column: Option<Column>,
+    options: Options,
     curve: &mut Curve,
     progress: &mut Progress<P>,
-) -> Result<u64, TraceError> {
-    let mut malformed = 0;
+) -> Result<Others, TraceError> {
+    let warm_up = options.policies.warm_up();
+    let mut others = Others { malformed: 0, skipped: 0 };
     for lines in 0..u64::MAX - 1 {
         progress.note(lines);
+        let warm = lines - others.malformed < warm_up;
         match read_line(reader, line)? {
-            Ending::Feed => malformed += u64::from(!refer_line(curve, column, line)?),
-            Ending::InputEnd => return Ok(malformed + u64::from(!refer_line(curve, column, line)?)),
-            Ending::Nothing => return Ok(malformed),
+            Ending::Feed => others.add(refer_line(curve, options, warm, line)?),
+            Ending::InputEnd => {
+                others.add(refer_line(curve, options, warm, line)?);
+                return Ok(others);
+            }
+            Ending::Nothing => return Ok(others),
         }
     }
     Err(TraceError::Read)

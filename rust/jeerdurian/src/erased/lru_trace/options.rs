@@ -20,6 +20,15 @@ pub struct Column {
     pub separator: u8,
 }
 
+/// Whose misses are counted.
+#[derive(Clone, Copy, Debug, PartialEq, Eq)]
+pub enum Policies {
+    /// LRU's. The first keys are a warm-up, this many: they fill the caches, and are not counted.
+    Lru { warm_up: u64 },
+    /// LRU's, and those of the best possible policies, which begin with no keys.
+    Best,
+}
+
 /// What a trace reads and writes.
 #[derive(Clone, Copy, Debug, PartialEq, Eq)]
 pub struct Options {
@@ -27,6 +36,30 @@ pub struct Options {
     pub column: Option<Column>,
     /// The form of what is written.
     pub form: Form,
-    /// Whether the misses of the best possible policies are written, too.
-    pub best: bool,
+    /// Whose misses are counted.
+    pub policies: Policies,
+    /// A key is referenced only if its hash ends with this many zero bits. A number above 20 means 20.
+    pub sample: u32,
+}
+
+impl Options {
+    pub(crate) fn bits(self) -> u32 {
+        self.sample.min(20)
+    }
+}
+
+impl Policies {
+    pub(crate) fn warm_up(self) -> u64 {
+        match self {
+            Policies::Lru { warm_up } => warm_up,
+            Policies::Best => 0,
+        }
+    }
+
+    pub(crate) fn best(self) -> bool {
+        match self {
+            Policies::Lru { .. } => false,
+            Policies::Best => true,
+        }
+    }
 }

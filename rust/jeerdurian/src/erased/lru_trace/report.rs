@@ -6,8 +6,9 @@ use crate::rattle_std::prelude::*;
 
 use crate::erased::lru_trace::best::Best;
 use crate::erased::lru_trace::curve::Curve;
+use crate::erased::lru_trace::lines::Others;
 use crate::erased::lru_trace::options::{Form, Options};
-use crate::erased::lru_trace::rows::{BestMisses, Counts, Row, points, powers, rows_of};
+use crate::erased::lru_trace::rows::{BestMisses, Counts, Row, end_of, points, powers, powers_in, rows_of};
 use crate::erased::lru_trace::svg::svg_of;
 use crate::rattle_std::alloc::{AllocError, Global};
 
@@ -78,9 +79,21 @@ fn add_bars(alloc: Global, report: &mut Vec<u8>, rows: &[Row]) -> Result<(), All
     Ok(())
 }
 
-fn text_of(alloc: Global, counts: Counts, named: &[Row], bars: &[Row]) -> Result<Vec<u8>, AllocError> {
+fn skipped_text(alloc: Global, skipped: Option<u64>) -> Result<String, AllocError> {
+    match skipped {
+        Some(skipped) => format!(in alloc; " skipped {skipped}"),
+        None => Ok(String::new_in(alloc)),
+    }
+}
+
+fn head_text(alloc: Global, counts: Counts) -> Result<String, AllocError> {
     let (references, keys, malformed) = (counts.references, counts.keys, counts.malformed);
-    let head = format!(in alloc; "references {references} keys {keys} malformed {malformed}\n")?;
+    let skipped = skipped_text(alloc, counts.skipped)?;
+    format!(in alloc; "references {references} keys {keys} malformed {malformed}{skipped}\n")
+}
+
+fn text_of(alloc: Global, counts: Counts, named: &[Row], bars: &[Row]) -> Result<Vec<u8>, AllocError> {
+    let head = head_text(alloc, counts)?;
     let mut report = Vec::from_slice(alloc, head.as_bytes())?;
     add_sizes(alloc, &mut report, named)?;
     add_bars(alloc, &mut report, bars)?;
@@ -126,11 +139,12 @@ fn text_rows(
     curve: &Curve,
     counts: Counts,
     best: &Option<Best>,
+    bits: u32,
     sizes: &[usize],
     powers: &[usize],
 ) -> Result<Vec<u8>, AllocError> {
-    let rows = rows_of(alloc, curve, best, sizes)?;
-    let bars = rows_of(alloc, curve, &None, powers)?;
+    let rows = rows_of(alloc, curve, best, bits, sizes)?;
+    let bars = rows_of(alloc, curve, &None, bits, powers)?;
     let text = text_of(alloc, counts, &rows, &bars)?;
     Ok(text)
 }
@@ -139,38 +153,49 @@ fn point_rows(
     alloc: Global,
     curve: &Curve,
     best: &Option<Best>,
+    bits: u32,
     sizes: &[usize],
     powers: &[usize],
 ) -> Result<Vec<Row>, AllocError> {
     let points = points(alloc, sizes, powers)?;
-    let rows = rows_of(alloc, curve, best, &points)?;
+    let rows = rows_of(alloc, curve, best, bits, &points)?;
     Ok(rows)
+}
+
+fn counts_of(bits: u32, curve: &Curve, others: Others) -> Counts {
+    Counts {
+        references: curve.references(),
+        keys: curve.keys(),
+        malformed: others.malformed,
+        skipped: if bits == 0 { None } else { Some(others.skipped) },
+    }
 }
 
 pub fn report_of(
     alloc: Global,
     options: Options,
     curve: &Curve,
-    malformed: u64,
+    others: Others,
     sizes: &[usize],
 ) -> Result<Vec<u8>, AllocError> {
-    let (references, keys) = (curve.references(), curve.keys());
-    let counts = Counts { references, keys, malformed };
-    let powers = powers(alloc, keys)?;
+    let bits = options.bits();
+    let counts = counts_of(bits, curve, others);
+    let axis = powers(alloc, end_of(counts.keys, bits))?;
+    let powers = powers_in(&axis, bits);
     let best = curve.best()?;
     match options.form {
         Form::Text => {
-            let text = text_rows(alloc, curve, counts, &best, sizes, &powers)?;
+            let text = text_rows(alloc, curve, counts, &best, bits, sizes, powers)?;
             Ok(text)
         }
         Form::Csv => {
-            let rows = point_rows(alloc, curve, &best, sizes, &powers)?;
-            let csv = csv_of(alloc, options.best, &rows)?;
+            let rows = point_rows(alloc, curve, &best, bits, sizes, powers)?;
+            let csv = csv_of(alloc, options.policies.best(), &rows)?;
             Ok(csv)
         }
         Form::Svg => {
-            let rows = point_rows(alloc, curve, &best, sizes, &powers)?;
-            let svg = svg_of(alloc, counts, options.best, &powers, &rows)?;
+            let rows = point_rows(alloc, curve, &best, bits, sizes, powers)?;
+            let svg = svg_of(alloc, counts, options.policies.best(), &axis, &rows)?;
             Ok(svg)
         }
     }

@@ -12,6 +12,7 @@ pub struct Counts {
     pub references: u64,
     pub keys: usize,
     pub malformed: u64,
+    pub skipped: Option<u64>,
 }
 
 /// The misses of MIN, and of MIN with bypass.
@@ -38,31 +39,48 @@ fn best_in(best: &Option<Best>, size: usize) -> Result<Option<BestMisses>, Alloc
     Ok(Some(BestMisses { min, bypass }))
 }
 
-fn row_of(curve: &Curve, best: &Option<Best>, size: usize) -> Result<Row, AllocError> {
-    let misses = curve.misses(size);
+fn row_of(curve: &Curve, best: &Option<Best>, bits: u32, size: usize) -> Result<Row, AllocError> {
+    let places = size >> bits;
+    let misses = curve.misses(places);
     let hits = curve.references() - misses;
-    let best = best_in(best, size)?;
+    let best = best_in(best, places)?;
     Ok(Row { size, hits, misses, best })
 }
 
-pub fn rows_of(alloc: Global, curve: &Curve, best: &Option<Best>, sizes: &[usize]) -> Result<Vec<Row>, AllocError> {
+pub fn rows_of(
+    alloc: Global,
+    curve: &Curve,
+    best: &Option<Best>,
+    bits: u32,
+    sizes: &[usize],
+) -> Result<Vec<Row>, AllocError> {
     let mut rows = Vec::new(alloc);
     for size in sizes {
-        rows.push(row_of(curve, best, *size)?)?;
+        rows.push(row_of(curve, best, bits, *size)?)?;
     }
     Ok(rows)
 }
 
-pub fn powers(alloc: Global, keys: usize) -> Result<Vec<usize>, AllocError> {
+/// Returns where the axis of sizes ends, at the next power of two.
+pub fn end_of(keys: usize, bits: u32) -> u128 {
+    (keys.max(1) as u128) << bits
+}
+
+pub fn powers(alloc: Global, most: u128) -> Result<Vec<usize>, AllocError> {
     let mut powers = Vec::new(alloc);
     for level in 0..usize::BITS {
         let power = 1_usize << level;
         powers.push(power)?;
-        if keys <= power {
+        if most <= power as u128 {
             return Ok(powers);
         }
     }
     Ok(powers)
+}
+
+/// Returns those powers of the axis that stand for a place.
+pub fn powers_in(axis: &[usize], bits: u32) -> &[usize] {
+    &(*at!(axis, axis.len().min(bits as usize)..))
 }
 
 fn add_point(points: &mut Vec<usize>, size: usize) -> Result<(), AllocError> {

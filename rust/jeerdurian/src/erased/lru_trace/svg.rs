@@ -154,21 +154,27 @@ fn add_curves(alloc: Global, svg: &mut Vec<u8>, best: bool, octaves: u128, rows:
     Ok(())
 }
 
-pub fn svg_of(
-    alloc: Global,
-    counts: Counts,
-    best: bool,
-    powers: &[usize],
-    rows: &[Row],
-) -> Result<Vec<u8>, AllocError> {
-    let octaves = powers.len().saturating_sub(1).max(1) as u128;
+fn skipped_part(alloc: Global, skipped: Option<u64>) -> Result<String, AllocError> {
+    match skipped {
+        Some(skipped) => format!(in alloc; ", {skipped} skipped"),
+        None => Ok(String::new_in(alloc)),
+    }
+}
+
+fn title_text(alloc: Global, counts: Counts) -> Result<String, AllocError> {
     let (references, keys, malformed) = (counts.references, counts.keys, counts.malformed);
-    let title = format!(in alloc;
-        "<text x='900' y='290'>{references} references to {keys} keys, {malformed} malformed lines</text>\n"
-    )?;
+    let skipped = skipped_part(alloc, counts.skipped)?;
+    format!(in alloc;
+        "<text x='900' y='290'>{references} references to {keys} keys, {malformed} malformed lines{skipped}</text>\n"
+    )
+}
+
+pub fn svg_of(alloc: Global, counts: Counts, best: bool, axis: &[usize], rows: &[Row]) -> Result<Vec<u8>, AllocError> {
+    let octaves = axis.len().saturating_sub(1).max(1) as u128;
+    let title = title_text(alloc, counts)?;
     let mut svg = Vec::from_slice(alloc, START.as_bytes())?;
     svg.extend_from_slice(title.as_bytes())?;
-    add_ticks(alloc, &mut svg, octaves, powers)?;
+    add_ticks(alloc, &mut svg, octaves, axis)?;
     add_curves(alloc, &mut svg, best, octaves, rows)?;
     svg.extend_from_slice(b"</svg>\n")?;
     Ok(svg)

@@ -41,3 +41,21 @@ fn of_curve_2() {
     };
     run(HostRuntime).passes();
 }
+
+#[test]
+fn of_curve_3() {
+    let run = |rt: HostRuntime| -> Result<(), Fail> {
+        let alloc = rt.alloc();
+        let mut curve = Curve::new(alloc)?;
+        curve.warm_up("a")?;
+        curve.warm_up("b")?;
+        for key in ["a", "c", "b"] {
+            if curve.references() < u64::MAX {
+                curve.refer(key)?;
+            }
+        }
+        check!(rt; (curve.references(), curve.misses(2), curve.misses(3)) == (3, 2, 1));
+        Ok(())
+    };
+    run(HostRuntime).passes();
+}

@@ -3,12 +3,12 @@
 #[allow(unused_imports)]
 use crate::rattle_std::prelude::*;
 
-use crate::erased::lru_trace::{Form, Options, Progress, TraceEnd, TraceError, trace};
+use crate::erased::lru_trace::{Form, Options, Policies, Progress, TraceEnd, TraceError, trace};
 use crate::programs::test_helpers::check;
 use crate::rattle_std::io::{self, ErrorKind, Write};
 use crate::rattle_std::test::Fail;
 
-const TEXT: Options = Options { column: None, form: Form::Text, best: false };
+const TEXT: Options = Options { column: None, form: Form::Text, policies: Policies::Lru { warm_up: 0 }, sample: 0 };
 
 struct Output {
     bytes: Vec<u8>,

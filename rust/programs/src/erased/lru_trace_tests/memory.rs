@@ -3,7 +3,7 @@
 #[allow(unused_imports)]
 use crate::rattle_std::prelude::*;
 
-use crate::erased::lru_trace::{Curve, Form, Options, Progress, TraceError, status, trace};
+use crate::erased::lru_trace::{Curve, Form, Options, Policies, Progress, TraceError, status, trace};
 use crate::programs::test_helpers::{Hog, check};
 use crate::rattle_std::alloc::Global;
 use crate::rattle_std::test::Fail;
@@ -16,7 +16,7 @@ fn refer(alloc: Global, curve: &mut Curve, number: u64) -> Result<(), TraceError
 }
 
 fn fails_without_memory(alloc: Global, form: Form) -> Result<bool, TraceError> {
-    let options = Options { column: None, form, best: false };
+    let options = Options { column: None, form, policies: Policies::Lru { warm_up: 0 }, sample: 0 };
     let mut report = Vec::with_capacity(alloc, 9999)?;
     let mut progress = Progress::new(alloc, None::<Vec<u8>>);
     let mut failed = true;

@@ -5,7 +5,7 @@
 #[allow(unused_imports)]
 use crate::rattle_std::prelude::*;
 
-use crate::erased::lru_trace::{Column, Form, Options, Progress, status, trace};
+use crate::erased::lru_trace::{Column, Form, Options, Policies, Progress, status, trace};
 use crate::rattle_std::env;
 use crate::rattle_std::io::{self, BufReader, BufWriter, IsTerminal};
 use crate::rattle_std::process::ExitCode;
@@ -14,8 +14,11 @@ const NO_BUFFER: u8 = 3;
 
 const UNKNOWN: u8 = 4;
 
+/// The most bits of a sample.
+const MOST_BITS: u32 = 20;
+
 const HELP: &str = "\
-trace [--best] [--csv | --svg] [--column N [--separator C]] < LINES
+trace [--best | --warm-up N] [--sample R] [--csv | --svg] [--column N [--separator C]] < LINES
     Prints how often an LRU cache of each size misses the keys that were referenced.
 
 The first line has sizes with a space between each two, such as 1 10 100 1000. Each other line is a key, of 1 to 64
@@ -25,13 +28,17 @@ The output is a line for each named size, and then a bar for each power of two: 
 
 --best         adds to each line how often the best possible policies miss: min stores each key, bypass may leave a key
                out. It takes 16 to 32 bytes more for each reference.
+--warm-up N    takes the first N keys as a warm-up: they fill the caches, but are not counted as references, hits or
+               misses. It cannot be combined with --best.
+--sample R     takes only the keys whose FNV-1a hash of 64 bits has its R lowest bits 0, about one key in 2^R, and
+               counts the others as skipped. A size n stands for n / 2^R places. R is 0 to 20.
 --csv          prints a record for each named size and each power of two, below a header.
 --svg          prints a picture of the curves. Of --csv and --svg the last one counts.
 --column N     takes the Nth column of each line as its key. The first line still has sizes.
 --separator C  says which byte stands between two columns. Without it, that is a comma.
 
 Exit status: 0 after the output, 1 if the first line has no sizes, 2 if a read or a write failed, 3 without memory,
-4 if an argument is unknown, lacks its value or cannot be read.
+4 if an argument is unknown, lacks its value, cannot be read or cannot be combined.
 ";
 
 /// What the next argument must be.
@@ -40,13 +47,17 @@ enum Next {
     Word,
     Number,
     Separator,
+    WarmUp,
+    Sample,
 }
 
 /// What the arguments so far ask for.
 #[derive(Clone, Copy)]
 struct Asked {
     best: bool,
+    warm_up: Option<u64>,
     form: Form,
+    sample: u32,
     column: Option<usize>,
     separator: u8,
     next: Next,
@@ -65,6 +76,14 @@ impl Asked {
                 [byte] => self.separator = *byte,
                 _ => return false,
             },
+            Next::WarmUp => match argument.parse::<u64>() {
+                Ok(number) => self.warm_up = Some(number),
+                Err(_) => return false,
+            },
+            Next::Sample => match argument.parse::<u32>() {
+                Ok(bits) if bits <= MOST_BITS => self.sample = bits,
+                _ => return false,
+            },
         }
         self.next = Next::Word;
         true
@@ -77,14 +96,30 @@ impl Asked {
             "--svg" => self.form = Form::Svg,
             "--column" => self.next = Next::Number,
             "--separator" => self.next = Next::Separator,
+            "--warm-up" => self.next = Next::WarmUp,
+            "--sample" => self.next = Next::Sample,
             _ => return false,
         }
         true
     }
 
-    fn options(&self) -> Options {
+    /// Returns nothing if the best possible policies are to have a warm-up.
+    fn policies(&self) -> Option<Policies> {
+        match (self.best, self.warm_up) {
+            (true, None) => Some(Policies::Best),
+            (true, Some(_)) => None,
+            (false, warm_up) => Some(Policies::Lru { warm_up: warm_up.unwrap_or(0) }),
+        }
+    }
+
+    fn options(&self, policies: Policies) -> Options {
         let separator = self.separator;
-        Options { column: self.column.map(|index| Column { index, separator }), form: self.form, best: self.best }
+        Options {
+            column: self.column.map(|index| Column { index, separator }),
+            form: self.form,
+            policies,
+            sample: self.sample,
+        }
     }
 }
 
@@ -92,7 +127,15 @@ pub(crate) fn main(rt: HostRuntime) -> ExitCode {
     let Ok(arguments) = env::args(&rt) else {
         return ExitCode::from(UNKNOWN);
     };
-    let mut asked = Asked { best: false, form: Form::Text, column: None, separator: b',', next: Next::Word };
+    let mut asked = Asked {
+        best: false,
+        warm_up: None,
+        form: Form::Text,
+        sample: 0,
+        column: None,
+        separator: b',',
+        next: Next::Word,
+    };
     for argument in arguments.skip(1) {
         if !asked.take(argument.as_str()) {
             return answer(&rt, argument.as_str());
@@ -102,7 +145,11 @@ pub(crate) fn main(rt: HostRuntime) -> ExitCode {
         let _ = eprintln!(rt; "trace: the last argument lacks its value; try --help");
         return ExitCode::from(UNKNOWN);
     }
-    run(&rt, asked.options())
+    let Some(policies) = asked.policies() else {
+        let _ = eprintln!(rt; "trace: --warm-up cannot be combined with --best; try --help");
+        return ExitCode::from(UNKNOWN);
+    };
+    run(&rt, asked.options(policies))
 }
 
 fn run(rt: &HostRuntime, options: Options) -> ExitCode {

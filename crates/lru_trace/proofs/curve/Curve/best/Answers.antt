@@ -6,8 +6,8 @@ use Rattle.lru_trace.proofs.Numbered.{next_times_named, named_from}
 use Rattle.lru_trace.proofs.curve.Curve.best.Goals as goal
 
 pub returns-in_ok-new-in-Some-clause-all : goal.returns-in_ok-new-in-Some-clause-all
-returns-in_ok-new-in-Some-clause-all c = λ trace of.
-    let now : IsOf trace _ = subst (IsOf trace) (sym c.self.view_is) of in
+returns-in_ok-new-in-Some-clause-all c = λ warm trace of.
+    let now : IsOf warm trace _ = subst (IsOf warm trace) (sym c.self.view_is) of in
     let numbers : c.in-Some.kept.items ≡ now.numbers = rw c.in-Some.is at now.kept in
     let number = number_in c.self.inside.numbers.entries in
     c.in_ok-new-in-Some.ensures ∙ ap (next_times nat_eq 0) (c.deref.ensures.value ∙ numbers)

@@ -75,8 +75,8 @@ invariant_of-self-2 c =
     ]
 
 pub returns-clause-ok : goal.returns-clause-ok
-returns-clause-ok c = λ past before was of.
-    let now : IsOf past _ = subst (λ v. IsOf past (record v { kept = before })) (sym c.self.view_is) of in
+returns-clause-ok c = λ warm past before was of.
+    let now : IsOf warm past _ = subst (λ v. IsOf warm past (record v { kept = before })) (sym c.self.view_is) of in
     let kept = option_map (λ v. v.items) c.self.inside.kept in
     let is = ap (λ v. v.kept) c.self.view_is ∙ was in
     let recency = c.self.inside.distances.recency in

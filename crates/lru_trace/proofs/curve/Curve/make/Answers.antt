@@ -8,7 +8,9 @@ no_sum (suc n) = refl
 
 pub returns-clause-of : goal.returns-clause-of
 returns-clause-of c = record {
+  before = [];
   numbers = [];
+  warmed = refl;
   named = refl;
   order = c.in_ok-new.ensures.recency;
   hits = λ n. omega (arith, ap (λ l. sum (take n l)) c.new-3.ensures.items, no_sum n);

@@ -1,39 +1,30 @@
-use Rattle.std.proofs.Common.{◌≡◌, ℕ, List, Some, sum, take, sym, subst, ap, ◌∙◌}
-use Rattle.lru_trace.specs.Counted.{Counted, IsOf, number_in}
-use Rattle.lru_trace.proofs.CurveSteps.{of_names, of_counts, always_err, kept_still, forgotten, kept_some}
+use Rattle.std.proofs.Common.{◌≡◌, sym, subst, ap, ◌∙◌}
+use Rattle.lru_trace.specs.Counted.{IsOf}
+use Rattle.lru_trace.proofs.CurveSteps.{renamed, recounted, always_err, kept_still, forgotten, kept_some}
 use Rattle.std.specs.Prelude.{is_some}
 use Rattle.lru_trace.proofs.curve.Curve.refer.Goals as goal
 
-renamed : (past : List (List ℕ)) (old new : Counted) → new ≡ record old { names = new.names }
-    → ((x : List ℕ) (n : ℕ) → number_in old.names x ≡ Some n → number_in new.names x ≡ Some n)
-    → IsOf past old → IsOf past new
-renamed past old new rest keeps of = subst (IsOf past) (sym rest) (of_names of new.names keeps)
-
-recounted : (past : List (List ℕ)) (old new : Counted) → new ≡ record old { counts = new.counts }
-    → ((n : ℕ) → sum (take n new.counts) ≡ sum (take n old.counts)) → IsOf past old → IsOf past new
-recounted past old new rest same of = subst (IsOf past) (sym rest) (of_counts of new.counts same)
-
 pub returns-in_err-number-clause-err : goal.returns-in_err-number-clause-err
-returns-in_err-number-clause-err c = always_err c.from_residual.result (λ past of.
-    renamed past c.args.self.now c.number_of.new.self c.number_of.ensures.rest c.number_of.ensures.others of)
+returns-in_err-number-clause-err c = always_err c.from_residual.result (λ warm past of.
+    renamed warm past c.args.self.now c.number_of.new.self c.number_of.ensures.rest c.number_of.ensures.others of)
 
 pub returns-in_err-make_count-clause-err : goal.returns-in_err-make_count-clause-err
-returns-in_err-make_count-clause-err c = always_err c.from_residual-in_err-make_count.result (λ past of.
-    recounted past c.number_of.new.self c.make_count.new.self c.make_count.ensures.rest c.make_count.ensures.hits
-    (renamed past c.args.self.now c.number_of.new.self c.number_of.ensures.rest c.number_of.ensures.others of))
+returns-in_err-make_count-clause-err c = always_err c.from_residual-in_err-make_count.result (λ warm past of.
+    recounted warm past c.number_of.new.self c.make_count.new.self c.make_count.ensures.rest c.make_count.ensures.hits
+    (renamed warm past c.args.self.now c.number_of.new.self c.number_of.ensures.rest c.number_of.ensures.others of))
 
 pub returns-in_err-keep-clause-err : goal.returns-in_err-keep-clause-err
-returns-in_err-keep-clause-err c = always_err c.from_residual-in_err-keep.result (λ past of.
-    subst (IsOf past) (sym c.in_err-keep.ensures.err)
-    (recounted past c.number_of.new.self c.make_count.new.self c.make_count.ensures.rest c.make_count.ensures.hits
-    (renamed past c.args.self.now c.number_of.new.self c.number_of.ensures.rest c.number_of.ensures.others of)))
+returns-in_err-keep-clause-err c = always_err c.from_residual-in_err-keep.result (λ warm past of.
+    subst (IsOf warm past) (sym c.in_err-keep.ensures.err)
+    (recounted warm past c.number_of.new.self c.make_count.new.self c.make_count.ensures.rest c.make_count.ensures.hits
+    (renamed warm past c.args.self.now c.number_of.new.self c.number_of.ensures.rest c.number_of.ensures.others of)))
 
 pub returns-in-Ok-clause-ok : goal.returns-in-Ok-clause-ok
-returns-in-Ok-clause-ok c = λ past of.
-    c.in-Ok.ensures.ok past c.make_count.new.self.kept c.in_ok-keep.ensures.kept
-    (kept_still past c.make_count.new.self c.keep.new.self c.keep.ensures.rest
-    (recounted past c.number_of.new.self c.make_count.new.self c.make_count.ensures.rest c.make_count.ensures.hits
-    (renamed past c.args.self.now c.number_of.new.self c.number_of.ensures.rest c.number_of.ensures.others of)))
+returns-in-Ok-clause-ok c = λ warm past of.
+    c.in-Ok.ensures.ok warm past c.make_count.new.self.kept c.in_ok-keep.ensures.kept
+    (kept_still warm past c.make_count.new.self c.keep.new.self c.keep.ensures.rest
+    (recounted warm past c.number_of.new.self c.make_count.new.self c.make_count.ensures.rest c.make_count.ensures.hits
+    (renamed warm past c.args.self.now c.number_of.new.self c.number_of.ensures.rest c.number_of.ensures.others of)))
 
 pub returns-in-Ok-clause-keeps : goal.returns-in-Ok-clause-keeps
 returns-in-Ok-clause-keeps c =
@@ -42,12 +33,12 @@ returns-in-Ok-clause-keeps c =
     ∙ ap (λ v. is_some v.kept) c.number_of.ensures.rest
 
 pub returns-in-Err-clause-err : goal.returns-in-Err-clause-err
-returns-in-Err-clause-err c = λ past of.
+returns-in-Err-clause-err c = λ warm past of.
     let same = c.in-Err.ensures.err in
     let kept = forgotten c.make_count.new.self.kept c.in_ok-number.number c.count.new.self.kept c.forget.new.self.kept
     (ap (λ v. v.kept) same ∙ c.in_ok-keep.ensures.kept) c.forget.ensures.kept c.forget.ensures.none in
     let back : c.forget.new.self ≡ record c.keep.new.self { kept = c.make_count.new.self.kept } =
     c.forget.ensures.rest ∙ (λ j. record (same j) { kept = kept j }) in
-    subst (IsOf past) (sym back) (kept_still past c.make_count.new.self c.keep.new.self c.keep.ensures.rest
-    (recounted past c.number_of.new.self c.make_count.new.self c.make_count.ensures.rest c.make_count.ensures.hits
-    (renamed past c.args.self.now c.number_of.new.self c.number_of.ensures.rest c.number_of.ensures.others of)))
+    subst (IsOf warm past) (sym back) (kept_still warm past c.make_count.new.self c.keep.new.self c.keep.ensures.rest
+    (recounted warm past c.number_of.new.self c.make_count.new.self c.make_count.ensures.rest c.make_count.ensures.hits
+    (renamed warm past c.args.self.now c.number_of.new.self c.number_of.ensures.rest c.number_of.ensures.others of)))

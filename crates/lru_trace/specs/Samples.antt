@@ -1,0 +1,21 @@
+-- A sample of keys: the keys whose hash has its lowest bits zero.
+use Rattle.std.specs.Prelude.{ℕ, ◌*◌, ◌%◌, ◌^◌, ◌==◌, Bool, not, List, length, bit_xor}
+use Rattle.std.specs.List.{fold, filter}
+
+-- FNV-1a with 64 bits
+abbrev pub with_byte : ℕ → ℕ → ℕ
+with_byte hash b = bit_xor hash b * 1099511628211 % 2 ^ 64
+
+abbrev pub hash : List ℕ → ℕ
+hash key = fold with_byte 14695981039346656037 key
+
+module _ (bits : ℕ) where
+  abbrev pub is_sampled : List ℕ → Bool
+  is_sampled key = hash key % 2 ^ bits == 0
+
+  abbrev pub sampled : List (List ℕ) → List (List ℕ)
+  sampled keys = filter is_sampled keys
+
+  -- how many of the keys are not in the sample
+  abbrev pub skipped : List (List ℕ) → ℕ
+  skipped keys = length (filter (λ key. not (is_sampled key)) keys)

@@ -1,0 +1,24 @@
+//! The sample of the keys.
+ghost use Rattle.std.specs.Prelude.{◌≡◌, ◌≤◌};
+ghost use Rattle.lru_trace.specs.Samples.{hash, is_sampled};
+
+const BASIS: u64 = 14_695_981_039_346_656_037;
+
+const PRIME: u64 = 1_099_511_628_211;
+
+fn hash(key: &[u8]) -> u64
+    ensures { result ≡ hash key.now }
+{
+    let mut hash = BASIS;
+    for byte in key {
+        hash = (hash ^ u64::from(*byte)).wrapping_mul(PRIME);
+    }
+    hash
+}
+
+pub fn is_sampled(key: &[u8], bits: u32) -> bool
+    requires { bits ≤ 20 }
+    ensures { result ≡ is_sampled bits key.now }
+{
+    hash(key) % (1 << bits) == 0
+}
