@@ -131,9 +131,7 @@ impl<N: Eq + Hash, K: Eq + Hash, V, L: Budgeted<K, V>, S: KeyHasher<K> + Copy> T
     {
         TenantCache {
             tenants: LruMap::<N, LruMap<K, V, L, S>, Unlimited, S>::with_limiter_and_hasher(
-                alloc,
-                Unlimited,
-                hasher,
+                alloc, Unlimited, hasher,
             ),
             hasher,
             entry_bytes,

@@ -1,4 +1,4 @@
-use Rattle.std.proofs.Common.{rules, ◌≡◌, ◌+◌, ◌∷◌, inl, inr, Some, None, Ok, Err, arith, sym, refl, ◌∙◌, ap, subst, sum_by}
+use Rattle.std.proofs.Common.{rules, ◌+◌, ◌∷◌, inl, inr, Some, None, Ok, Err, arith, sym, refl, ◌∙◌, ap, subst}
 use Rattle.std.proofs.lemmas.List.Sums.{sum_by-cons}
 use Rattle.std.specs.Map.{values_of}
 use Rattle.lru_tenants.specs.Cache.{tenant, fresh, is_above}

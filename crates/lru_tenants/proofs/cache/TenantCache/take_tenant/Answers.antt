@@ -1,4 +1,4 @@
-use Rattle.std.proofs.Common.{◌≡◌, arith, None, sym, ◌∙◌, ap, option_map}
+use Rattle.std.proofs.Common.{◌≡◌, arith, sym, ◌∙◌, ap, option_map}
 use Rattle.std.specs.Option.{unwrap_or}
 use Rattle.std.proofs.lemmas.Iterator.Adapters.{option_map_id}
 use Rattle.lru_model.specs.Lists.{lookup}

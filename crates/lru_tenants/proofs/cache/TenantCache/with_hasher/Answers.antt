@@ -1,8 +1,5 @@
-use Rattle.std.proofs.Common.{refl, sym, ap, subst, sum_by}
-use Rattle.std.specs.List.{All}
-use Rattle.std.specs.Map.{values_of}
+use Rattle.std.proofs.Common.{refl, ap}
 use Rattle.std.proofs.lemmas.List.Elements.{All-nil}
-use Rattle.lru_tenants.specs.Cache.{IsTenant}
 use Rattle.lru_tenants.proofs.cache.TenantCache.with_hasher.Goals as goal
 
 pub invariant_of-result : goal.invariant_of-result
