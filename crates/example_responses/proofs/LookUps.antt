@@ -138,6 +138,17 @@ on-finds {eq = eq} names now host old mid answer found (left, gets, leaves) is s
   leaves,
 )
 
+module _ {K : Type 0} (rules : Rules K Response Budget) where
+  -- if the limiter is notified of a removal, it keeps its limit
+  abbrev pub KeepsLimit : Type 0
+  KeepsLimit = (limiter : Budget) (k : K) (v : Response)
+      → (rules.on_removed limiter k v).limiter ≡ record limiter { cost = (rules.on_removed limiter k v).limiter.cost }
+
+  limit-stays : KeepsLimit → (limiter : Budget) (gone : Option (K × Response))
+      → notified_of rules gone limiter ≡ record limiter { cost = (notified_of rules gone limiter).cost }
+  limit-stays keeps limiter None = refl
+  limit-stays keeps limiter (Some pair) = keeps limiter pair.0 pair.1
+
 module _ {N K S : Type 0} {eq : N → N → Bool} {keys : K → K → Bool}
     (laws : IsEquivalence keys)
     (names : K → Bool) (one : (x y : K) → names x ≡ true → names y ≡ keys x y) (now : ℕ)
@@ -161,17 +172,7 @@ module _ {N K S : Type 0} {eq : N → N → Bool} {keys : K → K → Bool}
         leaves.own ∙ stays,
       )
 
-  -- if the limiter is notified of a removal, it keeps its limit
-  abbrev pub KeepsLimit : Type 0
-  KeepsLimit = (limiter : Budget) (k : K) (v : Response)
-      → (rules.on_removed limiter k v).limiter ≡ record limiter { cost = (rules.on_removed limiter k v).limiter.cost }
-
-  limit-stays : KeepsLimit → (limiter : Budget) (gone : Option (K × Response))
-      → notified_of rules gone limiter ≡ record limiter { cost = (notified_of rules gone limiter).cost }
-  limit-stays keeps limiter None = refl
-  limit-stays keeps limiter (Some pair) = keeps limiter pair.0 pair.1
-
-  pub stale-removed : KeepsLimit → (removed : Option Response) (answer : Result (Option Response) TenantError)
+  pub stale-removed : KeepsLimit rules → (removed : Option Response) (answer : Result (Option Response) TenantError)
       → On eq host (Gets names) old answer mid → answer ≡ Ok (Some response)
       → fresh_at now (Some response) ≡ None
       → IfSome (tenant host mid) (λ map. IsDistinct keys (keys_of map.pairs))
@@ -190,7 +191,7 @@ module _ {N K S : Type 0} {eq : N → N → Bool} {keys : K → K → Bool}
       let list = stale-looked_up names now map.pairs response found same in
       let limiter : notified_of rules (lookup_entry names (promoted names map).pairs) map.limiter
       ≡ record map.limiter { cost = own.limiter.cost } =
-      limit-stays keeps map.limiter (lookup_entry names (promoted names map).pairs)
+      limit-stays rules keeps map.limiter (lookup_entry names (promoted names map).pairs)
       ∙ ap (λ notified. record map.limiter { cost = notified.cost })
       (sym (ap (λ st. st.limiter) remove.state.is)) in (
         left,
