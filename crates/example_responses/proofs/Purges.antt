@@ -1,6 +1,6 @@
 -- What a purge leaves, and that a look-up of a purged path returns no response.
 use Rattle.std.proofs.Common.{◌≡◌, Bool, true, false, not, List, [], ◌∷◌, filter, map, refl, sym, ap, ◌∙◌, subst, cond}
-use Rattle.std.proofs.Common.{ℕ, nat_eq, Option, Some, None, Result, Ok, Err, is_ok}
+use Rattle.std.proofs.Common.{ℕ, nat_eq, Option, Some, None, Result, Ok, is_ok}
 use Rattle.std.proofs.lemmas.Bool.{true≢false}
 use Rattle.std.proofs.lemmas.Map.Entries.{lookup-filter-keys}
 use Rattle.std.specs.Borrow.{Bor}

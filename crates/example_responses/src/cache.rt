@@ -182,7 +182,8 @@ impl ResponseCache {
         ensures { On string_eq (names_text host.now) (IfOpen (PurgesBelow prefix.now))
             self.old.entries result self.new.entries }
     {
-        self.entries.retain(&host, |path, _| !is_below(path, prefix))
+        self.entries
+            .retain(&host, |path, _| !is_below(path, prefix))
     }
 
     pub fn size(&self, host: &str) -> (usize, u64) {

@@ -127,13 +127,11 @@ impl<N: Eq + Hash, K: Eq + Hash, V, L: Budgeted<K, V>, S: KeyHasher<K> + Copy> T
             return Err(TenantError::OverTotal);
         }
         let map = self.fresh(budget);
-        match self.tenants.try_insert(name, map) {
-            Ok(()) => {
-                self.budgets = sum;
-                Ok(())
-            }
-            Err(_) => Err(TenantError::Memory),
-        }
+        let Ok(()) = self.tenants.try_insert(name, map) else {
+            return Err(TenantError::Memory);
+        };
+        self.budgets = sum;
+        Ok(())
     }
 
     fn fresh(&self, budget: u64) -> LruMap<K, V, L, S> {

@@ -143,3 +143,15 @@ impl ResponseCache {
         }
     }
 }
+
+/// A look-up returns no response whose path was just purged.
+fn look_up_purged(
+    cache: &mut ResponseCache,
+    host: &str,
+    prefix: &str,
+    path: &str,
+    now: u64,
+) -> Result<Option<Response>, TenantError> {
+    cache.purge_below(host, prefix)?;
+    cache.look_up(host, path, now)
+}
