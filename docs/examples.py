@@ -20,7 +20,7 @@ FIRST = "//! Written by `docs/examples.py` from the examples in the doc comments
 STRING = re.compile(r'"(?:\\.|[^"\\])*"')
 GENERICS = re.compile(r"(?:::|->\s*\w*)<[^<>;(){}]*(?:<[^<>]*>[^<>;(){}]*)*>")
 FOUND = r"(\w+(?:\.\w+\([^()]*\))+) == Some"
-ERRORS = {"_fallible(": "GetOrInsertError<u8>", "put_full(": "TenantError"}
+ERRORS = {"_fallible(": "GetOrInsertError<u8>", "put_full(": "TenantError", ".iter(&1)?": "TenantError"}
 LENGTH = 12
 READS = {"len", "is_empty", "contains", "contains_key", "peek", "peek_key_value", "peek_oldest", "peek_newest", "keys",
          "values", "iter", "get_index", "get_index_of", "first", "last", "entries", "budget", "cost",

@@ -1,1 +1,2 @@
 mod LookUps
+mod Purges

@@ -95,11 +95,13 @@ fresh-before now response lt = grind (arith, lt)
 pub stale-from : (now : ℕ) (response : Response) → response.expires ≤ now → fresh_at now (Some response) ≡ None
 stale-from now response le = grind (arith, le)
 
-pub leaves-both : {N K V L S : Type 0} {eq : N → N → Bool} (name : N) (mid-left left : Option (State K V L S))
-    (old mid new : Cache N K V L S) → Leaves eq name mid-left old mid → Leaves eq name left mid new
-    → Leaves eq name left old new
-leaves-both {N} {K} {V} {L} {S} {eq} name mid-left left old mid new first second = record {
-  tenants = λ other. second.tenants other ∙ go other (eq name other) (first.tenants other);
+pub leaves-both : {N K V L S : Type 0} {eq : N → N → Bool} (host : N → Bool) (mid-left left : Option (State K V L S))
+    (old mid new : Cache N K V L S) → Leaves eq host mid-left old mid → Leaves eq host left mid new
+    → Leaves eq host left old new
+leaves-both {N} {K} {V} {L} {S} {eq} host mid-left left old mid new first second = record {
+  one = second.one;
+  own = second.own;
+  tenants = λ other. second.tenants other ∙ go other (host other) (first.tenants other);
   hasher = second.hasher ∙ first.hasher;
   entry_bytes = second.entry_bytes ∙ first.entry_bytes;
   total_limit = second.total_limit ∙ first.total_limit;
@@ -126,41 +128,17 @@ module _ {K S : Type 0} (names : K → Bool) (now : ℕ) where
         still-there names map found (sym value) ∙ sym same ∙ ap (fresh_at now) value,
       )
 
-pub on-finds : {N K S : Type 0} {eq : N → N → Bool} (names : K → Bool) (now : ℕ) (host : N)
+pub on-finds : {N K S : Type 0} {eq : N → N → Bool} (names : K → Bool) (now : ℕ) (host : N → Bool)
     (old mid : Cache N K Response Budget S)
     (answer : Result (Option Response) TenantError) (found : Option Response) → On eq host (Gets names) old answer mid
     → answer ≡ Ok found → fresh_at now found ≡ found → On eq host (OfOpen (LooksUp names now)) old (Ok found) mid
 on-finds {eq = eq} names now host old mid answer found (left, gets, leaves) is same = (
   left,
-  get-finds names now (tenant (eq host) old) found left
-      (subst (λ a. Gets names (tenant (eq host) old) a left) is gets) same,
+  get-finds names now (tenant host old) found left (subst (λ a. Gets names (tenant host old) a left) is gets) same,
   leaves,
 )
 
-module _ {N K S : Type 0} {eq : N → N → Bool} (equal : IsEquivalence eq) {keys : K → K → Bool}
-    (laws : IsEquivalence keys)
-    (names : K → Bool) (one : (x y : K) → names x ≡ true → names y ≡ keys x y) (now : ℕ)
-    (rules : Rules K Response Budget)
-    (host : N) (old mid new : Cache N K Response Budget S) (response : Response) where
-  got-it : On eq host (Gets names) old (Ok (Some response)) mid
-      → (map : State K Response Budget S) × (tenant (eq host) old ≡ Some map) × (lookup names map.pairs ≡ Some response)
-      × (tenant (eq host) mid ≡ Some (promoted names map))
-  got-it (left, gets, leaves) = go (tenant (eq host) old) refl gets
-    where
-      go : (was : Option (State K Response Budget S)) → tenant (eq host) old ≡ was
-          → Gets names was (Ok (Some response)) left
-          → (map : State K Response Budget S) × (tenant (eq host) old ≡ Some map)
-          × (lookup names map.pairs ≡ Some response)
-          × (tenant (eq host) mid ≡ Some (promoted names map))
-      go None is (says, stays) = absurd (ok≢err says)
-      go (Some map) is (says, stays) = (
-        map,
-        is,
-        sym (ok-same says),
-        leaves.tenants host
-            ∙ ap (λ b. cond b left (tenant (eq host) old)) (equal.refl host) ∙ stays,
-      )
-
+module _ {K : Type 0} (rules : Rules K Response Budget) where
   -- if the limiter is notified of a removal, it keeps its limit
   abbrev pub KeepsLimit : Type 0
   KeepsLimit = (limiter : Budget) (k : K) (v : Response)
@@ -171,15 +149,38 @@ module _ {N K S : Type 0} {eq : N → N → Bool} (equal : IsEquivalence eq) {ke
   limit-stays keeps limiter None = refl
   limit-stays keeps limiter (Some pair) = keeps limiter pair.0 pair.1
 
-  pub stale-removed : KeepsLimit → (removed : Option Response) (answer : Result (Option Response) TenantError)
+module _ {N K S : Type 0} {eq : N → N → Bool} {keys : K → K → Bool}
+    (laws : IsEquivalence keys)
+    (names : K → Bool) (one : (x y : K) → names x ≡ true → names y ≡ keys x y) (now : ℕ)
+    (rules : Rules K Response Budget)
+    (host : N → Bool) (old mid new : Cache N K Response Budget S) (response : Response) where
+  got-it : On eq host (Gets names) old (Ok (Some response)) mid
+      → (map : State K Response Budget S) × (tenant host old ≡ Some map) × (lookup names map.pairs ≡ Some response)
+      × (tenant host mid ≡ Some (promoted names map))
+  got-it (left, gets, leaves) = go (tenant host old) refl gets
+    where
+      go : (was : Option (State K Response Budget S)) → tenant host old ≡ was
+          → Gets names was (Ok (Some response)) left
+          → (map : State K Response Budget S) × (tenant host old ≡ Some map)
+          × (lookup names map.pairs ≡ Some response)
+          × (tenant host mid ≡ Some (promoted names map))
+      go None is (says, stays) = absurd (ok≢err says)
+      go (Some map) is (says, stays) = (
+        map,
+        is,
+        sym (ok-same says),
+        leaves.own ∙ stays,
+      )
+
+  pub stale-removed : KeepsLimit rules → (removed : Option Response) (answer : Result (Option Response) TenantError)
       → On eq host (Gets names) old answer mid → answer ≡ Ok (Some response)
       → fresh_at now (Some response) ≡ None
-      → IfSome (tenant (eq host) mid) (λ map. IsDistinct keys (keys_of map.pairs))
+      → IfSome (tenant host mid) (λ map. IsDistinct keys (keys_of map.pairs))
       → On eq host (IfOpen (Remove rules names)) mid (Ok removed) new
       → On eq host (OfOpen (LooksUp names now)) old (Ok None) new
   stale-removed keeps removed answer (first, does, kept) said stale distinct (left, removes, leaves) =
       let gets : On eq host (Gets names) old (Ok (Some response)) mid =
-      (first, subst (λ a. Gets names (tenant (eq host) old) a first) said does, kept) in
+      (first, subst (λ a. Gets names (tenant host old) a first) said does, kept) in
       let (map, was, found, is) = got-it gets in
       let (result, own, remove, says, now-is) = subst (λ t. IfOpen (Remove rules names) t (Ok removed) left) is
       removes in
@@ -190,7 +191,7 @@ module _ {N K S : Type 0} {eq : N → N → Bool} (equal : IsEquivalence eq) {ke
       let list = stale-looked_up names now map.pairs response found same in
       let limiter : notified_of rules (lookup_entry names (promoted names map).pairs) map.limiter
       ≡ record map.limiter { cost = own.limiter.cost } =
-      limit-stays keeps map.limiter (lookup_entry names (promoted names map).pairs)
+      limit-stays rules keeps map.limiter (lookup_entry names (promoted names map).pairs)
       ∙ ap (λ notified. record map.limiter { cost = notified.cost })
       (sym (ap (λ st. st.limiter) remove.state.is)) in (
         left,

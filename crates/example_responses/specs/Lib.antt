@@ -1,1 +1,2 @@
 pub mod LookUps
+pub mod Purges

@@ -1,12 +1,12 @@
 //! A cache of responses that expire, with counts for each host.
-ghost use Rattle.std.specs.Prelude.{◌≡◌, ◌<◌, ◌⊎◌, Err, IfOk, OnErr, IfSome, string_bytes, string_eq};
-ghost use Rattle.std.specs.declared.string.String.{String};
-ghost use Rattle.std.specs.declared.alloc.Global.{Global};
+ghost use Rattle.std.specs.Prelude.{◌≡◌, ◌<◌, true, nat_eq, Err, None, IfOk, OnErr, IfSome, string_bytes, string_eq};
+ghost use Rattle.std.specs.List.{starts_with};
 ghost use Rattle.lru_limits.specs.Texts.{names_text};
 ghost use Rattle.lru_tenants.specs.Cache.{On};
-ghost use Rattle.lru_tenants.specs.TenantRuns.{OfOpen};
+ghost use Rattle.lru_tenants.specs.TenantRuns.{OfOpen, IfOpen};
 ghost use Rattle.lru_tenants.specs.declared.error.TenantError.TheVariants.{Memory};
 ghost use Rattle.example_responses.specs.LookUps.{LooksUp};
+ghost use Rattle.example_responses.specs.Purges.{is_below, PurgesBelow};
 
 use lru_tenants::{ByWeight, Costed, TenantCache, TenantError};
 use schnellru::RandomState;
@@ -44,22 +44,29 @@ type Responses = TenantCache<String, String, Response, ByWeight<OVERHEAD>>;
 
 fn fresh_response(
     entries: &mut Responses,
-    host: &String,
+    host: &str,
     path: &str,
     now: u64,
 ) -> Result<Option<Response>, TenantError>
     ensures fresh { IfOk result (λ found. IfSome found (λ response. now < response.expires)) }
-    ensures finds { On string_eq host.now (OfOpen (LooksUp (names_text path.now) now)) entries.old result entries.new }
+    ensures finds { On string_eq (names_text host.now) (OfOpen (LooksUp (names_text path.now) now))
+        entries.old result entries.new }
 {
-    let Some(response) = entries.get(host, &path)?.copied() else {
+    let Some(response) = entries.get(&host, &path)?.copied() else {
         return Ok(None);
     };
     if now < response.expires {
         return Ok(Some(response));
     }
     let _len = entries.len();
-    entries.remove(host, &path)?;
+    entries.remove(&host, &path)?;
     Ok(None)
+}
+
+fn is_below(path: &String, prefix: &str) -> bool
+    ensures { result ≡ is_below prefix.now path.now }
+{
+    path.as_str().starts_with(prefix)
 }
 
 fn owned(alloc: Global, text: &str) -> Result<String, TenantError>
@@ -92,7 +99,7 @@ impl ResponseCache {
         &self.counts
     }
 
-    fn count(&mut self, host: &String, hits: u64, misses: u64, evictions: u64)
+    fn count(&mut self, host: &str, hits: u64, misses: u64, evictions: u64)
         ensures entries { self.new.entries ≡ self.old.entries }
     {
         if let Some(counts) = self.counts.get_mut(host) {
@@ -116,15 +123,14 @@ impl ResponseCache {
         host: &str,
         budget: u64,
     ) -> Result<(&'static str, u64), TenantError> {
-        let name = owned(self.alloc, host)?;
-        let (before, _) = self.size(&name);
-        if self.entries.set_budget(&name, budget).is_err() {
-            self.open(name, budget)?;
+        let (before, _) = self.size(host);
+        if self.entries.set_budget(&host, budget).is_err() {
+            self.open(owned(self.alloc, host)?, budget)?;
             return Ok(("host opened", 0));
         }
-        let (after, _) = self.size(&name);
+        let (after, _) = self.size(host);
         let evicted = before.saturating_sub(after) as u64;
-        self.count(&name, 0, 0, evicted);
+        self.count(host, 0, 0, evicted);
         Ok(("budget set", evicted))
     }
 
@@ -136,17 +142,17 @@ impl ResponseCache {
         path: &str,
         response: Response,
     ) -> Result<(&'static str, u64), TenantError> {
-        let (name, path) = (owned(self.alloc, host)?, owned(self.alloc, path)?);
+        let path = owned(self.alloc, path)?;
         let mut evicted = 0u64;
         let stored = self.entries.put_with(
-            &name,
+            &host,
             path,
             response,
             &mut |_, _| evicted = evicted.saturating_add(1),
         );
         // If memory ran out, the callback got the new entry, too.
         let evicted = evicted.saturating_sub(stored.is_err() as u64);
-        self.count(&name, 0, 0, evicted);
+        self.count(host, 0, 0, evicted);
         Ok((if stored? { "stored" } else { "rejected" }, evicted))
     }
 
@@ -157,27 +163,48 @@ impl ResponseCache {
         now: u64,
     ) -> Result<Option<Response>, TenantError>
         ensures fresh { IfOk result (λ found. IfSome found (λ response. now < response.expires)) }
-        ensures finds { ((result ≡ Err Memory) × (self.new.entries ≡ self.old.entries))
-            ⊎ ((name : String Global) × (string_bytes name ≡ host.now)
-            × On string_eq name (OfOpen (LooksUp (names_text path.now) now)) self.old.entries result self.new.entries) }
+        ensures finds { On string_eq (names_text host.now) (OfOpen (LooksUp (names_text path.now) now))
+            self.old.entries result self.new.entries }
     {
-        let name = owned(self.alloc, host)?;
-        let found = fresh_response(&mut self.entries, &name, path, now)?;
+        let found = fresh_response(&mut self.entries, host, path, now)?;
         let hits = found.is_some() as u64;
-        self.count(&name, hits, found.is_none() as u64, 0);
+        self.count(host, hits, found.is_none() as u64, 0);
         Ok(found)
     }
 
     /// Removes the response of a host for a path.
     pub fn purge(&mut self, host: &str, path: &str) -> Result<bool, TenantError> {
-        let name = owned(self.alloc, host)?;
-        Ok(self.entries.remove(&name, &path)?.is_some())
+        Ok(self.entries.remove(&host, &path)?.is_some())
     }
 
-    pub fn size(&self, host: &String) -> (usize, u64) {
-        match (self.entries.entries(host), self.entries.cost(host)) {
+    /// Removes the responses of a host for the paths that begin with the prefix.
+    pub fn purge_below(&mut self, host: &str, prefix: &str) -> Result<(), TenantError>
+        ensures { On string_eq (names_text host.now) (IfOpen (PurgesBelow prefix.now))
+            self.old.entries result self.new.entries }
+    {
+        self.entries
+            .retain(&host, |path, _| !is_below(path, prefix))
+    }
+
+    pub fn size(&self, host: &str) -> (usize, u64) {
+        match (self.entries.entries(&host), self.entries.cost(&host)) {
             (Ok(entries), Ok(cost)) => (entries, cost),
             _ => (0, 0),
         }
     }
+}
+
+/// A look-up returns no response whose path was just purged.
+fn look_up_purged(
+    cache: &mut ResponseCache,
+    host: &str,
+    prefix: &str,
+    path: &str,
+    now: u64,
+) -> Result<Option<Response>, TenantError>
+    requires below { starts_with nat_eq path.now prefix.now ≡ true }
+    ensures { IfOk result (λ found. found ≡ None) }
+{
+    cache.purge_below(host, prefix)?;
+    cache.look_up(host, path, now)
 }

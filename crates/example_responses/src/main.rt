@@ -28,7 +28,7 @@ fn say_evicted(rt: &HostRuntime, done: Result<(&str, u64), TenantError>) -> io::
 
 fn stats(rt: &HostRuntime, cache: &ResponseCache) -> io::Result<()> {
     for (name, counts) in cache.counts() {
-        let (entries, cost) = cache.size(name);
+        let (entries, cost) = cache.size(name.as_str());
         println!(rt;
             "{name}: {} hits, {} misses, {} evictions, {entries} entries, cost {cost}",
             counts.hits, counts.misses, counts.evictions
@@ -61,6 +61,10 @@ fn answer(
         Some(Line::Purge(host, path)) => match cache.purge(host, path) {
             Ok(true) => "purged",
             Ok(false) => "not there",
+            Err(error) => text_of(error),
+        },
+        Some(Line::PurgeBelow(host, prefix)) => match cache.purge_below(host, prefix) {
+            Ok(()) => "purged",
             Err(error) => text_of(error),
         },
         Some(Line::Stats) => return stats(rt, cache),

@@ -1,9 +1,11 @@
 -- A get that puts, if the tenant is not open or the key is there.
 use Rattle.std.proofs.Common.{◌≡◌, ℕ, Bool, List, Option, Some, None, Result, Ok, Err, refl, sym, ap, ◌∙◌, subst}
 use Rattle.std.proofs.lemmas.Option.{none-some}
-use Rattle.std.specs.HashMap.{HashMap, WritesThrough, get_by}
+use Rattle.std.specs.Cmp.{IsEquivalence}
+use Rattle.std.specs.Map.{set_value}
 use Rattle.std.specs.Prelude.{IfSome, option_map}
 use Rattle.std.specs.declared.alloc.AllocError.{AllocError}
+use Rattle.lru_limits.specs.Laws.{IsLookup}
 use Rattle.lru_limits.specs.Rules.{Rules, Offers}
 use Rattle.lru_model.specs.GetOrInserts.{MakesNewest, got, inserted}
 use Rattle.lru_model.specs.Lists.{first, after, front, lookup, lookup_entry, without}
@@ -44,21 +46,22 @@ module _ {K V L S : Type 0} (rules : Rules K V L) (offers : Offers K V L K) (bud
           ∙ ap Ok (front-value (eq key) map.pairs w e)
       go left (Some w) e result (inserted none v may step) said = absurd (none-some w (sym none ∙ e))
 
-  module _ {N : Type 0} (same : N → N → Bool) (name : N) where
+  module _ {N Q : Type 0} {same : N → N → Bool} {named : Q → N → Bool} {query_input : Q → List (List ℕ)}
+      {key_input : N → List (List ℕ)} (looks_up : IsLookup named same query_input key_input) (name : Q) where
     -- the cache afterwards, and the answer
     pub record Ends (old new : Cache N K V L S) : Type 0 where
-      pub on : On same name (OfOpen (GetsOrPuts rules offers budget_of eq hash_of makes key)) old answer new
-      pub not_open : tenant (same name) old ≡ None → answer ≡ Err NotOpen
-      pub there : IfSome (tenant (same name) old) GetsValue
+      pub on : On same (named name) (OfOpen (GetsOrPuts rules offers budget_of eq hash_of makes key)) old answer new
+      pub not_open : tenant (named name) old ≡ None → answer ≡ Err NotOpen
+      pub there : IfSome (tenant (named name) old) GetsValue
 
-    module _ {hasher : S} {entry_bytes : ℕ} {limit : Option ℕ} (old new : HashMap N (State K V L S) S) where
-      pub ends : (was left : State K V L S) → get_by (same name) old ≡ Some was
-          → WritesThrough same (same name) old left new
-          → GetsOrPuts rules offers budget_of eq hash_of makes key was answer (Some left)
-          → Ends (cache_of old hasher entry_bytes limit) (cache_of new hasher entry_bytes limit)
-      ends was left is writes does = record {
-        on = on-written same name old new was left is writes
-            (OfOpen (GetsOrPuts rules offers budget_of eq hash_of makes key)) answer does;
-        not_open = λ none. absurd (none-some was (sym none ∙ is));
-        there = subst (λ t. IfSome t GetsValue) (sym is) (gets_value was (Some left) does);
-      }
+    pub ends : IsEquivalence same → {hasher : S} {entry_bytes : ℕ} {limit : Option ℕ} (old : List (N × State K V L S))
+        (was left : State K V L S) → lookup (named name) old ≡ Some was
+        → GetsOrPuts rules offers budget_of eq hash_of makes key was answer (Some left)
+        → Ends (cache_of old hasher entry_bytes limit)
+        (cache_of (set_value (named name) old left) hasher entry_bytes limit)
+    ends laws old was left is does = record {
+      on = on-written looks_up name (OfOpen (GetsOrPuts rules offers budget_of eq hash_of makes key)) answer laws old
+          was left is does;
+      not_open = λ none. absurd (none-some was (sym none ∙ is));
+      there = subst (λ t. IfSome t GetsValue) (sym is) (gets_value was (Some left) does);
+    }

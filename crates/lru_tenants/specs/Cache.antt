@@ -1,5 +1,6 @@
 -- A cache of tenants: a map for each open tenant.
-use Rattle.std.specs.Prelude.{◌≡◌, ℕ, ◌≤◌, ◌<◌, ◌+◌, ◌-◌, ◌^◌, nat_lt, Bool, false, List, cond, Option, Some, None}
+--     names name      whether the name is the one that the call names
+use Rattle.std.specs.Prelude.{◌≡◌, ℕ, ◌≤◌, ◌<◌, ◌+◌, ◌-◌, ◌^◌, nat_lt, Bool, true, false, List, cond, Option, Some, None}
 use Rattle.std.specs.Prelude.{sum_by}
 use Rattle.std.specs.Option.{option_map, unwrap_or}
 use Rattle.std.specs.List.{All}
@@ -45,19 +46,22 @@ module _ {N K V L S : Type 0} where
   abbrev pub fresh : (ℕ → L) → ℕ → Cache N K V L S → ℕ → State K V L S
   fresh made max cache budget = empty_map (made budget) cache.hasher cache.entry_bytes max
 
-  -- the tenant of this name is `left` afterwards, and the others stay
-  pub record Leaves (eq : N → N → Bool) (name : N) (left : Option (State K V L S)) (old new : Cache N K V L S)
+  -- the named tenant is `left` afterwards, and the others stay
+  pub record Leaves (eq : N → N → Bool) (names : N → Bool) (left : Option (State K V L S)) (old new : Cache N K V L S)
       : Type 0 where
-    pub tenants : (other : N) → tenant (eq other) new ≡ cond (eq name other) left (tenant (eq other) old)
+    -- at most one name is named, up to equality
+    pub one : (x y : N) → names x ≡ true → names y ≡ eq x y
+    pub own : tenant names new ≡ left
+    pub tenants : (other : N) → tenant (eq other) new ≡ cond (names other) left (tenant (eq other) old)
     pub hasher : new.hasher ≡ old.hasher
     pub entry_bytes : new.entry_bytes ≡ old.entry_bytes
     pub total_limit : new.total_limit ≡ old.total_limit
 
-  -- a call does to the cache what `Does` says of the tenant with the name, and leaves the other tenants as they are
-  abbrev pub On : {R : Type 0} → (N → N → Bool) → N → (Option (State K V L S) → R → Option (State K V L S) → Type 0)
-      → Cache N K V L S → R → Cache N K V L S → Type 0
-  On eq name Does old answer new =
-      (left : Option (State K V L S)) × Does (tenant (eq name) old) answer left × Leaves eq name left old new
+  -- a call does to the cache what `Does` says of the named tenant, and leaves the other tenants as they are
+  abbrev pub On : {R : Type 0} → (N → N → Bool) → (N → Bool)
+      → (Option (State K V L S) → R → Option (State K V L S) → Type 0) → Cache N K V L S → R → Cache N K V L S → Type 0
+  On eq names Does old answer new =
+      (left : Option (State K V L S)) × Does (tenant names old) answer left × Leaves eq names left old new
 
   abbrev pub AreTenants : (K → K → Bool) → (K → V → ℕ) → (L → ℕ) → (L → ℕ) → Cache N K V L S → Type 0
   AreTenants eq cost account budget cache = All (IsTenant eq cost account budget) (values_of cache.tenants)

@@ -1,4 +1,5 @@
 -- Calls of any kind on a cache, one after another, and what they do to one tenant.
+--     names name                    whether the call names the tenant of this name
 --     named call                    the tenant that the call names
 --     Does call old answer new      what the call may do to this tenant, and may answer
 use Rattle.std.specs.Prelude.{◌≡◌, ◌⊎◌, Bool, true, false, List, [], ◌∷◌, Option}
@@ -7,7 +8,7 @@ use Rattle.lru_tenants.specs.Cache.{Cache, tenant, Leaves}
 
 -- what a call did: the tenant that it names, before and after the call
 pub record Did (N K V L S : Type 0) : Type 0 where
-  pub name : N
+  pub names : N → Bool
   pub found : Option (State K V L S)
   pub left : Option (State K V L S)
 
@@ -15,14 +16,14 @@ module _ {N K V L S : Type 0} where
   -- Calls that take the cache from old to new. Each call leaves the tenants that it does not name as they are.
   abbrev pub CacheRun : (N → N → Bool) → Cache N K V L S → List (Did N K V L S) → Cache N K V L S → Type 0
   CacheRun eq old [] new = new ≡ old
-  CacheRun eq old (did ∷ more) new = (mid : Cache N K V L S) × (did.found ≡ tenant (eq did.name) old)
-      × Leaves eq did.name did.left old mid × CacheRun eq mid more new
+  CacheRun eq old (did ∷ more) new = (mid : Cache N K V L S) × (did.found ≡ tenant did.names old)
+      × Leaves eq did.names did.left old mid × CacheRun eq mid more new
 
   -- Each call that names the tenant found it as the call before left it. The last call left the new state.
-  abbrev pub Chain : (N → Bool) → Option (State K V L S) → List (Did N K V L S) → Option (State K V L S) → Type 0
-  Chain own old [] new = new ≡ old
-  Chain own old (did ∷ more) new = ((own did.name ≡ true) × (did.found ≡ old) × Chain own did.left more new)
-      ⊎ ((own did.name ≡ false) × Chain own old more new)
+  abbrev pub Chain : N → Option (State K V L S) → List (Did N K V L S) → Option (State K V L S) → Type 0
+  Chain name old [] new = new ≡ old
+  Chain name old (did ∷ more) new = ((did.names name ≡ true) × (did.found ≡ old) × Chain name did.left more new)
+      ⊎ ((did.names name ≡ false) × Chain name old more new)
 
 module _ {N K V L S C R : Type 0} (named : C → N)
     (Does : C → Option (State K V L S) → R → Option (State K V L S) → Type 0) where

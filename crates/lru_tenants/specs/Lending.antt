@@ -31,7 +31,7 @@ module _ (N K V L S M H : RattleType) (name : HashMembers N.Denot) (key : HashMe
     (hashed : HasherMembers S.Denot K.Denot H.Denot) (hash : hasher.Ghosts H.Denot) where
   -- the cache's type in the logic
   abbrev pub cache_row : RattleType
-  cache_row = the_row N K V L S M H (record { eq = name.eq }) (record { hash_input = name.hash_input })
+  cache_row = the_row N K V L S M H (record {}) (record { eq = name.eq }) (record { hash_input = name.hash_input })
       (record { eq = key.eq }) (record { hash_input = key.hash_input })
       (record {
         budget_of = limits.budget_of;

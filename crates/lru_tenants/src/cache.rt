@@ -5,23 +5,21 @@ ghost use Rattle.std.specs.List.{IsDistinct};
 ghost use Rattle.std.specs.Map.{keys_of};
 ghost use Rattle.lru_limits.specs.Mixing.{seeded};
 ghost use Rattle.lru_limits.specs.Admissions.{offers_of};
-ghost use Rattle.lru_model.specs.Calls.{Remove, cleared};
 ghost use Rattle.lru_model.specs.Lists.{is_empty};
 ghost use Rattle.lru_tenants.specs.Cache.{tenant, budgets, budgets_with, is_over, fresh, IsTenant, AreTenants, Leaves, On};
-ghost use Rattle.lru_tenants.specs.TenantRuns.{OfOpen, IfOpen, Opens, SetsBudget, Puts, Closes};
+ghost use Rattle.lru_tenants.specs.TenantRuns.{OfOpen, Opens, SetsBudget, Puts, Closes};
 
 use crate::error::TenantError;
-use crate::tenant::{clear, remove};
 use lru_limits::Budgeted;
-use schnellru::{ByCost, Costed, KeyHasher, LookupKey, LruMap, RandomState, laws};
+use schnellru::{ByCost, Costed, KeyHasher, LookupKey, LruMap, RandomState, Unlimited, laws};
 use std::alloc::Global;
-use std::collections::HashMap;
 use std::hash::Hash;
 use std::marker::Model;
 
 mod get_or_put;
 mod passing;
 mod reading;
+mod removing;
 mod totals;
 
 use totals::is_above;
@@ -47,7 +45,7 @@ pub struct TenantCache<
     L: Budgeted<K, V> = ByCost,
     S: KeyHasher<K> + Copy = RandomState,
 > {
-    tenants: HashMap<N, LruMap<K, V, L, S>, S, Global>,
+    tenants: LruMap<N, LruMap<K, V, L, S>, Unlimited, S>,
     hasher: S,
     entry_bytes: usize,
     budgets: u128,
@@ -63,13 +61,13 @@ impl<N: Eq + Hash, K: Eq + Hash, V, L: Budgeted<K, V>, S: KeyHasher<K> + Copy> M
     ghost Value = { Cache N K V L S };
 
     ghost view = { λ c. record {
-      tenants = c.tenants.entries;
+      tenants = c.tenants.pairs;
       hasher = c.hasher;
       entry_bytes = c.entry_bytes;
       total_limit = c.total_limit;
     } };
 
-    ghost invariant = { λ c. Holds K.eq L.cost_of L.account L.budget_of c.tenants c.hasher c.budgets c.total_limit };
+    ghost invariant = { λ c. Holds K.eq L.cost_of L.account L.budget_of c.tenants.pairs c.budgets c.total_limit };
 }
 
 impl<
@@ -132,7 +130,9 @@ impl<N: Eq + Hash, K: Eq + Hash, V, L: Budgeted<K, V>, S: KeyHasher<K> + Copy> T
         ensures { result ≡ record { tenants = []; hasher = hasher; entry_bytes = entry_bytes; total_limit = None } }
     {
         TenantCache {
-            tenants: HashMap::with_hasher(alloc, hasher),
+            tenants: LruMap::<N, LruMap<K, V, L, S>, Unlimited, S>::with_limiter_and_hasher(
+                alloc, Unlimited, hasher,
+            ),
             hasher,
             entry_bytes,
             budgets: 0,
@@ -191,13 +191,13 @@ impl<
     /// `AlreadyOpen`. `OverTotal`: the sum of all budgets would be above the total limit. `Memory`: out of memory for
     /// one more tenant.
     pub fn open(&mut self, name: N, budget: u64) -> Result<(), TenantError>
-        ensures opens { On N.eq name (Opens (is_over L.budget_of (N.eq name) budget self.old)
+        ensures opens { On N.eq (N.eq name) (Opens (is_over L.budget_of (N.eq name) budget self.old)
             (fresh L.made (L.LinkType.number L.LinkType.MAX) self.old budget)) self.old result self.new }
         ensures total { result ≡ Ok tt → budgets L.budget_of self.new ≡ budgets L.budget_of self.old + budget }
         ensures unchanged { OnErr result (self.new ≡ self.old) }
         ensures tenants { AreTenants K.eq L.cost_of L.account L.budget_of self.new }
     {
-        if self.tenants.contains_key(&name) {
+        if self.tenants.contains(&name) {
             return Err(TenantError::AlreadyOpen);
         }
         let _len = self.tenants.len();
@@ -206,13 +206,11 @@ impl<
             return Err(TenantError::OverTotal);
         }
         let map = self.fresh(budget);
-        match self.tenants.insert(name, map) {
-            Ok(_) => {
-                self.budgets = sum;
-                Ok(())
-            }
-            Err(_) => Err(TenantError::Memory),
-        }
+        let Ok(()) = self.tenants.try_insert(name, map) else {
+            return Err(TenantError::Memory);
+        };
+        self.budgets = sum;
+        Ok(())
     }
 
     fn fresh(&self, budget: u64) -> LruMap<K, V, L, S>
@@ -241,59 +239,13 @@ impl<
     ///
     /// `NotOpen`: nothing has changed. `Memory`: out of memory for the entry. Some of the tenant's oldest entries may
     /// have been evicted, as after an `Err` of `LruMap::insert`.
-    pub fn put(&mut self, name: &N, key: K, value: V) -> Result<bool, TenantError>
-        ensures puts { On N.eq name.now (OfOpen (Puts L.rules (offers_of L.terms) L.budget_of K.eq S.hash_of key value))
+    pub fn put<T: LookupKey<N>>(&mut self, name: &T, key: K, value: V) -> Result<bool, TenantError>
+        ensures puts { On N.eq (T.names name.now) (OfOpen (Puts L.rules (offers_of L.terms) L.budget_of K.eq S.hash_of key value))
             self.old result self.new }
         ensures total { budgets L.budget_of self.new ≡ budgets L.budget_of self.old }
         ensures tenants { AreTenants K.eq L.cost_of L.account L.budget_of self.new }
     {
         self.put_with(name, key, value, &mut |_, _| {})
-    }
-
-    /// Removes a key of a tenant. Returns its value.
-    ///
-    /// ```
-    /// assert_eq!(rt; (cache.remove(&1, &7), cache.remove(&1, &7)), (Ok(Some(2)), Ok(None)));
-    /// ```
-    ///
-    /// Cost: `O(1)` expected.
-    ///
-    /// # Errors
-    ///
-    /// `NotOpen`: nothing has changed.
-    pub fn remove<Q: LookupKey<K>>(&mut self, name: &N, key: &Q) -> Result<Option<V>, TenantError>
-        ensures removes { On N.eq name.now (IfOpen (Remove L.rules (Q.names key.now))) self.old result self.new }
-        ensures total { budgets L.budget_of self.new ≡ budgets L.budget_of self.old }
-        ensures tenants { AreTenants K.eq L.cost_of L.account L.budget_of self.new }
-    {
-        let Some(own) = self.tenants.get_mut(name) else {
-            return Err(TenantError::NotOpen);
-        };
-        Ok(remove(own, key))
-    }
-
-    /// Drops the entries of a tenant, which stays open.
-    ///
-    /// ```
-    /// assert_eq!(rt; (cache.clear(&1), cache.entries(&1), cache.cost(&1)), (Ok(()), Ok(0), Ok(0)));
-    /// ```
-    ///
-    /// Cost: as `LruMap::clear`.
-    ///
-    /// # Errors
-    ///
-    /// `NotOpen`: nothing has changed.
-    pub fn clear(&mut self, name: &N) -> Result<(), TenantError>
-        ensures clears { On N.eq name.now (IfOpen (λ old done new. new ≡ cleared L.rules old))
-            self.old result self.new }
-        ensures total { budgets L.budget_of self.new ≡ budgets L.budget_of self.old }
-        ensures tenants { AreTenants K.eq L.cost_of L.account L.budget_of self.new }
-    {
-        let Some(own) = self.tenants.get_mut(name) else {
-            return Err(TenantError::NotOpen);
-        };
-        clear(own);
-        Ok(())
     }
 
     /// Sets the budget of a tenant. If its cost is above the budget, its oldest entries are evicted until it is not.
@@ -307,12 +259,12 @@ impl<
     /// # Errors
     ///
     /// `NotOpen`. `OverTotal`: the sum of all budgets would be above the total limit. Both change nothing.
-    pub fn set_budget(&mut self, name: &N, budget: u64) -> Result<(), TenantError>
-        ensures sets { On N.eq name.now
-            (OfOpen (SetsBudget L.rules (L.rebudgeted budget) (is_over L.budget_of (N.eq name.now) budget self.old)))
+    pub fn set_budget<T: LookupKey<N>>(&mut self, name: &T, budget: u64) -> Result<(), TenantError>
+        ensures sets { On N.eq (T.names name.now)
+            (OfOpen (SetsBudget L.rules (L.rebudgeted budget) (is_over L.budget_of (T.names name.now) budget self.old)))
             self.old result self.new }
         ensures total { result ≡ Ok tt →
-            budgets L.budget_of self.new ≡ budgets_with L.budget_of (N.eq name.now) budget self.old }
+            budgets L.budget_of self.new ≡ budgets_with L.budget_of (T.names name.now) budget self.old }
         ensures unchanged { OnErr result (self.new ≡ self.old) }
         ensures tenants { AreTenants K.eq L.cost_of L.account L.budget_of self.new }
     {
@@ -330,9 +282,9 @@ impl<
     /// # Errors
     ///
     /// `NotOpen`: nothing has changed.
-    pub fn close(&mut self, name: &N) -> Result<usize, TenantError>
-        ensures closes { On N.eq name.now (OfOpen Closes) self.old result self.new }
-        ensures total { budgets L.budget_of self.new ≡ budgets_with L.budget_of (N.eq name.now) 0 self.old }
+    pub fn close<T: LookupKey<N>>(&mut self, name: &T) -> Result<usize, TenantError>
+        ensures closes { On N.eq (T.names name.now) (OfOpen Closes) self.old result self.new }
+        ensures total { budgets L.budget_of self.new ≡ budgets_with L.budget_of (T.names name.now) 0 self.old }
         ensures tenants { AreTenants K.eq L.cost_of L.account L.budget_of self.new }
     {
         let Some(map) = self.take_tenant(name) else {
@@ -341,12 +293,13 @@ impl<
         Ok(map.len())
     }
 
-    pub(crate) fn take_tenant(&mut self, name: &N) -> Option<LruMap<K, V, L, S>>
-        ensures taken { result ≡ tenant (N.eq name.now) self.old }
-        ensures leaves { Leaves N.eq name.now None self.old self.new }
-        ensures total { budgets L.budget_of self.new ≡ budgets_with L.budget_of (N.eq name.now) 0 self.old }
+    pub(crate) fn take_tenant<T: LookupKey<N>>(&mut self, name: &T) -> Option<LruMap<K, V, L, S>>
+        ensures taken { result ≡ tenant (T.names name.now) self.old }
+        ensures leaves { Leaves N.eq (T.names name.now) None self.old self.new }
+        ensures total { budgets L.budget_of self.new ≡ budgets_with L.budget_of (T.names name.now) 0 self.old }
         ensures tenants { AreTenants K.eq L.cost_of L.account L.budget_of self.new }
     {
+        let _len = self.tenants.len();
         let Some(map) = self.tenants.remove(name) else {
             return None;
         };

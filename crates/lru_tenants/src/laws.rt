@@ -27,9 +27,9 @@ pub fn each_tenant_has_its_own_run<
     S: KeyHasher<K>,
 >()
     ensures own { (name : N) (dids : List (Did N K V L S)) (old new : Cache N K V L S) → CacheRun N.eq old dids new →
-        Chain (λ n. N.eq n name) (tenant (N.eq name) old) dids (tenant (N.eq name) new) }
+        Chain name (tenant (N.eq name) old) dids (tenant (N.eq name) new) }
     ensures others { (name : N) (dids : List (Did N K V L S)) (old new : Cache N K V L S) →
-        CacheRun N.eq old dids new → All (λ did. N.eq did.name name ≡ false) dids →
+        CacheRun N.eq old dids new → All (λ did. did.names name ≡ false) dids →
         tenant (N.eq name) new ≡ tenant (N.eq name) old }
 {}
 

@@ -74,7 +74,7 @@ fn make_tenant_call<
     L: Budgeted<K, V> + Drop,
     S: KeyHasher<K> + Copy,
 >(cache: &mut TenantCache<N, K, V, L, S>, call: TenantCall<N, K, V>) -> TenantAnswer<V>
-    ensures step { On N.eq (named call) (TenantStep L.rules (offers_of L.terms) L.cost_of L.account L.budget_of K.eq S.hash_of
+    ensures step { On N.eq (N.eq (named call)) (TenantStep L.rules (offers_of L.terms) L.cost_of L.account L.budget_of K.eq S.hash_of
         (fresh L.made (L.LinkType.number L.LinkType.MAX) cache.old) cache.old.total_limit call)
         cache.old result cache.new }
     ensures tenants { AreTenants K.eq L.cost_of L.account L.budget_of cache.new }
@@ -91,7 +91,7 @@ fn answer_to<
     L: Budgeted<K, V> + Drop,
     S: KeyHasher<K> + Copy,
 >(cache: &mut TenantCache<N, K, V, L, S>, call: TenantCall<N, K, V>) -> TenantAnswer<V>
-    ensures { On N.eq (named call) (TenantStep L.rules (offers_of L.terms) L.cost_of L.account L.budget_of K.eq S.hash_of
+    ensures { On N.eq (N.eq (named call)) (TenantStep L.rules (offers_of L.terms) L.cost_of L.account L.budget_of K.eq S.hash_of
         (fresh L.made (L.LinkType.number L.LinkType.MAX) cache.old) cache.old.total_limit call)
         cache.old result cache.new }
 {
@@ -109,7 +109,7 @@ fn get<N: Eq + Hash, K: Eq + Hash, V: Copy, L: Budgeted<K, V>, S: KeyHasher<K> +
     name: &N,
     key: &K,
 ) -> Result<Option<V>, TenantError>
-    ensures { On N.eq name.now (Gets (K.eq key.now)) cache.old result cache.new }
+    ensures { On N.eq (N.eq name.now) (Gets (K.eq key.now)) cache.old result cache.new }
 {
     match cache.get(name, key) {
         Ok(value) => Ok(value.copied()),

@@ -8,6 +8,7 @@ ghost use Rattle.lru_model.specs.GetOrInserts.{MakesNewest};
 ghost use Rattle.lru_model.specs.Callbacks.{CalledWith, InsertPasses, TrimPasses};
 ghost use Rattle.lru_model.specs.Inserts.{Insert, kept_of};
 ghost use Rattle.lru_model.specs.Lists.{lookup, first};
+ghost use Rattle.lru_model.specs.Retains.{Retains};
 ghost use Rattle.lru_model.specs.State.{Trims};
 ghost use Rattle.lru_tenants.specs.Cache.{IsTenant, with_limiter};
 ghost use Rattle.lru_tenants.specs.PutFulls.{comes_back, rejects};
@@ -130,6 +131,24 @@ pub(crate) fn remove<
     let value = map.remove(key);
     let _len = map.len();
     value
+}
+
+pub(crate) fn retain<
+    K: Eq + Hash + Drop,
+    V: Drop,
+    L: Budgeted<K, V>,
+    S: KeyHasher<K>,
+    F: FnMut(&K, &V) -> bool,
+>(map: &mut LruMap<K, V, L, S>, keep: F)
+    requires tenant { IsTenant K.eq L.cost_of L.account L.budget_of map.old }
+    requires callable { F.IsAlwaysCallable keep }
+    ensures retains { Retains F.FnMut L.rules keep map.old map.new }
+    ensures budget { L.budget_of map.new.limiter ≡ L.budget_of map.old.limiter }
+    ensures tenant { IsTenant K.eq L.cost_of L.account L.budget_of map.new }
+{
+    laws::calls_keep_sums::<K, V, K, L, S>();
+    laws::calls_keep_the_budget::<K, V, L, S>();
+    map.retain(keep);
 }
 
 pub(crate) fn clear<K: Eq + Hash + Drop, V: Drop, L: Budgeted<K, V>, S: KeyHasher<K>>(

@@ -1,4 +1,4 @@
-//! The cache of numbers in the examples of the docs. Tests of the texts of errors, and of keys that are texts.
+//! The cache of numbers in the examples of the docs. Tests of the texts of errors, and of names and keys that are texts.
 use lru_tenants::{TenantCache, TenantError, costs_are_within_the_total_limit};
 use std::test::Fail;
 use test_helpers::check;
@@ -36,13 +36,14 @@ fn of_the_errors(rt: HostRuntime) -> Result<(), Fail> {
 }
 
 #[test]
-fn of_keys_that_are_texts(rt: HostRuntime) -> Result<(), Fail> {
+fn of_names_and_keys_that_are_texts(rt: HostRuntime) -> Result<(), Fail> {
     let alloc = rt.alloc();
-    let key = String::from_str(alloc, "a")?;
+    let host = String::from_str(alloc, "host")?;
+    let path = String::from_str(alloc, "/path")?;
     let page = String::from_str(alloc, "hello")?;
-    let mut pages: TenantCache<u64, String, String> = TenantCache::new(alloc, [1, 2, 3, 4], 64);
-    check!(rt; (pages.open(1, 10), pages.put(&1, key, page)) == (Ok(()), Ok(true)));
-    let page = pages.get(&1, &"a")?.ok_or("no page")?;
+    let mut pages: TenantCache<String, String, String> = TenantCache::new(alloc, [1, 2, 3, 4], 64);
+    check!(rt; (pages.open(host, 10), pages.put(&"host", path, page)) == (Ok(()), Ok(true)));
+    let page = pages.get(&"host", &"/path")?.ok_or("no page")?;
     check!(rt; page.as_str() == "hello");
     Ok(())
 }

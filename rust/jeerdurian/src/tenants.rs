@@ -4,12 +4,12 @@
 //! use jeerdurian::tenants::{TenantCache, TenantError};
 //!
 //! # fn main() -> Result<(), TenantError> {
-//! let mut cache: TenantCache<&str, u64, String> = TenantCache::new();
-//! cache.open("a.example", 10)?;
-//! cache.put(&"a.example", 1, "seven b".to_string())?;
-//! cache.put(&"a.example", 2, "four".to_string())?; // 7 and 4 bytes are above the budget: entry 1 is evicted
-//! assert_eq!(cache.get(&"a.example", &1), Ok(None));
-//! assert_eq!(cache.cost(&"a.example"), Ok(4));
+//! let mut cache: TenantCache<String, u64, String> = TenantCache::new();
+//! cache.open("a.example".to_string(), 10)?;
+//! cache.put("a.example", 1, "seven b".to_string())?;
+//! cache.put("a.example", 2, "four".to_string())?; // 7 and 4 bytes are above the budget: entry 1 is evicted
+//! assert_eq!(cache.get("a.example", &1), Ok(None));
+//! assert_eq!(cache.cost("a.example"), Ok(4));
 //! # Ok(())
 //! # }
 //! ```
@@ -19,8 +19,10 @@ mod entries;
 use crate::erased::lru_limits::{self, Budgeted};
 use crate::erased::lru_tenants as proved;
 use crate::erased::ordered_table::OrderedTable;
+use crate::keys::Borrowed;
 use crate::rattle_std::alloc::Global;
 use crate::{ByCost, ByWeight, Costed, RandomState};
+use core::borrow::Borrow;
 use core::hash::{BuildHasher, Hash};
 
 /// Why a call on a tenant failed.
@@ -32,6 +34,9 @@ use core::hash::{BuildHasher, Hash};
 /// assert_eq!(cache.put(&1, 7, 2), Err(TenantError::NotOpen));
 /// ```
 pub use crate::erased::lru_tenants::TenantError;
+
+/// An iterator over the entries of a tenant, newest first. Proved: it returns each entry once, in the order of use.
+pub use crate::erased::ordered_table::Walk as Entries;
 
 impl core::error::Error for TenantError {}
 
@@ -196,8 +201,12 @@ where
     /// # cache.put(&1, 7, 2).unwrap();
     /// assert_eq!(cache.entries(&1), Ok(1));
     /// ```
-    pub fn entries(&self, name: &N) -> Result<usize, TenantError> {
-        self.cache.entries(name)
+    pub fn entries<T>(&self, name: &T) -> Result<usize, TenantError>
+    where
+        N: Borrow<T>,
+        T: Eq + Hash + ?Sized,
+    {
+        self.cache.entries(&Borrowed(name))
     }
 
     /// Returns the budget of a tenant.
@@ -214,8 +223,12 @@ where
     /// # cache.put(&1, 7, 2).unwrap();
     /// assert_eq!(cache.budget(&1), Ok(3));
     /// ```
-    pub fn budget(&self, name: &N) -> Result<u64, TenantError> {
-        self.cache.budget(name)
+    pub fn budget<T>(&self, name: &T) -> Result<u64, TenantError>
+    where
+        N: Borrow<T>,
+        T: Eq + Hash + ?Sized,
+    {
+        self.cache.budget(&Borrowed(name))
     }
 
     /// Returns the sum of the costs of a tenant's entries.
@@ -232,8 +245,12 @@ where
     /// # cache.put(&1, 7, 2).unwrap();
     /// assert_eq!(cache.cost(&1), Ok(2));
     /// ```
-    pub fn cost(&self, name: &N) -> Result<u64, TenantError> {
-        self.cache.cost(name)
+    pub fn cost<T>(&self, name: &T) -> Result<u64, TenantError>
+    where
+        N: Borrow<T>,
+        T: Eq + Hash + ?Sized,
+    {
+        self.cache.cost(&Borrowed(name))
     }
 
     /// Returns the names of the open tenants, in any order.
@@ -262,8 +279,12 @@ where
     /// # cache.put(&1, 7, 2).unwrap();
     /// assert_eq!((cache.set_budget(&1, 1), cache.cost(&1)), (Ok(()), Ok(0)));
     /// ```
-    pub fn set_budget(&mut self, name: &N, budget: u64) -> Result<(), TenantError> {
-        self.cache.set_budget(name, budget)
+    pub fn set_budget<T>(&mut self, name: &T, budget: u64) -> Result<(), TenantError>
+    where
+        N: Borrow<T>,
+        T: Eq + Hash + ?Sized,
+    {
+        self.cache.set_budget(&Borrowed(name), budget)
     }
 
     /// Sets the budget as [`set_budget`](Self::set_budget) does, and passes each evicted entry to the callback, oldest first.
@@ -280,8 +301,12 @@ where
     /// assert_eq!(cache.set_budget_with(&1, 1, |key, _| evicted = key), Ok(()));
     /// assert_eq!(evicted, 7);
     /// ```
-    pub fn set_budget_with(&mut self, name: &N, budget: u64, mut lost: impl FnMut(K, V)) -> Result<(), TenantError> {
-        self.cache.set_budget_with(name, budget, &mut lost)
+    pub fn set_budget_with<T>(&mut self, name: &T, budget: u64, mut lost: impl FnMut(K, V)) -> Result<(), TenantError>
+    where
+        N: Borrow<T>,
+        T: Eq + Hash + ?Sized,
+    {
+        self.cache.set_budget_with(&Borrowed(name), budget, &mut lost)
     }
 
     /// Closes a tenant and drops its entries. Returns the number of these entries.
@@ -296,8 +321,12 @@ where
     /// # cache.put(&1, 7, 2).unwrap();
     /// assert_eq!((cache.close(&1), cache.len()), (Ok(1), 0));
     /// ```
-    pub fn close(&mut self, name: &N) -> Result<usize, TenantError> {
-        self.cache.close(name)
+    pub fn close<T>(&mut self, name: &T) -> Result<usize, TenantError>
+    where
+        N: Borrow<T>,
+        T: Eq + Hash + ?Sized,
+    {
+        self.cache.close(&Borrowed(name))
     }
 
     /// Closes a tenant as [`close`](Self::close) does, and passes each entry to the callback, oldest first.
@@ -314,8 +343,12 @@ where
     /// assert_eq!(cache.close_with(&1, |key, _| last = key), Ok(1));
     /// assert_eq!(last, 7);
     /// ```
-    pub fn close_with(&mut self, name: &N, mut lost: impl FnMut(K, V)) -> Result<usize, TenantError> {
-        self.cache.close_with(name, &mut lost)
+    pub fn close_with<T>(&mut self, name: &T, mut lost: impl FnMut(K, V)) -> Result<usize, TenantError>
+    where
+        N: Borrow<T>,
+        T: Eq + Hash + ?Sized,
+    {
+        self.cache.close_with(&Borrowed(name), &mut lost)
     }
 
     /// Sets what the budgets of all tenants add up to at most, or that nothing limits their sum.

@@ -12,7 +12,7 @@ use crate::cache::TenantCache;
 use crate::error::TenantError;
 use crate::tenant::{get_or_insert, newest};
 use lru_limits::Budgeted;
-use schnellru::KeyHasher;
+use schnellru::{KeyHasher, LookupKey};
 use std::hash::Hash;
 
 impl<
@@ -39,23 +39,23 @@ impl<
     /// # Errors
     ///
     /// Fails as `put` does. If the error is `Memory`, the closure was called.
-    pub fn get_or_put<F: FnOnce() -> V>(
+    pub fn get_or_put<T: LookupKey<N>, F: FnOnce() -> V>(
         &mut self,
-        name: &N,
+        name: &T,
         key: K,
         make: F,
     ) -> Result<Option<&V>, TenantError>
-        requires callable { IfSome (tenant (N.eq name.now) self.old) (λ map.
+        requires callable { IfSome (tenant (T.names name.now) self.old) (λ map.
             lookup (K.eq key) map.pairs ≡ None → F.pre make) }
         ensures* leaves { sem 𝓛 (ends_so N.row K.row V.row L.row S.row L.LinkType.row S.Hasher.row N.Hash K.Hash
             L.Budgeted L.LinkType.LinkType S.KeyHasher S.Hasher.Hasher self.entry
-            (On N.eq name.now (OfOpen (GetsOrPuts L.rules (offers_of L.terms) L.budget_of K.eq S.hash_of (F.post make) key))
+            (On N.eq (T.names name.now) (OfOpen (GetsOrPuts L.rules (offers_of L.terms) L.budget_of K.eq S.hash_of (F.post make) key))
             self.old (read result))) }
-        ensures not_open { tenant (N.eq name.now) self.old ≡ None → read result ≡ Err NotOpen }
-        ensures there { IfSome (tenant (N.eq name.now) self.old) (λ map.
+        ensures not_open { tenant (T.names name.now) self.old ≡ None → read result ≡ Err NotOpen }
+        ensures there { IfSome (tenant (T.names name.now) self.old) (λ map.
             IfSome (lookup (K.eq key) map.pairs) (λ value. read result ≡ Ok (Some value))) }
     {
-        let Some(own) = self.tenants.get_mut(name) else {
+        let Some(own) = self.tenants.peek_mut(name) else {
             return Err(TenantError::NotOpen);
         };
         let Ok(there) = get_or_insert(own, key, make) else {

@@ -14,7 +14,7 @@ use crate::cache::totals::is_above;
 use crate::error::TenantError;
 use crate::tenant::{empty, insert, insert_full, set_budget};
 use lru_limits::Budgeted;
-use schnellru::{Inserted, KeyHasher};
+use schnellru::{Inserted, KeyHasher, LookupKey};
 use std::alloc::AllocError;
 use std::hash::Hash;
 
@@ -40,23 +40,23 @@ impl<
     /// # Errors
     ///
     /// Fails as `put` does.
-    pub fn put_with<F: FnMut(K, V)>(
+    pub fn put_with<T: LookupKey<N>, F: FnMut(K, V)>(
         &mut self,
-        name: &N,
+        name: &T,
         key: K,
         value: V,
         sink: &mut F,
     ) -> Result<bool, TenantError>
         requires callable { F.IsAlwaysCallable sink.old }
-        ensures puts { On N.eq name.now (OfOpen (Puts L.rules (offers_of L.terms) L.budget_of K.eq S.hash_of key value))
+        ensures puts { On N.eq (T.names name.now) (OfOpen (Puts L.rules (offers_of L.terms) L.budget_of K.eq S.hash_of key value))
             self.old result self.new }
-        ensures passed { (passed : List (K × V)) × CalledWith F.FnMut sink.old passed sink.new × On N.eq name.now
+        ensures passed { (passed : List (K × V)) × CalledWith F.FnMut sink.old passed sink.new × On N.eq (T.names name.now)
             (PassesOn (PutPasses L.rules (offers_of L.terms) L.budget_of K.eq S.hash_of key value)) self.old passed self.new }
         ensures callable { F.IsAlwaysCallable sink.new }
         ensures total { budgets L.budget_of self.new ≡ budgets L.budget_of self.old }
         ensures tenants { AreTenants K.eq L.cost_of L.account L.budget_of self.new }
     {
-        let Some(own) = self.tenants.get_mut(name) else {
+        let Some(own) = self.tenants.peek_mut(name) else {
             return Err(TenantError::NotOpen);
         };
         put_answer(insert(own, key, value, sink))
@@ -81,29 +81,29 @@ impl<
     /// # Errors
     ///
     /// Fails as `put` does. After `NotOpen` the key and the value are dropped; after `Memory` the callback got both.
-    pub fn put_full<F: FnMut(K, V)>(
+    pub fn put_full<T: LookupKey<N>, F: FnMut(K, V)>(
         &mut self,
-        name: &N,
+        name: &T,
         key: K,
         value: V,
         sink: &mut F,
     ) -> Result<Inserted<V>, TenantError>
         requires callable { F.IsAlwaysCallable sink.old }
-        ensures puts { On N.eq name.now (OfOpen (Puts L.rules (offers_of L.terms) L.budget_of K.eq S.hash_of key value))
+        ensures puts { On N.eq (T.names name.now) (OfOpen (Puts L.rules (offers_of L.terms) L.budget_of K.eq S.hash_of key value))
             self.old (kept_of result) self.new }
-        ensures unkept { IfOk result (λ inserted. IfSome (tenant (N.eq name.now) self.old) (λ map. inserted.unkept
+        ensures unkept { IfOk result (λ inserted. IfSome (tenant (T.names name.now) self.old) (λ map. inserted.unkept
             ≡ comes_back L.accepts_new K.eq key value L.rules (offers_of L.terms) map)) }
-        ensures rejects { IfSome (tenant (N.eq name.now) self.old) (λ map.
+        ensures rejects { IfSome (tenant (T.names name.now) self.old) (λ map.
             rejects L.accepts_new K.eq key value map ≡ true →
             (result ≡ Ok (record { kept = false; unkept = Some value }))
-            × (tenant (N.eq name.now) self.new ≡ Some map)) }
-        ensures passed { (passed : List (K × V)) × CalledWith F.FnMut sink.old passed sink.new × On N.eq name.now
+            × (tenant (T.names name.now) self.new ≡ Some map)) }
+        ensures passed { (passed : List (K × V)) × CalledWith F.FnMut sink.old passed sink.new × On N.eq (T.names name.now)
             (PassesOn (PutPasses L.rules (offers_of L.terms) L.budget_of K.eq S.hash_of key value)) self.old passed self.new }
         ensures callable { F.IsAlwaysCallable sink.new }
         ensures total { budgets L.budget_of self.new ≡ budgets L.budget_of self.old }
         ensures tenants { AreTenants K.eq L.cost_of L.account L.budget_of self.new }
     {
-        let Some(own) = self.tenants.get_mut(name) else {
+        let Some(own) = self.tenants.peek_mut(name) else {
             return Err(TenantError::NotOpen);
         };
         put_answer(insert_full(own, key, value, sink))
@@ -122,27 +122,27 @@ impl<
     /// # Errors
     ///
     /// Fails as `set_budget` does.
-    pub fn set_budget_with<F: FnMut(K, V)>(
+    pub fn set_budget_with<T: LookupKey<N>, F: FnMut(K, V)>(
         &mut self,
-        name: &N,
+        name: &T,
         budget: u64,
         sink: &mut F,
     ) -> Result<(), TenantError>
         requires callable { F.IsAlwaysCallable sink.old }
-        ensures sets { On N.eq name.now
-            (OfOpen (SetsBudget L.rules (L.rebudgeted budget) (is_over L.budget_of (N.eq name.now) budget self.old)))
+        ensures sets { On N.eq (T.names name.now)
+            (OfOpen (SetsBudget L.rules (L.rebudgeted budget) (is_over L.budget_of (T.names name.now) budget self.old)))
             self.old result self.new }
         ensures total { result ≡ Ok tt →
-            budgets L.budget_of self.new ≡ budgets_with L.budget_of (N.eq name.now) budget self.old }
+            budgets L.budget_of self.new ≡ budgets_with L.budget_of (T.names name.now) budget self.old }
         ensures unchanged { OnErr result (self.new ≡ self.old) }
-        ensures passed { (passed : List (K × V)) × CalledWith F.FnMut sink.old passed sink.new × On N.eq name.now
+        ensures passed { (passed : List (K × V)) × CalledWith F.FnMut sink.old passed sink.new × On N.eq (T.names name.now)
             (PassesOn (BudgetPasses L.rules (L.rebudgeted budget)
-            (is_over L.budget_of (N.eq name.now) budget self.old))) self.old passed self.new }
+            (is_over L.budget_of (T.names name.now) budget self.old))) self.old passed self.new }
         ensures callable { F.IsAlwaysCallable sink.new }
         ensures tenants { AreTenants K.eq L.cost_of L.account L.budget_of self.new }
     {
         let _len = self.tenants.len();
-        let Some(own) = self.tenants.get_mut(name) else {
+        let Some(own) = self.tenants.peek_mut(name) else {
             return Err(TenantError::NotOpen);
         };
         let sum = self.budgets - own.limiter().budget() as u128 + budget as u128;
@@ -167,15 +167,15 @@ impl<
     /// # Errors
     ///
     /// `NotOpen`: nothing has changed.
-    pub fn close_with<F: FnMut(K, V)>(
+    pub fn close_with<T: LookupKey<N>, F: FnMut(K, V)>(
         &mut self,
-        name: &N,
+        name: &T,
         sink: &mut F,
     ) -> Result<usize, TenantError>
         requires callable { F.IsAlwaysCallable sink.old }
-        ensures closes { On N.eq name.now (OfOpen Closes) self.old result self.new }
-        ensures total { budgets L.budget_of self.new ≡ budgets_with L.budget_of (N.eq name.now) 0 self.old }
-        ensures passed { (passed : List (K × V)) × CalledWith F.FnMut sink.old passed sink.new × On N.eq name.now
+        ensures closes { On N.eq (T.names name.now) (OfOpen Closes) self.old result self.new }
+        ensures total { budgets L.budget_of self.new ≡ budgets_with L.budget_of (T.names name.now) 0 self.old }
+        ensures passed { (passed : List (K × V)) × CalledWith F.FnMut sink.old passed sink.new × On N.eq (T.names name.now)
             (PassesOn ClosePasses) self.old passed self.new }
         ensures callable { F.IsAlwaysCallable sink.new }
         ensures tenants { AreTenants K.eq L.cost_of L.account L.budget_of self.new }

@@ -1,8 +1,8 @@
 //! Calls that read a tenant's map.
-ghost use Rattle.std.specs.Prelude.{◌≡◌, length, is_some};
+ghost use Rattle.std.specs.Prelude.{◌≡◌, ◌<◌, ◌^◌, length, is_some, IfOk, IfSome};
 ghost use Rattle.std.specs.Borrow.{sem};
 ghost use Rattle.std.specs.Map.{keys_of};
-ghost use Rattle.std.specs.Map.Iter.{ShowsInOrder, deref};
+ghost use Rattle.std.specs.Map.Iter.{ShowsInOrder, ShowsInReverse, deref, deref_pair};
 ghost use Rattle.lru_model.specs.Lists.{lookup};
 ghost use Rattle.lru_tenants.specs.Cache.{tenant, AreTenants, On};
 ghost use Rattle.lru_tenants.specs.TenantRuns.{read_of, Gets};
@@ -11,8 +11,7 @@ ghost use Rattle.lru_tenants.specs.Lending.{read};
 use crate::cache::TenantCache;
 use crate::error::TenantError;
 use lru_limits::Budgeted;
-use schnellru::{KeyHasher, LookupKey, LruMap};
-use std::collections::hash_map::Keys;
+use schnellru::{Iter, KeyHasher, Keys, LookupKey, LruMap};
 use std::hash::Hash;
 
 impl<N: Eq + Hash, K: Eq + Hash, V, L: Budgeted<K, V>, S: KeyHasher<K> + Copy> TenantCache<
@@ -37,14 +36,18 @@ impl<N: Eq + Hash, K: Eq + Hash, V, L: Budgeted<K, V>, S: KeyHasher<K> + Copy> T
     /// # Errors
     ///
     /// `NotOpen`: nothing has changed.
-    pub fn get<Q: LookupKey<K>>(&mut self, name: &N, key: &Q) -> Result<Option<&V>, TenantError>
+    pub fn get<T: LookupKey<N>, Q: LookupKey<K>>(
+        &mut self,
+        name: &T,
+        key: &Q,
+    ) -> Result<Option<&V>, TenantError>
         ensures* leaves { sem 𝓛 (ends_so N.row K.row V.row L.row S.row L.LinkType.row S.Hasher.row N.Hash K.Hash
             L.Budgeted L.LinkType.LinkType S.KeyHasher S.Hasher.Hasher self.entry
-            (On N.eq name.now (Gets (Q.names key.now)) self.old (read result))) }
+            (On N.eq (T.names name.now) (Gets (Q.names key.now)) self.old (read result))) }
         ensures value { read result
-            ≡ read_of (λ map. lookup (Q.names key.now) map.pairs) (tenant (N.eq name.now) self.old) }
+            ≡ read_of (λ map. lookup (Q.names key.now) map.pairs) (tenant (T.names name.now) self.old) }
     {
-        let Some(map) = self.tenants.get_mut(name) else {
+        let Some(map) = self.tenants.peek_mut(name) else {
             return Err(TenantError::NotOpen);
         };
         match map.get(key) {
@@ -64,11 +67,15 @@ impl<N: Eq + Hash, K: Eq + Hash, V, L: Budgeted<K, V>, S: KeyHasher<K> + Copy> T
     /// # Errors
     ///
     /// `NotOpen`.
-    pub fn peek<Q: LookupKey<K>>(&self, name: &N, key: &Q) -> Result<Option<&V>, TenantError>
+    pub fn peek<T: LookupKey<N>, Q: LookupKey<K>>(
+        &self,
+        name: &T,
+        key: &Q,
+    ) -> Result<Option<&V>, TenantError>
         ensures { read result
-            ≡ read_of (λ map. lookup (Q.names key.now) map.pairs) (tenant (N.eq name.now) self.now) }
+            ≡ read_of (λ map. lookup (Q.names key.now) map.pairs) (tenant (T.names name.now) self.now) }
     {
-        let Some(map) = self.tenants.get(name) else {
+        let Some(map) = self.tenants.peek(name) else {
             return Err(TenantError::NotOpen);
         };
         Ok(map.peek(key))
@@ -85,14 +92,41 @@ impl<N: Eq + Hash, K: Eq + Hash, V, L: Budgeted<K, V>, S: KeyHasher<K> + Copy> T
     /// # Errors
     ///
     /// `NotOpen`.
-    pub fn contains<Q: LookupKey<K>>(&self, name: &N, key: &Q) -> Result<bool, TenantError>
+    pub fn contains<T: LookupKey<N>, Q: LookupKey<K>>(
+        &self,
+        name: &T,
+        key: &Q,
+    ) -> Result<bool, TenantError>
         ensures { result
-            ≡ read_of (λ map. is_some (lookup (Q.names key.now) map.pairs)) (tenant (N.eq name.now) self.now) }
+            ≡ read_of (λ map. is_some (lookup (Q.names key.now) map.pairs)) (tenant (T.names name.now) self.now) }
     {
-        let Some(map) = self.tenants.get(name) else {
+        let Some(map) = self.tenants.peek(name) else {
             return Err(TenantError::NotOpen);
         };
         Ok(map.contains(key))
+    }
+
+    /// Returns an iterator over a tenant's entries, newest first. The order stays.
+    ///
+    /// ```
+    /// assert!(rt; cache.iter(&1)?.next() == Some((&7, &2)));
+    /// ```
+    ///
+    /// Cost: `O(1)` expected, and `O(1)` for each step from either end.
+    ///
+    /// # Errors
+    ///
+    /// `NotOpen`.
+    pub fn iter<T: LookupKey<N>>(&self, name: &T) -> Result<Iter<'_, K, V, L>, TenantError>
+        ensures rest { result ≡ read_of (λ map. map.pairs) (tenant (T.names name.now) self.now) }
+        ensures runs { IfOk result (λ walk. ShowsInOrder (deref_pair {K = K} {X = V})) }
+        ensures runs_back { IfOk result (λ walk. ShowsInReverse (deref_pair {K = K} {X = V})) }
+        ensures fits { IfSome (tenant (T.names name.now) self.now) (λ map. length map.pairs < 2 ^ 64) }
+    {
+        let Some(map) = self.tenants.peek(name) else {
+            return Err(TenantError::NotOpen);
+        };
+        Ok(map.iter())
     }
 
     /// Returns how many entries a tenant has.
@@ -106,10 +140,10 @@ impl<N: Eq + Hash, K: Eq + Hash, V, L: Budgeted<K, V>, S: KeyHasher<K> + Copy> T
     /// # Errors
     ///
     /// `NotOpen`.
-    pub fn entries(&self, name: &N) -> Result<usize, TenantError>
-        ensures { result ≡ read_of (λ map. length map.pairs) (tenant (N.eq name.now) self.now) }
+    pub fn entries<T: LookupKey<N>>(&self, name: &T) -> Result<usize, TenantError>
+        ensures { result ≡ read_of (λ map. length map.pairs) (tenant (T.names name.now) self.now) }
     {
-        let Some(map) = self.tenants.get(name) else {
+        let Some(map) = self.tenants.peek(name) else {
             return Err(TenantError::NotOpen);
         };
         Ok(map.len())
@@ -126,10 +160,10 @@ impl<N: Eq + Hash, K: Eq + Hash, V, L: Budgeted<K, V>, S: KeyHasher<K> + Copy> T
     /// # Errors
     ///
     /// `NotOpen`.
-    pub fn budget(&self, name: &N) -> Result<u64, TenantError>
-        ensures { result ≡ read_of (λ map. L.budget_of map.limiter) (tenant (N.eq name.now) self.now) }
+    pub fn budget<T: LookupKey<N>>(&self, name: &T) -> Result<u64, TenantError>
+        ensures { result ≡ read_of (λ map. L.budget_of map.limiter) (tenant (T.names name.now) self.now) }
     {
-        let Some(map) = self.tenants.get(name) else {
+        let Some(map) = self.tenants.peek(name) else {
             return Err(TenantError::NotOpen);
         };
         Ok(map.limiter().budget())
@@ -146,11 +180,11 @@ impl<N: Eq + Hash, K: Eq + Hash, V, L: Budgeted<K, V>, S: KeyHasher<K> + Copy> T
     /// # Errors
     ///
     /// `NotOpen`.
-    pub fn cost(&self, name: &N) -> Result<u64, TenantError>
-        ensures cost { result ≡ read_of (λ map. L.account map.limiter) (tenant (N.eq name.now) self.now) }
+    pub fn cost<T: LookupKey<N>>(&self, name: &T) -> Result<u64, TenantError>
+        ensures cost { result ≡ read_of (λ map. L.account map.limiter) (tenant (T.names name.now) self.now) }
         ensures tenants { AreTenants K.eq L.cost_of L.account L.budget_of self.now }
     {
-        let Some(map) = self.tenants.get(name) else {
+        let Some(map) = self.tenants.peek(name) else {
             return Err(TenantError::NotOpen);
         };
         Ok(map.limiter().account())
@@ -163,7 +197,7 @@ impl<N: Eq + Hash, K: Eq + Hash, V, L: Budgeted<K, V>, S: KeyHasher<K> + Copy> T
     /// ```
     ///
     /// Cost: `O(1)`, and `O(1)` for each name.
-    pub fn names(&self) -> Keys<'_, N, LruMap<K, V, L, S>>
+    pub fn names(&self) -> Keys<'_, N, LruMap<K, V, L, S>, usize>
         ensures names { result ≡ keys_of self.now.tenants }
         ensures runs { ShowsInOrder (deref {X = N}) }
     {

@@ -82,6 +82,7 @@ impl<N: Eq + Hash, K: Eq + Hash, V, L: Budgeted<K, V>, S: KeyHasher<K> + Copy> T
         ensures within { result ≤ budgets L.budget_of self.now }
         ensures limit { IfSome self.now.total_limit (λ limit. result ≤ limit) }
     {
+        let _len = self.tenants.len();
         let mut sum = 0u128;
         for map in self.tenants.values() {
             sum += map.limiter().account() as u128;

@@ -1,6 +1,6 @@
 //! The calls on the entries of a tenant.
 
-use super::{Budget, TenantCache, TenantError};
+use super::{Budget, Entries, TenantCache, TenantError};
 use crate::Inserted;
 use crate::keys::Borrowed;
 use core::borrow::Borrow;
@@ -32,8 +32,12 @@ where
     /// assert_eq!(cache.put(&1, 8, 1), Ok(true));
     /// assert_eq!(cache.put(&1, 9, 4), Ok(false));
     /// ```
-    pub fn put(&mut self, name: &N, key: K, value: V) -> Result<bool, TenantError> {
-        self.cache.put(name, key, value)
+    pub fn put<T>(&mut self, name: &T, key: K, value: V) -> Result<bool, TenantError>
+    where
+        N: Borrow<T>,
+        T: Eq + Hash + ?Sized,
+    {
+        self.cache.put(&Borrowed(name), key, value)
     }
 
     /// Inserts as [`put`](Self::put) does, and passes the evicted entries to the callback, oldest first. The callback also
@@ -51,8 +55,12 @@ where
     /// assert_eq!(cache.put_with(&1, 8, 3, |key, _| left = key), Ok(true));
     /// assert_eq!(left, 7);
     /// ```
-    pub fn put_with(&mut self, name: &N, key: K, value: V, mut lost: impl FnMut(K, V)) -> Result<bool, TenantError> {
-        self.cache.put_with(name, key, value, &mut lost)
+    pub fn put_with<T>(&mut self, name: &T, key: K, value: V, mut lost: impl FnMut(K, V)) -> Result<bool, TenantError>
+    where
+        N: Borrow<T>,
+        T: Eq + Hash + ?Sized,
+    {
+        self.cache.put_with(&Borrowed(name), key, value, &mut lost)
     }
 
     /// Inserts as [`put_with`](Self::put_with) does, and returns the value that the tenant does not keep: the replaced one,
@@ -69,14 +77,18 @@ where
     /// let replaced = cache.put_full(&1, 7, 3, |_, _| {}).unwrap();
     /// assert_eq!((replaced.kept, replaced.unkept), (true, Some(2)));
     /// ```
-    pub fn put_full(
+    pub fn put_full<T>(
         &mut self,
-        name: &N,
+        name: &T,
         key: K,
         value: V,
         mut lost: impl FnMut(K, V),
-    ) -> Result<Inserted<V>, TenantError> {
-        self.cache.put_full(name, key, value, &mut lost)
+    ) -> Result<Inserted<V>, TenantError>
+    where
+        N: Borrow<T>,
+        T: Eq + Hash + ?Sized,
+    {
+        self.cache.put_full(&Borrowed(name), key, value, &mut lost)
     }
 
     /// Returns a tenant's value of a key, and makes its entry the tenant's newest.
@@ -93,12 +105,14 @@ where
     /// # cache.put(&1, 7, 2).unwrap();
     /// assert_eq!(cache.get(&1, &7), Ok(Some(&2)));
     /// ```
-    pub fn get<Q>(&mut self, name: &N, key: &Q) -> Result<Option<&V>, TenantError>
+    pub fn get<T, Q>(&mut self, name: &T, key: &Q) -> Result<Option<&V>, TenantError>
     where
+        N: Borrow<T>,
+        T: Eq + Hash + ?Sized,
         K: Borrow<Q>,
         Q: Eq + Hash + ?Sized,
     {
-        self.cache.get(name, &Borrowed(key))
+        self.cache.get(&Borrowed(name), &Borrowed(key))
     }
 
     /// Returns a tenant's value of a key. If the key is not there, inserts it with the value that the closure returns.
@@ -116,8 +130,12 @@ where
     /// assert_eq!(cache.get_or_put(&1, 7, || 3), Ok(Some(&2)));
     /// assert_eq!(cache.get_or_put(&1, 8, || 1), Ok(Some(&1)));
     /// ```
-    pub fn get_or_put(&mut self, name: &N, key: K, make: impl FnOnce() -> V) -> Result<Option<&V>, TenantError> {
-        self.cache.get_or_put(name, key, make)
+    pub fn get_or_put<T>(&mut self, name: &T, key: K, make: impl FnOnce() -> V) -> Result<Option<&V>, TenantError>
+    where
+        N: Borrow<T>,
+        T: Eq + Hash + ?Sized,
+    {
+        self.cache.get_or_put(&Borrowed(name), key, make)
     }
 
     /// Returns a tenant's value of a key. The order of use stays.
@@ -134,12 +152,14 @@ where
     /// # cache.put(&1, 7, 2).unwrap();
     /// assert_eq!(cache.peek(&1, &7), Ok(Some(&2)));
     /// ```
-    pub fn peek<Q>(&self, name: &N, key: &Q) -> Result<Option<&V>, TenantError>
+    pub fn peek<T, Q>(&self, name: &T, key: &Q) -> Result<Option<&V>, TenantError>
     where
+        N: Borrow<T>,
+        T: Eq + Hash + ?Sized,
         K: Borrow<Q>,
         Q: Eq + Hash + ?Sized,
     {
-        self.cache.peek(name, &Borrowed(key))
+        self.cache.peek(&Borrowed(name), &Borrowed(key))
     }
 
     /// Returns whether a tenant has an entry of a key. The order of use stays.
@@ -156,12 +176,14 @@ where
     /// # cache.put(&1, 7, 2).unwrap();
     /// assert_eq!(cache.contains(&1, &7), Ok(true));
     /// ```
-    pub fn contains<Q>(&self, name: &N, key: &Q) -> Result<bool, TenantError>
+    pub fn contains<T, Q>(&self, name: &T, key: &Q) -> Result<bool, TenantError>
     where
+        N: Borrow<T>,
+        T: Eq + Hash + ?Sized,
         K: Borrow<Q>,
         Q: Eq + Hash + ?Sized,
     {
-        self.cache.contains(name, &Borrowed(key))
+        self.cache.contains(&Borrowed(name), &Borrowed(key))
     }
 
     /// Removes a key of a tenant, and returns its value. The tenant's other entries keep their order.
@@ -178,12 +200,57 @@ where
     /// # cache.put(&1, 7, 2).unwrap();
     /// assert_eq!((cache.remove(&1, &7), cache.remove(&1, &7)), (Ok(Some(2)), Ok(None)));
     /// ```
-    pub fn remove<Q>(&mut self, name: &N, key: &Q) -> Result<Option<V>, TenantError>
+    pub fn remove<T, Q>(&mut self, name: &T, key: &Q) -> Result<Option<V>, TenantError>
     where
+        N: Borrow<T>,
+        T: Eq + Hash + ?Sized,
         K: Borrow<Q>,
         Q: Eq + Hash + ?Sized,
     {
-        self.cache.remove(name, &Borrowed(key))
+        self.cache.remove(&Borrowed(name), &Borrowed(key))
+    }
+
+    /// Returns an iterator over a tenant's entries, newest first. The order of use stays.
+    ///
+    /// Cost: `O(1)` expected, and `O(1)` for each step from either end.
+    ///
+    /// # Errors
+    ///
+    /// `NotOpen`.
+    ///
+    /// ```
+    /// # let mut cache = jeerdurian::tenants::TenantCache::<u64, u64, u64>::new();
+    /// # cache.open(1, 3).unwrap();
+    /// # cache.put(&1, 7, 2).unwrap();
+    /// assert!(cache.iter(&1).unwrap().eq([(&7, &2)]));
+    /// ```
+    pub fn iter<T>(&self, name: &T) -> Result<Entries<'_, K, V, L::LinkType>, TenantError>
+    where
+        N: Borrow<T>,
+        T: Eq + Hash + ?Sized,
+    {
+        self.cache.iter(&Borrowed(name))
+    }
+
+    /// Removes a tenant's entries for which the closure returns false. It is called with each entry, oldest first.
+    ///
+    /// # Errors
+    ///
+    /// `NotOpen`: nothing has changed.
+    ///
+    /// ```
+    /// # let mut cache = jeerdurian::tenants::TenantCache::<u64, u64, u64>::new();
+    /// # cache.open(1, 3).unwrap();
+    /// # cache.put(&1, 7, 2).unwrap();
+    /// assert_eq!((cache.put(&1, 8, 1), cache.retain(&1, |key, _| *key == 8)), (Ok(true), Ok(())));
+    /// assert_eq!((cache.contains(&1, &7), cache.cost(&1)), (Ok(false), Ok(1)));
+    /// ```
+    pub fn retain<T>(&mut self, name: &T, keep: impl FnMut(&K, &V) -> bool) -> Result<(), TenantError>
+    where
+        N: Borrow<T>,
+        T: Eq + Hash + ?Sized,
+    {
+        self.cache.retain(&Borrowed(name), keep)
     }
 
     /// Drops the entries of a tenant, which stays open.
@@ -198,7 +265,11 @@ where
     /// # cache.put(&1, 7, 2).unwrap();
     /// assert_eq!((cache.clear(&1), cache.entries(&1), cache.cost(&1)), (Ok(()), Ok(0), Ok(0)));
     /// ```
-    pub fn clear(&mut self, name: &N) -> Result<(), TenantError> {
-        self.cache.clear(name)
+    pub fn clear<T>(&mut self, name: &T) -> Result<(), TenantError>
+    where
+        N: Borrow<T>,
+        T: Eq + Hash + ?Sized,
+    {
+        self.cache.clear(&Borrowed(name))
     }
 }

@@ -1,4 +1,4 @@
-use Rattle.std.proofs.Common.{Some, None, Ok, refl, sym, ap, ◌∙◌, string_eq}
+use Rattle.std.proofs.Common.{Some, None, Ok, refl, sym, ap, ◌∙◌}
 use Rattle.std.specs.String.{string_eq_equiv}
 use Rattle.lru_limits.specs.Texts.{names_text, names_text-lawful}
 use Rattle.lru_tenants.specs.Lending.{read}
@@ -6,23 +6,23 @@ use Rattle.example_responses.proofs.LookUps.{distinct-keys, fresh-before, stale-
 use Rattle.example_responses.proofs.cache.fresh_response.Goals as goal
 
 pub returns-in_default-clause-finds : goal.returns-in_default-clause-finds
-returns-in_default-clause-finds c = on-finds (names_text c.args.path.now) c.args.now c.args.host.now
+returns-in_default-clause-finds c = on-finds (names_text c.args.path.now) c.args.now (names_text c.args.host.now)
     c.args.entries.now _
     (read c.get.result) None c.get.follows.holds-at-none
     (ap read c.in_ok-get.was ∙ ap Ok (sym c.copied.ensures ∙ c.in_default.is)) refl
 
 pub returns-then-now-response-clause-finds : goal.returns-then-now-response-clause-finds
-returns-then-now-response-clause-finds c = on-finds (names_text c.args.path.now) c.args.now c.args.host.now
+returns-then-now-response-clause-finds c = on-finds (names_text c.args.path.now) c.args.now (names_text c.args.host.now)
     c.args.entries.now _ (read c.get.result) (Some c.in-Some.response) c.get.follows.holds-at-none
     (ap read c.in_ok-get.was ∙ ap Ok (sym c.copied.ensures ∙ c.in-Some.is))
     (fresh-before c.args.now c.in-Some.response c.if-now-response.true)
 
 pub returns-clause-finds : goal.returns-clause-finds
 returns-clause-finds c =
-    stale-removed string_eq_equiv string_eq_equiv (names_text c.args.path.now)
-    ((names_text-lawful (λ bytes. bytes)).one c.args.path.now) c.args.now _ c.args.host.now
+    stale-removed string_eq_equiv (names_text c.args.path.now)
+    ((names_text-lawful (λ bytes. bytes)).one c.args.path.now) c.args.now _ (names_text c.args.host.now)
     c.args.entries.now _ _ c.in-Some.response (λ limiter k v. refl) _ (read c.get.result) c.get.follows.holds-at-none
     (ap read c.in_ok-get.was ∙ ap Ok (sym c.copied.ensures ∙ c.in-Some.is))
     (stale-from c.args.now c.in-Some.response c.if-now-response.false)
-    (distinct-keys c.get.follows.lender-at-none (string_eq c.args.host.now) c.len-len.ensures.tenants)
+    (distinct-keys c.get.follows.lender-at-none (names_text c.args.host.now) c.len-len.ensures.tenants)
     c.in_ok-remove.ensures.removes

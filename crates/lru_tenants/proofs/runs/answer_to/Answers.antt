@@ -8,5 +8,5 @@ pub returns-in-Cost : goal.returns-in-Cost
 returns-in-Cost g c = rw (c.in-Cost.is) (
   tenant (g.N.PartialEq.eq c.in-Cost.name) c.args.cache.now,
   (ap answers.Cost c.cost.ensures.cost, refl),
-  leaves-same g.met.N.Eq.laws c.in-Cost.name c.args.cache.now,
+  leaves-same (g.N.PartialEq.eq c.in-Cost.name) (g.met.N.Eq.laws.congr c.in-Cost.name) c.args.cache.now,
 )

@@ -1,4 +1,4 @@
-use Rattle.std.proofs.Common.{cond, ◌≡◌, ◌++◌, ◌∷◌, [], arith, refl, sym, ap, ◌∙◌, subst, length, append_assoc}
+use Rattle.std.proofs.Common.{◌≡◌, ◌++◌, ◌∷◌, [], arith, refl, sym, ap, ◌∙◌, subst, length, append_assoc}
 use Rattle.std.proofs.lemmas.List.{nil_from_length}
 use Rattle.std.specs.Vec.Iter.{into_iter_items}
 use Rattle.std.specs.Prelude.{IfSome}
@@ -33,11 +33,11 @@ loop-call-preserved g c =
     let answer = c.make_tenant_call.result in
     let new = c.make_tenant_call.new.cache in
     let (dids, runs, steps) = h.run in
-    let step = subst (λ limit. On g.N.PartialEq.eq (named call)
+    let step = subst (λ limit. On g.N.PartialEq.eq (g.N.PartialEq.eq (named call))
     (TenantStep g.L.Limiter.rules (offers_of g.L.Admission.terms) g.L.Summing.cost_of g.L.Summing.account
     g.L.Budgeted.budget_of g.K.PartialEq.eq g.S.KeyHasher.hash_of (fresh made max first) limit call)
     c.loop-call.cache answer new)
-    h.total_limit (subst (λ f. On g.N.PartialEq.eq (named call)
+    h.total_limit (subst (λ f. On g.N.PartialEq.eq (g.N.PartialEq.eq (named call))
     (TenantStep g.L.Limiter.rules (offers_of g.L.Admission.terms) g.L.Summing.cost_of g.L.Summing.account
     g.L.Budgeted.budget_of g.K.PartialEq.eq g.S.KeyHasher.hash_of f c.loop-call.cache.total_limit call)
     c.loop-call.cache answer
@@ -48,21 +48,20 @@ loop-call-preserved g c =
       left = omega (arith, c.in-Some.ensures.steps.1, h.left, ap length c.in-Some.ensures.steps.0);
       run = rw c.push_reserved.ensures.items (
         dids ++ record {
-          name = named call;
+          names = g.N.PartialEq.eq (named call);
           found = tenant (g.N.PartialEq.eq (named call)) c.loop-call.cache;
           left =
               step.0;
         } ∷ [],
-        run-push g.N.PartialEq.eq dids first c.loop-call.cache new (named call) step.0 runs step.2,
-        steps-push named (KeptStep g.L.Limiter.rules (offers_of g.L.Admission.terms) g.L.Summing.cost_of g.L.Summing.account
+        run-push g.N.PartialEq.eq dids first c.loop-call.cache new (g.N.PartialEq.eq (named call)) step.0
+            runs step.2,
+        steps-push g.N.PartialEq.eq named (KeptStep g.L.Limiter.rules (offers_of g.L.Admission.terms) g.L.Summing.cost_of g.L.Summing.account
             g.L.Budgeted.budget_of g.K.PartialEq.eq g.S.KeyHasher.hash_of (fresh made max first) first.total_limit)
             c.loop-call.yielded c.loop-call.answers.items dids call answer _ step.0 steps (
               step.1,
               subst (λ t. IfSome t (IsTenant g.K.PartialEq.eq g.L.Summing.cost_of g.L.Summing.account
                   g.L.Budgeted.budget_of))
-                  (step.2.tenants (named call) ∙ ap
-                  (λ b. cond b step.0 (tenant (g.N.PartialEq.eq (named call)) c.loop-call.cache))
-                  (g.met.N.Eq.laws.refl (named call)))
+                  step.2.own
                   (IfSome-lookup_from_All (IsTenant g.K.PartialEq.eq g.L.Summing.cost_of g.L.Summing.account
                   g.L.Budgeted.budget_of) (g.N.PartialEq.eq (named call)) new.tenants
                   c.make_tenant_call.ensures.tenants),
@@ -88,6 +87,6 @@ returns-clause-own g c =
     g.L.Budgeted.budget_of g.K.PartialEq.eq g.S.KeyHasher.hash_of
     (fresh g.L.Budgeted.made (g.L.LinkType.LinkType.number g.L.LinkType.LinkType.MAX) c.args.cache.now)
     c.args.cache.now.total_limit in
-    let own = subst (λ calls. AreSteps named Does calls c.loop-call.answers.items dids) all steps in
-    λ name. own-run named Does (λ n. g.N.PartialEq.eq n name) _ _ dids _ _ own
+    let own = subst (λ calls. AreSteps g.N.PartialEq.eq named Does calls c.loop-call.answers.items dids) all steps in
+    λ name. own-run g.N.PartialEq.eq named Does name _ _ dids _ _ own
     (c.each_tenant_has_its_own_run.ensures.own name dids c.args.cache.now c.loop-call.cache runs)

@@ -14,7 +14,7 @@ invariant-loop-call g l = record {
   left : into_iter_len l.call-iterator ≡ length (into_iter_items l.call-iterator);
   run : (dids : List (Did g.row.N.Denot g.row.K.Denot g.row.V.Denot g.row.L.Denot g.row.S.Denot)) × CacheRun
       g.N.PartialEq.eq l.fn.cache dids l.cache
-      × AreSteps named (KeptStep g.L.Limiter.rules (offers_of g.L.Admission.terms) g.L.Summing.cost_of g.L.Summing.account
+      × AreSteps g.N.PartialEq.eq named (KeptStep g.L.Limiter.rules (offers_of g.L.Admission.terms) g.L.Summing.cost_of g.L.Summing.account
       g.L.Budgeted.budget_of g.K.PartialEq.eq g.S.KeyHasher.hash_of
       (fresh g.L.Budgeted.made (g.L.LinkType.LinkType.number g.L.LinkType.LinkType.MAX) l.fn.cache)
       l.fn.cache.total_limit)

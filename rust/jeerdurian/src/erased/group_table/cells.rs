@@ -1,6 +1,5 @@
 // Erased from crates/group_table/src/cells.rt: do not edit.
-//! Places for entries in one block of memory. No place has a tag: whoever owns the places knows which of them hold an
-//! entry.
+//! Places for entries in one block of memory. Only the owner of the places knows which of them hold an entry.
 
 #[allow(unused_imports)]
 use crate::rattle_std::prelude::*;
@@ -79,7 +78,7 @@ pub(crate) fn allocate<T, A: Allocator>(
 pub(crate) fn deallocate<T, A: Allocator>(alloc: &A, block: Block<T>, count: usize, cells: Cells<T>, deed: Deed<T, A>) {
     let Cells { mark: _ } = cells;
     let Deed { mark: _ } = deed;
-    // SAFETY: `deed` says that this allocator gave this block with these bytes, and no place holds an entry.
+    // SAFETY: by `deed`, this allocator gave this block with these bytes. No place holds an entry.
     unsafe {
         alloc.deallocate(block.start as *mut u8, count * size_of::<T>(), align_of::<T>());
     }

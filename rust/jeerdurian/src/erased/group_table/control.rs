@@ -1,6 +1,5 @@
 // Erased from crates/group_table/src/control.rt: do not edit.
-//! Control bytes: one for each bucket, and 16 more, which repeat the first buckets, so that a group is read in one
-//! piece.
+//! Control bytes: one for each bucket, and 16 more, which repeat the first buckets. So a group is read in one piece.
 
 #[allow(unused_imports)]
 use crate::rattle_std::prelude::*;
@@ -38,8 +37,8 @@ impl Control {
     }
 
     // Returns whether there are no buckets, before a search for this hash. Without buckets a search begins at bucket 0;
-    // with buckets it seldom does. So most searches test only where they begin, which they compute anyway. The sum
-    // keeps the compiler from joining both tests.
+    // with buckets it seldom does. So most searches test only where they begin, which they compute anyway. The sum in
+    // the second test keeps the compiler from joining the tests.
     #[inline]
     pub(crate) fn is_empty_at(&self, hash: u64) -> bool {
         hash as usize & self.last == 0 && self.bytes.len() + self.last == 0
@@ -91,8 +90,8 @@ pub(crate) fn tag_of(hash: u64) -> u8 {
     (hash >> 57) as u8
 }
 
-// Returns the control byte of a bucket whose entry was taken out: `EMPTY` if this gives growth left back, and `DELETED`
-// otherwise. `gives_room` is all ones or 0.
+// Returns the control byte of a bucket whose entry was taken out: `EMPTY` if `gives_room` is all ones, and `DELETED` if
+// it is 0.
 #[inline]
 pub(crate) fn emptied_byte(gives_room: usize) -> u8 {
     (gives_room & 0x7f) as u8 | DELETED

@@ -14,9 +14,8 @@ struct Row<T> {
     deed: Deed<T, Global>,
 }
 
-// Without places there is no block. Only the control bytes know the number of places.
-//
-// So a caller of `free` must show that no place holds an entry.
+// Without places there is no block. Only the control bytes know the number of places, so the caller of `free` gives it.
+// The caller also shows that no place holds an entry.
 pub(crate) struct Entries<T> {
     row: Option<Row<T>>,
     alloc: Global,

@@ -4,15 +4,15 @@
 #[allow(unused_imports)]
 use crate::rattle_std::prelude::*;
 
-/// The type of a link. A link is the number of a bucket, below `MAX`, or `MAX` itself, which means no bucket.
+/// The type of a link. A link is the number of a bucket, or `MAX`, which means no bucket.
 ///
-/// A table with links of type `N` has fewer than `N::MAX` buckets, so the width of the links limits its size. It is
-/// implemented for `u8`, `u16`, `u32` and `usize`.
+/// A table with links of type `N` has fewer than `N::MAX` buckets, so the width of the links limits its size. The trait
+/// is implemented for `u8`, `u16`, `u32` and `usize`.
 pub trait LinkType: Copy {
-    /// No bucket. As a number, it is one more than the greatest number of a link, and at least 255.
+    /// No bucket. Its number is at least 255, and greater than the number of every bucket.
     const MAX: Self;
 
-    /// Returns the link of this number, which is below `MAX`; no bits are cut off.
+    /// Returns the link of this number. No bits are cut off.
     fn from_usize(value: usize) -> Self;
 
     /// Returns the number of this link.

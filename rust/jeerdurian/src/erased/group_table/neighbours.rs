@@ -1,5 +1,5 @@
 // Erased from crates/group_table/src/neighbours.rt: do not edit.
-//! Whether the 16 neighbouring buckets around a bucket contain an empty one.
+//! Whether every 16 neighbouring buckets around a bucket contain an empty one.
 
 #[allow(unused_imports)]
 use crate::rattle_std::prelude::*;
@@ -24,12 +24,12 @@ fn ones_if_less(low: u32, high: u16) -> usize {
 }
 
 // Returns all ones if every 16 neighbouring buckets around this one contain an empty one, and 0 otherwise. They do if
-// fewer than 16 used buckets lie between the last empty bucket before this one and the first after it.
+// fewer than 16 used buckets lie between the nearest empty buckets on both sides.
 #[inline]
 pub(crate) fn ones_if_empty_neighbours(control: &Control, b: usize) -> usize {
-    // `used` has a bit for each used bucket from this one up to the next empty one. It is less than the mask of the
-    // empty buckets before exactly if these used buckets and those directly before this one are fewer than 16 together.
-    // Comparing the masks takes fewer instructions than two counts and their sum.
+    // `used` has a bit for each used bucket from this one up to the next empty one. Fewer than 16 used buckets are in a
+    // row around this one if and only if `used` is less than the mask of the empty buckets before. Comparing the masks
+    // takes fewer instructions than two counts and their sum.
     let used = lanes_below(empty_from(control, b));
     ones_if_less(used, empty_before(control, b))
 }

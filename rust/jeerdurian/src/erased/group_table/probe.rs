@@ -55,8 +55,8 @@ fn search_group<T, F: FnMut(&T) -> bool>(
     if group.match_empty() != 0 { Searched::Ended } else { Searched::GoesOn }
 }
 
-// Calls `f` with the entries with the tag of the hash, group by group, until it accepts one. `inline(always)`: a call
-// would read its arguments before the search, even if the search compares no entry.
+// Calls `f` with each entry that has the tag of the hash, group by group, until `f` accepts one. `inline(always)`: a
+// call would read its arguments before the search, even if the search compares no entry.
 #[inline(always)]
 pub(crate) fn find_bucket<T, F: FnMut(&T) -> bool>(
     control: &Control,

@@ -18,7 +18,7 @@ mod in_place;
 mod moves;
 mod relocation;
 
-/// A hash table of numbered buckets, each of which is empty, deleted or full.
+/// A hash table of numbered buckets. Each bucket is empty, deleted or full.
 ///
 /// It sees no key and stores no hash: the caller gives the hash, and a search calls the caller's closure. An entry
 /// keeps its bucket until it is taken out, or all entries are moved. `docs/TABLE.md` explains the rules.
@@ -80,10 +80,10 @@ impl<T> Table<T> {
         Ok(Table { control, entries, growth_left: full_capacity(buckets), len: 0, placed: 0, moved: 0 })
     }
 
-    /// Returns the bucket of the first entry that `f` accepts among those whose tag is the hash's top 7 bits.
+    /// Returns the bucket of the first entry that `f` accepts.
     ///
-    /// `f` is called with one entry after another in the order of the search. Only tests show that it is called at most
-    /// once with each. `None` means that `f` rejected each entry of that hash.
+    /// `f` is called with entries whose tag is the hash's top 7 bits, in the order of the search. Only tests show that
+    /// `f` is called at most once with each. `None` means that `f` rejected each entry of that hash.
     #[inline]
     pub fn find<F: FnMut(&T) -> bool>(&self, hash: u64, f: F) -> Option<usize> {
         if self.control.is_empty_at(hash) {
@@ -109,8 +109,9 @@ impl<T> Table<T> {
 
     /// Takes the entry out of a full bucket.
     ///
-    /// If every 16 neighbouring buckets around it contain an empty bucket, as in a table of up to 16 buckets, it
-    /// becomes empty, which gives growth left back. Otherwise it becomes deleted, so that searches still go past it.
+    /// The bucket becomes empty if every 16 neighbouring buckets around it contain an empty one, as in each table of up
+    /// to 16 buckets. This gives growth left back. Otherwise the bucket becomes deleted, so that searches still go past
+    /// it.
     #[inline(always)]
     pub fn take(&mut self, b: usize) -> T {
         full!(self.control.byte(b));
@@ -122,7 +123,7 @@ impl<T> Table<T> {
         empty_bucket(&mut self.control, &mut self.entries, b, byte)
     }
 
-    /// Puts an entry with this hash into the first free bucket in the order of a search, and returns its number. There
+    /// Puts an entry with this hash into the first free bucket in the order of a search, and returns the bucket. There
     /// must be growth left.
     ///
     /// Filling an empty bucket takes one of the growth left; filling a deleted bucket takes none. `place` asks for no
@@ -142,7 +143,7 @@ impl<T> Table<T> {
         b
     }
 
-    /// Does what `place` does, but growth need not be left: if none is, only a deleted bucket may take the entry.
+    /// Does what `place` does. If no growth is left, only a deleted bucket may take the entry.
     ///
     /// # Errors
     ///

@@ -6,10 +6,9 @@ use crate::rattle_std::prelude::*;
 
 /// A device of numbered blocks, such as a disk or a file. Any call may fail.
 ///
-/// The contract says what a read returns, and what a crash may leave. Between two syncs a crash may leave each block as
-/// it was at the last `sync`, or as it was written since, or torn: writes may be lost and reordered. A write changes
-/// only its own block, also if it fails or the machine stops in the middle of it. After a `sync` that failed, no clause
-/// says what the blocks are, and no call may be made.
+/// Between two syncs a crash may leave each block as it was at the last `sync`, or as it was written since, or torn:
+/// writes may be lost and reordered. A write changes only its own block, even if it fails or the machine stops in the
+/// middle. After a `sync` that failed, no clause says what the blocks are, and no call may be made.
 ///
 /// For most devices a contract sees the block itself: `ghost seen = { λ block. block };`. Contracts do not distinguish
 /// blocks that have the same `seen`.

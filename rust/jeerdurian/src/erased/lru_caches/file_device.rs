@@ -40,8 +40,8 @@ impl ::core::fmt::Display for FileError {
 /// A device of the blocks of a file, of `N` bytes each.
 ///
 /// Nothing is proved of the bytes that an operating system returns or keeps. So contracts see the record of the calls
-/// on the file, which takes no memory (`specs/Files`). A read returns what was written there last under the premise
-/// `IsHonest`: each read of the file returned what the record says.
+/// on the file, which takes no memory (`specs/Files`). Under the premise `IsHonest`, a read returns what was written
+/// there last. The premise says that each read of the file returned what the record says.
 ///
 /// [`HashedFileDevice`] also finds torn and foreign blocks.
 ///

@@ -83,7 +83,7 @@ impl<K: Eq + Hash, V: Copy, F: Fn(&K) -> V, L: Insertion<K, V, K>, S: KeyHasher<
     /// Returns what the function returns at a key: the stored result, or else the result of a call, which is stored.
     ///
     /// If the memo runs out of memory or its limiter rejects the result, the result is returned without being stored.
-    /// If the function returns different results at equal keys, each key may get the result of another.
+    /// If the function returns different results at equal keys, each key may get the result of another equal key.
     ///
     /// ```text
     /// assert_eq!(rt; (squares.answer(3), squares.len()), (9, 1));

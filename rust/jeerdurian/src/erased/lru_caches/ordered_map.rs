@@ -19,11 +19,9 @@ mod more;
 
 /// A hash map whose entries are in the order of insertion, oldest first.
 ///
-/// An insert of a key that is there keeps the key's place. A removal keeps the order of the other entries, and takes
-/// `O(1)`. The map evicts nothing: if its table cannot grow, an insert fails and changes nothing.
+/// The map evicts nothing: if its table cannot grow, an insert fails and changes nothing.
 ///
-/// In the examples of the calls, `map` contains (1, 11) and (2, 20), of which the last is the newest, unless the
-/// example makes another map.
+/// In the examples of the calls, `map` contains (1, 11) and the newest, (2, 20).
 ///
 /// ```text
 /// let mut map: OrderedMap<u64, u64> = OrderedMap::new(alloc);
@@ -207,7 +205,7 @@ impl<K: Eq + Hash, V, S: KeyHasher<K>> OrderedMap<K, V, S> {
         Keys::new(self.iter())
     }
 
-    /// Returns an iterator over the values, in the order of the entries, oldest first.
+    /// Returns an iterator over the values, oldest first.
     ///
     /// ```text
     /// assert!(rt; map.keys().next() == Some(&1) && map.values().next_back() == Some(&20));
@@ -268,8 +266,8 @@ impl<K: Eq + Hash, V, S: KeyHasher<K>> OrderedMap<K, V, S> {
     ///
     /// # Errors
     ///
-    /// An `Err` says that the map ran out of memory for a new key, or that no larger table can be numbered. Nothing has
-    /// changed.
+    /// An `Err` says that the map ran out of memory for a new key, or that the link type cannot number the buckets of a
+    /// larger table. Nothing has changed.
     ///
     /// After indexmap's `IndexMap::insert`.
     pub fn insert(&mut self, key: K, value: V) -> Result<Option<V>, AllocError> {

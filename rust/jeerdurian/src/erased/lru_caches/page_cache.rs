@@ -18,7 +18,7 @@ mod laws;
 mod pages;
 mod pins;
 
-/// Why a call on a page cache failed. A call that fails changes no block that the cache shows, unless a `sync` of the
+/// Why a call on a page cache failed. A failed call changes no block that the cache shows, unless a `sync` of the
 /// device failed in it.
 ///
 /// The text contains the text of the device's error, so a `PageError<E>` is `Display` if `E` is.
@@ -31,12 +31,12 @@ mod pins;
 pub enum PageError<E> {
     /// The device failed, with this error.
     Device(E),
-    /// Out of memory for one more page, or there are 1,879,048,192 pages, the most that the table links.
+    /// Out of memory for one more page, or there are 1,879,048,192 pages, the most that the table holds.
     Memory,
     /// The device has no block of this number.
     NoBlock,
-    /// The cache is full, and no page may be evicted for a new one: each is pinned or, if the cache keeps dirty pages,
-    /// dirty. Nothing has changed.
+    /// The cache is full, and no page may be evicted for a new one: each is pinned, or is dirty in a cache that keeps
+    /// dirty pages. Nothing has changed.
     Full,
     /// A `sync` of the device has failed, so what was written before may be lost. Discard the cache.
     Broken,
@@ -59,12 +59,11 @@ where
 
 /// A write-back cache of the blocks of a device.
 ///
-/// It keeps the pages that were used last, up to its capacity, and those that are pinned. A write changes only the
+/// It keeps the pinned pages and the pages that were used last, together at most its capacity. A write changes only the
 /// cached page: the page is then dirty, and goes to the device when it is evicted or flushed.
 ///
-/// After a `flush` that returned `Ok`, a crash leaves each block as it was shown at that flush or, if a later call
-/// wrote it, as it was written, or torn; `docs/CACHES.md` says what this supposes of a disk. After a `sync` that
-/// failed, `write`, `flush`, `flush_page` and `close` return `Broken`, and so does a read of a page that is not cached.
+/// After a `flush` that returned `Ok`, a crash leaves each block as it was shown at that flush. If a later call wrote
+/// the block, a crash may also leave it as it was written, or torn. `docs/CACHES.md` says what this supposes of a disk.
 ///
 /// Code that drops or forgets a cache does not compile, because its dirty pages would be lost. Call `close` or
 /// `discard`.
@@ -157,7 +156,7 @@ impl<B: Copy, D: BlockDevice<B>, S: KeyHasher<u64>> PageCache<B, D, S> {
     }
 
     /// Returns how many calls that read, write or pin a page found it cached. A call that fails counts nothing. The
-    /// count stays at `u64::MAX`.
+    /// count stops at `u64::MAX`.
     ///
     /// Cost: `O(1)`.
     ///
@@ -204,8 +203,8 @@ impl<B: Copy, D: BlockDevice<B>, S: KeyHasher<u64>> PageCache<B, D, S> {
     ///
     /// # Errors
     ///
-    /// `Device`: a write or the `sync` failed. All pages stay as dirty as before. If it was a write, the next flush
-    /// writes them again. If it was the `sync`, the device is not usable from then on. `Broken`: a `sync` had failed
+    /// `Device`: a write or the `sync` failed. The same pages are dirty as before. If a write failed, the next flush
+    /// writes them again. If the `sync` failed, the device is not usable from then on. `Broken`: a `sync` had failed
     /// before.
     pub fn flush(&mut self) -> Result<(), PageError<D::Error>> {
         if !self.device.is_usable() {
@@ -231,7 +230,8 @@ impl<B: Copy, D: BlockDevice<B>, S: KeyHasher<u64>> PageCache<B, D, S> {
     ///
     /// # Errors
     ///
-    /// The flush failed. The error contains the cache as `flush` left it, with the same pages, each as dirty as before.
+    /// The flush failed. The error contains the cache as `flush` left it: it has the same pages, and the same pages are
+    /// dirty.
     pub fn close(mut self) -> Result<D, Unclosed<B, D, S>>
 where {
         match self.flush() {

@@ -85,7 +85,6 @@ impl Costed for String {
     }
 }
 
-/// A vector costs the number of its items, whatever they are.
 impl<T> Costed for Vec<T> {
     #[inline]
     fn cost(&self) -> u64 {
@@ -93,11 +92,11 @@ impl<T> Costed for Vec<T> {
     }
 }
 
-/// A limiter with a running total: the sum of the costs of the entries that it accepted and that were not evicted or
-/// removed since.
+/// A limiter with a running total. It adds the cost of each accepted entry, and subtracts the cost of each evicted or
+/// removed one.
 ///
-/// The total is the sum over the entries of the map after each call, unless somebody writes to the values or to the
-/// limiter through a reference.
+/// After each call, the total is the sum over the map's entries, unless somebody writes to the values or to the limiter
+/// through a reference.
 ///
 /// ```text
 /// let limiter = ByCost::new(3);

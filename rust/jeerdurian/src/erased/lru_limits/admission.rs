@@ -23,21 +23,21 @@ pub trait Admission<K, V>: Limiter<K, V> {
     /// Returns whether `admit` would accept this entry.
     fn accepts(&self, length: usize, key: &K, value: &V) -> bool;
 
-    /// Called by an insert with a new key and its value, before it evicts anything from the map, which has `length`
+    /// Called by an insert with a new key and its value, before the insert evicts anything. The map has `length`
     /// entries. Returns whether the entry is accepted; if not, it is dropped, and the map does not change.
     fn admit(&mut self, length: usize, key: &K, value: &V) -> bool;
 
     /// Returns whether `admit_in_place` would accept this value.
     fn accepts_in_place(&self, length: usize, key: &K, old_value: &V, new_value: &V) -> bool;
 
-    /// Called by an insert or an update before `new_value` replaces `old_value` of a stored key, in a map of `length`
+    /// Called by an insert or an update before `new_value` replaces `old_value` of a stored key. The map has `length`
     /// entries. Returns whether the new value is accepted; if not, the map removes the entry.
     fn admit_in_place(&mut self, length: usize, key: &K, old_value: &V, new_value: &V) -> bool;
 }
 
 impl<K: Eq + Hash, V, L: Admission<K, V>> Insertion<K, V, K> for L {
-    // Forced inline, so that the caller branches instead of selecting between `Some` and `None`, and takes the entry as
-    // it came.
+    // Forced inline: the caller then takes the entry as it came, and branches instead of selecting between `Some` and
+    // `None`.
     #[inline(always)]
     fn on_insert(&mut self, _alloc: Global, length: usize, key: K, value: V) -> Result<Option<(K, V)>, AllocError> {
         if self.admit(length, &key, &value) { Ok(Some((key, value))) } else { Ok(None) }

@@ -1,5 +1,5 @@
 // Erased from crates/lru_limits/src/hasher.rt: do not edit.
-//! A fast seeded hasher: each eight bytes of a write cost one multiplication. Which hashes it gives may change.
+//! A fast seeded hasher: each eight bytes of a write cost one multiplication. Its hashes may change in later versions.
 
 #[allow(unused_imports)]
 use crate::rattle_std::prelude::*;
@@ -19,8 +19,7 @@ const REST_FACTOR: u64 = 0xa54f_f53a_5f1d_36f1;
 /// Builds hashers with four seeds. A contract sees a `RandomState` as the hasher before the first write.
 ///
 /// So `state.hash_one(&key)` is the hash of the key in a map with an equal state, and of every value that names the
-/// key. The default seeds are 1, 2, 3, 4: they are not random, and no claim is made about keys that an attacker
-/// chooses.
+/// key. The default seeds are 1, 2, 3, 4: they are not random, and nothing is claimed about keys chosen to collide.
 ///
 /// ```text
 /// let state = RandomState::with_seeds([5, 6, 7, 8]);

@@ -9,11 +9,11 @@ use crate::erased::lru_limits::keys::LookupKey;
 use crate::rattle_std::alloc::{AllocError, Global};
 use crate::rattle_std::hash::Hash;
 
-/// Decides when a map is over its limit and whether its table may grow, and is notified of each entry that is evicted
+/// Decides when a map is over its limit, and whether its table may grow. It is notified of each entry that is evicted
 /// or removed.
 ///
-/// Each callback accepts every state, length, key and value. Its result and its effect are a function of these, which
-/// the impl defines as `rules`.
+/// Each callback accepts every state, length, key and value. In `rules`, the impl defines the result and the effect of
+/// each as functions of these.
 ///
 /// ```text
 /// let limiter = ByLength::new(3);
@@ -28,38 +28,36 @@ pub trait Limiter<K, V> {
     ///
     /// Called at two times:
     ///
-    /// - Before an insert stores a new entry in a map that is not empty, with the length that the map will have. At
-    ///   this time `try_insert` calls it on a copy of the limiter, even in an empty map.
-    /// - With the length that the map has, if the map is not empty: by `trim` and `set_limiter`, and by an insert or an
-    ///   update that stored an entry or replaced a value. These call it again after each eviction, unless the map is
-    ///   then empty.
+    /// - Before an insert stores a new entry in a map that is not empty, with the length that the map will have.
+    ///   `try_insert` then calls it on a copy of the limiter, even in an empty map.
+    /// - By `trim` and `set_limiter`, and by an insert or an update that stored an entry or replaced a value, with the
+    ///   length of the map. It is called again after each eviction, but not for an empty map.
     fn is_over_the_limit(&self, length: usize) -> bool;
 
-    /// Called with each entry that was evicted, removed or popped, or taken by an iterator, as soon as it is out of the
-    /// map. It may write to the key and the value before the caller of the map gets them.
+    /// Called with each entry that is evicted, removed, popped or taken by an iterator, as soon as it is out of the
+    /// map. The limiter may write to the key and the value before the caller of the map gets them.
     ///
-    /// It is also called with an entry that `on_insert` returned, if the map cannot store it. After `on_replace`
-    /// returned false, it is called with the entry that is removed. It is not called for entries that are dropped by a
-    /// clear or a `Drain`. It is not called for entries that are dropped with the map or an `IntoIter` either, but no
-    /// contract says so.
+    /// It is also called with an entry that `on_insert` returned, if the map cannot store it. If `on_replace` returned
+    /// false, it is called with the removed entry. It is not called for entries that a clear or a `Drain` drops. Nor is
+    /// it called for entries dropped with the map or an `IntoIter`, but no contract says so.
     fn on_removed(&mut self, key: &mut K, value: &mut V);
 
     /// Called once by each clear of the map, even if the map is empty. The drop of a `Drain` is a clear.
     fn on_cleared(&mut self);
 
-    /// Returns whether the map may have a table of `new_memory_usage` bytes, which is more than it has.
+    /// Returns whether the map may have a larger table, of `new_memory_usage` bytes.
     ///
-    /// Called by an insert that finds no bucket for a new entry, and by `try_reserve` if too little growth is left.
-    /// Neither calls it if there is no larger table, or if the table is rehashed at its size. After `false` the insert
+    /// Called by an insert that finds no bucket for a new entry, and by `try_reserve` if too little growth is left. It
+    /// is not called if no larger table exists, or if the table is rehashed without growing. After `false` the insert
     /// evicts the oldest entries to store the new one, and `try_reserve` returns `Refused`. After `true` the allocation
-    /// of the table may still fail; the limiter is not notified if it does.
+    /// of the table may still fail. The limiter is not notified of this.
     fn on_grow(&mut self, new_memory_usage: usize) -> bool;
 }
 
 /// Accepts or rejects entries whose key is given as an `I`.
 ///
-/// `I` is the key itself, or names the key and becomes it only if the entry is stored: a `&str` becomes a `String`. The
-/// impl defines `offers`: what may be stored for an offered entry, when an offer may run out of memory, and what a
+/// `I` is the key itself, or a name of the key: a `&str` becomes a `String` only if the entry is stored. The impl
+/// defines `offers`: what may be stored for an offered entry, when an offer may run out of memory, and what a
 /// replacement does. Each [`crate::Admission`] is an `Insertion`.
 ///
 /// ```text
@@ -68,7 +66,7 @@ pub trait Limiter<K, V> {
 /// assert!(rt; limiter.on_insert(alloc, 1, 2u64, 4u64)?.is_none());
 /// ```
 pub trait Insertion<K: Eq + Hash, V, I: LookupKey<K>>: Limiter<K, V> {
-    /// Called by an insert with a new key and its value, before it evicts anything from the map, which has `length`
+    /// Called by an insert with a new key and its value, before the insert evicts anything. The map has `length`
     /// entries. Returns the entry to store, or `None` to reject it; then the map does not change.
     ///
     /// # Errors
@@ -77,7 +75,7 @@ pub trait Insertion<K: Eq + Hash, V, I: LookupKey<K>>: Limiter<K, V> {
     /// unchanged.
     fn on_insert(&mut self, alloc: Global, length: usize, key: I, value: V) -> Result<Option<(K, V)>, AllocError>;
 
-    /// Called by an insert or an update before `new_value` replaces `old_value` in a map of `length` entries, if
+    /// Called by an insert or an update before `new_value` replaces `old_value`. The map has `length` entries, and
     /// `new_key` names the stored `old_key`. The stored key stays. Returns whether the new value is accepted. If not,
     /// the map removes the entry and calls `on_removed` with it.
     fn on_replace(&mut self, length: usize, old_key: &mut K, new_key: I, old_value: &mut V, new_value: &mut V) -> bool;

@@ -23,6 +23,6 @@ pub use unlimited::Unlimited;
 pub use unlimited_compact::UnlimitedCompact;
 
 /// The links of a map have 32 bits under `ByLength`, `ByMemoryUsage`, `ByBytes` and `UnlimitedCompact`, and 64 bits
-/// under `Unlimited`, `ByCost` and `ByWeight`. `Storing` has the links of the limiter inside, and `Both` those of the
-/// first limiter. These widths are proved here, except those of `ByBytes`, `ByWeight` and `Both`.
+/// under `Unlimited`, `ByCost` and `ByWeight`. `Storing` has the links of the limiter inside, and `Both` has the links
+/// of its first limiter. These widths are proved here, except those of `ByBytes`, `ByWeight` and `Both`.
 pub fn limiters_fix_their_links<K, V, C: Costed, L: Limiter<K, V>>() {}

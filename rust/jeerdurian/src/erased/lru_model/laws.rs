@@ -1,7 +1,7 @@
 // Erased from crates/lru_model/src/laws.rt: do not edit.
-//! What is proved about inserts and other single calls, about what inserts keep (`kept`), shrinks (`shrinks`), each
-//! call (`calls`), calls one after another (`runs`), and both with `ByBytes` (`bytes`). Each theorem is the contract of
-//! a function that does nothing.
+//! What is proved about inserts and other single calls. The modules are about what inserts keep (`kept`), all
+//! insertions (`insertions`), shrinks (`shrinks`), each call (`calls`), calls one after another (`runs`), and both with
+//! `ByBytes` (`bytes`). Each theorem is the contract of a function that does nothing.
 
 #[allow(unused_imports)]
 use crate::rattle_std::prelude::*;
@@ -29,45 +29,44 @@ pub use runs::{
 };
 pub use shrinks::{shrinks_keep_the_list, shrinks_leave_a_tight_table, shrinks_pay_for_moves};
 
-/// An insert evicts only from the old end. The only other entry that it may remove is the entry whose replacement is
-/// rejected.
+/// An insert evicts only from the old end. It may also remove the entry of its key, if the replacement is rejected.
 pub fn inserts_evict_the_oldest<K: Eq + Hash, V, I: LookupKey<K>, L: Insertion<K, V, I>, S: KeyHasher<K>>() {}
 
-/// The entries that an insert passes to its callback, together with those that are left, are at most one more than
-/// there were.
+/// Together, the entries that an insert leaves and passes to its callback are at most one more than before.
 pub fn inserts_pass_few<K: Eq + Hash, V, I: LookupKey<K>, L: Insertion<K, V, I>, S: KeyHasher<K>>() {}
 
-/// In a table of up to 16 buckets the entries, the limiter, the number of buckets and the growth left determine what
-/// the table reports about an insert (`small_report`), and so how the insert ends, unless memory runs out.
+/// In a table of up to 16 buckets, four things determine what the table reports about an insert (`small_report`): the
+/// entries, the limiter, the number of buckets and the growth left. So they determine how the insert ends, unless
+/// memory runs out.
 pub fn small_inserts_are_exact<K: Eq + Hash, V, I: LookupKey<K>, L: Insertion<K, V, I>, S: KeyHasher<K>>() {}
 
 /// An insert changes the list of entries as the table reports (`exact`). The report says whether the limiter was
-/// queried, and for how many bytes, and if growth was refused, how many entries were evicted. Every insert has a report
-/// (`given`). With the report, the entries and the limiter before an insert determine what it returns and leaves, if it
-/// returns `Ok` and the limiter's offers are determined (`alike`).
+/// queried, for how many bytes, and how many entries were evicted because growth was refused. Every insert has a report
+/// (`given`). The report, and the entries and the limiter before an insert, determine what it returns and leaves
+/// (`alike`). The premises are that it returns `Ok`, and that the limiter's offers are determined.
 pub fn inserts_are_exact_unless_refused<K: Eq + Hash, V, I: LookupKey<K>, L: Insertion<K, V, I>, S: KeyHasher<K>>() {}
 
-/// If the limiter permits every growth, as `ByLength` and the unlimited ones do, and the tables that an insert may need
-/// are within the reach of links and bytes, the insert does what it would do to a list of entries without a table. Only
-/// whether memory runs out stays open.
+/// An insert does what it would do to a list of entries without a table, under two premises. The limiter permits every
+/// growth, as `ByLength` and the unlimited ones do. Links and bytes reach the tables that the insert may need. The law
+/// leaves open whether memory runs out.
 pub fn granted_inserts_are_exact<K: Eq + Hash, V, I: LookupKey<K>, L: Insertion<K, V, I>, S: KeyHasher<K>>() {}
 
 /// If an insert grows the table, the new table can hold fewer than four times the entries, the new one included.
 pub fn inserts_grow_little<K: Eq + Hash, V, I: LookupKey<K>, L: Insertion<K, V, I>, S: KeyHasher<K>>() {}
 
-/// If there are entries and no growth left, and a search for the new key meets a deleted bucket first, the new entry
-/// fills that bucket: the limiter is not queried and nothing moves (`served`). Conversely, an insertion that ends in
-/// the same table without moves met a deleted bucket first (`only`). So if the limiter accepts a new key and is not
-/// over its limit with it, an insert adds the entry to all the others in the same table (`added`).
+/// Suppose that there are entries and no growth left. If a search for the new key meets a deleted bucket first, the new
+/// entry fills this bucket: the limiter is not queried, and nothing moves (`served`). Conversely, an insertion that
+/// ends in the same table without moves met a deleted bucket first (`only`). So if the limiter accepts the new key and
+/// is not over its limit with it, an insert adds the entry to all the others in the same table (`added`).
 pub fn deleted_buckets_serve<K: Eq + Hash, V, I: LookupKey<K>, L: Insertion<K, V, I>, S: KeyHasher<K>>() {}
 
 /// An insert pays for the entries that it moves: the count of moved entries and the potential together rise by at most
-/// 2 for the entry that it stores. So inserts move at most two entries for each that they store, plus one for each that
-/// a shrink rehashed.
+/// 2 for the entry that it stores. So inserts move at most two entries for each stored entry, plus one for each entry
+/// that a shrink rehashed.
 pub fn inserts_pay_for_moves<K: Eq + Hash, V, I: LookupKey<K>, L: Insertion<K, V, I>, S: KeyHasher<K>>() {}
 
-/// If a full table cannot grow, because the limiter refuses or there is no larger table, the map keeps at least half of
-/// what the table may hold, the new entry included. In a table of up to 16 buckets exactly the oldest entry is evicted.
+/// If a full table cannot grow, the map keeps at least half of what the table may hold, the new entry included. In a
+/// table of up to 16 buckets exactly the oldest entry is evicted.
 pub fn refused_growth_keeps_half<K: Eq + Hash, V, L: Limiter<K, V>, S: KeyHasher<K>>() {}
 
 /// An insertion into the table evicts nothing if the table grows. It evicts only if the table would be more than half

@@ -15,8 +15,7 @@ use crate::rattle_std::fmt::Display;
 /// - The key was there, and the limiter rejected the new value: `unkept` is the new value, and `kept` is false. The
 ///   entry was removed.
 ///
-/// If `kept` is false and `unkept` is a value, the callback got the entry of the key: it was evicted, or its new value
-/// was rejected.
+/// If `kept` is false and `unkept` is a value, the callback got the entry of the key.
 ///
 /// ```text
 /// let inserted = map.insert_full(1, 11, &mut |_, _| {})?;
@@ -102,8 +101,7 @@ where
     }
 }
 
-/// How many entries the inserts of a map have moved, how many new ones they have stored, and how many entries its
-/// shrinks have rehashed.
+/// How many entries the inserts of a map have moved and stored, and how many its shrinks have rehashed.
 ///
 /// ```text
 /// let mut map: LruMap<u64, u64> = LruMap::with_limiter(alloc, ByLength::new(3));

@@ -19,14 +19,14 @@ pub fn usage(entry_bytes: usize, buckets: usize) -> Option<usize> {
     if bytes <= MOST_BYTES { Some(bytes) } else { None }
 }
 
-/// Returns the bytes of a table that exists. It has buckets.
+/// Returns the bytes of a table that exists and has buckets.
 pub fn bytes_of(entry_bytes: usize, buckets: usize) -> usize {
     (entry_bytes * buckets + 15) / 16 * 16 + buckets + 16
 }
 
-/// Returns the buckets and the bytes of the table that a table of `buckets` buckets grows into for `pairs` entries. The
-/// entries must be more than half of its capacity. Returns `None` if links cannot number so large a table, or its bytes
-/// would pass `isize::MAX - 15`.
+/// Returns the buckets and the bytes of a larger table: a table of `buckets` buckets grows into it for `pairs` entries.
+/// The entries must be more than half of the capacity of the old table. Returns `None` if links cannot number the
+/// larger table, or if its bytes would pass `isize::MAX - 15`.
 
 pub fn larger_table(max: usize, entry_bytes: usize, buckets: usize, pairs: usize) -> Option<(usize, usize)> {
     let need = buckets_for_capacity(pairs, max)?;
@@ -35,7 +35,7 @@ pub fn larger_table(max: usize, entry_bytes: usize, buckets: usize, pairs: usize
     Some((count, bytes))
 }
 
-/// Returns the greatest usage within the budget of a table of 4, 8, 16, .. buckets that links can number, or 0.
+/// Returns the greatest usage within the budget, among tables of 4, 8, 16, .. buckets that links can number, or 0.
 pub fn usage_within(max: usize, entry_bytes: usize, budget: usize) -> usize {
     let mut best = 0;
     for k in 0..62u32 {

@@ -6,15 +6,14 @@ use crate::rattle_std::prelude::*;
 
 use crate::erased::lru_limits::Budgeted;
 use crate::erased::lru_tenants::error::TenantError;
-use crate::erased::lru_tenants::tenant::{clear, remove};
-use crate::erased::schnellru::{ByCost, Costed, KeyHasher, LookupKey, LruMap, RandomState, laws};
+use crate::erased::schnellru::{ByCost, Costed, KeyHasher, LookupKey, LruMap, RandomState, Unlimited, laws};
 use crate::rattle_std::alloc::Global;
-use crate::rattle_std::collections::HashMap;
 use crate::rattle_std::hash::Hash;
 
 mod get_or_put;
 mod passing;
 mod reading;
+mod removing;
 mod totals;
 
 use totals::is_above;
@@ -35,7 +34,7 @@ use totals::is_above;
 /// ```
 pub struct TenantCache<N: Eq + Hash, K: Eq + Hash, V, L: Budgeted<K, V> = ByCost, S: KeyHasher<K> + Copy = RandomState>
 {
-    tenants: HashMap<N, LruMap<K, V, L, S>, S, Global>,
+    tenants: LruMap<N, LruMap<K, V, L, S>, Unlimited, S>,
     hasher: S,
     entry_bytes: usize,
     budgets: u128,
@@ -72,7 +71,7 @@ impl<N: Eq + Hash, K: Eq + Hash, V, L: Budgeted<K, V>, S: KeyHasher<K> + Copy> T
     /// ```
     pub fn with_hasher(alloc: Global, hasher: S, entry_bytes: usize) -> Self {
         TenantCache {
-            tenants: HashMap::with_hasher(alloc, hasher),
+            tenants: LruMap::<N, LruMap<K, V, L, S>, Unlimited, S>::with_limiter_and_hasher(alloc, Unlimited, hasher),
             hasher,
             entry_bytes,
             budgets: 0,
@@ -119,7 +118,7 @@ impl<N: Eq + Hash, K: Eq + Hash, V, L: Budgeted<K, V>, S: KeyHasher<K> + Copy> T
     /// `AlreadyOpen`. `OverTotal`: the sum of all budgets would be above the total limit. `Memory`: out of memory for
     /// one more tenant.
     pub fn open(&mut self, name: N, budget: u64) -> Result<(), TenantError> {
-        if self.tenants.contains_key(&name) {
+        if self.tenants.contains(&name) {
             return Err(TenantError::AlreadyOpen);
         }
         let _len = self.tenants.len();
@@ -128,13 +127,11 @@ impl<N: Eq + Hash, K: Eq + Hash, V, L: Budgeted<K, V>, S: KeyHasher<K> + Copy> T
             return Err(TenantError::OverTotal);
         }
         let map = self.fresh(budget);
-        match self.tenants.insert(name, map) {
-            Ok(_) => {
-                self.budgets = sum;
-                Ok(())
-            }
-            Err(_) => Err(TenantError::Memory),
-        }
+        let Ok(()) = self.tenants.try_insert(name, map) else {
+            return Err(TenantError::Memory);
+        };
+        self.budgets = sum;
+        Ok(())
     }
 
     fn fresh(&self, budget: u64) -> LruMap<K, V, L, S> {
@@ -160,45 +157,8 @@ impl<N: Eq + Hash, K: Eq + Hash, V, L: Budgeted<K, V>, S: KeyHasher<K> + Copy> T
     ///
     /// `NotOpen`: nothing has changed. `Memory`: out of memory for the entry. Some of the tenant's oldest entries may
     /// have been evicted, as after an `Err` of `LruMap::insert`.
-    pub fn put(&mut self, name: &N, key: K, value: V) -> Result<bool, TenantError> {
+    pub fn put<T: LookupKey<N>>(&mut self, name: &T, key: K, value: V) -> Result<bool, TenantError> {
         self.put_with(name, key, value, &mut |_, _| {})
-    }
-
-    /// Removes a key of a tenant. Returns its value.
-    ///
-    /// ```text
-    /// assert_eq!(rt; (cache.remove(&1, &7), cache.remove(&1, &7)), (Ok(Some(2)), Ok(None)));
-    /// ```
-    ///
-    /// Cost: `O(1)` expected.
-    ///
-    /// # Errors
-    ///
-    /// `NotOpen`: nothing has changed.
-    pub fn remove<Q: LookupKey<K>>(&mut self, name: &N, key: &Q) -> Result<Option<V>, TenantError> {
-        let Some(own) = self.tenants.get_mut(name) else {
-            return Err(TenantError::NotOpen);
-        };
-        Ok(remove(own, key))
-    }
-
-    /// Drops the entries of a tenant, which stays open.
-    ///
-    /// ```text
-    /// assert_eq!(rt; (cache.clear(&1), cache.entries(&1), cache.cost(&1)), (Ok(()), Ok(0), Ok(0)));
-    /// ```
-    ///
-    /// Cost: as `LruMap::clear`.
-    ///
-    /// # Errors
-    ///
-    /// `NotOpen`: nothing has changed.
-    pub fn clear(&mut self, name: &N) -> Result<(), TenantError> {
-        let Some(own) = self.tenants.get_mut(name) else {
-            return Err(TenantError::NotOpen);
-        };
-        clear(own);
-        Ok(())
     }
 
     /// Sets the budget of a tenant. If its cost is above the budget, its oldest entries are evicted until it is not.
@@ -212,7 +172,7 @@ impl<N: Eq + Hash, K: Eq + Hash, V, L: Budgeted<K, V>, S: KeyHasher<K> + Copy> T
     /// # Errors
     ///
     /// `NotOpen`. `OverTotal`: the sum of all budgets would be above the total limit. Both change nothing.
-    pub fn set_budget(&mut self, name: &N, budget: u64) -> Result<(), TenantError> {
+    pub fn set_budget<T: LookupKey<N>>(&mut self, name: &T, budget: u64) -> Result<(), TenantError> {
         self.set_budget_with(name, budget, &mut |_, _| {})
     }
 
@@ -227,14 +187,15 @@ impl<N: Eq + Hash, K: Eq + Hash, V, L: Budgeted<K, V>, S: KeyHasher<K> + Copy> T
     /// # Errors
     ///
     /// `NotOpen`: nothing has changed.
-    pub fn close(&mut self, name: &N) -> Result<usize, TenantError> {
+    pub fn close<T: LookupKey<N>>(&mut self, name: &T) -> Result<usize, TenantError> {
         let Some(map) = self.take_tenant(name) else {
             return Err(TenantError::NotOpen);
         };
         Ok(map.len())
     }
 
-    pub(crate) fn take_tenant(&mut self, name: &N) -> Option<LruMap<K, V, L, S>> {
+    pub(crate) fn take_tenant<T: LookupKey<N>>(&mut self, name: &T) -> Option<LruMap<K, V, L, S>> {
+        let _len = self.tenants.len();
         let Some(map) = self.tenants.remove(name) else {
             return None;
         };

@@ -68,6 +68,15 @@ pub(crate) fn remove<K: Eq + Hash, V, L: Budgeted<K, V>, S: KeyHasher<K>, Q: Loo
     value
 }
 
+pub(crate) fn retain<K: Eq + Hash, V, L: Budgeted<K, V>, S: KeyHasher<K>, F: FnMut(&K, &V) -> bool>(
+    map: &mut LruMap<K, V, L, S>,
+    keep: F,
+) {
+    laws::calls_keep_sums::<K, V, K, L, S>();
+    laws::calls_keep_the_budget::<K, V, L, S>();
+    map.retain(keep);
+}
+
 pub(crate) fn clear<K: Eq + Hash, V, L: Budgeted<K, V>, S: KeyHasher<K>>(map: &mut LruMap<K, V, L, S>) {
     laws::calls_keep_sums::<K, V, K, L, S>();
     laws::calls_keep_the_budget::<K, V, L, S>();

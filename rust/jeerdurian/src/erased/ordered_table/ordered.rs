@@ -24,8 +24,8 @@ pub struct Pair<K, V> {
 
 /// A table whose full buckets are in an order, newest first. `N` is the type of its links.
 ///
-/// A contract sees it as its `slots` and the `order` of the full ones, and as the number of its `insertions`. A caller
-/// computes the hashes; the keys fit the table (`KeysFit`) as long as equal keys get the same hash.
+/// A contract sees it as its `slots`, the `order` of the full ones, and its `insertions`. The caller computes the
+/// hashes. The keys fit the table (`KeysFit`) as long as equal keys get the same hash.
 ///
 /// ```text
 /// let hasher = RandomState::default();
@@ -42,7 +42,7 @@ pub struct Pair<K, V> {
 pub struct OrderedTable<K, V, N: LinkType> {
     linked: LinkedTable<K, V, N>,
     // The bucket of the last promotion, if the links do not show it yet. The next call that changes the order rewrites
-    // them.
+    // the links.
     promoted: Option<usize>,
 }
 
@@ -119,9 +119,10 @@ impl<K, V, N: LinkType> OrderedTable<K, V, N> {
         self.linked.pair_mut(b)
     }
 
-    /// Returns the bucket of the first pair that `f` accepts among those whose tag is the hash's top 7 bits.
+    /// Returns the bucket of the first pair that `f` accepts.
     ///
-    /// Only tests show that `f` is called with each pair at most once, and not again after it accepted one.
+    /// `f` is called with pairs whose tag is the hash's top 7 bits. Only tests show that it is called with each pair at
+    /// most once, and not again after it accepted one.
     ///
     /// Cost: `O(1)` expected.
     #[inline]
@@ -131,7 +132,7 @@ impl<K, V, N: LinkType> OrderedTable<K, V, N> {
 }
 
 impl<K: Eq + Hash, V, N: LinkType> OrderedTable<K, V, N> {
-    /// Returns the bucket of the key that `key` names, which has this hash.
+    /// Returns the bucket of the key that `key` names; `hash` is the hash of this key.
     ///
     /// Cost: `O(1)` expected.
     #[inline]

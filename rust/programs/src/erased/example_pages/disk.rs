@@ -1,5 +1,5 @@
 // Erased from crates/example_pages/src/disk.rt: do not edit.
-//! A file, or one in memory that loses at a crash what was not made durable.
+//! A file, or a file in memory. A crash of a file in memory loses what was not made durable.
 #[allow(unused_imports)]
 use crate::rattle_std::prelude::*;
 

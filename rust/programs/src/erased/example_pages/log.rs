@@ -7,7 +7,7 @@ use crate::erased::lru_caches::{BlockDevice, FileError, HashedFileDevice};
 use crate::programs::example_pages::disk::Disk;
 use crate::programs::example_pages::page::{Header, PAGE, Page, header_of};
 
-/// The pages of the transactions since the last checkpoint, in order. Behind them are pages of earlier ones.
+/// The pages of the transactions since the last checkpoint, in order. Behind them are pages of earlier transactions.
 
 pub struct Log<'a> {
     device: HashedFileDevice<Disk<'a>, PAGE>,
@@ -96,7 +96,7 @@ impl<'a> Log<'a> {
         Ok(newest)
     }
 
-    /// Returns how many pages the transaction has whose first page is page n, if they are all there.
+    /// Returns how many pages a transaction has, if page n is its first page and all are there.
     pub fn transaction_at(&mut self, n: u64) -> Result<Option<u64>, FileError> {
         let Some(first) = self.header(n)? else {
             return Ok(None);

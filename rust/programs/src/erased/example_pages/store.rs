@@ -4,7 +4,7 @@
 //! A transaction writes its pages to the log first, and syncs the log. Only then does it write them into the page
 //! cache. So the file of pages never contains a page of a transaction that may still be lost, and the log contains each
 //! page that a crash may tear. A checkpoint flushes the cache; then the log begins at its front again. After a crash
-//! the pages of the log are written once more, except where the file has a page of the same or a later transaction.
+//! the pages of the log are written once more, unless the file has a page of the same or a later transaction.
 #[allow(unused_imports)]
 use crate::rattle_std::prelude::*;
 
@@ -182,8 +182,8 @@ impl<'a> Store<'a> {
         pages.push(page).map_err(|_| StoreError::Memory)
     }
 
-    /// Makes the store that a crash left whole: with each transaction whose `commit` returned `Ok`, and with the one
-    /// that was interrupted, or without it.
+    /// Makes the store whole after a crash. It has each transaction whose `commit` returned `Ok`, and may have the one
+    /// that was interrupted.
     pub fn recover(&mut self) -> Result<Recovered, StoreError> {
         let mut recovered = Recovered::default();
         let mut next = 0u64;
@@ -202,7 +202,7 @@ impl<'a> Store<'a> {
         Ok(recovered)
     }
 
-    /// Writes a page of the log to its place, unless that has a page of the same or a later transaction.
+    /// Writes a page of the log to its place, unless a page of the same or a later transaction is there.
     fn redo(&mut self, n: u64, recovered: &mut Recovered) -> Result<(), StoreError> {
         let Some(page) = self.log.read(n)? else {
             return Ok(());

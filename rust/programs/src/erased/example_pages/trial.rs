@@ -1,5 +1,5 @@
 // Erased from crates/example_pages/src/trial.rt: do not edit.
-//! Crashes of a store, after each of which its records are compared with what was committed.
+//! Crashes of a store. After each, its records are compared with what was committed.
 #[allow(unused_imports)]
 use crate::rattle_std::prelude::*;
 
@@ -12,7 +12,7 @@ use crate::rattle_std::alloc::Global;
 /// The cache evicts, and the log is full after a few transactions.
 const SIZES: Sizes = Sizes { pages: 4, log: 8, cache: 2 };
 
-/// How many records the trial changes: three of each page, one of which lies across two sectors.
+/// How many records the trial changes: three of each page. One of the three lies across two sectors.
 const USED: u64 = 12;
 
 fn id_of(n: u64) -> u64 {
@@ -28,12 +28,12 @@ type Files<'a> = (Disk<'a>, Disk<'a>);
 pub struct Counts {
     pub crashes: u64,
     pub commits: u64,
-    /// Crashes that interrupted a commit, after which it had taken place, or not.
+    /// Crashes that interrupted a commit, which took place (`kept`) or not (`dropped`).
     pub kept: u64,
     pub dropped: u64,
     /// Pages that were torn, and are whole again.
     pub torn: u64,
-    /// Crashes after which a committed record was gone, or half a transaction there.
+    /// Crashes after which a committed record was gone, or a part of a transaction was there.
     pub lost: u64,
 }
 

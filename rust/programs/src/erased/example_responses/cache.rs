@@ -36,21 +36,20 @@ pub struct Counts {
 
 type Responses = TenantCache<String, String, Response, ByWeight<OVERHEAD>>;
 
-fn fresh_response(
-    entries: &mut Responses,
-    host: &String,
-    path: &str,
-    now: u64,
-) -> Result<Option<Response>, TenantError> {
-    let Some(response) = entries.get(host, &path)?.copied() else {
+fn fresh_response(entries: &mut Responses, host: &str, path: &str, now: u64) -> Result<Option<Response>, TenantError> {
+    let Some(response) = entries.get(&host, &path)?.copied() else {
         return Ok(None);
     };
     if now < response.expires {
         return Ok(Some(response));
     }
     let _len = entries.len();
-    entries.remove(host, &path)?;
+    entries.remove(&host, &path)?;
     Ok(None)
+}
+
+fn is_below(path: &String, prefix: &str) -> bool {
+    path.as_str().starts_with(prefix)
 }
 
 fn owned(alloc: Global, text: &str) -> Result<String, TenantError> {
@@ -79,7 +78,7 @@ impl ResponseCache {
         &self.counts
     }
 
-    fn count(&mut self, host: &String, hits: u64, misses: u64, evictions: u64) {
+    fn count(&mut self, host: &str, hits: u64, misses: u64, evictions: u64) {
         if let Some(counts) = self.counts.get_mut(host) {
             counts.hits = counts.hits.saturating_add(hits);
             counts.misses = counts.misses.saturating_add(misses);
@@ -97,48 +96,62 @@ impl ResponseCache {
 
     /// Returns how many entries were evicted.
     pub fn set_host(&mut self, host: &str, budget: u64) -> Result<(&'static str, u64), TenantError> {
-        let name = owned(self.alloc, host)?;
-        let (before, _) = self.size(&name);
-        if self.entries.set_budget(&name, budget).is_err() {
-            self.open(name, budget)?;
+        let (before, _) = self.size(host);
+        if self.entries.set_budget(&host, budget).is_err() {
+            self.open(owned(self.alloc, host)?, budget)?;
             return Ok(("host opened", 0));
         }
-        let (after, _) = self.size(&name);
+        let (after, _) = self.size(host);
         let evicted = before.saturating_sub(after) as u64;
-        self.count(&name, 0, 0, evicted);
+        self.count(host, 0, 0, evicted);
         Ok(("budget set", evicted))
     }
 
     /// Stores a response. Returns a word that says whether it is there afterwards, and how many entries were evicted,
     /// or removed because a new response was rejected.
     pub fn put(&mut self, host: &str, path: &str, response: Response) -> Result<(&'static str, u64), TenantError> {
-        let (name, path) = (owned(self.alloc, host)?, owned(self.alloc, path)?);
+        let path = owned(self.alloc, path)?;
         let mut evicted = 0u64;
-        let stored = self.entries.put_with(&name, path, response, &mut |_, _| evicted = evicted.saturating_add(1));
+        let stored = self.entries.put_with(&host, path, response, &mut |_, _| evicted = evicted.saturating_add(1));
         // If memory ran out, the callback got the new entry, too.
         let evicted = evicted.saturating_sub(stored.is_err() as u64);
-        self.count(&name, 0, 0, evicted);
+        self.count(host, 0, 0, evicted);
         Ok((if stored? { "stored" } else { "rejected" }, evicted))
     }
 
     pub fn look_up(&mut self, host: &str, path: &str, now: u64) -> Result<Option<Response>, TenantError> {
-        let name = owned(self.alloc, host)?;
-        let found = fresh_response(&mut self.entries, &name, path, now)?;
+        let found = fresh_response(&mut self.entries, host, path, now)?;
         let hits = found.is_some() as u64;
-        self.count(&name, hits, found.is_none() as u64, 0);
+        self.count(host, hits, found.is_none() as u64, 0);
         Ok(found)
     }
 
     /// Removes the response of a host for a path.
     pub fn purge(&mut self, host: &str, path: &str) -> Result<bool, TenantError> {
-        let name = owned(self.alloc, host)?;
-        Ok(self.entries.remove(&name, &path)?.is_some())
+        Ok(self.entries.remove(&host, &path)?.is_some())
     }
 
-    pub fn size(&self, host: &String) -> (usize, u64) {
-        match (self.entries.entries(host), self.entries.cost(host)) {
+    /// Removes the responses of a host for the paths that begin with the prefix.
+    pub fn purge_below(&mut self, host: &str, prefix: &str) -> Result<(), TenantError> {
+        self.entries.retain(&host, |path, _| !is_below(path, prefix))
+    }
+
+    pub fn size(&self, host: &str) -> (usize, u64) {
+        match (self.entries.entries(&host), self.entries.cost(&host)) {
             (Ok(entries), Ok(cost)) => (entries, cost),
             _ => (0, 0),
         }
     }
+}
+
+/// A look-up returns no response whose path was just purged.
+fn look_up_purged(
+    cache: &mut ResponseCache,
+    host: &str,
+    prefix: &str,
+    path: &str,
+    now: u64,
+) -> Result<Option<Response>, TenantError> {
+    cache.purge_below(host, prefix)?;
+    cache.look_up(host, path, now)
 }

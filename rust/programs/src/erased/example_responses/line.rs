@@ -11,6 +11,7 @@ pub enum Line<'a> {
     Put(&'a str, &'a str, Response),
     Get(&'a str, &'a str),
     Purge(&'a str, &'a str),
+    PurgeBelow(&'a str, &'a str),
     Stats,
 }
 
@@ -42,7 +43,10 @@ pub fn parse(text: &str) -> Option<Line<'_>> {
         }
         "get" | "purge" if path.is_empty() || !rest.is_empty() => None,
         "get" => Some(Line::Get(name, path)),
-        "purge" => Some(Line::Purge(name, path)),
+        "purge" => match path.strip_suffix('*') {
+            Some(prefix) => Some(Line::PurgeBelow(name, prefix)),
+            None => Some(Line::Purge(name, path)),
+        },
         "stats" if name.is_empty() => Some(Line::Stats),
         _ => None,
     }

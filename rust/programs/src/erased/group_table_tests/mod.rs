@@ -1,5 +1,5 @@
 // Erased from crates/group_table_tests/src/lib.rt: do not edit.
-//! Tests of what no clause of `group_table` says, through its public calls.
+//! Tests of `group_table` through its public calls, for what no clause says.
 
 #[allow(unused_imports)]
 use crate::rattle_std::prelude::*;

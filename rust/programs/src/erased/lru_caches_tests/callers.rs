@@ -1,5 +1,5 @@
 // Erased from crates/lru_caches_tests/src/callers.rt: do not edit.
-//! Callers whose own contracts rest on those of a page cache and of an ordered map.
+//! Callers of a page cache and of an ordered map, with contracts of their own.
 
 #[allow(unused_imports)]
 use crate::rattle_std::prelude::*;

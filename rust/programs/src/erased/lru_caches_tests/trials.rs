@@ -31,7 +31,8 @@ fn an_ordered_map_of_many_keys() {
     run(HostRuntime).passes();
 }
 
-/// A disk that fails at each call that the lists need, and again after as many more, or stays broken.
+/// A disk that fails after each number of calls that the lists need. It then fails again after the same number, or
+/// stays broken.
 #[test]
 fn a_disk_that_fails() {
     let run = |rt: HostRuntime| -> () {

@@ -11,8 +11,8 @@ pub(crate) mod summing;
 use crate::erased::lru_model::{MoveReport, ReserveError, Updated};
 use crate::rattle_std::alloc::AllocError;
 
-/// A call of a run. It does what the call of the map with the same name does, except `SetLimiter`, which writes through
-/// `limiter_mut` and evicts nothing, while `LruMap::set_limiter` trims. `docs/RUNS.md` has the other special cases.
+/// A call of a run. It does what the map's call of the same name does, except for `SetLimiter`. `docs/RUNS.md` has the
+/// other special cases.
 ///
 /// ```text
 /// let calls = vec![in alloc; Call::Insert(1, 10), Call::Get(1), Call::Peek(2)]?;
@@ -20,9 +20,9 @@ use crate::rattle_std::alloc::AllocError;
 #[derive(Debug)]
 pub enum Call<K, V, L> {
     Insert(K, V),
-    /// Does what `insert` does, and returns the pairs that the map loses.
+    /// Does what `insert_with` does, and returns the pairs that the closure gets.
     InsertWith(K, V),
-    /// `get_or_insert`: returns the value of the key, which is inserted with this value if it is not there.
+    /// `get_or_insert`: inserts the key with this value if it is not there, and returns the value of the key.
     GetOrInsert(K, V),
     Update(K, V),
     Get(K),

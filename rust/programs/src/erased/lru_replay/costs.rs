@@ -1,6 +1,6 @@
 // Erased from crates/lru_replay/src/costs.rt: do not edit.
 //! Programs that make references on a map with a limit of cost, such as `ByCost` and `ByWeight`: the theorems of
-//! `references`, for any `weight` of an entry. The functions do nothing: their contracts are the theorems.
+//! `references`, for any `weight` of an entry.
 
 #[allow(unused_imports)]
 use crate::rattle_std::prelude::*;
@@ -8,12 +8,12 @@ use crate::rattle_std::prelude::*;
 use crate::erased::lru_limits::KeyHasher;
 use crate::rattle_std::hash::Hash;
 
-/// A new map keeps to its cost, if its limit is below 2 ^ 63 and below the cost of 234,881,023 entries of any key, and
-/// links can number 2 ^ 31 buckets.
+/// A new map keeps to its cost under these premises. Its limit is below 2 ^ 63 and, for each key, below 234,881,023
+/// times the cost of the key. An entry takes fewer than 2 ^ 32 - 1 bytes, and the link type can number 2 ^ 31 buckets.
 pub fn maps_keep_to_their_cost<K: Eq + Hash, V, S: KeyHasher<K>>() {}
 
-/// Each of these calls makes a reference if it returns `Ok`. The premises: an inserted entry costs what its key costs,
-/// which is within the limit, and a value that is written through a get costs what the old value costs.
+/// Each of these calls makes a reference if it returns `Ok`. An inserted entry must cost what its key costs, and at
+/// most the limit. A value written through a get must cost what the old value costs.
 pub fn calls_make_references<K: Eq + Hash, V, S: KeyHasher<K>>() {}
 
 /// `ensure_newest` and `get_or_insert`, whose closure is `make`, make references, too.
@@ -22,12 +22,12 @@ pub fn gets_that_insert_make_references<K: Eq + Hash, V, F: FnOnce() -> V, S: Ke
 /// The fallible forms of `ensure_newest` and `get_or_insert` make references, too.
 pub fn gets_that_insert_if_made_make_references<K: Eq + Hash, V, E, F: FnOnce() -> Result<V, E>, S: KeyHasher<K>>() {}
 
-/// A program that makes the references of a trace leaves the keys of an LRU cache with this limit of cost (`keys`), and
-/// misses as often (`misses`). The map counts the misses (`stored`): `placed`, the count of entries that inserts
-/// stored, rises by their number. Equal keys cost the same.
+/// A program that makes the references of a trace leaves the keys that an LRU cache with this limit of cost contains
+/// (`keys`), and misses as often as that cache (`misses`). The map counts the misses (`stored`): `placed`, the count of
+/// entries that inserts stored, rises by their number. Equal keys must cost the same.
 pub fn references_keep_the_newest<K: Eq + Hash, V, S: KeyHasher<K>>() {}
 
 /// More capacity never means more misses, whichever calls make the references of one trace on two maps. If the keys of
-/// the map with the smaller limit are the newest keys of the other map, they are also after the trace (`front`), and
-/// the map with the smaller limit misses at least as often (`misses`).
+/// the map with the smaller limit are the newest keys of the other map, this is so after the trace, too (`front`). Then
+/// the map with the smaller limit misses at least as often as the other map (`misses`).
 pub fn more_capacity_never_misses_more<K: Eq + Hash, V, S: KeyHasher<K>>() {}

@@ -3,9 +3,9 @@
 //!
 //! [`run_calls`] carries out a list of calls on a map of any keys, values, limiter and hasher. [`run_summing`] does
 //! this under a limiter with a running total, and carries out no write that would make the total wrong. [`replay`]
-//! reads lines, each of which spells a [`Call`], and writes their answers; `docs/REPLAY.md` lists the lines. All three
-//! are runs of the same steps, which `docs/RUNS.md` explains. The theorems on runs are the contracts of the functions
-//! of [`laws`]. The theorems on programs that refer to keys, by any calls, are in [`references`] (`docs/THEORY.md`).
+//! reads lines that spell [`Call`]s, and writes their answers. `docs/REPLAY.md` lists the lines. All three are runs of
+//! the same steps, which `docs/RUNS.md` explains. The theorems on runs are the contracts of the functions of [`laws`].
+//! The theorems on programs that refer to keys, by any calls, are in [`references`] (`docs/THEORY.md`).
 
 #[allow(unused_imports)]
 use crate::rattle_std::prelude::*;

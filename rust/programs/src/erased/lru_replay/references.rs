@@ -9,10 +9,10 @@ use crate::erased::lru_limits::{Admission, ByLength, Insertion, KeyHasher, Limit
 use crate::erased::lru_model::laws;
 use crate::rattle_std::hash::Hash;
 
-/// Each of these calls makes a reference if it returns `Ok`: an insert (`inserts`), an insert that evicts nothing
-/// (`tries`), a get that finds the key, whatever is written through the loan (`gets`), a promotion of a key that is
-/// there (`promotes`), and a memo that remembers a value (`remembers`). So if a get returns `None`, an insert makes the
-/// reference. A reference to a key is also a reference to each equal key (`equal`).
+/// These calls make a reference if they return `Ok`: an insert (`inserts`), an insert that evicts nothing (`tries`),
+/// and a memo that remembers a value (`remembers`). So do a get that finds the key, whatever is written through the
+/// loan (`gets`), and a promotion of a key that is there (`promotes`). If a get returns `None`, the insert after it
+/// makes the reference. A reference to a key is also a reference to each equal key (`equal`).
 pub fn calls_make_references<K: Eq + Hash, V, S: KeyHasher<K>>() {
     laws::inserts_leave_the_newest::<K, V, S>();
     laws::maps_keep_to_their_length::<K, V, S>();
@@ -33,9 +33,9 @@ pub fn gets_that_insert_if_made_make_references<K: Eq + Hash, V, E, F: FnOnce() 
     laws::calls_keep_the_length::<K, V, ByLength, S>();
 }
 
-/// What a call that makes no reference does to the keys: a get or a promotion of a key, which may not be there
-/// (`promotes`), a removal (`removes`), a clear (`clears`), a reservation, a shrink, a write, and a call that changes
-/// nothing (`reserves`, `shrinks`, `writes`, `looks`).
+/// What other calls do to the keys: a get or a promotion, even of a key that is not there (`promotes`), a removal
+/// (`removes`), a clear (`clears`), a reservation (`reserves`), a shrink (`shrinks`), a write (`writes`), and a call
+/// that changes nothing (`looks`).
 pub fn calls_change_the_keys<K: Eq + Hash, V, S: KeyHasher<K>>() {
     laws::inserts_leave_the_newest::<K, V, S>();
     laws::maps_keep_to_their_length::<K, V, S>();
@@ -46,27 +46,26 @@ pub fn calls_change_the_keys<K: Eq + Hash, V, S: KeyHasher<K>>() {
 /// (`misses`). The map still keeps to its length (`keeps`).
 pub fn programs_make_references<K: Eq + Hash, V, S: KeyHasher<K>>() {}
 
-/// A program that makes the references of a trace leaves the keys that were referenced last, `max_length` of them
-/// (`keys`). It misses exactly at the references whose reuse distance is at least `max_length`, and at the first
-/// reference to each key (`misses`). The keys that were in the map before count as referenced, the oldest first. The
-/// map counts the misses (`stored`): `placed`, the count of entries that inserts stored, rises by their number.
+/// A program that makes the references of a trace leaves the `max_length` keys that were referenced last (`keys`). It
+/// misses exactly at the references whose reuse distance is at least `max_length`, and at the first reference to each
+/// key (`misses`). The keys that were in the map before count as referenced, the oldest first. The map counts the
+/// misses (`stored`): `placed`, the count of entries that inserts stored, rises by their number.
 pub fn references_keep_the_newest<K: Eq + Hash, V, S: KeyHasher<K>>() {}
 
 /// More capacity never means more misses, whichever calls make the references of one trace on two maps. If the keys of
-/// the smaller map are the newest keys of the larger one, they are also after the trace (`front`). Even if the smaller
-/// map is only included in the larger one, it misses at least as often (`misses`).
+/// the smaller map are the newest keys of the larger map, this is so after the trace, too (`front`). Even if the
+/// smaller map is only included in the larger one, it misses at least as often (`misses`).
 pub fn more_capacity_never_misses_more<K: Eq + Hash, V, S: KeyHasher<K>>() {}
 
-/// After the same calls a smaller map is included in a larger map, if it was before: its keys are keys of the larger
-/// map, in the same order (`included`). So what the smaller map finds, the larger map finds (`finds`). The calls may
-/// reference keys, get, promote, look, write, remove, clear, reserve and shrink, in any order.
+/// If a smaller map is included in a larger map, it is so after the same calls, too (`included`). So what the smaller
+/// map finds, the larger map finds (`finds`). The calls are those of `calls_change_the_keys`, and references.
 pub fn a_smaller_map_is_included<K: Eq + Hash, V, S: KeyHasher<K>>() {}
 
 /// LRU is competitive, whichever calls make the references. Take any policy with h places, even one that knows the
 /// whole trace in advance. It begins with the keys `first`, and pays `paid` times for the same references. A map with
-/// `ByLength(k)`, h ≤ k, whatever it contains before, misses at most k / (k + 1 - h) * paid + length first times if the
-/// policy stores each key, whether it may load keys ahead (`loads`) or loads only on demand (`demands`). The map misses
-/// at most k / (k - h) * paid + length first times if the policy need not store a key (`bypasses`).
+/// `ByLength(k)`, h ≤ k, may contain any keys before. If the policy stores each key, ahead (`loads`) or on demand
+/// (`demands`), the map misses at most `k / (k + 1 - h) * paid + length first` times. If the policy need not store a
+/// key, the map misses at most `k / (k - h) * paid + length first` times (`bypasses`).
 pub fn maps_are_competitive<K: Eq + Hash, V, S: KeyHasher<K>>() {
     references_keep_the_newest::<K, V, S>();
     crate::erased::lru_theory::lru_is_competitive::<K>();

@@ -24,9 +24,9 @@ fn load<F: Fn(&String) -> Result<u64, u64>>(
     Ok(value)
 }
 
-/// Reads a block through a page cache without pins that may evict dirty pages. The pages change as the keys of an LRU
-/// cache do at a reference to the number (`refers`). So if they were the pages of the numbers that were read last, they
-/// still are (`newest`).
+/// Reads a block through a page cache that has no pins and may evict dirty pages. The pages change as the keys of an
+/// LRU cache do at a reference to the number (`refers`). So if they were the pages of the numbers that were read last,
+/// they still are (`newest`).
 fn read<D: BlockDevice<u8>>(cache: &mut PageCache<u8, D>, n: u64) -> Result<u8, PageError<D::Error>> {
     crate::erased::lru_theory::a_cache_is_the_newest::<u64>();
     cache.without_pins_the_newest_stay();

@@ -48,8 +48,8 @@ fn charge_both(
     run_summing(alloc, map, calls)
 }
 
-/// Makes calls on a map with a maximum length. They do what they would do to a list without a table, if links and bytes
-/// reach a table for 8 times the entries.
+/// Makes calls on a map with a maximum length. They do what they would do to a list without a table, if the link type
+/// and memory permit a table for 8 * (n + m + 1) entries, with n entries before and m calls.
 fn call_on_list<S: KeyHasher<u64>>(
     alloc: Global,
     map: &mut LruMap<u64, u64, ByLength, S>,

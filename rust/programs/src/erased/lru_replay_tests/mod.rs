@@ -1,8 +1,6 @@
 // Erased from crates/lru_replay_tests/src/lib.rt: do not edit.
-//! Tests of what no contract of `lru_replay` says, through its public calls: what a run does when it runs out of
-//! memory, and the printed texts.
-//!
-//! The program `rows` has the worked rows as data, readers and writers that fail, and random calls.
+//! Tests of `lru_replay` through its public calls, for what no contract says: runs that run out of memory, and the
+//! printed texts.
 
 #[allow(unused_imports)]
 use crate::rattle_std::prelude::*;

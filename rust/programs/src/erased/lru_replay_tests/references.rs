@@ -25,7 +25,7 @@ fn compute_at_miss<F: Fn(&String) -> u64>(
     Ok(1)
 }
 
-/// Looks up each text by `compute_at_miss`, and returns how often this computed a value: exactly at the misses of the
+/// Looks up each text by `compute_at_miss`, and returns how often this computed a value: once for each miss of the
 /// trace.
 pub fn read_through<F: Fn(&String) -> u64>(
     map: &mut LruMap<String, u64>,

@@ -1,6 +1,5 @@
 // Erased from crates/lru_tenants_tests/src/numbers.rt: do not edit.
-//! The cache of numbers that the examples of the docs begin with, and tests of the texts of errors and of keys that are
-//! texts.
+//! The cache of numbers in the examples of the docs. Tests of the texts of errors, and of names and keys that are texts.
 #[allow(unused_imports)]
 use crate::rattle_std::prelude::*;
 
@@ -43,14 +42,15 @@ fn of_the_errors() {
 }
 
 #[test]
-fn of_keys_that_are_texts() {
+fn of_names_and_keys_that_are_texts() {
     let run = |rt: HostRuntime| -> Result<(), Fail> {
         let alloc = rt.alloc();
-        let key = String::from_str(alloc, "a")?;
+        let host = String::from_str(alloc, "host")?;
+        let path = String::from_str(alloc, "/path")?;
         let page = String::from_str(alloc, "hello")?;
-        let mut pages: TenantCache<u64, String, String> = TenantCache::new(alloc, [1, 2, 3, 4], 64);
-        check!(rt; (pages.open(1, 10), pages.put(&1, key, page)) == (Ok(()), Ok(true)));
-        let page = pages.get(&1, &"a")?.ok_or("no page")?;
+        let mut pages: TenantCache<String, String, String> = TenantCache::new(alloc, [1, 2, 3, 4], 64);
+        check!(rt; (pages.open(host, 10), pages.put(&"host", path, page)) == (Ok(()), Ok(true)));
+        let page = pages.get(&"host", &"/path")?.ok_or("no page")?;
         check!(rt; page.as_str() == "hello");
         Ok(())
     };

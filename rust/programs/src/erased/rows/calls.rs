@@ -7,7 +7,7 @@ use crate::programs::lru_replay::lines::words;
 use crate::programs::rows::limiters::{Numbered, number_of};
 use crate::rattle_std::alloc::Global;
 
-/// Returns the calls that the lines spell, which may be lines of the program `replay`. A line that spells no call
+/// Returns the calls that the lines spell, also if these are lines of the program `replay`. A line that spells no call
 /// becomes a call for the figures, which is not what its row expects.
 pub fn calls_of<L: Numbered>(alloc: Global, lines: &str) -> Vec<Call<u64, u64, L>> {
     let mut calls = Vec::new(alloc);

@@ -12,7 +12,8 @@ pub trait Numbered: Sized {
     fn of(number: u64) -> Self;
 }
 
-/// Returns the number of the limiter that words name: the number at their end, or a number that stands for the words.
+/// Returns the number from which the limiter with these words is made. Some words stand for a number. For other words
+/// it is the number at their end, or 0 if there is none.
 pub fn number_of(words: &str) -> u64 {
     match words {
         "no growth at first" | "blank values" => 0,

@@ -10,7 +10,7 @@ use crate::programs::rows::streams::{Failure, Narrow, Slow, count_lines, error_a
 use crate::rattle_std::alloc::Global;
 use crate::rattle_std::io::{BufReader, ErrorKind};
 
-/// The longest input of which each read and each write fails in turn.
+/// The longest input for which each read and each write fails in turn.
 const LONGEST_CUT: usize = 2000;
 
 type End = Result<ReplayEnd, ReplayError>;
@@ -90,7 +90,7 @@ fn with_failing_read(alloc: Global, row: &Row, at: usize) -> bool {
     end == Some(Err(ReplayError::Read)) && writer.has(text, 1)
 }
 
-/// Lets a write fail of a writer that takes single bytes. Returns whether the front of the text is written, no line is
+/// Lets a write fail, on a writer that takes single bytes. Returns whether the front of the text is written, no line is
 /// read after the line that was being answered, and nothing is flushed.
 fn with_failing_write(alloc: Global, row: &Row, at: usize) -> bool {
     let failure = if at % 4 == 0 { Failure::NoBytes } else { Failure::Error(error_at(at)) };

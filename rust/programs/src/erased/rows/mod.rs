@@ -1,12 +1,5 @@
 // Erased from crates/rows/src/main.rt: do not edit.
 //! Runs the rows of data files, and rows of random calls. `docs/ROWS.md` explains their form.
-//!
-//! - `row`, `escapes`: a row of a data file.
-//! - `lines`, `streams`: carry out a row of lines, through readers and writers that take few bytes in each call, and
-//!   with a call that fails.
-//! - `maps`, `calls`, `limiters`, `hasher`: carry out a row of calls on the map that its first line names.
-//! - `trials`, `plain`, `table`: random calls with the answers of a plain list.
-//! - `answers`, `results`, `text`, `report`: write answers, compare them, and print the first difference.
 
 #[allow(unused_imports)]
 use crate::rattle_std::prelude::*;

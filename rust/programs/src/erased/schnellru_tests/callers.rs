@@ -124,8 +124,8 @@ fn exchange(
     map.insert(new, text)
 }
 
-/// Inserts an entry, pops it, and inserts another entry. Each insert evicts only from the old end, both pay for the
-/// entries that they move, and no two keys are equal afterwards.
+/// Inserts an entry, pops it, and inserts another entry. Each insert evicts only from the old end, both inserts pay for
+/// the entries that they move, and no two keys are equal afterwards.
 fn put_two(map: &mut LruMap<String, u64>, first: String, second: String, value: u64) -> Result<(), AllocError> {
     laws::runs_keep_maps::<String, u64, String, ByLength, RandomState>();
     laws::each_insert_of_a_run_evicts_the_oldest::<String, u64, String, ByLength, RandomState>();
@@ -153,8 +153,8 @@ fn put_and_keep_half(
     map.insert(key, value)
 }
 
-/// Puts an entry of a new key into a full table, in which a search for the key first meets a bucket whose entry was
-/// removed. The new entry fills that bucket, and all other entries stay.
+/// Puts an entry of a new key into a full table. A search for the key first meets a bucket whose entry was removed. The
+/// new entry fills that bucket, and all other entries stay.
 fn put_into_deleted(map: &mut LruMap<String, u64>, key: String, value: u64) -> Result<bool, AllocError> {
     laws::deleted_buckets_serve::<String, u64, String, ByLength, RandomState>();
     map.insert(key, value)

@@ -1,5 +1,5 @@
 // Erased from crates/schnellru_tests/src/memory.rt: do not edit.
-//! Tests of the memory of a map, of which no contract speaks.
+//! Tests of the memory of a map. No contract speaks of it.
 #[allow(unused_imports)]
 use crate::rattle_std::prelude::*;
 

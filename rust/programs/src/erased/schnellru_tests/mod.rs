@@ -1,8 +1,7 @@
 // Erased from crates/schnellru_tests/src/lib.rt: do not edit.
-//! Tests of what no contract of `schnellru` says, through its public calls.
+//! Tests of `schnellru` through its public calls, for what no contract says.
 //!
-//! `examples` also contains the examples of `lru_model` and `ordered_table`. The worked rows are data of the program
-//! `rows`.
+//! `examples` also contains the examples of `lru_model` and `ordered_table`.
 
 #[allow(unused_imports)]
 use crate::rattle_std::prelude::*;

@@ -8,7 +8,7 @@ use crate::rattle_std::prelude::*;
 use crate::erased::lru_limits::{Insertion, Limiter, LookupKey};
 use crate::rattle_std::alloc::{AllocError, Global};
 
-/// A text that names the `String` of its bytes.
+/// A text that names the `String` with the same bytes.
 #[derive(Clone, Copy, PartialEq, Eq, Hash)]
 pub struct InsertKey<'a>(pub &'a str);
 

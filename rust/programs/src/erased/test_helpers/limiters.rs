@@ -67,8 +67,8 @@ impl Limiter<u64, u64> for Alternating {
     }
 }
 
-/// Limits nothing, writes 0 into each removed value, and into its key if a flag is set, and keeps the last removed
-/// entry as it was.
+/// Limits nothing. Writes 0 into each removed value, and into its key if a flag is set. Keeps the last removed entry as
+/// it was.
 #[derive(Clone, Copy, Debug, Default)]
 pub struct Blanking {
     pub keys: bool,

@@ -1,34 +1,36 @@
 use Rattle.std.proofs.Common.{◌≡◌, None, sym, refl}
 use Rattle.lru_model.specs.Calls.{cleared}
+use Rattle.lru_tenants.specs.Cache.{IsTenant}
 use Rattle.lru_tenants.specs.TenantRuns.{IfOpen}
-use Rattle.lru_tenants.proofs.Changes.{on-same, on-written}
+use Rattle.lru_tenants.proofs.Changes.{found-all, on-same, on-written}
 use Rattle.lru_tenants.proofs.Kept.{kept-written, same-sum}
 use Rattle.lru_tenants.proofs.cache.TenantCache.clear.Goals as goal
 
+pub clear-requires : goal.clear-requires
+clear-requires g c = found-all (IsTenant g.K.PartialEq.eq g.L.Summing.cost_of g.L.Summing.account
+    g.L.Budgeted.budget_of) (g.T.LookupKey.names c.args.name.now) c.self.inside.tenants.pairs c.in-Some.own.now
+    (sym c.in-Some.ensures.value) c.self.invariant.each
+
 pub invariant_of-self-2 : goal.invariant_of-self-2
-invariant_of-self-2 g c = let u = c.clear.new.map in
-    kept-written g.N.PartialEq.eq c.self.inside.tenants (c.get_mut.follows.lender u) c.self.invariant c.args.name.now
-    c.in-Some.own.now u
-    (sym c.in-Some.ensures.value) (c.get_mut.follows.holds u) c.clear.ensures.tenant c.clear.ensures.budget
+invariant_of-self-2 g c = kept-written c.self.inside.tenants.pairs c.self.invariant
+    (g.T.LookupKey.names c.args.name.now) c.in-Some.own.now (sym c.in-Some.ensures.value) c.clear.new.map
+    c.clear.ensures.tenant c.clear.ensures.budget
 
 pub returns-clause-tenants : goal.returns-clause-tenants
-returns-clause-tenants g c = (invariant_of-self-2 g c).tenants
+returns-clause-tenants g c = (invariant_of-self-2 g c).each
 
 pub returns-clause-total : goal.returns-clause-total
-returns-clause-total g c = let u = c.clear.new.map in
-    rw (← c.self.view_is) (same-sum g.N.PartialEq.eq c.self.inside.tenants (c.get_mut.follows.lender u)
-    c.self.invariant c.args.name.now
-    c.in-Some.own.now u (sym c.in-Some.ensures.value) (c.get_mut.follows.holds u) c.clear.ensures.budget)
+returns-clause-total g c = rw (← c.self.view_is) (same-sum c.self.inside.tenants.pairs c.self.invariant
+    (g.T.LookupKey.names c.args.name.now) c.in-Some.own.now (sym c.in-Some.ensures.value) c.clear.new.map
+    c.clear.ensures.budget)
 
 pub returns-clause-clears : goal.returns-clause-clears
-returns-clause-clears g c = let u = c.clear.new.map in
-    rw (← c.self.view_is) (on-written g.N.PartialEq.eq c.args.name.now c.self.inside.tenants
-    (c.get_mut.follows.lender u) c.in-Some.own.now u (sym c.in-Some.ensures.value) (c.get_mut.follows.holds u)
-    (IfOpen (λ old done new. new ≡ cleared g.L.Limiter.rules old)) _
-    (tt, u, c.clear.ensures.clears, refl, refl))
+returns-clause-clears g c = rw (← c.self.view_is) (on-written g.met.T.LookupKey.laws c.args.name.now
+    (IfOpen (λ old done new. new ≡ cleared g.L.Limiter.rules old))
+    _ g.met.N.Eq.laws c.self.inside.tenants.pairs c.in-Some.own.now c.clear.new.map
+    (sym c.in-Some.ensures.value) (tt, c.clear.new.map, c.clear.ensures.clears, refl, refl))
 
 pub returns-in_default-clause-clears : goal.returns-in_default-clause-clears
-returns-in_default-clause-clears g c =
-    rw (c.get_mut.follows.holds-at-none, ← c.self.view_is) (on-same c.args.name.now
-    (IfOpen (λ old done new. new ≡ cleared g.L.Limiter.rules old)) _ g.met.N.Eq.laws _ None
-    (sym c.in_default.ensures.value) (refl, refl))
+returns-in_default-clause-clears g c = rw (← c.self.view_is) (on-same g.met.T.LookupKey.laws c.args.name.now
+    (IfOpen (λ old done new. new ≡ cleared g.L.Limiter.rules old))
+    _ _ None (sym c.in_default.ensures.value) (refl, refl))

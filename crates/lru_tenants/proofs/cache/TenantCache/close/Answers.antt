@@ -5,9 +5,9 @@ use Rattle.lru_tenants.proofs.Changes.{on-from}
 use Rattle.lru_tenants.proofs.cache.TenantCache.close.Goals as goal
 
 pub returns-in_default-clause-closes : goal.returns-in_default-clause-closes
-returns-in_default-clause-closes g c = on-from c.args.name.now (OfOpen Closes) (Err NotOpen) _ _ None None
+returns-in_default-clause-closes g c = on-from (OfOpen Closes) (Err NotOpen) _ _ None None
     (sym c.take_tenant.ensures.taken ∙ c.in_default.is) (refl, refl) c.take_tenant.ensures.leaves
 
 pub returns-clause-closes : goal.returns-clause-closes
-returns-clause-closes g c = on-from c.args.name.now (OfOpen Closes) _ _ _ (Some c.in-Some.map) None
+returns-clause-closes g c = on-from (OfOpen Closes) _ _ _ (Some c.in-Some.map) None
     (sym c.take_tenant.ensures.taken ∙ c.in-Some.is) (ap Ok c.len.ensures.len, refl) c.take_tenant.ensures.leaves

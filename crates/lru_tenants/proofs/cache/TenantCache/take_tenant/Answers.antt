@@ -1,65 +1,92 @@
-use Rattle.std.proofs.Common.{arith, None, sym, ◌∙◌, ap}
-use Rattle.std.specs.Option.{option_map, unwrap_or}
-use Rattle.lru_tenants.proofs.Changes.{leaves-updated}
-use Rattle.lru_tenants.proofs.Kept.{kept-removed-by, own-within, sum-removed}
+use Rattle.std.proofs.Common.{◌≡◌, arith, sym, ◌∙◌, ap, option_map}
+use Rattle.std.specs.Option.{unwrap_or}
+use Rattle.std.proofs.lemmas.Iterator.Adapters.{option_map_id}
+use Rattle.lru_model.specs.Lists.{lookup}
+use Rattle.lru_model.proofs.CallerLemmas.{lookup-entry}
+use Rattle.lru_tenants.proofs.Changes.{leaves-removed}
+use Rattle.lru_tenants.proofs.Kept.{kept-removed, own-within, sum-removed}
 use Rattle.lru_tenants.proofs.cache.TenantCache.take_tenant.Goals as goal
 
 pub invariant_of-self : goal.invariant_of-self
-invariant_of-self g c = kept-removed-by g.N.PartialEq.eq c.self.inside.tenants c.remove.new.self c.self.invariant
-    c.args.name.now
-    c.remove.ensures.entries c.remove.ensures.hasher c.self.inside.budgets (omega (
+invariant_of-self g c = let names = g.T.LookupKey.names c.args.name.now in
+    let tenants = c.self.inside.tenants.pairs in
+    let found : c.remove.result ≡ lookup names tenants = c.remove.ensures.step.value
+    ∙ ap (option_map (λ p. p.1)) (option_map_id _) ∙ sym (lookup-entry names tenants) in
+    rw (ap (λ st. st.pairs) c.remove.ensures.step.state.is)
+    (kept-removed tenants c.self.invariant names c.self.inside.budgets (omega (
       arith,
-      ap (λ o. unwrap_or (option_map (λ map. g.L.Budgeted.budget_of map.limiter) o) 0)
-          (sym c.remove.ensures.value ∙ c.in_default.is),
-    ))
+      ap (λ o. unwrap_or (option_map (λ map. g.L.Budgeted.budget_of map.limiter) o) 0) (sym found ∙ c.in_default.is),
+    )))
 
 pub overflow_sub-self : goal.overflow_sub-self
-overflow_sub-self g c = omega (
-  arith,
-  c.budget.ensures ∙ ap g.L.Budgeted.budget_of c.limiter.ensures,
-  own-within c.self.inside.entry_bytes c.self.inside.tenants c.self.invariant (g.N.PartialEq.eq c.args.name.now)
-      c.in-Some.map (sym c.in-Some.ensures.value),
-)
+overflow_sub-self g c = let names = g.T.LookupKey.names c.args.name.now in
+    let tenants = c.self.inside.tenants.pairs in
+    let found : c.remove.result ≡ lookup names tenants = c.remove.ensures.step.value
+    ∙ ap (option_map (λ p. p.1)) (option_map_id _) ∙ sym (lookup-entry names tenants) in
+    omega (
+      arith,
+      c.budget.ensures ∙ ap g.L.Budgeted.budget_of c.limiter.ensures,
+      own-within tenants c.self.invariant names c.in-Some.map (sym found ∙ c.in-Some.is),
+    )
 
 pub invariant_of-self-2 : goal.invariant_of-self-2
-invariant_of-self-2 g c =
-    let there = ap (λ o. unwrap_or (option_map (λ map. g.L.Budgeted.budget_of map.limiter) o) 0)
-    (sym c.in-Some.ensures.value) in
-    kept-removed-by g.N.PartialEq.eq c.self.inside.tenants c.remove.new.self c.self.invariant c.args.name.now
-    c.remove.ensures.entries c.remove.ensures.hasher _ (omega (
+invariant_of-self-2 g c = let names = g.T.LookupKey.names c.args.name.now in
+    let tenants = c.self.inside.tenants.pairs in
+    let found : c.remove.result ≡ lookup names tenants = c.remove.ensures.step.value
+    ∙ ap (option_map (λ p. p.1)) (option_map_id _) ∙ sym (lookup-entry names tenants) in
+    let there = sym found ∙ c.in-Some.is in
+    rw (ap (λ st. st.pairs) c.remove.ensures.step.state.is)
+    (kept-removed tenants c.self.invariant names _ (omega (
       arith,
-      there,
+      ap (λ o. unwrap_or (option_map (λ map. g.L.Budgeted.budget_of map.limiter) o) 0) there,
       c.budget.ensures ∙ ap g.L.Budgeted.budget_of c.limiter.ensures,
-      own-within c.self.inside.entry_bytes c.self.inside.tenants c.self.invariant (g.N.PartialEq.eq c.args.name.now)
-          c.in-Some.map (sym c.in-Some.ensures.value),
-    ))
+      own-within tenants c.self.invariant names c.in-Some.map there,
+    )))
 
 pub returns-clause-tenants : goal.returns-clause-tenants
-returns-clause-tenants g c = (invariant_of-self-2 g c).tenants
+returns-clause-tenants g c = (invariant_of-self-2 g c).each
 
 pub returns-in_default-clause-tenants : goal.returns-in_default-clause-tenants
-returns-in_default-clause-tenants g c = (invariant_of-self g c).tenants
+returns-in_default-clause-tenants g c = (invariant_of-self g c).each
+
+pub returns-clause-taken : goal.returns-clause-taken
+returns-clause-taken g c = let names = g.T.LookupKey.names c.args.name.now in
+    let tenants = c.self.inside.tenants.pairs in
+    rw (← c.self.view_is) (sym c.in-Some.is ∙ c.remove.ensures.step.value
+    ∙ ap (option_map (λ p. p.1)) (option_map_id _) ∙ sym (lookup-entry names tenants))
+
+pub returns-in_default-clause-taken : goal.returns-in_default-clause-taken
+returns-in_default-clause-taken g c = let names = g.T.LookupKey.names c.args.name.now in
+    let tenants = c.self.inside.tenants.pairs in
+    rw (← c.self.view_is) (sym c.in_default.is ∙ c.remove.ensures.step.value
+    ∙ ap (option_map (λ p. p.1)) (option_map_id _) ∙ sym (lookup-entry names tenants))
 
 pub returns-in_default-clause-total : goal.returns-in_default-clause-total
-returns-in_default-clause-total g c = rw (← c.self.view_is) (omega (
-  arith,
-  c.self.invariant.sum,
-  sum-removed g.N.PartialEq.eq c.self.inside.tenants c.remove.new.self c.self.invariant c.args.name.now
-      c.remove.ensures.entries c.remove.ensures.hasher,
-))
+returns-in_default-clause-total g c =
+    rw (ap (λ st. st.pairs) c.remove.ensures.step.state.is, ← c.self.view_is) (omega (
+      arith,
+      c.self.invariant.sum,
+      sum-removed c.self.inside.tenants.pairs c.self.invariant (g.T.LookupKey.names c.args.name.now),
+    ))
 
 pub returns-clause-total : goal.returns-clause-total
-returns-clause-total g c = rw (← c.self.view_is) (omega (
-  arith,
-  c.self.invariant.sum,
-  sum-removed g.N.PartialEq.eq c.self.inside.tenants c.remove.new.self c.self.invariant c.args.name.now
-      c.remove.ensures.entries c.remove.ensures.hasher,
-))
+returns-clause-total g c =
+    rw (ap (λ st. st.pairs) c.remove.ensures.step.state.is, ← c.self.view_is) (omega (
+      arith,
+      c.self.invariant.sum,
+      sum-removed c.self.inside.tenants.pairs c.self.invariant (g.T.LookupKey.names c.args.name.now),
+    ))
 
 pub returns-in_default-clause-leaves : goal.returns-in_default-clause-leaves
-returns-in_default-clause-leaves g c = rw (← c.self.view_is) (leaves-updated g.N.PartialEq.eq c.args.name.now None
-    c.self.inside.tenants c.remove.new.self c.remove.ensures.updates)
+returns-in_default-clause-leaves g c =
+    rw (ap (λ st. st.pairs) c.remove.ensures.step.state.is, ← c.self.view_is)
+    (leaves-removed (g.T.LookupKey.names c.args.name.now) (g.met.T.LookupKey.laws.one c.args.name.now)
+    g.met.N.Eq.laws c.self.inside.hasher c.self.inside.entry_bytes c.self.inside.total_limit
+    c.self.inside.tenants.pairs c.len-len.ensures.map.distinct)
 
 pub returns-clause-leaves : goal.returns-clause-leaves
-returns-clause-leaves g c = rw (← c.self.view_is) (leaves-updated g.N.PartialEq.eq c.args.name.now None
-    c.self.inside.tenants c.remove.new.self c.remove.ensures.updates)
+returns-clause-leaves g c =
+    rw (ap (λ st. st.pairs) c.remove.ensures.step.state.is, ← c.self.view_is)
+    (leaves-removed (g.T.LookupKey.names c.args.name.now) (g.met.T.LookupKey.laws.one c.args.name.now)
+    g.met.N.Eq.laws c.self.inside.hasher c.self.inside.entry_bytes c.self.inside.total_limit
+    c.self.inside.tenants.pairs c.len-len.ensures.map.distinct)

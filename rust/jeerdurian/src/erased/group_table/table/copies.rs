@@ -13,8 +13,8 @@ impl<T> Table<T> {
     /// Makes a table of the same buckets, with what `f` returns for each entry.
     ///
     /// `f` is called in rising order of the buckets, once for each entry, until it returns an error. Deleted buckets
-    /// stay deleted, so the growth left is the same, and the counts of insertions are copied. It takes time O(buckets),
-    /// and two requests for memory.
+    /// stay deleted, so the growth left is the same. The counts of insertions are copied. It takes time O(buckets), and
+    /// two requests for memory.
     ///
     /// # Errors
     ///

@@ -38,15 +38,15 @@ impl<T> Table<T> {
         self.growth_left
     }
 
-    /// Returns how many insertions the table has made. A moved entry counts as one insertion. A count that reaches
-    /// `u64::MAX` stays there.
+    /// Returns how many insertions the table has made. A moved entry counts as one insertion. Each count stops at
+    /// `u64::MAX`.
     #[inline]
     pub fn insertion_count(&self) -> u64 {
         self.placed.saturating_add(self.moved)
     }
 
-    /// Returns how many entries `place` and `try_place` have inserted. A moved entry is not counted again. A count that
-    /// reaches `u64::MAX` stays there.
+    /// Returns how many entries `place` and `try_place` have inserted. A moved entry is not counted again. The count
+    /// stops at `u64::MAX`.
     ///
     /// ```text
     /// let mut table = Table::with_buckets(alloc, 8)?;
@@ -63,7 +63,7 @@ impl<T> Table<T> {
         bytes_of::<T>()
     }
 
-    /// Returns whether there is a bucket of this number that holds an entry.
+    /// Returns whether bucket `b` exists and holds an entry.
     #[inline]
     pub fn is_full(&self, b: usize) -> bool {
         b < self.buckets() && self.control.byte(b) < DELETED

@@ -17,7 +17,7 @@ pub(crate) fn place_again<T, N: LinkType, H: Fn(&T) -> u64>(
     hash_of: &H,
 ) {
     for b in 0..before.buckets() {
-        // Another entry was moved here, or none was ever here.
+        // Another entry was moved here, or none was here before.
         if control.byte(b) < DELETED || before.byte(b) >= DELETED {
             continue;
         }
@@ -31,7 +31,7 @@ pub(crate) fn place_again<T, N: LinkType, H: Fn(&T) -> u64>(
         let mut next = Some(entries.read(b));
         'turns: while let Some(entry) = next {
             let place = first_free(control, hash);
-            // No entry up to here waits.
+            // No entry in a place up to `b` waits.
             let byte = if place <= b { EMPTY } else { before.byte(place) };
             next = put(control, entries, place, byte, tag_of(hash), entry);
             (*at_mut!(links, old)) = N::from_usize(place);

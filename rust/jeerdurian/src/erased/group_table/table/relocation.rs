@@ -18,11 +18,11 @@ use crate::rattle_std::mem;
 impl<T> Table<T> {
     /// Moves all entries, in rising order of their buckets, into a fresh table of `buckets` buckets.
     ///
-    /// A table without entries may move to no buckets, which gives its memory back.
+    /// A table without entries may move to 0 buckets, which gives its memory back.
     ///
-    /// The result contains a link for each old bucket: the number of the bucket where its entry is now, or `MAX` if it
-    /// was free. The result is empty for a table without entries. `hash_of` is called once for each entry. Of the
-    /// `insertions`, `moved` rises by the number of entries, and `placed` stays. No bucket is deleted afterwards. It
+    /// The result contains a link for each old bucket: the number of its entry's bucket now, or `MAX` if the old bucket
+    /// was free. The result is empty for a table without entries. `hash_of` is called once for each entry. The count
+    /// `moved` rises by the number of entries, and `placed` stays. Afterwards no bucket is in the state *deleted*. It
     /// takes time O(old buckets + new buckets).
     ///
     /// # Errors
@@ -59,10 +59,11 @@ impl<T> Table<T> {
         Ok(links)
     }
 
-    /// Moves all entries within the table so that no bucket is deleted, and returns what `relocate` returns.
+    /// Moves all entries within the table, so that no bucket is in the state *deleted* afterwards. Returns what
+    /// `relocate` returns.
     ///
-    /// `hash_of` is called once for each entry. Of the `insertions`, `moved` rises by the number of entries, and
-    /// `placed` stays. It takes time O(buckets).
+    /// `hash_of` is called once for each entry. The count `moved` rises by the number of entries, and `placed` stays.
+    /// It takes time O(buckets).
     ///
     /// # Errors
     ///

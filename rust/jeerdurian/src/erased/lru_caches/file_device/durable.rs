@@ -13,7 +13,7 @@ use crate::rattle_std::io::Cursor;
 /// assert!(rt; Cursor::new([0u8; 4]).make_durable().is_ok());
 /// ```
 pub trait Durable {
-    /// Asks the system to make all bytes that were written and flushed before durable, and returns when it has.
+    /// Asks the system to make durable all bytes that were written and flushed before. Returns when they are.
     ///
     /// # Errors
     ///

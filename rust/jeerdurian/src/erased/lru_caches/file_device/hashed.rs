@@ -13,9 +13,9 @@ use crate::rattle_std::io::{Read, Seek, Write};
 
 /// A device of the blocks of a file, of `N` bytes each, with a checksum in the last 8 bytes of each block.
 ///
-/// A write replaces the last 8 bytes by the hash of the other bytes and of the block's number, so contracts see all
+/// A write replaces the last 8 bytes by the hash of the other bytes and of the block's number. So contracts see all
 /// bytes of a block except the last 8. A read returns `Ok` only if the block has its checksum. So a read finds blocks
-/// that are torn, damaged or of another number, also after a restart, and needs no memory for that.
+/// that are torn, damaged or of another number, also after a restart.
 ///
 /// [`FileDevice`]: crate::FileDevice
 ///

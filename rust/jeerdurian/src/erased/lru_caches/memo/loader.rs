@@ -11,10 +11,8 @@ use crate::rattle_std::hash::Hash;
 /// A memo of a function that may fail, such as a read of a file. It stores the newest values that were loaded, up to a
 /// limit, and no failure.
 ///
-/// Each value is right, a failure changes nothing, and any other call is a step of a map, as for a `Memo` (`step` of
+/// Each value is right. A failure changes nothing. Any other call is a step of a map, as for a `Memo` (`step` of
 /// `load`).
-///
-/// The function may borrow what it reads by `&`.
 ///
 /// ```text
 /// let disk = [10, 11, 12];

@@ -113,8 +113,8 @@ impl<K: Eq + Hash, V, Q: Question<K, V>, L: Insertion<K, V, K>, S: KeyHasher<K>>
         read_stored::<K, V, Q, L, S, R, U>(&mut self.map, key, read)
     }
 
-    /// Stores an answer at a key, as the newest, and returns whether it is stored. If the table runs out of memory or its
-    /// limiter rejects the answer, no answer is stored at the key.
+    /// Stores an answer at a key, as the newest, and returns whether it is stored. If memory runs out or the limiter
+    /// rejects the answer, no answer is stored at the key.
     ///
     /// ```text
     /// squares.store(3, 9);

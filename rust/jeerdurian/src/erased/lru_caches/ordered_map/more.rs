@@ -10,7 +10,7 @@ use crate::rattle_std::hash::Hash;
 impl<K: Eq + Hash, V, S: KeyHasher<K>> OrderedMap<K, V, S> {
     /// Returns the entry of a key.
     ///
-    /// The returned key is the stored one, which may differ from the equal one that is looked up.
+    /// The returned key is the stored key, which may differ from the equal key that is looked up.
     ///
     /// ```text
     /// assert!(rt; map.get_key_value(&1) == Some((&1, &11)) && map.get_key_value(&9).is_none());
@@ -56,7 +56,7 @@ impl<K: Eq + Hash, V, S: KeyHasher<K>> OrderedMap<K, V, S> {
         self.map.try_reserve(n)
     }
 
-    /// Shrinks the table to as few buckets as hold the entries, and returns whether it had more.
+    /// Shrinks the table to the least number of buckets that holds the entries. Returns whether it had more buckets.
     ///
     /// ```text
     /// assert_eq!(rt; map.try_reserve(100), Ok(()));

@@ -12,7 +12,7 @@ use crate::erased::lru_caches::page_cache::{PageCache, PageError};
 use crate::erased::schnellru::KeyHasher;
 
 impl<B: Copy, D: BlockDevice<B>, S: KeyHasher<u64>> PageCache<B, D, S> {
-    /// Makes a page the newest, after it was read if it is not cached.
+    /// Makes a page the newest. If it is not cached, it is read first.
     pub(super) fn bring(&mut self, n: u64) -> Result<(), PageError<D::Error>> {
         if promote(&mut self.map, &mut self.counts, n) {
             return Ok(());
@@ -25,9 +25,9 @@ impl<B: Copy, D: BlockDevice<B>, S: KeyHasher<u64>> PageCache<B, D, S> {
 
     /// Returns a block, and makes its page the newest.
     ///
-    /// If the cache is full, the oldest page that may go is evicted for it, after that page was written to the device
-    /// if it is dirty. Each page may go that is not pinned and, if the cache [keeps dirty pages](Self::set_keeps_dirty),
-    /// clean.
+    /// If the page is not cached and the cache is full, the oldest page that may go is evicted. If this page is dirty,
+    /// it is written to the device first. A pinned page may not go, nor a dirty one if the cache [keeps dirty
+    /// pages](Self::set_keeps_dirty).
     ///
     /// ```text
     /// assert_eq!(rt; (cache.read(1), cache.len()), (Ok(20), 1));
@@ -38,8 +38,8 @@ impl<B: Copy, D: BlockDevice<B>, S: KeyHasher<u64>> PageCache<B, D, S> {
     ///
     /// # Errors
     ///
-    /// None if the page is cached. `Broken`: a `sync` has failed. `NoBlock`: the device has no such number. `Full`: no
-    /// page may go. `Device`: the read failed, or a page could not be written back; all pages stay. `Memory`: out of
+    /// No error if the page is cached. `Broken`: a `sync` has failed. `NoBlock`: the device has no such number. `Full`:
+    /// no page may go. `Device`: the read failed, or a page could not be written back; all pages stay. `Memory`: out of
     /// memory for one page more; a page may have been evicted.
     pub fn read(&mut self, n: u64) -> Result<B, PageError<D::Error>> {
         self.read_with(n, |block| *block)
@@ -73,7 +73,7 @@ impl<B: Copy, D: BlockDevice<B>, S: KeyHasher<u64>> PageCache<B, D, S> {
     ///
     /// # Errors
     ///
-    /// `Broken`: a `sync` has failed. `NoBlock`: the device has no such number. Nothing else if the page is cached.
+    /// `Broken`: a `sync` has failed. `NoBlock`: the device has no such number. No other error if the page is cached.
     /// `Full`, `Device` and `Memory` as for `read`. After an error the block is not replaced.
     pub fn write(&mut self, n: u64, block: B) -> Result<(), PageError<D::Error>> {
         admit(&self.device, n)?;

@@ -20,7 +20,7 @@ fn find_victim<B: Copy, S: KeyHasher<u64>>(map: &Pages<B, S>, keeps_dirty: bool)
     None
 }
 
-/// Returns the number of the page that has to go for one page more, if the cache is full.
+/// Returns the number of the page to evict for a new page, if the cache is full.
 pub(super) fn find_room<B: Copy, E, S: KeyHasher<u64>>(
     map: &Pages<B, S>,
     capacity: usize,

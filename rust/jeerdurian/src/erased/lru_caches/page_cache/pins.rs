@@ -10,7 +10,7 @@ use crate::erased::lru_caches::page_cache::{PageCache, PageError};
 use crate::erased::schnellru::KeyHasher;
 
 impl<B: Copy, D: BlockDevice<B>, S: KeyHasher<u64>> PageCache<B, D, S> {
-    /// Pins a page and makes it the newest, after it was read if it is not cached. It is not evicted until `unpin`.
+    /// Pins a page and makes it the newest. If it is not cached, it is read first. It is not evicted until `unpin`.
     ///
     /// One `unpin` ends any number of pins of a page. A flush writes pinned pages, too.
     ///
@@ -48,7 +48,7 @@ impl<B: Copy, D: BlockDevice<B>, S: KeyHasher<u64>> PageCache<B, D, S> {
         is_pinned_at(&self.map, n)
     }
 
-    /// Returns whether dirty pages are kept until a flush. They are not in a new cache.
+    /// Returns whether dirty pages are kept until a flush. A new cache does not keep them.
     ///
     /// ```text
     /// assert_eq!(rt; (cache.keeps_dirty(), cache.write(0, 10), cache.read(2)), (true, Ok(()), Err(PageError::Full)));
@@ -59,8 +59,8 @@ impl<B: Copy, D: BlockDevice<B>, S: KeyHasher<u64>> PageCache<B, D, S> {
         self.keeps_dirty
     }
 
-    /// Sets whether dirty pages are kept until a flush. If they are, reads, writes and pins write nothing to the device,
-    /// so a log of the writes can be written and synced before.
+    /// Sets whether dirty pages are kept until a flush. If they are, reads, writes and pins write nothing to the
+    /// device.
     ///
     /// A call that needs room for a page then returns `Full` if each page is dirty or pinned.
     ///

@@ -4,8 +4,7 @@ use crate::rattle_std::prelude::*;
 
 use crate::erased::lru_limits::accounts::Summing;
 
-/// A limiter with a running total that keeps within a budget: a map is over the limit if and only if the total is above
-/// the budget.
+/// A limiter with a running total and a budget. A map is over the limit if and only if the total is above the budget.
 ///
 /// ```text
 /// let mut limiter = <ByCost as Budgeted<u64, u64>>::with_budget(3);

@@ -7,9 +7,9 @@ use crate::erased::lru_limits::limiter::Limiter;
 
 /// Limits the number of entries. A contract sees it as that number.
 ///
-/// A map under it has at most `max_length` entries after each call. If the limit is lowered through `limiter_mut`, the
-/// map may have more entries until a `trim`, or until an insert or an update stores an entry or replaces a value.
-/// `ByLength` rejects an entry only if `max_length` is 0.
+/// A map under it has at most `max_length` entries after each call. After the limit is lowered through `limiter_mut`,
+/// the map may have more entries. This ends with a `trim`, or when an insert or an update stores an entry or replaces a
+/// value. `ByLength` rejects an entry only if `max_length` is 0.
 ///
 /// ```text
 /// let limiter = ByLength::new(3);

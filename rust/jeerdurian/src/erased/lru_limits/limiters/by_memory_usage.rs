@@ -8,8 +8,7 @@ use crate::erased::lru_limits::limiter::Limiter;
 /// Limits the bytes of the table. A contract sees it as that number.
 ///
 /// It permits a growth if and only if the new table is within the limit. After a refusal the map evicts its oldest
-/// entries. The old table, which exists during a growth, is not counted. What keys and values own is not counted
-/// either.
+/// entries. It does not count the old table, which exists during a growth, or what keys and values own.
 ///
 /// ```text
 /// let mut limiter = ByMemoryUsage::new(152);

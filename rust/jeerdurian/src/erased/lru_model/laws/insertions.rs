@@ -10,8 +10,8 @@ use crate::rattle_std::hash::Hash;
 /// A `try_insert` pays for its insertions into the table, although it may reserve. Their number and the potential
 /// together rise by at most 3 (`rise`), and only if the entry is stored (`stored`).
 ///
-/// Any calls one after another, including inserts and `try_insert`, pay for theirs, too (`runs`): the insertions and
-/// the potential together rise by at most 3 for each entry stored, and by 2 for each entry that shrinks rehashed, until
-/// the count of stored or of rehashed entries reaches `u64::MAX`. A reservation may be among these calls only if no
-/// growth is left before it.
+/// Any calls one after another, including inserts and `try_insert`, pay for theirs, too (`runs`). The insertions and
+/// the potential together rise by at most 3 for each entry stored, and by 2 for each entry that shrinks rehashed. This
+/// holds until the count of stored or of rehashed entries reaches `u64::MAX`. A reservation may be among these calls
+/// only if no growth is left before it.
 pub fn try_inserts_pay_for_moves<K: Eq + Hash, V, L: Admission<K, V>, S: KeyHasher<K>>() {}

@@ -5,17 +5,17 @@ use crate::rattle_std::prelude::*;
 use crate::erased::lru_limits::{Budgeted, Insertion, KeyHasher, Limiter, LookupKey};
 use crate::rattle_std::hash::Hash;
 
-/// After any calls, whatever is written through the references that they lend, no two keys are equal, and inserts moved
-/// at most twice as many entries as they stored, plus those that shrinks rehashed. The table is sound after each call,
-/// as clause `map` of each call says (`Run`).
+/// After any calls, and any writes through the references that they lend, no two keys are equal. Inserts moved at most
+/// twice as many entries as they stored, plus those that shrinks rehashed. The table is sound after each call, as
+/// clause `map` of each call says (`Run`).
 pub fn runs_keep_maps<K: Eq + Hash, V, I: LookupKey<K>, L: Insertion<K, V, I>, S: KeyHasher<K>>() {}
 
-/// If a limiter's running total was the sum of the costs, it is their sum after any calls, and any writes of values
-/// that cost what the old values cost.
+/// A limiter's running total stays the sum of the costs after any calls, and any writes of values that cost what the
+/// old values cost.
 pub fn runs_keep_sums<K: Eq + Hash, V, I: LookupKey<K>, L: Insertion<K, V, I>, S: KeyHasher<K>>() {}
 
-/// Over any calls the count of moved entries and the potential together rise by at most two for each entry that inserts
-/// store, and by one for each entry that shrinks rehash, until the count of stored or of rehashed entries reaches
+/// Over any calls the count of moved entries and the potential together rise by at most two for each stored entry, and
+/// by one for each entry that shrinks rehash. This holds until the count of stored or of rehashed entries reaches
 /// `u64::MAX`.
 pub fn runs_pay_for_moves<K: Eq + Hash, V, I: LookupKey<K>, L: Insertion<K, V, I>, S: KeyHasher<K>>() {}
 
@@ -23,9 +23,8 @@ pub fn runs_pay_for_moves<K: Eq + Hash, V, I: LookupKey<K>, L: Insertion<K, V, I
 /// the newest are left, in their order.
 pub fn runs_evict_the_oldest<K: Eq + Hash, V, I: LookupKey<K>, L: Insertion<K, V, I>, S: KeyHasher<K>>() {}
 
-/// Each insert of a run evicts only from the old end, whatever the other calls of the run are, even `pop_newest`. The
-/// only other entry that it may remove is the entry whose replacement is rejected. The same holds for each get that
-/// inserts.
+/// Each insert of a run evicts only from the old end, whatever the other calls of the run are, even `pop_newest`. It
+/// may also remove the entry of its key, if the replacement is rejected. The same holds for each get that inserts.
 pub fn each_insert_of_a_run_evicts_the_oldest<
     K: Eq + Hash,
     V,
@@ -45,5 +44,5 @@ pub fn runs_keep_the_memory_usage<K: Eq + Hash, V, L: Insertion<K, V, K>, S: Key
 /// values cost. The budget stays as it is, whatever is written.
 pub fn runs_keep_the_budget<K: Eq + Hash, V, L: Budgeted<K, V>, S: KeyHasher<K>>() {}
 
-/// A new map, which contains no entries and no buckets, satisfies `IsMap`, the premise of `runs_keep_maps`.
+/// A new map, without entries or buckets, satisfies `IsMap`, the premise of `runs_keep_maps`.
 pub fn runs_begin_with_maps<K: Eq + Hash, V, L: Limiter<K, V>, S: KeyHasher<K>>() {}

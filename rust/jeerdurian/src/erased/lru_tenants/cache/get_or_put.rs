@@ -6,7 +6,7 @@ use crate::erased::lru_limits::Budgeted;
 use crate::erased::lru_tenants::cache::TenantCache;
 use crate::erased::lru_tenants::error::TenantError;
 use crate::erased::lru_tenants::tenant::{get_or_insert, newest};
-use crate::erased::schnellru::KeyHasher;
+use crate::erased::schnellru::{KeyHasher, LookupKey};
 use crate::rattle_std::hash::Hash;
 
 impl<N: Eq + Hash, K: Eq + Hash, V, L: Budgeted<K, V>, S: KeyHasher<K> + Copy> TenantCache<N, K, V, L, S> {
@@ -25,8 +25,13 @@ impl<N: Eq + Hash, K: Eq + Hash, V, L: Budgeted<K, V>, S: KeyHasher<K> + Copy> T
     /// # Errors
     ///
     /// Fails as `put` does. If the error is `Memory`, the closure was called.
-    pub fn get_or_put<F: FnOnce() -> V>(&mut self, name: &N, key: K, make: F) -> Result<Option<&V>, TenantError> {
-        let Some(own) = self.tenants.get_mut(name) else {
+    pub fn get_or_put<T: LookupKey<N>, F: FnOnce() -> V>(
+        &mut self,
+        name: &T,
+        key: K,
+        make: F,
+    ) -> Result<Option<&V>, TenantError> {
+        let Some(own) = self.tenants.peek_mut(name) else {
             return Err(TenantError::NotOpen);
         };
         let Ok(there) = get_or_insert(own, key, make) else {

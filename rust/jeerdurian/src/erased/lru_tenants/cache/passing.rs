@@ -9,7 +9,7 @@ use crate::erased::lru_tenants::cache::TenantCache;
 use crate::erased::lru_tenants::cache::totals::is_above;
 use crate::erased::lru_tenants::error::TenantError;
 use crate::erased::lru_tenants::tenant::{empty, insert, insert_full, set_budget};
-use crate::erased::schnellru::{Inserted, KeyHasher};
+use crate::erased::schnellru::{Inserted, KeyHasher, LookupKey};
 use crate::rattle_std::alloc::AllocError;
 use crate::rattle_std::hash::Hash;
 
@@ -29,8 +29,14 @@ impl<N: Eq + Hash, K: Eq + Hash, V, L: Budgeted<K, V>, S: KeyHasher<K> + Copy> T
     /// # Errors
     ///
     /// Fails as `put` does.
-    pub fn put_with<F: FnMut(K, V)>(&mut self, name: &N, key: K, value: V, sink: &mut F) -> Result<bool, TenantError> {
-        let Some(own) = self.tenants.get_mut(name) else {
+    pub fn put_with<T: LookupKey<N>, F: FnMut(K, V)>(
+        &mut self,
+        name: &T,
+        key: K,
+        value: V,
+        sink: &mut F,
+    ) -> Result<bool, TenantError> {
+        let Some(own) = self.tenants.peek_mut(name) else {
             return Err(TenantError::NotOpen);
         };
         put_answer(insert(own, key, value, sink))
@@ -55,14 +61,14 @@ impl<N: Eq + Hash, K: Eq + Hash, V, L: Budgeted<K, V>, S: KeyHasher<K> + Copy> T
     /// # Errors
     ///
     /// Fails as `put` does. After `NotOpen` the key and the value are dropped; after `Memory` the callback got both.
-    pub fn put_full<F: FnMut(K, V)>(
+    pub fn put_full<T: LookupKey<N>, F: FnMut(K, V)>(
         &mut self,
-        name: &N,
+        name: &T,
         key: K,
         value: V,
         sink: &mut F,
     ) -> Result<Inserted<V>, TenantError> {
-        let Some(own) = self.tenants.get_mut(name) else {
+        let Some(own) = self.tenants.peek_mut(name) else {
             return Err(TenantError::NotOpen);
         };
         put_answer(insert_full(own, key, value, sink))
@@ -81,9 +87,14 @@ impl<N: Eq + Hash, K: Eq + Hash, V, L: Budgeted<K, V>, S: KeyHasher<K> + Copy> T
     /// # Errors
     ///
     /// Fails as `set_budget` does.
-    pub fn set_budget_with<F: FnMut(K, V)>(&mut self, name: &N, budget: u64, sink: &mut F) -> Result<(), TenantError> {
+    pub fn set_budget_with<T: LookupKey<N>, F: FnMut(K, V)>(
+        &mut self,
+        name: &T,
+        budget: u64,
+        sink: &mut F,
+    ) -> Result<(), TenantError> {
         let _len = self.tenants.len();
-        let Some(own) = self.tenants.get_mut(name) else {
+        let Some(own) = self.tenants.peek_mut(name) else {
             return Err(TenantError::NotOpen);
         };
         let sum = self.budgets - own.limiter().budget() as u128 + budget as u128;
@@ -108,7 +119,11 @@ impl<N: Eq + Hash, K: Eq + Hash, V, L: Budgeted<K, V>, S: KeyHasher<K> + Copy> T
     /// # Errors
     ///
     /// `NotOpen`: nothing has changed.
-    pub fn close_with<F: FnMut(K, V)>(&mut self, name: &N, sink: &mut F) -> Result<usize, TenantError> {
+    pub fn close_with<T: LookupKey<N>, F: FnMut(K, V)>(
+        &mut self,
+        name: &T,
+        sink: &mut F,
+    ) -> Result<usize, TenantError> {
         let Some(mut map) = self.take_tenant(name) else {
             return Err(TenantError::NotOpen);
         };

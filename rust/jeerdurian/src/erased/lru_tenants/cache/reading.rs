@@ -7,8 +7,7 @@ use crate::rattle_std::prelude::*;
 use crate::erased::lru_limits::Budgeted;
 use crate::erased::lru_tenants::cache::TenantCache;
 use crate::erased::lru_tenants::error::TenantError;
-use crate::erased::schnellru::{KeyHasher, LookupKey, LruMap};
-use crate::rattle_std::collections::hash_map::Keys;
+use crate::erased::schnellru::{Iter, KeyHasher, Keys, LookupKey, LruMap};
 use crate::rattle_std::hash::Hash;
 
 impl<N: Eq + Hash, K: Eq + Hash, V, L: Budgeted<K, V>, S: KeyHasher<K> + Copy> TenantCache<N, K, V, L, S> {
@@ -25,8 +24,8 @@ impl<N: Eq + Hash, K: Eq + Hash, V, L: Budgeted<K, V>, S: KeyHasher<K> + Copy> T
     /// # Errors
     ///
     /// `NotOpen`: nothing has changed.
-    pub fn get<Q: LookupKey<K>>(&mut self, name: &N, key: &Q) -> Result<Option<&V>, TenantError> {
-        let Some(map) = self.tenants.get_mut(name) else {
+    pub fn get<T: LookupKey<N>, Q: LookupKey<K>>(&mut self, name: &T, key: &Q) -> Result<Option<&V>, TenantError> {
+        let Some(map) = self.tenants.peek_mut(name) else {
             return Err(TenantError::NotOpen);
         };
         match map.get(key) {
@@ -46,8 +45,8 @@ impl<N: Eq + Hash, K: Eq + Hash, V, L: Budgeted<K, V>, S: KeyHasher<K> + Copy> T
     /// # Errors
     ///
     /// `NotOpen`.
-    pub fn peek<Q: LookupKey<K>>(&self, name: &N, key: &Q) -> Result<Option<&V>, TenantError> {
-        let Some(map) = self.tenants.get(name) else {
+    pub fn peek<T: LookupKey<N>, Q: LookupKey<K>>(&self, name: &T, key: &Q) -> Result<Option<&V>, TenantError> {
+        let Some(map) = self.tenants.peek(name) else {
             return Err(TenantError::NotOpen);
         };
         Ok(map.peek(key))
@@ -64,11 +63,29 @@ impl<N: Eq + Hash, K: Eq + Hash, V, L: Budgeted<K, V>, S: KeyHasher<K> + Copy> T
     /// # Errors
     ///
     /// `NotOpen`.
-    pub fn contains<Q: LookupKey<K>>(&self, name: &N, key: &Q) -> Result<bool, TenantError> {
-        let Some(map) = self.tenants.get(name) else {
+    pub fn contains<T: LookupKey<N>, Q: LookupKey<K>>(&self, name: &T, key: &Q) -> Result<bool, TenantError> {
+        let Some(map) = self.tenants.peek(name) else {
             return Err(TenantError::NotOpen);
         };
         Ok(map.contains(key))
+    }
+
+    /// Returns an iterator over a tenant's entries, newest first. The order stays.
+    ///
+    /// ```text
+    /// assert!(rt; cache.iter(&1)?.next() == Some((&7, &2)));
+    /// ```
+    ///
+    /// Cost: `O(1)` expected, and `O(1)` for each step from either end.
+    ///
+    /// # Errors
+    ///
+    /// `NotOpen`.
+    pub fn iter<T: LookupKey<N>>(&self, name: &T) -> Result<Iter<'_, K, V, L>, TenantError> {
+        let Some(map) = self.tenants.peek(name) else {
+            return Err(TenantError::NotOpen);
+        };
+        Ok(map.iter())
     }
 
     /// Returns how many entries a tenant has.
@@ -82,8 +99,8 @@ impl<N: Eq + Hash, K: Eq + Hash, V, L: Budgeted<K, V>, S: KeyHasher<K> + Copy> T
     /// # Errors
     ///
     /// `NotOpen`.
-    pub fn entries(&self, name: &N) -> Result<usize, TenantError> {
-        let Some(map) = self.tenants.get(name) else {
+    pub fn entries<T: LookupKey<N>>(&self, name: &T) -> Result<usize, TenantError> {
+        let Some(map) = self.tenants.peek(name) else {
             return Err(TenantError::NotOpen);
         };
         Ok(map.len())
@@ -100,8 +117,8 @@ impl<N: Eq + Hash, K: Eq + Hash, V, L: Budgeted<K, V>, S: KeyHasher<K> + Copy> T
     /// # Errors
     ///
     /// `NotOpen`.
-    pub fn budget(&self, name: &N) -> Result<u64, TenantError> {
-        let Some(map) = self.tenants.get(name) else {
+    pub fn budget<T: LookupKey<N>>(&self, name: &T) -> Result<u64, TenantError> {
+        let Some(map) = self.tenants.peek(name) else {
             return Err(TenantError::NotOpen);
         };
         Ok(map.limiter().budget())
@@ -118,8 +135,8 @@ impl<N: Eq + Hash, K: Eq + Hash, V, L: Budgeted<K, V>, S: KeyHasher<K> + Copy> T
     /// # Errors
     ///
     /// `NotOpen`.
-    pub fn cost(&self, name: &N) -> Result<u64, TenantError> {
-        let Some(map) = self.tenants.get(name) else {
+    pub fn cost<T: LookupKey<N>>(&self, name: &T) -> Result<u64, TenantError> {
+        let Some(map) = self.tenants.peek(name) else {
             return Err(TenantError::NotOpen);
         };
         Ok(map.limiter().account())
@@ -132,7 +149,7 @@ impl<N: Eq + Hash, K: Eq + Hash, V, L: Budgeted<K, V>, S: KeyHasher<K> + Copy> T
     /// ```
     ///
     /// Cost: `O(1)`, and `O(1)` for each name.
-    pub fn names(&self) -> Keys<'_, N, LruMap<K, V, L, S>> {
+    pub fn names(&self) -> Keys<'_, N, LruMap<K, V, L, S>, usize> {
         self.tenants.keys()
     }
 }

@@ -62,6 +62,7 @@ impl<N: Eq + Hash, K: Eq + Hash, V, L: Budgeted<K, V>, S: KeyHasher<K> + Copy> T
     ///
     /// Cost: `O(1)` for each tenant.
     pub fn total_cost(&self) -> u128 {
+        let _len = self.tenants.len();
         let mut sum = 0u128;
         for map in self.tenants.values() {
             sum += map.limiter().account() as u128;

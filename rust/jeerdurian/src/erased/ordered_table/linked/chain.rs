@@ -59,7 +59,7 @@ impl<K, V, N: LinkType> Chain<K, V, N> {
         self.oldest = link;
     }
 
-    // Puts a bucket that is in no chain in front of this chain. Its entry has the links of a newest entry already: the
+    // Puts a bucket that is in no chain in front of this chain. Its entry already has the links of a newest entry: the
     // older link leads to `first`, the newest entry so far.
     #[inline]
     pub(crate) fn link_placed(&mut self, b: usize, first: N) {

@@ -14,7 +14,6 @@ impl<K, V, N: LinkType> LinkedTable<K, V, N> {
         self.chain.link_placed(b, first);
     }
 
-    // Does what `place` does, for any table.
     pub(crate) fn try_place(&mut self, hash: u64, pair: (K, V)) -> Result<(), (K, V)> {
         let first = self.chain.newest;
         match self.chain.table.try_place(hash, newest_entry(pair, first)) {

@@ -19,7 +19,7 @@ impl<K, V, N: LinkType> OrderedTable<K, V, N> {
         settle(&mut self.linked, &mut self.promoted);
     }
 
-    /// Puts a pair whose key has this hash into the first free bucket of a table with growth left, as the newest.
+    /// Puts a pair whose key has this hash into the first free bucket, as the newest. There must be growth left.
     ///
     /// Cost: `O(1)` expected.
     #[inline(always)]
@@ -94,8 +94,8 @@ impl<K, V, N: LinkType> OrderedTable<K, V, N> {
 }
 
 impl<K: Eq + Hash, V, N: LinkType> OrderedTable<K, V, N> {
-    /// Moves all pairs into a table of `buckets` buckets, in the same order. If the table has that many buckets already,
-    /// the pairs are rehashed in place.
+    /// Moves all pairs into a table of `buckets` buckets, in the same order. If the table has this number already, the
+    /// pairs are rehashed in place.
     ///
     /// Cost: `O(buckets)` of both tables, and a hash for each pair.
     ///

@@ -1,6 +1,6 @@
 // Erased from crates/ordered_table/src/ordered/promoted.rt: do not edit.
-//! The order of a table in which the bucket `promoted`, if there is one, is the newest. The links may still show this
-//! bucket elsewhere.
+//! The order of a table whose newest bucket is `promoted`, if there is one. The links may still show this bucket
+//! elsewhere.
 
 #[allow(unused_imports)]
 use crate::rattle_std::prelude::*;

@@ -13,8 +13,8 @@ impl<K: Eq + Hash, V, L: Limiter<K, V>, S: KeyHasher<K>> LruMap<K, V, L, S> {
     ///
     /// `is_eq` gets only entries whose hashes agree with `hash` in the top 7 bits. Only tests show that it gets each at
     /// most once, and none after it accepted one. It may get an entry of another hash, so let it compare keys. `None`
-    /// means that `is_eq` rejected each entry of this hash, and that nothing has changed. The hash of a key is what
-    /// `map.hasher().hash_named(&key)` returns.
+    /// means that `is_eq` rejected each entry of this hash, and that nothing has changed.
+    /// `map.hasher().hash_named(&key)` returns the hash of a key.
     ///
     /// Cost: `O(1)` expected, with one call of `is_eq` for each entry that it gets.
     ///
@@ -32,7 +32,7 @@ impl<K: Eq + Hash, V, L: Limiter<K, V>, S: KeyHasher<K>> LruMap<K, V, L, S> {
         Some(self.value_in_mut(b))
     }
 
-    /// Returns the value of an entry that `is_eq` accepts. The order stays. `is_eq` is called as by `get_by_hash`.
+    /// Returns the value of an entry that `is_eq` accepts. The order stays. `is_eq` is called as in `get_by_hash`.
     ///
     /// ```text
     /// let hash = RandomState::default().hash_one(&1u64);
@@ -48,7 +48,7 @@ impl<K: Eq + Hash, V, L: Limiter<K, V>, S: KeyHasher<K>> LruMap<K, V, L, S> {
         Some(&self.pair_in(b).value)
     }
 
-    /// Lends the value of an entry that `is_eq` accepts, for writing. The order stays. `is_eq` is called as by
+    /// Lends the value of an entry that `is_eq` accepts, for writing. The order stays. `is_eq` is called as in
     /// `get_by_hash`.
     ///
     /// ```text

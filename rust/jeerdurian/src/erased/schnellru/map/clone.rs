@@ -17,8 +17,8 @@ impl<K: TryClone, V: TryClone, L: Limiter<K, V> + TryClone, S: TryClone> LruMap<
     /// assert_eq!(rt; (copy.len(), map.len()), (2, 3));
     /// ```
     ///
-    /// A clone of a key must equal the key, and a clone of the hasher must hash alike, so this is a method and not an
-    /// impl of `Clone`. Cost: `O(buckets)`, the requests for memory of the clones, and two more if the map has buckets.
+    /// A clone of a key must equal the key, and a clone of the hasher must hash alike. So this is no impl of `Clone`.
+    /// Cost: `O(buckets)`, the requests for memory of the clones, and two more if the map has buckets.
     ///
     /// # Errors
     ///

@@ -74,8 +74,7 @@ impl<K: Eq + Hash, V, L: Limiter<K, V>, S: KeyHasher<K>> LruMap<K, V, L, S> {
         sizes::bytes_of(self.entry_bytes, buckets)
     }
 
-    /// Returns the greatest `memory_usage` within a budget that a map with `entry_bytes` bytes per entry can have, or 0
-    /// if no table fits.
+    /// Returns the greatest `memory_usage` within a budget, for `entry_bytes` bytes per entry, or 0 if no table fits.
     ///
     /// ```text
     /// let usage = LruMap::<u32, u32, UnlimitedCompact>::memory_usage_for_memory_budget(512, 16);
@@ -115,8 +114,8 @@ impl<K: Eq + Hash, V, L: Limiter<K, V>, S: KeyHasher<K>> LruMap<K, V, L, S> {
     }
 
     /// Lends the limiter for writing. A lower limit takes effect at the next `trim`, and at the next insert or update
-    /// that stores an entry or replaces a value. A lower limit of `ByMemoryUsage` takes effect at the next growth. A
-    /// call whose entry or value the limiter rejects evicts nothing.
+    /// that stores an entry or replaces a value. A lower limit of `ByMemoryUsage` takes effect at the next growth. If
+    /// the limiter rejects the entry or the value of a call, this call evicts nothing.
     ///
     /// Do not write a limiter with another running total: `*map.limiter_mut() = ByCost::new(n)` would count the stored
     /// entries as 0. Call `set_limiter` with `map.limiter().with_limit(n)`.

@@ -1,5 +1,5 @@
 // Erased from crates/schnellru/src/map/find.rt: do not edit.
-//! The search for a key, with which every look-up begins, and what follows: a promotion, a demotion or a removal.
+//! The search for a key, and what follows it: a promotion, a demotion or a removal.
 
 #[allow(unused_imports)]
 use crate::rattle_std::prelude::*;

@@ -80,8 +80,8 @@ impl<K: Eq + Hash, V, L: Limiter<K, V>, S: KeyHasher<K>> LruMap<K, V, L, S> {
         Ok(self.evict_over_limit(sink))
     }
 
-    // No growth is left, so only a deleted bucket can take the pair, which has to be tested. Out of line, so that other
-    // inserts need no such test.
+    // No growth is left, so this tests whether a deleted bucket takes the pair. Out of line, so that other inserts need
+    // no such test.
     #[cold]
     #[inline(never)]
     fn insert_without_growth<F: FnMut(K, V)>(

@@ -25,11 +25,14 @@ impl<K: Eq + Hash, V, L: Limiter<K, V>, S: KeyHasher<K>> LruMap<K, V, L, S> {
     ///
     /// # Errors
     ///
-    /// Each error leaves the entries and the table as they are. `TooLarge` means that `len` + n overflows, or that a
-    /// larger table is needed and there is none: links cannot number its buckets, or its bytes would pass `isize::MAX -
-    /// 15`. After `TooLarge` the table was not rehashed, even if it would hold the entries. `Refused` means that the
-    /// limiter refused the larger table, and `Memory` that the map ran out of memory. After `Refused` and `Memory` the
-    /// limiter keeps what it noted when it was queried.
+    /// Each error leaves the entries and the table as they are.
+    ///
+    /// - `TooLarge`: `len` + n overflows, or the map needs a larger table than its links can number, or than
+    ///   `isize::MAX - 15` bytes hold. The table was not rehashed, even if it would hold the entries.
+    /// - `Refused`: the limiter refused the larger table.
+    /// - `Memory`: the map ran out of memory.
+    ///
+    /// After `Refused` and `Memory` the limiter keeps what it noted when it was queried.
     ///
     /// Follows schnellru's `LruMap::try_reserve`.
     pub fn try_reserve(&mut self, n: usize) -> Result<(), ReserveError> {

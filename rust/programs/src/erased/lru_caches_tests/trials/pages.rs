@@ -56,8 +56,8 @@ fn shows(cache: &mut Cache, model: &Blocks) -> bool {
     right
 }
 
-// A sync that fails ends the list. Returns whether the disk failed, and whether no result is wrong, and after a close
-// that returned `Ok` a crash loses no write.
+// A sync that fails ends the list. Returns whether the disk failed, and whether all is right: no result is wrong, and a
+// crash after a close that returned `Ok` loses no write.
 fn run(alloc: Global, capacity: usize, k: u64, stays_broken: bool) -> (bool, bool) {
     let (calls_left, mut model) = (Cell::new(k), [10, 11, 12, 13]);
     let dropped = [k % 2 == 0, k % 3 == 0, k % 5 == 0, true];

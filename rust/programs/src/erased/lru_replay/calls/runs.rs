@@ -15,8 +15,8 @@ use crate::rattle_std::hash::Hash;
 
 /// Carries out the calls on the map, one after another, and returns one answer for each.
 ///
-/// Each answer is what the map's own call returns, and the map is left as by these calls. `docs/RUNS.md` explains how
-/// to read a run.
+/// Each answer is what the map's own call returns, and the map is left as these calls leave it. `docs/RUNS.md` explains
+/// how to read a run.
 ///
 /// ```text
 /// let mut map: LruMap<u64, u64> = LruMap::new(alloc, ByLength::new(3), [1, 2, 3, 4], 16);

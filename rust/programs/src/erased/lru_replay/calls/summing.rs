@@ -11,10 +11,10 @@ use crate::programs::lru_replay::{Answer, Call};
 use crate::rattle_std::alloc::{AllocError, Global};
 use crate::rattle_std::hash::Hash;
 
-/// Carries out the calls on the map as `run_calls` does, except for those that would make the limiter's total wrong.
+/// Carries out the calls on the map as `run_calls` does, except for calls that would make the limiter's total wrong.
 ///
-/// A write that would change the cost of its entry, or a call that sets a limiter with another total, is answered
-/// `CostDiffers`, and changes nothing. So a total that is the sum of the costs stays their sum.
+/// A write is answered `CostDiffers`, and changes nothing, if it would change the cost of its entry. So is a call that
+/// sets a limiter with another total. So a total that is the sum of the costs stays their sum.
 ///
 /// ```text
 /// let mut costs: LruMap<u64, u64, ByCost> = LruMap::new(alloc, ByCost::new(10), [1, 2, 3, 4], 16);

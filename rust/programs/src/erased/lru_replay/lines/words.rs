@@ -74,8 +74,8 @@ fn number(word: &[u8]) -> Option<u64> {
     text.parse().ok()
 }
 
-/// Returns whether the word is not empty, does not begin with a plus, and is `0` alone if it begins with a zero.
-/// `parse` rejects all other words that are no number.
+/// Returns false if the word is empty, or begins with a plus, or with a zero before more digits. `parse` rejects all
+/// other words that are no number.
 fn starts_as_number(word: &[u8]) -> bool {
     if word.is_empty() || word[0] == b'+' {
         return false;

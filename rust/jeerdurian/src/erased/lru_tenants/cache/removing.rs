@@ -1,0 +1,73 @@
+// Erased from crates/lru_tenants/src/cache/removing.rt: do not edit.
+//! Calls that remove a tenant's entries.
+
+#[allow(unused_imports)]
+use crate::rattle_std::prelude::*;
+
+use crate::erased::lru_limits::Budgeted;
+use crate::erased::lru_tenants::cache::TenantCache;
+use crate::erased::lru_tenants::error::TenantError;
+use crate::erased::lru_tenants::tenant::{clear, remove, retain};
+use crate::erased::schnellru::{KeyHasher, LookupKey};
+use crate::rattle_std::hash::Hash;
+
+impl<N: Eq + Hash, K: Eq + Hash, V, L: Budgeted<K, V>, S: KeyHasher<K> + Copy> TenantCache<N, K, V, L, S> {
+    /// Removes a key of a tenant. Returns its value.
+    ///
+    /// ```text
+    /// assert_eq!(rt; (cache.remove(&1, &7), cache.remove(&1, &7)), (Ok(Some(2)), Ok(None)));
+    /// ```
+    ///
+    /// Cost: `O(1)` expected.
+    ///
+    /// # Errors
+    ///
+    /// `NotOpen`: nothing has changed.
+    pub fn remove<T: LookupKey<N>, Q: LookupKey<K>>(&mut self, name: &T, key: &Q) -> Result<Option<V>, TenantError> {
+        let Some(own) = self.tenants.peek_mut(name) else {
+            return Err(TenantError::NotOpen);
+        };
+        Ok(remove(own, key))
+    }
+
+    /// Removes a tenant's entries for which the closure returns false. The others keep their order.
+    ///
+    /// The closure is called with each entry of the tenant, oldest first.
+    ///
+    /// ```text
+    /// assert_eq!(rt; (cache.put(&1, 8, 1), cache.retain(&1, |key, _| *key == 8)), (Ok(true), Ok(())));
+    /// assert_eq!(rt; (cache.contains(&1, &7), cache.cost(&1)), (Ok(false), Ok(1)));
+    /// ```
+    ///
+    /// Cost: `O(n)` for n entries of the tenant.
+    ///
+    /// # Errors
+    ///
+    /// `NotOpen`: nothing has changed.
+    pub fn retain<T: LookupKey<N>, F: FnMut(&K, &V) -> bool>(&mut self, name: &T, keep: F) -> Result<(), TenantError> {
+        let Some(own) = self.tenants.peek_mut(name) else {
+            return Err(TenantError::NotOpen);
+        };
+        retain(own, keep);
+        Ok(())
+    }
+
+    /// Drops the entries of a tenant, which stays open.
+    ///
+    /// ```text
+    /// assert_eq!(rt; (cache.clear(&1), cache.entries(&1), cache.cost(&1)), (Ok(()), Ok(0), Ok(0)));
+    /// ```
+    ///
+    /// Cost: as `LruMap::clear`.
+    ///
+    /// # Errors
+    ///
+    /// `NotOpen`: nothing has changed.
+    pub fn clear<T: LookupKey<N>>(&mut self, name: &T) -> Result<(), TenantError> {
+        let Some(own) = self.tenants.peek_mut(name) else {
+            return Err(TenantError::NotOpen);
+        };
+        clear(own);
+        Ok(())
+    }
+}
