@@ -40,12 +40,21 @@ pub use crate::erased::lru_trace::Column;
 /// What a trace reads and writes.
 ///
 /// ```
-/// use jeerdurian::trace::{Form, Options};
+/// use jeerdurian::trace::{Form, Options, Policies};
 ///
-/// let options = Options { column: None, form: Form::Svg, best: true };
-/// assert!(options.best);
+/// let options = Options { column: None, form: Form::Svg, policies: Policies::Best, sample: 0 };
+/// assert_eq!(options.form, Form::Svg);
 /// ```
 pub use crate::erased::lru_trace::Options;
+
+/// Whose misses are counted: LRU's, after a warm-up, or those of the best possible policies, too.
+///
+/// ```
+/// use jeerdurian::trace::Policies;
+///
+/// assert_ne!(Policies::Best, Policies::Lru { warm_up: 1000 });
+/// ```
+pub use crate::erased::lru_trace::Policies;
 
 /// How a trace ended if no read and no write failed.
 ///
@@ -207,8 +216,9 @@ impl Curve {
     /// ```
     pub fn from_lines(mut reader: impl BufRead) -> Result<(Self, u64), TraceError> {
         let mut curve = proved::Curve::new(Global)?;
-        let malformed = proved::read_keys(&mut reader, &mut Vec::new(Global), None, &mut curve, &mut no_progress())?;
-        Ok((Curve(curve), malformed))
+        let lines = &mut Vec::new(Global);
+        let others = proved::read_keys(&mut reader, lines, text_of(LRU), &mut curve, &mut no_progress())?;
+        Ok((Curve(curve), others.malformed))
     }
 
     /// References a key.
@@ -269,6 +279,12 @@ impl Curve {
     }
 }
 
+const LRU: Policies = Policies::Lru { warm_up: 0 };
+
+fn text_of(policies: Policies) -> Options {
+    Options { column: None, form: Form::Text, policies, sample: 0 }
+}
+
 /// Reads a trace, and writes how often LRU caches of each size miss at it, with a chart.
 ///
 /// The first line names sizes, and each other line is a key that is referenced: text of 1 to 64 bytes. Other lines are
@@ -286,8 +302,7 @@ impl Curve {
 /// assert!(text.starts_with(b"references 3 keys 2 malformed 0\nplaces 2 hits 1 misses 2 ratio 0.6666\n"));
 /// ```
 pub fn report(mut reader: impl BufRead, mut writer: impl Write) -> Result<TraceEnd, TraceError> {
-    let options = Options { column: None, form: Form::Text, best: false };
-    proved::trace(Global, options, &mut reader, &mut writer, &mut no_progress())
+    proved::trace(Global, text_of(LRU), &mut reader, &mut writer, &mut no_progress())
 }
 
 /// As `report`, and says for each named size how often the best possible policies miss, too. It takes 16 to 32 bytes for
@@ -305,21 +320,21 @@ pub fn report(mut reader: impl BufRead, mut writer: impl Write) -> Result<TraceE
 /// assert!(text.starts_with(b"references 4 keys 3 malformed 0\nplaces 2 hits 0 misses 4 ratio 1.0000 min 3 bypass 3\n"));
 /// ```
 pub fn report_with_best(mut reader: impl BufRead, mut writer: impl Write) -> Result<TraceEnd, TraceError> {
-    let options = Options { column: None, form: Form::Text, best: true };
-    proved::trace(Global, options, &mut reader, &mut writer, &mut no_progress())
+    proved::trace(Global, text_of(Policies::Best), &mut reader, &mut writer, &mut no_progress())
 }
 
-/// As `report`, of a column of the lines, and in the form of the options: text, csv or a picture in svg.
+/// As `report`, of a column of the lines or of a sample of the keys, after a warm-up or with the best possible policies,
+/// and in the form of the options: text, csv or a picture in svg.
 ///
 /// # Errors
 ///
 /// As `report`.
 ///
 /// ```
-/// use jeerdurian::trace::{Column, Form, Options, TraceEnd, report_as};
+/// use jeerdurian::trace::{Column, Form, Options, Policies, TraceEnd, report_as};
 ///
 /// let column = Some(Column { index: 1, separator: b',' });
-/// let options = Options { column, form: Form::Csv, best: true };
+/// let options = Options { column, form: Form::Csv, policies: Policies::Best, sample: 0 };
 /// let mut csv = Vec::new();
 /// assert_eq!(report_as(options, b"2\n1,a\n2,b\n3,c\n4,a\n".as_slice(), &mut csv), Ok(TraceEnd::Done));
 /// assert!(csv.starts_with(b"size,hits,misses,ratio,min,bypass\n1,0,4,1.0000,4,3\n2,0,4,1.0000,3,3\n"));

@@ -6,10 +6,16 @@ use core::fmt::{Arguments, Write};
 
 /// The calls of Rattle's `String` that Rust's has not.
 pub trait MadeByAlloc: Sized {
+    fn new_in(alloc: Global) -> Self;
+
     fn from_str(alloc: Global, text: &str) -> Result<Self, AllocError>;
 }
 
 impl MadeByAlloc for String {
+    fn new_in(_: Global) -> String {
+        String::new()
+    }
+
     fn from_str(_: Global, text: &str) -> Result<String, AllocError> {
         let mut copy = String::new();
         copy.try_reserve_exact(text.len()).map_err(|_| AllocError)?;

@@ -1,20 +1,14 @@
-//! Calls of texts that take an allocator or make a vector.
+//! Calls of texts that make a vector or take an allocator.
 
 use super::alloc::{AllocError, Global};
 use super::vec::Vec;
 
 /// Calls of `String`.
 pub trait Texts {
-    fn new_in(alloc: Global) -> Self;
-
     fn into_vec(self) -> Vec<u8>;
 }
 
 impl Texts for String {
-    fn new_in(_: Global) -> String {
-        String::new()
-    }
-
     fn into_vec(self) -> Vec<u8> {
         Vec::from_std(self.into_bytes())
     }
