@@ -15,7 +15,7 @@ fn fails_without_memory(alloc: Global, form: Form) -> Result<bool, TraceError> {
     let options = Options {
         column: None,
         form,
-        policies: Policies::Lru { warm_up: 0 },
+        policies: Policies::Lru { warm_up: 1 },
         sample: 0,
     };
     let mut report = Vec::with_capacity(alloc, 9999)?;

@@ -16,7 +16,7 @@ fn refer(alloc: Global, curve: &mut Curve, number: u64) -> Result<(), TraceError
 }
 
 fn fails_without_memory(alloc: Global, form: Form) -> Result<bool, TraceError> {
-    let options = Options { column: None, form, policies: Policies::Lru { warm_up: 0 }, sample: 0 };
+    let options = Options { column: None, form, policies: Policies::Lru { warm_up: 1 }, sample: 0 };
     let mut report = Vec::with_capacity(alloc, 9999)?;
     let mut progress = Progress::new(alloc, None::<Vec<u8>>);
     let mut failed = true;
