@@ -187,7 +187,7 @@ impl<
     ///
     /// # Errors
     ///
-    /// `AlreadyOpen`, `OverTotal` or `Memory`.
+    /// `AlreadyOpen`, `OverTotal` or `Memory`: no tenant has changed.
     pub fn open(&mut self, name: N, budget: u64) -> Result<(), TenantError>
         ensures opens { On N.eq (N.eq name) (Opens (is_over L.budget_of (N.eq name) budget self.old)
             (fresh L.made (L.LinkType.number L.LinkType.MAX) self.old budget)) self.old result self.new }

@@ -16,6 +16,7 @@ use crate::samples::is_sampled;
 use std::alloc::AllocError;
 use std::io::{BufRead, ErrorKind, Write};
 
+/// The most bytes of a key.
 const LONGEST_KEY: usize = 64;
 
 #[derive(Clone, Copy)]
