@@ -139,7 +139,6 @@ on-finds {eq = eq} names now host old mid answer found (left, gets, leaves) is s
 )
 
 module _ {K : Type 0} (rules : Rules K Response Budget) where
-  -- if the limiter is notified of a removal, it keeps its limit
   abbrev pub KeepsLimit : Type 0
   KeepsLimit = (limiter : Budget) (k : K) (v : Response)
       → (rules.on_removed limiter k v).limiter ≡ record limiter { cost = (rules.on_removed limiter k v).limiter.cost }

@@ -24,7 +24,6 @@ abbrev pub with_list : {K S : Type 0} → List (K × Response) → State K Respo
 with_list list left old =
     record old { pairs = list; limiter = record old.limiter { cost = left.limiter.cost }; table = left.table }
 
--- A look-up returns the stored response, if it is fresh, and removes a stale response.
 abbrev pub LooksUp : {K S : Type 0} → (K → Bool) → ℕ → State K Response Budget S
     → Result (Option Response) TenantError → Option (State K Response Budget S) → Type 0
 LooksUp {K} {S} names now old answer new = (left : State K Response Budget S)

@@ -7,7 +7,6 @@ use Rattle.lru_limits.specs.Budget.{Budget}
 use Rattle.lru_model.specs.State.{State}
 use Rattle.example_responses.specs.declared.cache.Response.{Response}
 
--- the path begins with the prefix
 abbrev pub is_below : List ℕ → String Global → Bool
 is_below prefix path = starts_with nat_eq (string_bytes path) prefix
 

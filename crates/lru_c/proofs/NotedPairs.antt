@@ -5,7 +5,6 @@ use Rattle.std.specs.List.{FoldsTo}
 use Rattle.lru_c.specs.Answers.{noted_pair, noting_other, first_other}
 use Rattle.lru_c.specs.declared.answers.Entry.{Entry}
 
--- what a callback holds: the inserted key, whether a pair was noted, and the place for the pair
 pub record Held : Type 0 where
   pub key : ℕ
   pub noted : MutBor Bool

@@ -14,23 +14,19 @@ use Rattle.lru_c.specs.declared.answers.Found.{Found}
 use Rattle.lru_c.specs.declared.answers.Inserted.{Inserted}
 use Rattle.lru_c.specs.declared.answers.Pair.{Pair}
 
--- the returned struct of a value, if there is one
 abbrev pub found_of : Option ℕ → Found
 found_of None = record { value = 0; found = false }
 found_of (Some value) = record { value = value; found = true }
 
--- the returned struct of a pair, if there is one
 abbrev pub pair_of : Option (ℕ × ℕ) → Pair
 pair_of None = record { key = 0; value = 0; found = false }
 pair_of (Some pair) = record { key = pair.0; value = pair.1; found = true }
 
--- what an insert returns: its code, the old value, if there is one, and whether it evicted an entry
 abbrev pub inserted_of : ℕ → Option ℕ → Bool → Inserted
 inserted_of code None evicted = record { old_value = 0; code = code; replaced = false; evicted = evicted }
 inserted_of code (Some old_value) evicted =
     record { old_value = old_value; code = code; replaced = true; evicted = evicted }
 
--- the pair in this place, if one was noted there
 abbrev pub noted_pair : Bool → Entry → Option (ℕ × ℕ)
 noted_pair noted place = if noted then Some (place.key, place.value) else None
 
@@ -55,7 +51,6 @@ abbrev pub first_other : ℕ → List (ℕ × ℕ) → Option (ℕ × ℕ)
 first_other key [] = None
 first_other key (pair ∷ pairs) = if nat_eq key pair.0 then first_other key pairs else Some pair
 
--- what a put returns: 0 if the key is there, 1 if it is not, 2 if memory ran out
 abbrev pub put_code : Result Bool AllocError → ℕ
 put_code (Ok true) = 0
 put_code (Ok false) = 1

@@ -61,11 +61,9 @@ weight key value = pair_cost 64 key value
 abbrev pub value_of : List ℕ → BytesMap → Option (List ℕ)
 value_of key map = option_map vec_items (lookup (names_bytes key) map.pairs)
 
--- what the entries weigh together
 abbrev pub total_weight : List (Bytes × Bytes) → ℕ
 total_weight pairs = sum_by (λ pair. weight (vec_len pair.0) (vec_len pair.1)) pairs
 
--- the running total is what the entries weigh together, and within the budget
 abbrev pub IsWithinBudget : BytesMap → Type 0
 IsWithinBudget map = (map.limiter.cost ≡ total_weight map.pairs) × (map.limiter.cost ≤ map.limiter.limit)
 
@@ -78,12 +76,10 @@ bytes_offers = weighs (λ k v. weight (vec_len k) (vec_len v))
 abbrev pub poured : List ℕ → List ℕ → List ℕ
 poured bytes buffer = if nat_le (length bytes) (length buffer) then bytes ++ drop (length bytes) buffer else buffer
 
--- the buffer after a value was copied into it, if there is one
 abbrev pub poured_from : Option Bytes → List ℕ → List ℕ
 poured_from None buffer = buffer
 poured_from (Some value) buffer = poured value.items buffer
 
--- the length of a value, if there is one
 abbrev pub answer_of : Option Bytes → Value
 answer_of None = record { len = 0; found = false }
 answer_of (Some value) = record { len = length value.items; found = true }
@@ -95,12 +91,10 @@ Reads value answer buffer left = (answer ≡ answer_of value) × (left ≡ poure
 abbrev pub no_entry : Popped
 no_entry = record { key_len = 0; value_len = 0; found = false; removed = false }
 
--- the lengths of the key and the value of an entry, and whether the entry was removed
 abbrev pub lengths_of : Bytes × Bytes → Bool → Popped
 lengths_of pair removed =
     record { key_len = length pair.0.items; value_len = length pair.1.items; found = true; removed = removed }
 
--- the key and the value fit into these buffers
 abbrev pub fits : Bytes × Bytes → List ℕ → List ℕ → Bool
 fits pair key value = nat_le (length pair.0.items) (length key) && nat_le (length pair.1.items) (length value)
 
@@ -112,7 +106,6 @@ Shows (Some pair) answer key key_left value value_left = (answer ≡ lengths_of 
     × (key_left ≡ (if fits pair key value then poured pair.0.items key else key))
     × (value_left ≡ (if fits pair key value then poured pair.1.items value else value))
 
--- the bytes of each key and each value
 abbrev pub texts : List (Bytes × Bytes) → List (List ℕ × List ℕ)
 texts pairs = map (λ pair. (pair.0.items, pair.1.items)) pairs
 
@@ -134,7 +127,6 @@ pub data Pops (old : BytesMap) (answer : Popped) (key key_left value value_left 
       answer ≡ lengths_of pair true → key_left ≡ poured pair.0.items key → value_left ≡ poured pair.1.items value →
       PopOldest bytes_rules old (Some pair) new → Pops old answer key key_left value value_left new
 
--- a key with these bytes is there
 abbrev pub has_bytes : List ℕ → BytesMap → Bool
 has_bytes key map = is_some (lookup (names_bytes key) map.pairs)
 
@@ -148,7 +140,6 @@ pub data IsReady (key : List ℕ) (old ready : BytesMap) : Type 0 where
 abbrev pub FindsMemory : List ℕ → BytesMap → Type 0
 FindsMemory key ready = has_bytes key ready ≡ false → 1 ≤ growth_left ready
 
--- A put, and what it returns.
 pub data Puts (key value : List ℕ) (old : BytesMap) (code : ℕ) (new : BytesMap) : Type 0 where
   -- The key alone is over the budget: nothing changes.
   too_long : old.limiter.limit < length key → code ≡ 1 → new ≡ old → Puts key value old code new

@@ -25,7 +25,6 @@ macro_rules! with_map {
 
 pub(crate) use with_map;
 
-/// The map of a handle.
 pub type Map = LruMap<u64, u64>;
 
 #[repr(C)]

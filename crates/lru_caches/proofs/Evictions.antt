@@ -25,13 +25,11 @@ module _ {B : Type 0} (keeps : Bool) where
       ≡ option_map (λ q. q.0) (cond (may_go keeps p.1) (Some p) (find goes (reverse pages)))
   victim-push pages p = ap (λ l. option_map (λ q. q.0) (find goes l)) (reverse-append pages (p ∷ []))
 
-  -- the oldest page is the victim
   pub victim-goes : (pages : List (ℕ × Page B)) (p : ℕ × Page B) → may_go keeps p.1 ≡ true
       → victim keeps (pages ++ p ∷ []) ≡ Some p.0
   victim-goes pages p e = victim-push pages p
       ∙ ap (λ b. option_map (λ q. q.0) (cond b (Some p) (find goes (reverse pages)))) e
 
-  -- or the victim is before it
   pub victim-stays : (pages : List (ℕ × Page B)) (p : ℕ × Page B) → may_go keeps p.1 ≡ false
       → victim keeps (pages ++ p ∷ []) ≡ victim keeps pages
   victim-stays pages p e = victim-push pages p
@@ -131,7 +129,6 @@ module _ {B : Type 0} (pages : List (ℕ × Page B)) (distinct : IsDistinct nat_
     pub there-gone : AreThere d pages it → AreThere d (without (nat_eq n) pages) it
     there-gone there m page found = there m page (found_before m page found)
 
-    -- a page that is as on the device may go
     pub shown-gone : ((page : Page B) → lookup (nat_eq n) pages ≡ Some page → d.blocks it n ≡ Some (d.seen page.block))
         → (m : ℕ) → block_at d (without (nat_eq n) pages) it m ≡ block_at d pages it m
     shown-gone same m = ap (λ o. block_or d o (d.blocks it m)) (lookup-gone m) ∙ go (nat_eq n m) refl

@@ -10,7 +10,6 @@ use Rattle.lru_model.specs.State.{State}
 
 -- what a contract sees of a memo or a loader
 pub record Memoized (K V S H F : Type 0) : Type 0 where
-  -- the map of the stored answers
   pub map : State K V S H
   pub function : F
 
@@ -26,11 +25,9 @@ module _ {K V : Type 0} (eq : K → K → Bool) (post : K → V → Type 0) wher
   abbrev pub IsAnswer : K → V → Type 0
   IsAnswer key value = (k : K) × (eq key k ≡ true) × post k value
 
-  -- each stored value is an answer (`IsAnswer`) at its key
   abbrev pub AreAnswers : List (K × V) → Type 0
   AreAnswers known = All (λ p. IsAnswer p.0 p.1) known
 
--- the function may load the value at the key
 abbrev pub loads : {K V E : Type 0} → (K → Result V E → Type 0) → K → V → Type 0
 loads post key value = post key (Ok value)
 

@@ -25,7 +25,6 @@ unsynced = (4, 0, [])
 abbrev pub synced : Event
 synced = (5, 0, [])
 
--- the event of these numbers and bytes
 abbrev pub event_of : List ℕ → List ℕ → Event
 event_of numbers bytes = (slice_index numbers 0, slice_index numbers 1, bytes)
 
@@ -68,7 +67,6 @@ abbrev pub IsLeft : (List ℕ → List ℕ) → Option (List ℕ) → List ℕ �
 IsLeft seen None block = Unit {0}
 IsLeft seen (Some only) block = block ≡ seen only
 
--- how many of the calls failed
 abbrev pub failures_after : ℕ → ℕ → ℕ
 failures_after zero old = suc old
 failures_after (suc zero) old = old

@@ -4,7 +4,6 @@ use Rattle.std.proofs.Common.{sym, ◌∙◌, ap, subst, unwrap_or, option_map}
 use Rattle.std.proofs.lemmas.Option.{none-some}
 use Rattle.lru_caches.specs.Files.{Event, known, known_after, left, left_after, or_else, IsLeft, synced, unsynced}
 
--- if `kept` is some bytes, `block` is the same bytes
 abbrev pub Fits : Option (List ℕ) → Option (List ℕ) → Type 0
 Fits kept block = (x : List ℕ) → kept ≡ Some x → block ≡ Some x
 
@@ -26,7 +25,6 @@ left_fits (e ∷ earlier) n =
     fits_step e.0 e.2 (nat_eq n e.1) (left earlier n) (known earlier n) (left_fits earlier n)
 
 module _ (seen : List ℕ → List ℕ) (events : List Event) (n : ℕ) where
-  -- if the bytes of block n are known, a crash may leave them
   pub left_is_known : (bytes : List ℕ) → known events n ≡ Some bytes → IsLeft seen (left events n) (seen bytes)
   left_is_known bytes is = go (left events n) refl
     where
@@ -34,7 +32,6 @@ module _ (seen : List ℕ → List ℕ) (events : List Event) (n : ℕ) where
       go None e = tt
       go (Some x) e = ap (λ o. seen (unwrap_or o x)) (sym is ∙ left_fits events n x e)
 
-  -- a sync adds nothing to what a crash may leave
   pub synced_leaves : (ok : Bool) (block : List ℕ)
       → IsLeft seen (left ((if ok then synced else unsynced) ∷ events) n) block → IsLeft seen (left events n) block
   synced_leaves false block is = is
@@ -44,7 +41,6 @@ module _ (seen : List ℕ → List ℕ) (events : List Event) (n : ℕ) where
       go None e = tt
       go (Some x) e = subst (λ o. IsLeft seen o block) (left_fits events n x e) is
 
-  -- `left_is_known`, for what contracts see of the bytes
   pub left_is_seen : (block : List ℕ) → option_map seen (known events n) ≡ Some block
       → IsLeft seen (left events n) block
   left_is_seen block is = go (known events n) refl is

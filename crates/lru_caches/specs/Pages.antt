@@ -17,7 +17,6 @@ use Rattle.lru_caches.specs.declared.page_cache.PageError.TheVariants.{Device, M
 pub record Cached (B D : Type 0) : Type 0 where
   -- the cached pages by their numbers, newest first: each has a block, and may be dirty, and pinned
   pub pages : List (ℕ × Page B)
-  -- how many pages there may be
   pub capacity : ℕ
   -- whether no dirty page is evicted
   pub keeps_dirty : Bool
@@ -26,35 +25,28 @@ pub record Cached (B D : Type 0) : Type 0 where
   pub device : D
 
 module _ {B : Type 0} where
-  -- there is a page, and it is dirty
   abbrev pub is_dirty : Option (Page B) → Bool
   is_dirty None = false
   is_dirty (Some page) = page.is_dirty
 
-  -- there is a page, and it is pinned
   abbrev pub is_pinned : Option (Page B) → Bool
   is_pinned None = false
   is_pinned (Some page) = page.is_pinned
 
-  -- the same pages, all of them clean
   abbrev pub cleaned : List (ℕ × Page B) → List (ℕ × Page B)
   cleaned pages = map (λ p. (p.0, record p.1 { is_dirty = false })) pages
 
-  -- the same pages, and this page n, if there is one, is clean
   abbrev pub with_clean : ℕ → Option (Page B) → List (ℕ × Page B) → List (ℕ × Page B)
   with_clean n None pages = pages
   with_clean n (Some page) pages = set_value (nat_eq n) pages (record page { is_dirty = false })
 
-  -- the same pages, and page n is clean, if there is one
   abbrev pub cleaned_at : ℕ → List (ℕ × Page B) → List (ℕ × Page B)
   cleaned_at n pages = with_clean n (lookup (nat_eq n) pages) pages
 
-  -- the same pages, and this page n, if there is one, has no pin
   abbrev pub with_no_pin : ℕ → Option (Page B) → List (ℕ × Page B) → List (ℕ × Page B)
   with_no_pin n None pages = pages
   with_no_pin n (Some page) pages = set_value (nat_eq n) pages (record page { is_pinned = false })
 
-  -- the same pages, and page n has no pin
   abbrev pub unpinned_at : ℕ → List (ℕ × Page B) → List (ℕ × Page B)
   unpinned_at n pages = with_no_pin n (lookup (nat_eq n) pages) pages
 
@@ -66,12 +58,10 @@ module _ {B : Type 0} where
   abbrev pub victim : Bool → List (ℕ × Page B) → Option ℕ
   victim keeps_dirty pages = option_map (λ p. p.0) (find (λ p. may_go keeps_dirty p.1) (reverse pages))
 
-  -- the pages without the page of this number, if there is a number
   abbrev pub evicted : Option ℕ → List (ℕ × Page B) → List (ℕ × Page B)
   evicted None pages = pages
   evicted (Some n) pages = without (nat_eq n) pages
 
-  -- there is a number, and its page is dirty
   abbrev pub goes_dirty : Option ℕ → List (ℕ × Page B) → Bool
   goes_dirty None pages = false
   goes_dirty (Some n) pages = is_dirty (lookup (nat_eq n) pages)
@@ -81,7 +71,6 @@ module _ {B : Type 0} where
   with_room capacity keeps_dirty pages =
       if nat_lt (length pages) capacity then pages else evicted (victim keeps_dirty pages) pages
 
-  -- the numbers of the dirty pages
   abbrev pub dirty_numbers : List (ℕ × Page B) → List ℕ
   dirty_numbers pages = keys_of (filter (λ p. p.1.is_dirty) pages)
 
@@ -89,20 +78,16 @@ module _ {B : Type 0} where
 abbrev pub hit : Counts → Counts
 hit counts = record counts { hits = min (counts.hits + 1) (2 ^ 64 - 1) }
 
--- one miss more
 abbrev pub missed : Counts → Counts
 missed counts = record counts { misses = min (counts.misses + 1) (2 ^ 64 - 1) }
 
 module _ {B D : Type 0} where
-  -- the cache has a page of this number
   abbrev pub IsCached : ℕ → Cached B D → Type 0
   IsCached n cache = IsTrue (is_some (lookup (nat_eq n) cache.pages))
 
-  -- whether the page of each number is cached and dirty
   abbrev pub dirty : Cached B D → ℕ → Bool
   dirty cache n = is_dirty (lookup (nat_eq n) cache.pages)
 
-  -- whether the page of each number is cached and pinned
   abbrev pub pinned : Cached B D → ℕ → Bool
   pinned cache n = is_pinned (lookup (nat_eq n) cache.pages)
 
@@ -116,22 +101,18 @@ module _ {B D : Type 0} where
   abbrev pub counted : ℕ → Cached B D → Counts
   counted n cache = if is_some (lookup (nat_eq n) cache.pages) then hit cache.counts else missed cache.counts
 
-  -- the pages after a read of page n, which has this block
   abbrev pub pages_read : ℕ → B → Cached B D → List (ℕ × Page B)
   pages_read n block cache =
       pages_after n (record { block = block; is_dirty = dirty cache n; is_pinned = pinned cache n }) cache
 
-  -- the pages after a write of this block to page n
   abbrev pub pages_written : ℕ → B → Cached B D → List (ℕ × Page B)
   pages_written n block cache =
       pages_after n (record { block = block; is_dirty = true; is_pinned = pinned cache n }) cache
 
-  -- the pages after a pin of page n, which has this block
   abbrev pub pages_pinned : ℕ → B → Cached B D → List (ℕ × Page B)
   pages_pinned n block cache =
       pages_after n (record { block = block; is_dirty = dirty cache n; is_pinned = true }) cache
 
-  -- page n is not cached, the cache is full, and no page may go
   abbrev pub IsFull : ℕ → Cached B D → Type 0
   IsFull n cache = (lookup (nat_eq n) cache.pages ≡ None) × (length cache.pages ≡ cache.capacity)
       × (victim cache.keeps_dirty cache.pages ≡ None)
@@ -176,11 +157,9 @@ module _ {B D E S : Type 0} (d : device.Ghosts D B E S) where
   AreClean pages device = IsGood device → (n : ℕ) (page : Page B) → lookup (nat_eq n) pages ≡ Some page
       → page.is_dirty ≡ false → d.blocks device n ≡ Some (d.seen page.block)
 
-  -- the device has the number of each page
   abbrev pub AreThere : List (ℕ × Page B) → D → Type 0
   AreThere pages device = (n : ℕ) (page : Page B) → lookup (nat_eq n) pages ≡ Some page → IsTrue (d.has device n)
 
-  -- the device has the same numbers, and is usable exactly if it was; if it is honest now, it was honest before
   pub record Serves (old new : D) : Type 0 where
     pub numbers : (n : ℕ) → d.has new n ≡ d.has old n
     pub usable : d.is_usable new ≡ d.is_usable old
@@ -241,7 +220,6 @@ module _ {B D E S : Type 0} (d : device.Ghosts D B E S) where
     pub unwritten : IsTrue old.keeps_dirty → CrashKeeps old.device new.device
     pub untouched : IsCached n old → new.device ≡ old.device
     pub serves : Serves old.device new.device
-    -- why it fails, and what it leaves then
     pub cause : IfErr result (IsCause n old new.device)
     pub left : IfErr result (Leaves old new)
     pub full : result ≡ Err Full → new ≡ old

@@ -57,7 +57,6 @@ module _ {N K V L S : Type 0} where
         same other true e = sym (same-tenant other e cache)
         same other false e = refl
 
-    -- what becomes of the named tenant, if what becomes of each is known
     own-left : (old new : Cache N K V L S) (was : State K V L S) (left : Option (State K V L S))
         → tenant names old ≡ Some was
         → ((other : N) → tenant (eq other) new ≡ cond (names other) left (tenant (eq other) old))

@@ -48,7 +48,6 @@ module _ {K V L S : Type 0} (rules : Rules K V L) (offers : Offers K V L K) (bud
 
   module _ {N Q : Type 0} {same : N → N → Bool} {named : Q → N → Bool} {query_input : Q → List (List ℕ)}
       {key_input : N → List (List ℕ)} (looks_up : IsLookup named same query_input key_input) (name : Q) where
-    -- the cache afterwards, and the answer
     pub record Ends (old new : Cache N K V L S) : Type 0 where
       pub on : On same (named name) (OfOpen (GetsOrPuts rules offers budget_of eq hash_of makes key)) old answer new
       pub not_open : tenant (named name) old ≡ None → answer ≡ Err NotOpen

@@ -41,7 +41,6 @@ sum-small f bound (x ∷ xs) all = omega (
 
 module _ {N K V L S : Type 0} {eq : K → K → Bool} {cost : K → V → ℕ} {account budget : L → ℕ} {sum : ℕ}
     {limit : Option ℕ} (old : List (N × State K V L S)) (kept : Holds eq cost account budget old sum limit) where
-  -- the budgets of all tenants and one more fit a u128
   pub sum-fits : length old < 2 ^ 64 → sum + 2 ^ 64 < 2 ^ 128
   sum-fits small = omega (
     arith,

@@ -9,7 +9,6 @@ use Rattle.lru_model.specs.Lists.{lookup}
 use Rattle.lru_model.specs.State.{State, IsMap, empty_map}
 use Rattle.lru_model.specs.Theorems.{IsSummed}
 
--- a tenant's map with another limiter
 abbrev pub with_limiter : {K V L S : Type 0} → L → State K V L S → State K V L S
 with_limiter limiter map = record map { limiter = limiter }
 
@@ -17,13 +16,10 @@ with_limiter limiter map = record map { limiter = limiter }
 pub record IsTenant {K V L S : Type 0} (eq : K → K → Bool) (cost : K → V → ℕ) (account budget : L → ℕ)
     (own : State K V L S) : Type 0 where
   pub map : IsMap eq own
-  -- the running total is the sum of the costs, and within the budget
   pub sum : IsSummed cost account own
   pub within : account own.limiter ≤ budget own.limiter
-  -- the budget is a u64
   pub small : budget own.limiter < 2 ^ 64
 
--- a sum is above the limit, if there is one
 abbrev pub is_above : Option ℕ → ℕ → Bool
 is_above None sum = false
 is_above (Some limit) sum = nat_lt limit sum
@@ -66,7 +62,6 @@ module _ {N K V L S : Type 0} where
   abbrev pub AreTenants : (K → K → Bool) → (K → V → ℕ) → (L → ℕ) → (L → ℕ) → Cache N K V L S → Type 0
   AreTenants eq cost account budget cache = All (IsTenant eq cost account budget) (values_of cache.tenants)
 
-  -- the sum of the budgets of all tenants
   abbrev pub budgets : (L → ℕ) → Cache N K V L S → ℕ
   budgets budget cache = sum_by (λ map. budget map.limiter) (values_of cache.tenants)
 
@@ -75,6 +70,5 @@ module _ {N K V L S : Type 0} where
   budgets_with budget named own cache =
       budgets budget cache - unwrap_or (option_map (λ map. budget map.limiter) (tenant named cache)) 0 + own
 
-  -- `budgets_with` would be above the total limit, if there is one
   abbrev pub is_over : (L → ℕ) → (N → Bool) → ℕ → Cache N K V L S → Bool
   is_over budget named own cache = is_above cache.total_limit (budgets_with budget named own cache)

@@ -42,7 +42,6 @@ module _ (N K V L S M H : RattleType) (name : HashMembers N.Denot) (key : HashMe
       (record { rules = limits.rules }) links
       (record { hash_of = hashed.hash_of }) (record { build_hasher = hashed.build_hasher }) hash
 
-  -- `Ends` holds of the cache once the loan has ended
   abbrev pub ends_so : MutBor (Cache N.Denot K.Denot V.Denot L.Denot S.Denot)
       → (Cache N.Denot K.Denot V.Denot L.Denot S.Denot → Type 0) → Fml
   ends_so m Ends = follows_so cache_row cache_row m.ghost_name none (λ _ _. ⊤) Ends

@@ -7,7 +7,6 @@ use Rattle.lru_model.specs.Lists.{lookup}
 use Rattle.lru_model.specs.State.{State, contents}
 
 module _ {K V L S : Type 0} (accepts : L → K → V → Bool) (eq : K → K → Bool) (key : K) (value : V) where
-  -- the limiter rejects the entry, and the key is new
   abbrev pub rejects : State K V L S → Bool
   rejects map = not (accepts map.limiter key value) && not (is_some (lookup (eq key) map.pairs))
 

@@ -29,7 +29,6 @@ module _ {N K V : Type 0} where
   named (calls.Cost name) = name
   named (calls.Close name) = name
 
--- the answer of a put, by the result of its insert
 abbrev pub put_answer : {R : Type 0} → Result R AllocError → Result R TenantError
 put_answer (Ok inserted) = Ok inserted
 put_answer (Err e) = Err Memory
@@ -43,7 +42,6 @@ module _ {K V L S : Type 0} where
   Opens true fresh None answer new = (answer ≡ Err OverTotal) × (new ≡ None)
   Opens false fresh None answer new = ((answer ≡ Ok tt) × (new ≡ Some fresh)) ⊎ ((answer ≡ Err Memory) × (new ≡ None))
 
-  -- the answer of a call that reads an open tenant
   abbrev pub read_of : {R : Type 0} → (State K V L S → R) → Option (State K V L S) → Result R TenantError
   read_of reads None = Err NotOpen
   read_of reads (Some map) = Ok (reads map)
@@ -74,7 +72,6 @@ module _ {K V L S : Type 0} where
   PassesOn does None passed new = (passed ≡ []) × (new ≡ None)
   PassesOn does (Some map) passed new = does map passed new
 
-  -- a get: the pair of the key becomes the newest
   abbrev pub Gets : (K → Bool) → Option (State K V L S) → Result (Option V) TenantError → Option (State K V L S) →
       Type 0
   Gets names old answer new =
@@ -87,11 +84,9 @@ module _ {K V L S : Type 0} where
   BudgetPasses rules rebudgeted false old passed new = (left : State K V L S)
       × TrimPasses rules (with_limiter (rebudgeted old.limiter) old) passed left × (new ≡ Some left)
 
-  -- the tenant closes, and its pairs are passed on, oldest first
   abbrev pub ClosePasses : State K V L S → List (K × V) → Option (State K V L S) → Type 0
   ClosePasses old passed new = (passed ≡ reverse old.pairs) × (new ≡ None)
 
-  -- the tenant closes, and its pairs are dropped; the answer is their number
   abbrev pub Closes : State K V L S → Result ℕ TenantError → Option (State K V L S) → Type 0
   Closes map answer new = (answer ≡ Ok (length map.pairs)) × (new ≡ None)
 
@@ -107,7 +102,6 @@ module _ {K V L S : Type 0} where
       pub said : answer ≡ put_answer result
       pub is : new ≡ Some left
 
-    -- a put passes on each pair that is evicted or removed, and the new pair if it could not be stored
     pub record PutPasses (old : State K V L S) (passed : List (K × V)) (new : Option (State K V L S)) : Type 0 where
       pub left : State K V L S
       pub result : Result Bool AllocError
@@ -137,8 +131,6 @@ module _ {N K V L S : Type 0} (rules : Rules K V L) (offers : Offers K V L K) (c
   abbrev pub KeptStep : TenantCall N K V → Option (State K V L S) → TenantAnswer V → Option (State K V L S) → Type 0
   KeptStep call old answer new = TenantStep call old answer new × IfSome new (IsTenant eq cost account budget_of)
 
-  -- The calls that name the tenant, and their answers, take it from old to new. Calls that name others leave it as it
-  -- is.
   abbrev pub IsOwnRun : (N → Bool) → Option (State K V L S) → List (TenantCall N K V) → List (TenantAnswer V)
       → Option (State K V L S) → Type 0
   IsOwnRun = OwnRun named KeptStep

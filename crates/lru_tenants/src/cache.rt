@@ -114,8 +114,7 @@ impl<N: Eq + Hash, K: Eq + Hash, V, L: Budgeted<K, V>, S: KeyHasher<K> + Copy> T
     L,
     S,
 > {
-    /// Makes a cache without tenants and without a total limit, under any limiter with a budget, with this hasher of
-    /// names and keys.
+    /// Makes a cache as `new` does, but under any limiter with a budget, and with this hasher of names and keys.
     ///
     /// If strangers choose names or keys, take std's `RandomState::new(&rt)?`, whose hashes nobody can guess. Cost:
     /// `O(1)`, and no memory.
@@ -188,8 +187,7 @@ impl<
     ///
     /// # Errors
     ///
-    /// `AlreadyOpen`. `OverTotal`: the sum of all budgets would be above the total limit. `Memory`: out of memory for
-    /// one more tenant.
+    /// `AlreadyOpen`, `OverTotal` or `Memory`: no tenant has changed.
     pub fn open(&mut self, name: N, budget: u64) -> Result<(), TenantError>
         ensures opens { On N.eq (N.eq name) (Opens (is_over L.budget_of (N.eq name) budget self.old)
             (fresh L.made (L.LinkType.number L.LinkType.MAX) self.old budget)) self.old result self.new }
@@ -258,7 +256,7 @@ impl<
     ///
     /// # Errors
     ///
-    /// `NotOpen`. `OverTotal`: the sum of all budgets would be above the total limit. Both change nothing.
+    /// `NotOpen` or `OverTotal`: nothing has changed.
     pub fn set_budget<T: LookupKey<N>>(&mut self, name: &T, budget: u64) -> Result<(), TenantError>
         ensures sets { On N.eq (T.names name.now)
             (OfOpen (SetsBudget L.rules (L.rebudgeted budget) (is_over L.budget_of (T.names name.now) budget self.old)))

@@ -7,13 +7,10 @@ use thiserror::Error;
 /// ```
 #[derive(Clone, Copy, Debug, PartialEq, Eq, Error)]
 pub enum TenantError {
-    /// The tenant is open already.
     #[error("already open")]
     AlreadyOpen = 1,
-    /// The tenant is not open.
     #[error("not open")]
     NotOpen = 2,
-    /// Out of memory.
     #[error("out of memory")]
     Memory = 3,
     /// The sum of all budgets would be above the total limit.

@@ -198,7 +198,6 @@ few_others options line = (few (λ text. not (is_key text)) (text_in options.col
     go true = few (λ key. not (is_sampled (bits_of options) key)) key
     go false = omega arith
 
--- what one line more adds to the references
 module _ (bits w : ℕ) (keys more : List (List ℕ)) (few : length more ≤ 1) (old new : Counted) (is_warm : Bool)
     (is : is_warm ≡ nat_lt (length keys) w) (follows : Follows is_warm old (sampled bits more) new) where
   one_more : IsOf (sampled bits (take w keys)) (sampled bits (drop w keys)) old

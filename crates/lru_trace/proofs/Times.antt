@@ -256,7 +256,7 @@ module _ {K : Type 0} {eq : K → K → Bool} (laws : IsEquivalence eq) where
         → list_any (is_at (nat_cmp i)) (times eq i (key ∷ rest) xs) ≡ is_in eq key xs
     due_found xs o = (due xs o).found
 
-  -- What is known about the reference at time `now` of a trace that begins at time i.
+  -- The reference at time `now` of a trace that begins at time i.
   pub record Reference (i now : ℕ) (trace : List K) : Type 0 where
     pub key : K
     pub is : drop now trace ≡ key ∷ drop (suc now) trace

@@ -18,7 +18,6 @@ abbrev pub lines_of : List ℕ → List (List ℕ)
 lines_of [] = []
 lines_of (b ∷ bytes) = if b == 10 then [] ∷ lines_of bytes else onto_first b (lines_of bytes)
 
--- a line and its line feed
 abbrev pub fed : List ℕ → List ℕ
 fed line = line ++ 10 ∷ []
 
@@ -62,17 +61,14 @@ abbrev pub text_in : Option Column → List ℕ → List ℕ
 text_in None line = line
 text_in (Some column) line = cell column.separator column.index line
 
--- this part of each line
 abbrev pub texts_of : Option Column → List (List ℕ) → List (List ℕ)
 texts_of column lines = map (text_in column) lines
 
--- a key is text of 1 to 64 bytes
 abbrev pub is_key : List ℕ → Bool
 is_key text = nat_lt 0 (length text) && (nat_le (length text) 64 && is_utf8 text)
 
 abbrev pub trace_of : List (List ℕ) → List (List ℕ)
 trace_of texts = filter is_key texts
 
--- how many of the texts spell no key
 abbrev pub malformed_in : List (List ℕ) → ℕ
 malformed_in texts = length (filter (λ text. not (is_key text)) texts)

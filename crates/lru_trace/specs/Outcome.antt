@@ -22,8 +22,7 @@ pub record KeysRead (from to : Option (List ℕ)) (options : Options) (curve : C
   pub curve_of : IsOf (warm_in options (lines_of input)) (counted_in options (lines_of input)) curve
   pub left_out : others ≡ others_in options (lines_of input)
 
--- All that was left was read. The first line names the sizes, and this is the curve of the references that the others
--- make.
+-- As `KeysRead`, but the first line names the sizes, and makes no reference.
 pub record TraceRead (from to : Option (List ℕ)) (options : Options) (sizes : List ℕ) (curve : Counted) (others : Others)
     : Type 0 where
   pub input : List ℕ
@@ -61,7 +60,6 @@ pub record Reported (from to : Option (List ℕ)) (options : Options) (IsWritten
   pub determined : output options (lines_of input) ≡ Some text
   pub written : IsWritten text
 
--- what a trace read and wrote, by how it ended
 abbrev pub Ends : Options → Option (List ℕ) → Option (List ℕ) → Option (List ℕ) → Option (List ℕ)
     → Result TraceEnd TraceError → Type 0
 Ends options from to old new (Ok ends.Done) = Reported from to options (Appends old new)

@@ -19,19 +19,17 @@ abbrev pub bits_of : Options → ℕ
 bits_of options = min options.sample 20
 
 module _ (options : Options) (lines : List (List ℕ)) where
-  -- the keys that were read
   abbrev pub keys_read : List (List ℕ)
   keys_read = trace_of (texts_of options.column lines)
 
-  -- the references of the warm-up, which is the first n keys: those of them that are in the sample
+  -- the references of the warm-up
   abbrev pub warm_in : List (List ℕ)
   warm_in = sampled (bits_of options) (take (warm_up_of options.policies) keys_read)
 
-  -- the references behind the warm-up, which are counted
+  -- the references behind the warm-up
   abbrev pub counted_in : List (List ℕ)
   counted_in = sampled (bits_of options) (drop (warm_up_of options.policies) keys_read)
 
-  -- how many lines make no reference
   abbrev pub others_in : Others
   others_in = record {
     malformed = malformed_in (texts_of options.column lines);

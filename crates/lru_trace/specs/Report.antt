@@ -14,7 +14,6 @@ use Rattle.lru_trace.specs.Rows.{keys, row_of, axis_in, powers_in, points}
 use Rattle.lru_trace.specs.Sizes.{sizes_from}
 use Rattle.lru_trace.specs.Svg.{part, svg_text}
 
--- the part of the references that miss, in units of 1 / scale, rounded down
 abbrev pub missed_part : Row → ℕ → ℕ
 missed_part row scale = part row.misses (row.hits + row.misses) scale
 
@@ -23,12 +22,10 @@ abbrev pub ratio_text : ℕ → List ℕ
 ratio_text n = decimal (n / 10000) ++ (codes "." ++ (decimal (n / 1000 % 10) ++ (decimal (n / 100 % 10)
     ++ (decimal (n / 10 % 10) ++ decimal (n % 10)))))
 
--- how often MIN misses, and MIN with bypass, if `--best` is given
 abbrev pub best_text : Option BestMisses → List ℕ
 best_text None = []
 best_text (Some best) = codes " min " ++ (decimal best.min ++ (codes " bypass " ++ decimal best.bypass))
 
--- the line of a named size
 abbrev pub size_text : Row → List ℕ
 size_text row = codes "places " ++ (decimal row.size ++ (codes " hits " ++ (decimal row.hits
     ++ (codes " misses " ++ (decimal row.misses ++ (codes " ratio "
@@ -38,7 +35,6 @@ abbrev pub bar_text : Row → List ℕ
 bar_text row = replicate (12 - length (decimal row.size)) 32 ++ (decimal row.size ++ (codes " |"
     ++ (replicate (missed_part row 50) 35 ++ codes "\n")))
 
--- how many keys are not in the sample, if `--sample` asks for one
 abbrev pub skipped_text : Option ℕ → List ℕ
 skipped_text None = []
 skipped_text (Some n) = codes " skipped " ++ decimal n
@@ -47,11 +43,9 @@ abbrev pub head_text : Counts → List ℕ
 head_text counts = codes "references " ++ (decimal counts.references ++ (codes " keys " ++ (decimal counts.keys
     ++ (codes " malformed " ++ (decimal counts.malformed ++ (skipped_text counts.skipped ++ codes "\n"))))))
 
--- the text for people: a line for each named size, and a bar for each power of two
 abbrev pub text_of : Counts → List Row → List Row → List ℕ
 text_of counts named bars = head_text counts ++ (flat_map size_text named ++ flat_map bar_text bars)
 
--- a record of csv
 abbrev pub csv_best : Option BestMisses → List ℕ
 csv_best None = []
 csv_best (Some best) = codes "," ++ (decimal best.min ++ (codes "," ++ decimal best.bypass))
@@ -60,14 +54,12 @@ abbrev pub csv_line : Row → List ℕ
 csv_line row = decimal row.size ++ (codes "," ++ (decimal row.hits ++ (codes "," ++ (decimal row.misses ++ (codes ","
     ++ (ratio_text (missed_part row 10000) ++ (csv_best row.best ++ codes "\n")))))))
 
--- the text for programs: a header, and a record for each size
 abbrev pub csv_head : Bool → List ℕ
 csv_head best = if best then codes "size,hits,misses,ratio,min,bypass\n" else codes "size,hits,misses,ratio\n"
 
 abbrev pub csv_of : Bool → List Row → List ℕ
 csv_of best rows = csv_head best ++ flat_map csv_line rows
 
--- how many references, keys, malformed lines and skipped keys there are
 abbrev pub counts_of : ℕ → List (List ℕ) → List (List ℕ) → Others → Counts
 counts_of bits warm trace others = record {
   references = length trace;
@@ -77,8 +69,6 @@ counts_of bits warm trace others = record {
 }
 
 module _ (bits : ℕ) (warm trace : List (List ℕ)) (sizes : List ℕ) (others : Others) where
-  -- the rows of the named sizes and of the powers of two, with the misses of the best possible policies if `best` is
-  -- true
   abbrev pub point_rows : Bool → List Row
   point_rows best = map (row_of warm trace bits best) (points sizes (powers_in bits warm trace))
 

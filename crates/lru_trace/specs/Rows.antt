@@ -8,14 +8,12 @@ use Rattle.lru_theory.specs.Traces.{misses, recency, past_after}
 use Rattle.lru_trace.specs.declared.rows.BestMisses.{BestMisses}
 use Rattle.lru_trace.specs.declared.rows.Row.{Row}
 
--- how often the best possible policies miss on a trace in n places, if `best` is true
 abbrev pub best_in : List (List ℕ) → Bool → ℕ → Option BestMisses
 best_in trace false n = None
 best_in trace true n = Some (record { min = min_misses bytes_eq n trace; bypass = bypass_misses bytes_eq n trace })
 
 -- the counted references, and those of the warm-up before them
 module _ (warm trace : List (List ℕ)) where
-  -- how many counted references miss in n places
   abbrev pub missed : ℕ → ℕ
   missed n = misses bytes_eq n (past_after [] warm) trace
 
@@ -23,7 +21,7 @@ module _ (warm trace : List (List ℕ)) where
   abbrev pub keys : ℕ
   keys = length (recency bytes_eq (past_after (past_after [] warm) trace))
 
-  -- The row of a size. In a sample of one key in 2 ^ bits, the size n stands for n / 2 ^ bits places.
+  -- In a sample of one key in 2 ^ bits, the size n stands for n / 2 ^ bits places.
   abbrev pub row_of : ℕ → Bool → ℕ → Row
   row_of bits best n =
       let places : ℕ = n / 2 ^ bits in

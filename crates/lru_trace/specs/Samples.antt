@@ -16,6 +16,5 @@ module _ (bits : ℕ) where
   abbrev pub sampled : List (List ℕ) → List (List ℕ)
   sampled keys = filter is_sampled keys
 
-  -- how many of the keys are not in the sample
   abbrev pub skipped : List (List ℕ) → ℕ
   skipped keys = length (filter (λ key. not (is_sampled key)) keys)

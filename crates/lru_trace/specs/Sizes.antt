@@ -3,7 +3,6 @@ use Rattle.std.specs.Prelude.{ℕ, ◌+◌, ◌-◌, ◌*◌, ◌^◌, ◌&&◌,
 use Rattle.std.specs.Prelude.{Option, Some, None}
 use Rattle.std.specs.Option.{option_and_then}
 
--- the number with one digit more
 abbrev pub with_digit : ℕ → ℕ → Option ℕ
 with_digit number b = if nat_le 48 b && (nat_le b 57 && nat_lt (10 * number + (b - 48)) (2 ^ 64))
     then Some (10 * number + (b - 48)) else None

@@ -26,7 +26,6 @@ log_of n =
     let behind : ℕ = part (n - 2 ^ level) (2 ^ level) 1000 in
     1000 * level + (behind + behind * (1000 - behind) * 353 / 1000000)
 
--- the place of a size
 abbrev pub x_of : ℕ → ℕ → ℕ
 x_of octaves size = 900 + log_of size * 6400 / (1000 * octaves)
 
@@ -39,7 +38,6 @@ missed_by policies.Lru row = row.misses
 missed_by policies.Min row = of_best (λ best. best.min) row.best
 missed_by policies.Bypass row = of_best (λ best. best.bypass) row.best
 
--- the height of the misses of a policy
 abbrev pub y_of : Policy → Row → ℕ
 y_of policy row = 3900 - part (missed_by policy row) (row.hits + row.misses) 3200
 
@@ -57,7 +55,6 @@ legend policies.Bypass = BYPASS.now
 abbrev pub curve_text : ℕ → List Row → Policy → List ℕ
 curve_text octaves rows policy = legend policy ++ (flat_map (point_text octaves policy) rows ++ codes "h0'/>\n")
 
--- a size on the axis, and its line
 abbrev pub grid_text : ℕ → ℕ → List ℕ
 grid_text x size = codes "<path class='grid' d='M" ++ (decimal x ++ (codes " 700v3200'/><text class='tick' x='"
     ++ (decimal x ++ (codes "' y='4080'>" ++ (decimal size ++ codes "</text>\n")))))
@@ -79,7 +76,6 @@ title_text counts = codes "<text x='900' y='290'>" ++ (decimal counts.references
 abbrev pub octaves_of : List ℕ → ℕ
 octaves_of axis = max (length axis - 1) 1
 
--- the curves of LRU, and of the best possible policies if `best` is true
 abbrev pub curves_text : Bool → ℕ → List Row → List ℕ
 curves_text best octaves rows = curve_text octaves rows policies.Lru
     ++ (if best then curve_text octaves rows policies.Min ++ curve_text octaves rows policies.Bypass else [])

@@ -9,8 +9,8 @@ use std::alloc::{AllocError, Global};
 use std::collections::BTreeSet;
 use std::marker::Model;
 
-/// What a policy knows if it knows the whole trace: the time of each next reference. So `Best` counts how often the
-/// best possible policies miss, which `docs/THEORY.md` explains.
+/// The time of each next reference of a trace. From these times `Best` counts how often the best possible policies
+/// miss, which `docs/THEORY.md` explains.
 ///
 /// It takes 8 bytes for each reference.
 #[derive(Drop)]

@@ -19,7 +19,6 @@ pub enum TraceError {
     /// A write or the flush failed.
     #[error("write failed")]
     Write = 2,
-    /// Out of memory.
     #[error("out of memory")]
     Memory = 3,
 }

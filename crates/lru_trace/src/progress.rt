@@ -10,7 +10,6 @@ pub struct Progress<P> {
 }
 
 impl<P: Write> Progress<P> {
-    /// Makes a `Progress` that writes to this writer, if there is one.
     pub fn new(alloc: Global, writer: Option<P>) -> Self {
         Progress { alloc, writer }
     }

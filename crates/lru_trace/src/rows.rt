@@ -102,7 +102,6 @@ pub fn powers(alloc: Global, most: u128) -> Result<Vec<usize>, AllocError>
     Ok(powers)
 }
 
-/// Returns those powers of the axis that stand for a place.
 pub fn powers_in(axis: &[usize], bits: u32) -> &[usize]
     ensures { result.now ≡ drop bits axis.now }
 {

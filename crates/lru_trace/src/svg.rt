@@ -59,7 +59,6 @@ pub enum Policy {
     Bypass,
 }
 
-/// Returns the parts of a whole, in thousandths.
 fn thousandths(parts: usize, whole: usize) -> usize
     requires some { 0 < whole }
     requires less { parts < whole }

@@ -11,7 +11,6 @@ use crate::bytes::handle::{BytesMap, OVERHEAD};
 use crate::bytes::keys::Named;
 use std::alloc::Global;
 
-// Returns the weight of an entry with a key and a value of these lengths.
 #[inline]
 fn weight_of(key: usize, value: usize) -> u64
     ensures { result ≡ weight key value }

@@ -16,7 +16,6 @@ use std::ptr::null_mut;
 /// two links.
 pub const OVERHEAD: u64 = 64;
 
-/// The map of a handle.
 pub type BytesMap = LruMap<Vec<u8>, Vec<u8>, ByWeight<64>>;
 
 #[repr(C)]
