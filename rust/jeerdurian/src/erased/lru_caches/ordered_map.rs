@@ -266,8 +266,7 @@ impl<K: Eq + Hash, V, S: KeyHasher<K>> OrderedMap<K, V, S> {
     ///
     /// # Errors
     ///
-    /// An `Err` says that the map ran out of memory for a new key, or that the link type cannot number the buckets of a
-    /// larger table. Nothing has changed.
+    /// Out of memory for a new key, or the link type cannot number the buckets of a larger table. Nothing has changed.
     ///
     /// After indexmap's `IndexMap::insert`.
     pub fn insert(&mut self, key: K, value: V) -> Result<Option<V>, AllocError> {

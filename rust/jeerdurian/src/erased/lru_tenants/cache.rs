@@ -57,8 +57,7 @@ impl<N: Eq + Hash, K: Eq + Hash, V: Costed> TenantCache<N, K, V> {
 }
 
 impl<N: Eq + Hash, K: Eq + Hash, V, L: Budgeted<K, V>, S: KeyHasher<K> + Copy> TenantCache<N, K, V, L, S> {
-    /// Makes a cache without tenants and without a total limit, under any limiter with a budget, with this hasher of
-    /// names and keys.
+    /// Makes a cache as `new` does, but under any limiter with a budget, and with this hasher of names and keys.
     ///
     /// If strangers choose names or keys, take std's `RandomState::new(&rt)?`, whose hashes nobody can guess. Cost:
     /// `O(1)`, and no memory.
@@ -115,8 +114,7 @@ impl<N: Eq + Hash, K: Eq + Hash, V, L: Budgeted<K, V>, S: KeyHasher<K> + Copy> T
     ///
     /// # Errors
     ///
-    /// `AlreadyOpen`. `OverTotal`: the sum of all budgets would be above the total limit. `Memory`: out of memory for
-    /// one more tenant.
+    /// `AlreadyOpen`, `OverTotal` or `Memory`: no tenant has changed.
     pub fn open(&mut self, name: N, budget: u64) -> Result<(), TenantError> {
         if self.tenants.contains(&name) {
             return Err(TenantError::AlreadyOpen);
@@ -171,7 +169,7 @@ impl<N: Eq + Hash, K: Eq + Hash, V, L: Budgeted<K, V>, S: KeyHasher<K> + Copy> T
     ///
     /// # Errors
     ///
-    /// `NotOpen`. `OverTotal`: the sum of all budgets would be above the total limit. Both change nothing.
+    /// `NotOpen` or `OverTotal`: nothing has changed.
     pub fn set_budget<T: LookupKey<N>>(&mut self, name: &T, budget: u64) -> Result<(), TenantError> {
         self.set_budget_with(name, budget, &mut |_, _| {})
     }

@@ -9,11 +9,10 @@ use crate::rattle_std::prelude::*;
 /// ```
 #[derive(Clone, Copy, Debug, PartialEq, Eq)]
 pub enum TenantError {
-    /// The tenant is open already.
     AlreadyOpen = 1,
-    /// The tenant is not open.
+
     NotOpen = 2,
-    /// Out of memory.
+
     Memory = 3,
     /// The sum of all budgets would be above the total limit.
     OverTotal = 4,

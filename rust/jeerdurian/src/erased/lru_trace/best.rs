@@ -7,8 +7,8 @@ use crate::rattle_std::prelude::*;
 use crate::rattle_std::alloc::{AllocError, Global};
 use crate::rattle_std::collections::BTreeSet;
 
-/// What a policy knows if it knows the whole trace: the time of each next reference. So `Best` counts how often the
-/// best possible policies miss, which `docs/THEORY.md` explains.
+/// The time of each next reference of a trace. From these times `Best` counts how often the best possible policies
+/// miss, which `docs/THEORY.md` explains.
 ///
 /// It takes 8 bytes for each reference.
 

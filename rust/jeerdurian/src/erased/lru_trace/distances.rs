@@ -23,7 +23,6 @@ const MOST_LEVELS: u32 = 59;
 /// is in proportion to the number of keys, however long the trace is.
 
 pub struct Distances {
-    /// The key of each slot, unless the slot is free.
     log: Vec<Option<usize>>,
     slots: Vec<Option<usize>>,
     marks: Tree,

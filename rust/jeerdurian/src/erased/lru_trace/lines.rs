@@ -60,7 +60,7 @@ pub fn read_line<R: BufRead>(reader: &mut R, line: &mut Vec<u8>) -> Result<Endin
     }
 }
 
-/// Returns the key that the line spells: text of 1 to 64 bytes.
+/// Returns the key that the line spells.
 fn key_of(line: &[u8]) -> Option<&str> {
     if line.is_empty() || line.len() > LONGEST_KEY {
         return None;
@@ -78,8 +78,8 @@ fn refer_key(curve: &mut Curve, warm: bool, key: &str) -> Result<(), AllocError>
     curve.refer(key)
 }
 
-/// References the key that the line spells, if there is one and the sample has it, and returns what the line adds to the
-/// lines that make no reference. The reference is counted unless it is one of the warm-up.
+/// References the key that the line spells, if the sample has it. Returns what the line adds to the lines that make no
+/// reference. A reference of the warm-up is not counted.
 fn refer_line(curve: &mut Curve, options: Options, warm: bool, line: &[u8]) -> Result<Others, AllocError> {
     let Some(key) = key_of(text_in(line, options.column)) else {
         return Ok(Others { malformed: 1, skipped: 0 });

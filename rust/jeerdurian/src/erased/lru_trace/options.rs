@@ -23,7 +23,7 @@ pub struct Column {
 /// Whose misses are counted.
 #[derive(Clone, Copy, Debug, PartialEq, Eq)]
 pub enum Policies {
-    /// LRU's. The first keys are a warm-up, this many: they fill the caches, and are not counted.
+    /// LRU's. The first `warm_up` keys fill the caches, and are not counted.
     Lru { warm_up: u64 },
     /// LRU's, and those of the best possible policies, which begin with no keys.
     Best,
@@ -34,9 +34,7 @@ pub enum Policies {
 pub struct Options {
     /// The column that is the key. Without a column the whole line is the key.
     pub column: Option<Column>,
-    /// The form of what is written.
     pub form: Form,
-    /// Whose misses are counted.
     pub policies: Policies,
     /// A key is referenced only if its hash ends with this many zero bits. A number above 20 means 20.
     pub sample: u32,

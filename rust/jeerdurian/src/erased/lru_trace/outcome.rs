@@ -17,7 +17,7 @@ pub enum TraceError {
     Read = 1,
     /// A write or the flush failed.
     Write = 2,
-    /// Out of memory.
+
     Memory = 3,
 }
 

@@ -13,7 +13,6 @@ pub struct Progress<P> {
 }
 
 impl<P: Write> Progress<P> {
-    /// Makes a `Progress` that writes to this writer, if there is one.
     pub const fn new(alloc: Global, writer: Option<P>) -> Self {
         Progress { alloc, writer }
     }

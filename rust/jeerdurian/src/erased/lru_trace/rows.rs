@@ -78,7 +78,6 @@ pub fn powers(alloc: Global, most: u128) -> Result<Vec<usize>, AllocError> {
     Ok(powers)
 }
 
-/// Returns those powers of the axis that stand for a place.
 pub fn powers_in(axis: &[usize], bits: u32) -> &[usize] {
     &(*at!(axis, axis.len().min(bits as usize)..))
 }

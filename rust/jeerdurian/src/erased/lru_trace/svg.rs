@@ -58,7 +58,6 @@ pub enum Policy {
     Bypass,
 }
 
-/// Returns the parts of a whole, in thousandths.
 fn thousandths(parts: usize, whole: usize) -> usize {
     (parts as u128 * 1000 / whole as u128) as usize
 }

@@ -14,7 +14,6 @@ const NO_BUFFER: u8 = 3;
 
 const UNKNOWN: u8 = 4;
 
-/// The most bits of a sample.
 const MOST_BITS: u32 = 20;
 
 const HELP: &str = "\

@@ -67,7 +67,7 @@ impl<K: Eq + Hash, V, S: KeyHasher<K>> OrderedMap<K, V, S> {
     ///
     /// # Errors
     ///
-    /// An `Err` says that the map ran out of memory.
+    /// Out of memory.
     ///
     /// After indexmap's `IndexMap::shrink_to_fit`.
     pub fn shrink_to_fit(&mut self) -> Result<bool, AllocError> {

@@ -43,7 +43,7 @@ impl<N: Eq + Hash, K: Eq + Hash, V, L: Budgeted<K, V>, S: KeyHasher<K> + Copy> T
         self.total_limit
     }
 
-    /// Returns the sum of the budgets of all tenants. It is at most the total limit, if there is one.
+    /// Returns the sum of the budgets of all tenants.
     ///
     /// ```text
     /// assert_eq!(rt; (cache.total_cost(), cache.total_budget()), (2, 3));
