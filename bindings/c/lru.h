@@ -78,8 +78,8 @@ struct lru_inserted {
     bool evicted;       /* whether the oldest entry was evicted to make room */
 };
 
-/* What lru_insert, lru_put and lru_bytes_put return. */
-#define LRU_STORED 0u        /* the key is there, and has the value */
+/* What lru_insert, lru_get_or_insert, lru_put and lru_bytes_put return. */
+#define LRU_STORED 0u        /* the key is there; unless lru_get_or_insert found it, it has the value */
 #define LRU_REJECTED 1u      /* the key is not there, although no allocation failed: the entry does not fit */
 #define LRU_OUT_OF_MEMORY 2u /* there was no memory: tested, as a contract names no cause */
 #define LRU_NO_MAP 3u        /* the handle has no map */

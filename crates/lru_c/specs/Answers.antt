@@ -64,7 +64,7 @@ pub record Inserts (key value : ℕ) (old : Map) (answer : Inserted) (place left
   pub step : InsertPasses length_rules length_offers nat_eq hash_of key value old result passed new
   pub evicted : noted_pair answer.evicted left ≡ first_other key passed
   pub untouched : answer.evicted ≡ false → left ≡ place
-  -- no other pair was evicted, unless the maximum length is above 939,524,096
+  -- at most one pair of another key was evicted, unless the maximum length is above 939,524,096
   pub one_evicted : old.limiter ≤ most_exact_length → length (others (nat_eq key) passed) ≤ 1
   pub returned : answer ≡ inserted_of (put_code result) (lookup (nat_eq key) old.pairs) answer.evicted
 
