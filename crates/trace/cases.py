@@ -121,19 +121,25 @@ class Read:
         self.keys = [line for line in texts if text(line)]
         self.malformed = len(lines) - 1 - len(self.keys)
         hit = [fnv_1a(key) & (1 << sample) - 1 == 0 for key in self.keys]
-        self.skipped = hit.count(False) if sample else None
+        self.skipped = hit[warm_up:].count(False) if sample else None
         self.warm_up = sum(hit[:warm_up])
         self.keys = [key for key, is_in in zip(self.keys, hit) if is_in]
         self.references = len(self.keys) - self.warm_up
         self.different = len(set(self.keys))
         self.scale = 1 << sample
+        self.expected = (self.references + (self.skipped or 0)) // self.scale
         self.axis = [1]
         while self.axis[-1] < max(1, self.different) * self.scale:
             self.axis.append(2 * self.axis[-1])
         self.powers = [power for power in self.axis if power >= self.scale]
 
     def part(self, missed, scale):
-        return missed * scale // self.references if self.references else 0
+        if missed > self.expected:
+            return scale
+        return missed * scale // self.expected if self.expected else 0
+
+    def hits(self, missed):
+        return max(0, self.expected - missed)
 
     def misses(self, places):
         return misses(self.keys, places // self.scale, self.warm_up)
@@ -152,12 +158,11 @@ class Read:
 
 def report(read, best):
     """Returns the report for people."""
-    n = read.references
-    out = f"references {n} keys {read.different} malformed {read.malformed}"
+    out = f"references {read.references} keys {read.different} malformed {read.malformed}"
     out += "\n" if read.skipped is None else f" skipped {read.skipped}\n"
     for places in read.sizes:
         missed = read.misses(places)
-        out += f"places {places} hits {n - missed} misses {missed} ratio {read.ratio(missed)}"
+        out += f"places {places} hits {read.hits(missed)} misses {missed} ratio {read.ratio(missed)}"
         if best:
             out += " min %d bypass %d" % read.best(places)
         out += "\n"
@@ -171,7 +176,7 @@ def csv(read, best):
     out = "size,hits,misses,ratio" + (",min,bypass" if best else "") + "\n"
     for places in read.points():
         missed = read.misses(places)
-        out += f"{places},{read.references - missed},{missed},{read.ratio(missed)}"
+        out += f"{places},{read.hits(missed)},{missed},{read.ratio(missed)}"
         out += (",%d,%d" % read.best(places) if best else "") + "\n"
     return out
 
@@ -251,7 +256,9 @@ write("steps_sample_none_svg", CASES["steps"], ["--svg"], svg, sample=20)
 write("steps_sample_warm_up", CASES["steps"], [], report, warm_up=50, sample=1)
 write("steps_sample_warm_up_csv", CASES["steps"], ["--csv"], csv, warm_up=197, sample=1)
 write("all_different_sample", CASES["all_different"], [], report, sample=1)
+write("cycle_sample_best_svg", CASES["cycle"], ["--svg", "--best"], svg, sample=1)
 write("limits_sample", CASES["limits"], [], report, sample=1)
+write("limits_sample_none", CASES["limits"], [], report, sample=2)
 write("sizes_alone_sample", CASES["sizes_alone"], [], report, sample=4)
 write("columns_sample", CASES["columns"], ["--csv"], csv, 2, sample=1)
 (HERE / "stdout").write_text(report(Read((HERE / "stdin").read_bytes()), True))

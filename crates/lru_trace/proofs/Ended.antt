@@ -16,7 +16,7 @@ use Rattle.lru_trace.specs.declared.options.Options.{Options}
 use Rattle.lru_trace.specs.Outcome.{KeysRead, TraceRead, NoSizesRead, Reported, Begins}
 use Rattle.lru_trace.specs.declared.lines.Ending.{Ending}
 use Rattle.lru_trace.specs.declared.lines.Ending.TheVariants as endings
-use Rattle.lru_trace.proofs.ReadLines.{lines_of-fed, lines_of-last, ended_before, nothing_read}
+use Rattle.lru_trace.proofs.ReadLines.{lines_of-fed, lines_of-last, ended_before, nothing_read, none_left_out}
 
 output_of : (options : Options) (lines : List (List ℕ)) (first : List ℕ) (others : List (List ℕ)) (named : Option (List ℕ))
     → lines ≡ first ∷ others → sizes_from [] None first ≡ named
@@ -68,7 +68,7 @@ module _ (from mid : Option (List ℕ)) (first : List ℕ) where
     named = sym named;
     curve_of = nothing_read options curve of;
     keeps = keeps;
-    left_out = refl;
+    left_out = none_left_out options;
   }
 
   pub with_keys : (to : Option (List ℕ)) (options : Options) (sizes : List ℕ) (curve : Counted) (others : Others)

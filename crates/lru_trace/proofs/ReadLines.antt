@@ -1,7 +1,7 @@
 -- Lines that are read one after another from what is left of an input.
 use Rattle.std.proofs.Common.{◌≡◌, ℕ, ◌+◌, ◌<◌, Bool, true, false, cond, List, [], ◌∷◌, ◌++◌, length}
 use Rattle.std.proofs.Common.{take, drop, get_or, ◌==◌, ◌≤◌, ◌-◌, IfSome, zero, suc, Option, Some, None, OnSome, refl, sym, ap, ◌∙◌, subst, arith, append_assoc}
-use Rattle.std.specs.Prelude.{not, nat_lt, Result, Ok, Err, OnErr}
+use Rattle.std.specs.Prelude.{not, nat_lt, if◌then◌else◌, Result, Ok, Err, OnErr}
 use Rattle.std.specs.List.{filter, All}
 use Rattle.std.specs.Io.{StopsAt}
 use Rattle.std.specs.Io.BufRead.{take_through, drop_through, DropsThrough}
@@ -18,7 +18,7 @@ use Rattle.lru_trace.specs.Counted.{Counted, IsOf, Follows}
 use Rattle.lru_trace.specs.Lines.{lines_of, onto_first, fed, LacksFeed, EndsSo, TakesRest, TakesLine, is_key}
 use Rattle.lru_trace.specs.Lines.{text_in, texts_of, trace_of, malformed_in}
 use Rattle.lru_trace.specs.declared.options.Options.{Options}
-use Rattle.lru_trace.specs.References.{keys_read, warm_in, counted_in, others_in, warm_up_of, bits_of}
+use Rattle.lru_trace.specs.References.{keys_read, warm_in, counted_in, others_in, others_so, warm_up_of, bits_of}
 use Rattle.lru_trace.specs.declared.lines.Others.{Others}
 use Rattle.lru_trace.specs.Samples.{sampled, skipped, is_sampled}
 use Rattle.lru_trace.specs.declared.lines.Ending.{Ending}
@@ -137,6 +137,12 @@ nothing_read options curve is =
     w : ℕ
     w = warm_up_of options.policies
 
+pub none_left_out : (options : Options) → record { malformed = 0; skipped = 0 } ≡ others_in options []
+none_left_out options = λ i. record {
+  malformed = 0;
+  skipped = ap (skipped (bits_of options)) (sym (drop_all (warm_up_of options.policies) [] (omega arith))) i;
+}
+
 pub none_read : (from : Option (List ℕ)) (options : Options) (curve : Counted) → IsOf [] [] curve
     → ReadSoFar from from options curve 0 (record { malformed = 0; skipped = 0 })
 none_read from options curve is = record {
@@ -144,7 +150,7 @@ none_read from options curve is = record {
   whole = λ rest. refl;
   reads = Consumes-nil from;
   curve_of = nothing_read options curve is;
-  left_out = refl;
+  left_out = none_left_out options;
   all = refl;
 }
 
@@ -155,6 +161,17 @@ filtered_more : (p : List ℕ → Bool) (xs ys : List (List ℕ))
     → length (filter p (xs ++ ys)) ≡ length (filter p xs) + length (filter p ys)
 filtered_more p xs ys = ap length (filter-append p xs ys) ∙ length-append (filter p xs) (filter p ys)
 
+skipped_more : (bits w : ℕ) (keys more : List (List ℕ)) → length more ≤ 1 → (warm : Bool)
+    → warm ≡ nat_lt (length keys) w
+    → skipped bits (drop w (keys ++ more)) ≡ skipped bits (drop w keys) + (if warm then 0 else skipped bits more)
+skipped_more bits w keys more few true is =
+    let less = ltb-true (length keys) w (sym is) in
+    ap (skipped bits) (drop_all w (keys ++ more) (omega (arith, less, few, length-append keys more)))
+    ∙ ap (λ ks. skipped bits ks + 0) (sym (drop_all w keys (omega (arith, less))))
+skipped_more bits w keys more few false is =
+    ap (skipped bits) (drop-append-le w keys more (ltb-false (length keys) w (sym is)))
+    ∙ filtered_more (λ key. not (is_sampled bits key)) (drop w keys) more
+
 module _ (options : Options) (lines : List (List ℕ)) (line : List ℕ) where
   texts_more : texts_of options.column (lines ++ line ∷ [])
       ≡ texts_of options.column lines ++ texts_of options.column (line ∷ [])
@@ -164,15 +181,7 @@ module _ (options : Options) (lines : List (List ℕ)) (line : List ℕ) where
   keys_more = ap trace_of texts_more
       ∙ filter-append is_key (texts_of options.column lines) (texts_of options.column (line ∷ []))
 
-  others_more : others_in options (lines ++ line ∷ []) ≡ both (others_in options lines) (others_in options (line ∷ []))
-  others_more = λ i. record {
-    malformed = (ap malformed_in texts_more ∙ filtered_more (λ text. not (is_key text)) (texts_of options.column lines)
-        (texts_of options.column (line ∷ []))) i;
-    skipped = (ap (skipped (bits_of options)) keys_more ∙ filtered_more (λ key. not (is_sampled (bits_of options) key))
-        (keys_read options lines) (keys_read options (line ∷ []))) i;
-  }
-
-  one_line : (others_in options (line ∷ [])).malformed + length (keys_read options (line ∷ [])) ≡ 1
+  one_line : malformed_in (texts_of options.column (line ∷ [])) + length (keys_read options (line ∷ [])) ≡ 1
   one_line = split (is_key (text_in options.column line))
     where
       split : (t : Bool) → length (cond (not t) (text_in options.column line ∷ []) [])
@@ -180,9 +189,19 @@ module _ (options : Options) (lines : List (List ℕ)) (line : List ℕ) where
       split true = refl
       split false = refl
 
-pub few_others : (options : Options) (line : List ℕ) → ((others_in options (line ∷ [])).malformed ≤ 1)
-    × ((others_in options (line ∷ [])).skipped ≤ 1)
-few_others options line = (few (λ text. not (is_key text)) (text_in options.column line), go (is_key key))
+  others_more : (warm : Bool) → warm ≡ nat_lt (length (keys_read options lines)) (warm_up_of options.policies)
+      → others_in options (lines ++ line ∷ []) ≡ both (others_in options lines) (others_so options (line ∷ []) warm)
+  others_more warm is = λ i. record {
+    malformed = (ap malformed_in texts_more ∙ filtered_more (λ text. not (is_key text)) (texts_of options.column lines)
+        (texts_of options.column (line ∷ []))) i;
+    skipped = (ap (λ ks. skipped (bits_of options) (drop (warm_up_of options.policies) ks)) keys_more
+        ∙ skipped_more (bits_of options) (warm_up_of options.policies) (keys_read options lines)
+        (keys_read options (line ∷ [])) (omega (arith, one_line)) warm is) i;
+  }
+
+pub few_others : (options : Options) (line : List ℕ) (warm : Bool)
+    → ((others_so options (line ∷ []) warm).malformed ≤ 1) × ((others_so options (line ∷ []) warm).skipped ≤ 1)
+few_others options line warm = (few (λ text. not (is_key text)) (text_in options.column line), only warm)
   where
     key : List ℕ
     key = text_in options.column line
@@ -197,6 +216,10 @@ few_others options line = (few (λ text. not (is_key text)) (text_in options.col
     go : (t : Bool) → skipped (bits_of options) (cond t (key ∷ []) []) ≤ 1
     go true = few (λ key. not (is_sampled (bits_of options) key)) key
     go false = omega arith
+
+    only : (warm : Bool) → (others_so options (line ∷ []) warm).skipped ≤ 1
+    only true = omega arith
+    only false = go (is_key key)
 
 module _ (bits w : ℕ) (keys more : List (List ℕ)) (few : length more ≤ 1) (old new : Counted) (is_warm : Bool)
     (is : is_warm ≡ nat_lt (length keys) w) (follows : Follows is_warm old (sampled bits more) new) where
@@ -255,7 +278,7 @@ module _ {from mid : Option (List ℕ)} {options : Options} {old : Counted} {lin
   module _ (new : Counted) (is_warm : Bool) (is : is_warm ≡ nat_lt (lines - others.malformed) w)
       (follows : Follows is_warm old (sampled bits it) new) where
     abbrev more : Others
-    more = both others (others_in options (line ∷ []))
+    more = both others (others_so options (line ∷ []) is_warm)
 
     counted : (bytes : List ℕ) → lines_of bytes ≡ lines_of so_far.bytes ++ line ∷ []
         → IsOf (warm_in options (lines_of bytes)) (counted_in options (lines_of bytes)) new
@@ -267,12 +290,12 @@ module _ {from mid : Option (List ℕ)} {options : Options} {old : Counted} {lin
         let longer : keys ++ it ≡ keys_read options (lines_of bytes) =
         sym (ap (keys_read options) same ∙ keys_more options before line) in
         let read : lines - others.malformed ≡ length keys = omega (arith, so_far.all) in
-        let one = one_line options before line in (
+        let one = one_line options before line in
+        let warms : is_warm ≡ nat_lt (length keys) w = is ∙ ap (λ n. nat_lt n w) read in (
           subst (λ ks. IsOf (sampled bits (take w ks)) (sampled bits (drop w ks)) new) longer
-              (one_more bits w keys it (omega (arith, one)) old new is_warm
-              (is ∙ ap (λ n. nat_lt n w) read) follows so_far.curve_of),
-          ap (λ o. both o (others_in options (line ∷ []))) so_far.left_out ∙ sym (others_more options before line)
-              ∙ ap (others_in options) (sym same),
+              (one_more bits w keys it (omega (arith, one)) old new is_warm warms follows so_far.curve_of),
+          ap (λ o. both o (others_so options (line ∷ []) is_warm)) so_far.left_out
+              ∙ sym (others_more options before line is_warm warms) ∙ ap (others_in options) (sym same),
           omega (arith, so_far.all, one, sym (ap length longer), length-append keys it),
         )
 

@@ -1,5 +1,5 @@
 -- The references that lines make.
-use Rattle.std.specs.Prelude.{ℕ, List, take, drop, min, Bool, true, false}
+use Rattle.std.specs.Prelude.{ℕ, List, take, drop, min, Bool, true, false, if◌then◌else◌}
 use Rattle.lru_trace.specs.declared.lines.Others.{Others}
 use Rattle.lru_trace.specs.declared.options.Options.{Options}
 use Rattle.lru_trace.specs.declared.options.Policies.{Policies}
@@ -30,8 +30,16 @@ module _ (options : Options) (lines : List (List ℕ)) where
   abbrev pub counted_in : List (List ℕ)
   counted_in = sampled (bits_of options) (drop (warm_up_of options.policies) keys_read)
 
+  -- keys of the warm-up are not skipped
   abbrev pub others_in : Others
   others_in = record {
     malformed = malformed_in (texts_of options.column lines);
-    skipped = skipped (bits_of options) keys_read;
+    skipped = skipped (bits_of options) (drop (warm_up_of options.policies) keys_read);
+  }
+
+  -- the same of lines that are all in the warm-up, or all behind it
+  abbrev pub others_so : Bool → Others
+  others_so warm = record {
+    malformed = malformed_in (texts_of options.column lines);
+    skipped = if warm then 0 else skipped (bits_of options) keys_read;
   }

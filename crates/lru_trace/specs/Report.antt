@@ -1,5 +1,5 @@
 -- What is written for a trace, in each form.
-use Rattle.std.specs.Prelude.{ℕ, ◌+◌, ◌-◌, ◌/◌, ◌%◌, ◌==◌, if◌then◌else◌, List, [], ◌∷◌, ◌++◌, length, map}
+use Rattle.std.specs.Prelude.{ℕ, ◌-◌, ◌/◌, ◌%◌, ◌==◌, if◌then◌else◌, List, [], ◌∷◌, ◌++◌, length, map}
 use Rattle.std.specs.Prelude.{flat_map, replicate, decimal, codes, Bool, false, Option, Some, None}
 use Rattle.std.specs.Option.{option_map}
 use Rattle.lru_trace.specs.declared.options.Options.{Options}
@@ -10,12 +10,9 @@ use Rattle.lru_trace.specs.declared.rows.BestMisses.{BestMisses}
 use Rattle.lru_trace.specs.declared.rows.Counts.{Counts}
 use Rattle.lru_trace.specs.declared.rows.Row.{Row}
 use Rattle.lru_trace.specs.References.{warm_in, counted_in, others_in, bits_of, wants_best}
-use Rattle.lru_trace.specs.Rows.{keys, row_of, axis_in, powers_in, points}
+use Rattle.lru_trace.specs.Rows.{keys, expected_of, row_of, axis_in, powers_in, points}
 use Rattle.lru_trace.specs.Sizes.{sizes_from}
-use Rattle.lru_trace.specs.Svg.{part, svg_text}
-
-abbrev pub missed_part : Row → ℕ → ℕ
-missed_part row scale = part row.misses (row.hits + row.misses) scale
+use Rattle.lru_trace.specs.Svg.{missed_part, svg_text}
 
 -- a number of ten-thousandths, such as `0.8113`
 abbrev pub ratio_text : ℕ → List ℕ
@@ -27,13 +24,13 @@ best_text None = []
 best_text (Some best) = codes " min " ++ (decimal best.min ++ (codes " bypass " ++ decimal best.bypass))
 
 abbrev pub size_text : Row → List ℕ
-size_text row = codes "places " ++ (decimal row.size ++ (codes " hits " ++ (decimal row.hits
+size_text row = codes "places " ++ (decimal row.size ++ (codes " hits " ++ (decimal (row.expected - row.misses)
     ++ (codes " misses " ++ (decimal row.misses ++ (codes " ratio "
-    ++ (ratio_text (missed_part row 10000) ++ (best_text row.best ++ codes "\n"))))))))
+    ++ (ratio_text (missed_part row.misses row.expected 10000) ++ (best_text row.best ++ codes "\n"))))))))
 
 abbrev pub bar_text : Row → List ℕ
 bar_text row = replicate (12 - length (decimal row.size)) 32 ++ (decimal row.size ++ (codes " |"
-    ++ (replicate (missed_part row 50) 35 ++ codes "\n")))
+    ++ (replicate (missed_part row.misses row.expected 50) 35 ++ codes "\n")))
 
 abbrev pub skipped_text : Option ℕ → List ℕ
 skipped_text None = []
@@ -51,8 +48,9 @@ csv_best None = []
 csv_best (Some best) = codes "," ++ (decimal best.min ++ (codes "," ++ decimal best.bypass))
 
 abbrev pub csv_line : Row → List ℕ
-csv_line row = decimal row.size ++ (codes "," ++ (decimal row.hits ++ (codes "," ++ (decimal row.misses ++ (codes ","
-    ++ (ratio_text (missed_part row 10000) ++ (csv_best row.best ++ codes "\n")))))))
+csv_line row = decimal row.size ++ (codes "," ++ (decimal (row.expected - row.misses) ++ (codes ","
+    ++ (decimal row.misses ++ (codes "," ++ (ratio_text (missed_part row.misses row.expected 10000)
+    ++ (csv_best row.best ++ codes "\n")))))))
 
 abbrev pub csv_head : Bool → List ℕ
 csv_head best = if best then codes "size,hits,misses,ratio,min,bypass\n" else codes "size,hits,misses,ratio\n"
@@ -69,15 +67,19 @@ counts_of bits warm trace others = record {
 }
 
 module _ (bits : ℕ) (warm trace : List (List ℕ)) (sizes : List ℕ) (others : Others) where
+  abbrev pub counts : Counts
+  counts = counts_of bits warm trace others
+
+  abbrev pub rows : Bool → List ℕ → List Row
+  rows best them = map (row_of warm trace bits (expected_of bits counts) best) them
+
   abbrev pub point_rows : Bool → List Row
-  point_rows best = map (row_of warm trace bits best) (points sizes (powers_in bits warm trace))
+  point_rows best = rows best (points sizes (powers_in bits warm trace))
 
   abbrev pub written : Form → Bool → List ℕ
-  written forms.Text best = text_of (counts_of bits warm trace others) (map (row_of warm trace bits best) sizes)
-      (map (row_of warm trace bits false) (powers_in bits warm trace))
+  written forms.Text best = text_of counts (rows best sizes) (rows false (powers_in bits warm trace))
   written forms.Csv best = csv_of best (point_rows best)
-  written forms.Svg best =
-      svg_text (counts_of bits warm trace others) best (axis_in bits warm trace) (point_rows best)
+  written forms.Svg best = svg_text counts best (axis_in bits warm trace) (point_rows best)
 
 -- What is written for these lines: nothing unless the first line names sizes.
 abbrev pub output : Options → List (List ℕ) → Option (List ℕ)

@@ -1,16 +1,22 @@
 -- The numbers that are written for each size.
-use Rattle.std.specs.Prelude.{ℕ, zero, suc, max, ◌-◌, ◌*◌, ◌/◌, ◌^◌, nat_lt, nat_le, ◌==◌, if◌then◌else◌, List, [], ◌∷◌, length, drop}
+use Rattle.std.specs.Prelude.{ℕ, zero, suc, max, ◌+◌, ◌*◌, ◌/◌, ◌^◌, nat_lt, nat_le, ◌==◌, if◌then◌else◌, List, [], ◌∷◌, length, drop}
 use Rattle.std.specs.Prelude.{Bool, true, false, Option, Some, None}
 use Rattle.std.specs.List.{fold}
+use Rattle.std.specs.Option.{unwrap_or}
 use Rattle.std.specs.Str.{bytes_eq}
 use Rattle.lru_theory.specs.Best.{min_misses, bypass_misses}
 use Rattle.lru_theory.specs.Traces.{misses, recency, past_after}
 use Rattle.lru_trace.specs.declared.rows.BestMisses.{BestMisses}
+use Rattle.lru_trace.specs.declared.rows.Counts.{Counts}
 use Rattle.lru_trace.specs.declared.rows.Row.{Row}
 
 abbrev pub best_in : List (List ℕ) → Bool → ℕ → Option BestMisses
 best_in trace false n = None
 best_in trace true n = Some (record { min = min_misses bytes_eq n trace; bypass = bypass_misses bytes_eq n trace })
+
+-- how many references a sample of one key in 2 ^ bits is expected to have, rounded down: all of them if bits is 0
+abbrev pub expected_of : ℕ → Counts → ℕ
+expected_of bits counts = (counts.references + unwrap_or counts.skipped 0) / 2 ^ bits
 
 -- the counted references, and those of the warm-up before them
 module _ (warm trace : List (List ℕ)) where
@@ -22,12 +28,12 @@ module _ (warm trace : List (List ℕ)) where
   keys = length (recency bytes_eq (past_after (past_after [] warm) trace))
 
   -- In a sample of one key in 2 ^ bits, the size n stands for n / 2 ^ bits places.
-  abbrev pub row_of : ℕ → Bool → ℕ → Row
-  row_of bits best n =
+  abbrev pub row_of : ℕ → ℕ → Bool → ℕ → Row
+  row_of bits expected best n =
       let places : ℕ = n / 2 ^ bits in
       record {
         size = n;
-        hits = length trace - missed places;
+        expected = expected;
         misses = missed places;
         best = best_in trace best places;
       }

@@ -13,6 +13,10 @@ use Rattle.lru_trace.specs.declared.svg.Policy.TheVariants as policies
 abbrev pub part : ℕ → ℕ → ℕ → ℕ
 part missed references scale = if references == 0 then 0 else missed * scale / references
 
+-- the part of the expected references that miss, rounded down as above, and 1 if more miss than are expected
+abbrev pub missed_part : ℕ → ℕ → ℕ → ℕ
+missed_part missed expected scale = part missed (max missed expected) scale
+
 -- the last level up to `most` with 2 ^ level ≤ n, or 0
 unfoldable pub level_of : ℕ → ℕ → ℕ
 level_of zero n = 0
@@ -39,7 +43,7 @@ missed_by policies.Min row = of_best (λ best. best.min) row.best
 missed_by policies.Bypass row = of_best (λ best. best.bypass) row.best
 
 abbrev pub y_of : Policy → Row → ℕ
-y_of policy row = 3900 - part (missed_by policy row) (row.hits + row.misses) 3200
+y_of policy row = 3900 - missed_part (missed_by policy row) row.expected 3200
 
 -- the point of a row, if its size is on the axis
 abbrev pub point_text : ℕ → Policy → Row → List ℕ

@@ -3,7 +3,7 @@ ghost use Rattle.std.specs.Prelude.{◌≡◌, ◌≢◌, ℕ, ◌+◌, ◌-◌,
 ghost use Rattle.std.specs.Prelude.{IfOk, OnOk, OnErr, IfErr, MatchOption};
 ghost use Rattle.lru_trace.specs.Counted.{IsOf, Follows};
 ghost use Rattle.lru_trace.specs.Lines.{is_key, fed, EndsSo, TakesLine};
-ghost use Rattle.lru_trace.specs.References.{bits_of, keys_read, others_in};
+ghost use Rattle.lru_trace.specs.References.{bits_of, keys_read, others_so};
 ghost use Rattle.lru_trace.specs.Samples.{sampled};
 ghost use Rattle.lru_trace.specs.Outcome.{KeysRead, SomeRead};
 
@@ -31,7 +31,7 @@ pub enum Ending {
 pub struct Others {
     /// How many lines spell no key.
     pub malformed: u64,
-    /// How many keys are not in the sample.
+    /// How many keys behind the warm-up are not in the sample.
     pub skipped: u64,
 }
 
@@ -111,7 +111,7 @@ fn refer_line(
     line: &[u8],
 ) -> Result<Others, AllocError>
     requires { curve.old.references < 2 ^ 64 - 1 }
-    ensures others { IfOk result (λ others. others ≡ others_in options (line.now ∷ [])) }
+    ensures others { IfOk result (λ others. others ≡ others_so options (line.now ∷ []) warm) }
     ensures ok { OnOk result (Follows warm curve.old
         (sampled (bits_of options) (keys_read options (line.now ∷ []))) curve.new) }
     ensures references { curve.new.references ≤ curve.old.references + 1 }
@@ -126,7 +126,7 @@ fn refer_line(
     if !is_sampled(key.as_bytes(), options.bits()) {
         return Ok(Others {
             malformed: 0,
-            skipped: 1,
+            skipped: u64::from(!warm),
         });
     }
     refer_key(curve, warm, key)?;

@@ -2,9 +2,9 @@
 ghost use Rattle.std.specs.Prelude.{◌≡◌, ◌≤◌, ◌+◌, ◌^◌, ◌<◌, ◌++◌, ℕ, List, OnOk, IfOk, is_some, replicate, flat_map, map, false};
 ghost use Rattle.std.specs.String.{string_bytes};
 ghost use Rattle.lru_trace.specs.Counted.{IsOf};
-ghost use Rattle.lru_trace.specs.Report.{missed_part, ratio_text, best_text, size_text, bar_text, text_of};
+ghost use Rattle.lru_trace.specs.Report.{ratio_text, best_text, size_text, bar_text, text_of};
 ghost use Rattle.lru_trace.specs.References.{bits_of, wants_best};
-ghost use Rattle.lru_trace.specs.Rows.{row_of, points};
+ghost use Rattle.lru_trace.specs.Rows.{expected_of, row_of, points};
 ghost use Rattle.lru_trace.specs.Times.{KnowsRest};
 ghost use Rattle.lru_trace.specs.Report.{csv_best, csv_line, csv_head, csv_of, skipped_text, head_text, counts_of, written};
 
@@ -12,22 +12,13 @@ use crate::best::Best;
 use crate::curve::Curve;
 use crate::lines::Others;
 use crate::options::{Form, Options};
-use crate::rows::{BestMisses, Counts, Row, end_of, points, powers, powers_in, rows_of};
+use crate::rows::{
+    BestMisses, Counts, Row, end_of, expected_of, missed_part, points, powers, powers_in, rows_of,
+};
 use crate::svg::svg_of;
 use std::alloc::{AllocError, Global};
 
 const WIDTH: u64 = 50;
-
-fn missed_part(row: Row, scale: u64) -> u64
-    ensures { result ≡ missed_part row scale }
-{
-    let references = u128::from(row.hits) + u128::from(row.misses);
-    if references == 0 {
-        return 0;
-    }
-    let whole = u128::from(row.misses) * u128::from(scale) / references;
-    whole as u64
-}
 
 fn add_copies(report: &mut Vec<u8>, byte: u8, copies: u64) -> Result<(), AllocError>
     ensures { OnOk result (report.new.items ≡ report.old.items ++ replicate copies byte) }
@@ -65,8 +56,9 @@ fn add_best(alloc: Global, report: &mut Vec<u8>, best: Option<BestMisses>) -> Re
 fn add_size(alloc: Global, report: &mut Vec<u8>, row: Row) -> Result<(), AllocError>
     ensures { OnOk result (report.new.items ≡ report.old.items ++ size_text row) }
 {
-    let ratio = ratio(alloc, missed_part(row, 10_000))?;
-    let (size, hits, misses) = (row.size, row.hits, row.misses);
+    let (size, misses) = (row.size, row.misses);
+    let hits = row.expected.saturating_sub(u128::from(misses));
+    let ratio = ratio(alloc, missed_part(misses, row.expected, 10_000))?;
     let text = format!(in alloc; "places {size} hits {hits} misses {misses} ratio {ratio}")?;
     report.extend_from_slice(text.as_bytes())?;
     add_best(alloc, report, row.best)?;
@@ -82,7 +74,8 @@ fn add_bar(alloc: Global, report: &mut Vec<u8>, row: Row) -> Result<(), AllocErr
     add_copies(report, b' ', 12_usize.saturating_sub(number.len()) as u64)?;
     report.extend_from_slice(number.as_bytes())?;
     report.extend_from_slice(b" |")?;
-    add_copies(report, b'#', missed_part(row, WIDTH))?;
+    let filled = missed_part(row.misses, row.expected, WIDTH);
+    add_copies(report, b'#', filled)?;
     report.push(b'\n')?;
     Ok(())
 }
@@ -155,8 +148,9 @@ fn add_csv_best(
 fn add_csv_line(alloc: Global, csv: &mut Vec<u8>, row: Row) -> Result<(), AllocError>
     ensures { OnOk result (csv.new.items ≡ csv.old.items ++ csv_line row) }
 {
-    let ratio = ratio(alloc, missed_part(row, 10_000))?;
-    let (size, hits, misses) = (row.size, row.hits, row.misses);
+    let (size, misses) = (row.size, row.misses);
+    let hits = row.expected.saturating_sub(u128::from(misses));
+    let ratio = ratio(alloc, missed_part(misses, row.expected, 10_000))?;
     let text = format!(in alloc; "{size},{hits},{misses},{ratio}")?;
     csv.extend_from_slice(text.as_bytes())?;
     add_csv_best(alloc, csv, row.best)?;
@@ -194,11 +188,13 @@ fn text_rows(
 ) -> Result<Vec<u8>, AllocError>
     requires { bits ≤ 20 }
     ensures { IfOk result (λ text. (warm trace : List (List ℕ)) → IsOf warm trace curve.now → KnowsRest trace best.now →
-        text.items ≡ text_of counts (map (row_of warm trace bits (is_some best.now)) sizes.now)
-        (map (row_of warm trace bits false) powers.now)) }
+        text.items ≡ text_of counts
+        (map (row_of warm trace bits (expected_of bits counts) (is_some best.now)) sizes.now)
+        (map (row_of warm trace bits (expected_of bits counts) false) powers.now)) }
 {
-    let rows = rows_of(alloc, curve, best, bits, sizes)?;
-    let bars = rows_of(alloc, curve, &None, bits, powers)?;
+    let expected = expected_of(bits, counts);
+    let rows = rows_of(alloc, curve, best, bits, expected, sizes)?;
+    let bars = rows_of(alloc, curve, &None, bits, expected, powers)?;
     let text = text_of(alloc, counts, &rows, &bars)?;
     Ok(text)
 }
@@ -206,6 +202,7 @@ fn text_rows(
 fn point_rows(
     alloc: Global,
     curve: &Curve,
+    counts: Counts,
     best: &Option<Best>,
     bits: u32,
     sizes: &[usize],
@@ -213,10 +210,11 @@ fn point_rows(
 ) -> Result<Vec<Row>, AllocError>
     requires { bits ≤ 20 }
     ensures { IfOk result (λ rows. (warm trace : List (List ℕ)) → IsOf warm trace curve.now → KnowsRest trace best.now →
-        rows.items ≡ map (row_of warm trace bits (is_some best.now)) (points sizes.now powers.now)) }
+        rows.items ≡ map (row_of warm trace bits (expected_of bits counts) (is_some best.now))
+        (points sizes.now powers.now)) }
 {
     let points = points(alloc, sizes, powers)?;
-    let rows = rows_of(alloc, curve, best, bits, &points)?;
+    let rows = rows_of(alloc, curve, best, bits, expected_of(bits, counts), &points)?;
     Ok(rows)
 }
 
@@ -257,12 +255,12 @@ pub fn report_of(
             Ok(text)
         }
         Form::Csv => {
-            let rows = point_rows(alloc, curve, &best, bits, sizes, powers)?;
+            let rows = point_rows(alloc, curve, counts, &best, bits, sizes, powers)?;
             let csv = csv_of(alloc, options.policies.best(), &rows)?;
             Ok(csv)
         }
         Form::Svg => {
-            let rows = point_rows(alloc, curve, &best, bits, sizes, powers)?;
+            let rows = point_rows(alloc, curve, counts, &best, bits, sizes, powers)?;
             let svg = svg_of(alloc, counts, options.policies.best(), &axis, &rows)?;
             Ok(svg)
         }

@@ -1,7 +1,8 @@
 ghost use Rattle.std.specs.Prelude.{◌≡◌, ◌<◌, ◌≤◌, ◌*◌, ◌^◌, max, ℕ, List, IfOk, OnOk, is_some, map, drop};
 ghost use Rattle.std.specs.List.{All, fold};
 ghost use Rattle.lru_trace.specs.Counted.{IsOf};
-ghost use Rattle.lru_trace.specs.Rows.{best_in, row_of, powers, points, with_size};
+ghost use Rattle.lru_trace.specs.Rows.{best_in, expected_of, row_of, powers, points, with_size};
+ghost use Rattle.lru_trace.specs.Svg.{missed_part};
 ghost use Rattle.lru_trace.specs.Times.{KnowsRest};
 
 use crate::best::Best;
@@ -24,13 +25,31 @@ pub struct BestMisses {
     pub bypass: usize,
 }
 
-/// How often the references of a trace hit and miss in a cache of this size.
+/// How often a trace misses in a cache of this size, of how many expected references.
 #[derive(Clone, Copy)]
 pub struct Row {
     pub size: usize,
-    pub hits: u64,
+    pub expected: u128,
     pub misses: u64,
     pub best: Option<BestMisses>,
+}
+
+pub fn expected_of(bits: u32, counts: Counts) -> u128
+    requires { bits ≤ 20 }
+    ensures { result ≡ expected_of bits counts }
+{
+    (u128::from(counts.references) + u128::from(counts.skipped.unwrap_or(0))) >> bits
+}
+
+pub fn missed_part(missed: u64, expected: u128, scale: u64) -> u64
+    ensures { result ≡ missed_part missed expected scale }
+{
+    let references = u128::from(missed).max(expected);
+    if references == 0 {
+        return 0;
+    }
+    let whole = u128::from(missed) * u128::from(scale) / references;
+    whole as u64
 }
 
 fn best_in(best: &Option<Best>, size: usize) -> Result<Option<BestMisses>, AllocError>
@@ -44,18 +63,23 @@ fn best_in(best: &Option<Best>, size: usize) -> Result<Option<BestMisses>, Alloc
     Ok(Some(BestMisses { min, bypass }))
 }
 
-fn row_of(curve: &Curve, best: &Option<Best>, bits: u32, size: usize) -> Result<Row, AllocError>
+fn row_of(
+    curve: &Curve,
+    best: &Option<Best>,
+    bits: u32,
+    expected: u128,
+    size: usize,
+) -> Result<Row, AllocError>
     requires { bits ≤ 20 }
     ensures { IfOk result (λ row. (warm trace : List (List ℕ)) → IsOf warm trace curve.now → KnowsRest trace best.now →
-        row ≡ row_of warm trace bits (is_some best.now) size) }
+        row ≡ row_of warm trace bits expected (is_some best.now) size) }
 {
     let places = size >> bits;
     let misses = curve.misses(places);
-    let hits = curve.references() - misses;
     let best = best_in(best, places)?;
     Ok(Row {
         size,
-        hits,
+        expected,
         misses,
         best,
     })
@@ -66,15 +90,16 @@ pub fn rows_of(
     curve: &Curve,
     best: &Option<Best>,
     bits: u32,
+    expected: u128,
     sizes: &[usize],
 ) -> Result<Vec<Row>, AllocError>
     requires { bits ≤ 20 }
     ensures { IfOk result (λ rows. (warm trace : List (List ℕ)) → IsOf warm trace curve.now → KnowsRest trace best.now →
-        rows.items ≡ map (row_of warm trace bits (is_some best.now)) sizes.now) }
+        rows.items ≡ map (row_of warm trace bits expected (is_some best.now)) sizes.now) }
 {
     let mut rows = Vec::new(alloc);
     for size in sizes {
-        rows.push(row_of(curve, best, bits, *size)?)?;
+        rows.push(row_of(curve, best, bits, expected, *size)?)?;
     }
     Ok(rows)
 }

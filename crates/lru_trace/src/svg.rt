@@ -5,7 +5,7 @@ ghost use Rattle.lru_trace.specs.Svg.{part, level_of, log_of, x_of, missed_by, y
 ghost use Rattle.lru_trace.specs.Svg.{tick_text, skipped_part, title_text, curves_text, svg_text};
 ghost use Rattle.std.specs.String.{string_bytes};
 
-use crate::rows::{BestMisses, Counts, Row};
+use crate::rows::{BestMisses, Counts, Row, missed_part};
 use std::alloc::{AllocError, Global};
 
 const LEFT: u128 = 900;
@@ -16,7 +16,7 @@ const RIGHT: u128 = LEFT + WIDTH;
 
 const BOTTOM: u128 = 3900;
 
-const HEIGHT: u128 = 3200;
+const HEIGHT: u64 = 3200;
 
 const START: &str = "\
 <svg xmlns='http://www.w3.org/2000/svg' viewBox='0 0 7800 4600' width='780' height='460'
@@ -113,11 +113,8 @@ fn missed_by(policy: Policy, row: Row) -> u64
 fn y_of(policy: Policy, row: Row) -> u128
     ensures { result ≡ y_of policy row }
 {
-    let references = u128::from(row.hits) + u128::from(row.misses);
-    if references == 0 {
-        return BOTTOM;
-    }
-    BOTTOM.saturating_sub(u128::from(missed_by(policy, row)) * HEIGHT / references)
+    let part = missed_part(missed_by(policy, row), row.expected, HEIGHT);
+    BOTTOM.saturating_sub(u128::from(part))
 }
 
 fn add_point(

@@ -72,9 +72,9 @@ fn read_trace<R: BufRead, P: Write>(
 /// written: `docs/TRACE.md` shows it.
 ///
 /// The first line names sizes, and each other line, or a column of it, is a key that is referenced: text of 1 to 64
-/// bytes. Other lines are counted as malformed, and keys that are not in the sample as skipped. `Policies::Lru` may leave
-/// out a warm-up. `Policies::Best` also writes the misses of the best possible policies: in the text form for each named
-/// size, and in the other forms also for each power of two.
+/// bytes. Other lines are counted as malformed, and keys behind the warm-up that are not in the sample as skipped.
+/// `Policies::Lru` may leave out a warm-up. `Policies::Best` also writes the misses of the best possible policies: in the
+/// text form for each named size, and in the other forms also for each power of two.
 ///
 /// Cost: `O(log n)` expected for each line and n keys. The memory is in proportion to the number of keys and the
 /// longest line. With `Policies::Best` it is in proportion to the number of lines, and each size costs `O(log n)` for each line.

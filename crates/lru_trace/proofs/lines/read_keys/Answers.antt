@@ -3,7 +3,7 @@ use Rattle.std.specs.Prelude.{nat_lt}
 use Rattle.lru_trace.specs.Counted.{Follows}
 use Rattle.lru_trace.specs.Lines.{fed}
 use Rattle.lru_trace.specs.Outcome.{KeysRead}
-use Rattle.lru_trace.specs.References.{bits_of, keys_read, others_in}
+use Rattle.lru_trace.specs.References.{bits_of, keys_read, others_so}
 use Rattle.lru_trace.specs.Samples.{sampled}
 use Rattle.lru_trace.proofs.ReadLines.{ReadSoFar, both, few_others, none_read, line_read, last_read, some_part}
 use Rattle.lru_trace.proofs.lines.read_keys.Goals as goal
@@ -41,8 +41,9 @@ returns-in-InputEnd-clause-ok g c =
     let same = c.deref-in-InputEnd.ensures.value in
     let follows = subst (λ l. Follows (nat_lt read c.warm_up-warm_up.result) c.loop-lines.curve
     (sampled (bits_of options) (keys_read options (l ∷ []))) c.refer_line-in-InputEnd.new.curve) same is.ok in
+    let warm = nat_lt read c.warm_up-warm_up.result in
     let added = c.add-in-InputEnd.ensures ∙ ap (both c.loop-lines.others) is.others
-    ∙ ap (λ l. both c.loop-lines.others (others_in options (l ∷ []))) same in
+    ∙ ap (λ l. both c.loop-lines.others (others_so options (l ∷ []) warm)) same in
     subst (KeysRead from to options c.refer_line-in-InputEnd.new.curve) (sym added)
     (last_read c.loop-lines.invariant.4 to line c.refer_line-in-InputEnd.new.curve
     (nat_lt read c.warm_up-warm_up.result) (ap (nat_lt read) c.warm_up-warm_up.ensures) follows taken.0 taken.1)
@@ -60,10 +61,11 @@ loop-lines-preserved g c =
     let same = c.deref.ensures.value in
     let follows = subst (λ l. Follows (nat_lt read c.warm_up-warm_up.result) c.loop-lines.curve
     (sampled (bits_of options) (keys_read options (l ∷ []))) c.refer_line.new.curve) same is.ok in
-    let added : c.add.new.self ≡ both c.loop-lines.others (others_in options (line ∷ [])) =
+    let warm = nat_lt read c.warm_up-warm_up.result in
+    let added : c.add.new.self ≡ both c.loop-lines.others (others_so options (line ∷ []) warm) =
     c.add.ensures ∙ ap (both c.loop-lines.others) is.others
-    ∙ ap (λ l. both c.loop-lines.others (others_in options (l ∷ []))) same in
-    let few = few_others options line in (
+    ∙ ap (λ l. both c.loop-lines.others (others_so options (l ∷ []) warm)) same in
+    let few = few_others options line warm in (
       omega (arith, inv.0, ap (λ o. o.malformed) added, few.0),
       omega (arith, inv.1, ap (λ o. o.skipped) added, few.1),
       omega (arith, inv.2, is.references),

@@ -1,7 +1,7 @@
 use Rattle.std.proofs.Common.{◌≡◌, ◌*◌, ◌^◌, ℕ, List, map, drop, ap, sym, ◌∙◌}
 use Rattle.std.specs.Prelude.{is_some, false, max}
 use Rattle.lru_trace.specs.References.{bits_of, wants_best}
-use Rattle.lru_trace.specs.Rows.{row_of, keys, powers, axis_in, powers_in, points}
+use Rattle.lru_trace.specs.Rows.{expected_of, row_of, keys, powers, axis_in, powers_in, points}
 use Rattle.lru_trace.specs.Svg.{svg_text}
 use Rattle.lru_trace.specs.Report.{counts_of, csv_of, text_of, written}
 use Rattle.lru_trace.proofs.report.report_of.Goals as goal
@@ -23,8 +23,9 @@ returns-in-Text c = λ warm trace of.
     let are : c.powers_in-powers.result.now ≡ powers_in bits warm trace =
     c.powers_in-powers.ensures ∙ (λ i. drop (few i) ((c.deref.ensures.value ∙ axis) i)) in
     c.in_ok-text-in-Text.ensures warm trace of (c.in_ok-best.ensures.all warm trace of)
-    ∙ (λ i. text_of (counts i) (map (row_of warm trace (few i) (asked i)) c.args.sizes.now)
-    (map (row_of warm trace (few i) false) (are i)))
+    ∙ (λ i. text_of (counts i)
+    (map (row_of warm trace (few i) (expected_of (few i) (counts i)) (asked i)) c.args.sizes.now)
+    (map (row_of warm trace (few i) (expected_of (few i) (counts i)) false) (are i)))
     ∙ ap (λ form. written bits warm trace c.args.sizes.now c.args.others form (wants_best c.args.options.policies))
     (sym c.in-Text.is)
 
@@ -32,6 +33,7 @@ pub returns-in-Csv : goal.returns-in-Csv
 returns-in-Csv c = λ warm trace of.
     let bits = bits_of c.args.options in
     let few : c.bits-bits.result ≡ bits = c.bits-bits.ensures.value in
+    let counts = c.counts_of-counts.ensures warm trace of ∙ ap (λ n. counts_of n warm trace c.args.others) few in
     let axis = axis_is warm trace c.in_ok-axis.axis.items c.bits-bits.result c.end_of.result bits
     c.counts_of-counts.result.keys c.in_ok-axis.ensures.all c.end_of.ensures
     (ap (λ v. v.keys) (c.counts_of-counts.ensures warm trace of)) few in
@@ -39,7 +41,8 @@ returns-in-Csv c = λ warm trace of.
     let are : c.powers_in-powers.result.now ≡ powers_in bits warm trace =
     c.powers_in-powers.ensures ∙ (λ i. drop (few i) ((c.deref.ensures.value ∙ axis) i)) in
     let rows = c.in_ok-rows-in-Csv.ensures warm trace of (c.in_ok-best.ensures.all warm trace of)
-    ∙ (λ i. map (row_of warm trace (few i) (asked i)) (points c.args.sizes.now (are i))) in
+    ∙ (λ i. map (row_of warm trace (few i) (expected_of (few i) (counts i)) (asked i))
+    (points c.args.sizes.now (are i))) in
     c.in_ok-csv-in-Csv.ensures
     ∙ (λ i. csv_of (c.best-in-Csv.ensures i) ((c.deref-in-Csv.ensures.value ∙ rows) i))
     ∙ ap (λ form. written bits warm trace c.args.sizes.now c.args.others form (wants_best c.args.options.policies))
@@ -57,7 +60,8 @@ returns c = λ warm trace of.
     let are : c.powers_in-powers.result.now ≡ powers_in bits warm trace =
     c.powers_in-powers.ensures ∙ (λ i. drop (few i) ((c.deref.ensures.value ∙ axis) i)) in
     let rows = c.in_ok-rows-in-Svg.ensures warm trace of (c.in_ok-best.ensures.all warm trace of)
-    ∙ (λ i. map (row_of warm trace (few i) (asked i)) (points c.args.sizes.now (are i))) in
+    ∙ (λ i. map (row_of warm trace (few i) (expected_of (few i) (counts i)) (asked i))
+    (points c.args.sizes.now (are i))) in
     c.in_ok-svg-in-Svg.ensures
     ∙ (λ i. svg_text (counts i) (c.best-in-Svg.ensures i) ((c.deref-in-Svg.ensures.value ∙ axis) i)
     ((c.deref-in-Svg-2.ensures.value ∙ rows) i))

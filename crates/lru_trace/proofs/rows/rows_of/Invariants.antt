@@ -7,4 +7,4 @@ use Rattle.lru_trace.proofs.rows.rows_of.Given as goal
 
 abbrev pub invariant-loop-size : goal.invariant-loop-size
 invariant-loop-size l = (warm trace : List (List ℕ)) → IsOf warm trace l.curve → KnowsRest trace l.best
-    → l.rows.items ≡ map (row_of warm trace l.bits (is_some l.best)) (take l.size-index l.sizes)
+    → l.rows.items ≡ map (row_of warm trace l.bits l.expected (is_some l.best)) (take l.size-index l.sizes)

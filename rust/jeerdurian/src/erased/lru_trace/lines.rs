@@ -28,7 +28,7 @@ pub enum Ending {
 pub struct Others {
     /// How many lines spell no key.
     pub malformed: u64,
-    /// How many keys are not in the sample.
+    /// How many keys behind the warm-up are not in the sample.
     pub skipped: u64,
 }
 
@@ -85,7 +85,7 @@ fn refer_line(curve: &mut Curve, options: Options, warm: bool, line: &[u8]) -> R
         return Ok(Others { malformed: 1, skipped: 0 });
     };
     if !is_sampled(key.as_bytes(), options.bits()) {
-        return Ok(Others { malformed: 0, skipped: 1 });
+        return Ok(Others { malformed: 0, skipped: u64::from(!warm) });
     }
     refer_key(curve, warm, key)?;
     Ok(Others { malformed: 0, skipped: 0 })

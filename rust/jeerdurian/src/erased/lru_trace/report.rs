@@ -8,20 +8,13 @@ use crate::erased::lru_trace::best::Best;
 use crate::erased::lru_trace::curve::Curve;
 use crate::erased::lru_trace::lines::Others;
 use crate::erased::lru_trace::options::{Form, Options};
-use crate::erased::lru_trace::rows::{BestMisses, Counts, Row, end_of, points, powers, powers_in, rows_of};
+use crate::erased::lru_trace::rows::{
+    BestMisses, Counts, Row, end_of, expected_of, missed_part, points, powers, powers_in, rows_of,
+};
 use crate::erased::lru_trace::svg::svg_of;
 use crate::rattle_std::alloc::{AllocError, Global};
 
 const WIDTH: u64 = 50;
-
-fn missed_part(row: Row, scale: u64) -> u64 {
-    let references = u128::from(row.hits) + u128::from(row.misses);
-    if references == 0 {
-        return 0;
-    }
-    let whole = u128::from(row.misses) * u128::from(scale) / references;
-    whole as u64
-}
 
 fn add_copies(report: &mut Vec<u8>, byte: u8, copies: u64) -> Result<(), AllocError> {
     for _ in 0..copies {
@@ -45,8 +38,9 @@ fn add_best(alloc: Global, report: &mut Vec<u8>, best: Option<BestMisses>) -> Re
 }
 
 fn add_size(alloc: Global, report: &mut Vec<u8>, row: Row) -> Result<(), AllocError> {
-    let ratio = ratio(alloc, missed_part(row, 10_000))?;
-    let (size, hits, misses) = (row.size, row.hits, row.misses);
+    let (size, misses) = (row.size, row.misses);
+    let hits = row.expected.saturating_sub(u128::from(misses));
+    let ratio = ratio(alloc, missed_part(misses, row.expected, 10_000))?;
     let text = format!(in alloc; "places {size} hits {hits} misses {misses} ratio {ratio}")?;
     report.extend_from_slice(text.as_bytes())?;
     add_best(alloc, report, row.best)?;
@@ -60,7 +54,8 @@ fn add_bar(alloc: Global, report: &mut Vec<u8>, row: Row) -> Result<(), AllocErr
     add_copies(report, b' ', 12_usize.saturating_sub(number.len()) as u64)?;
     report.extend_from_slice(number.as_bytes())?;
     report.extend_from_slice(b" |")?;
-    add_copies(report, b'#', missed_part(row, WIDTH))?;
+    let filled = missed_part(row.misses, row.expected, WIDTH);
+    add_copies(report, b'#', filled)?;
     report.push(b'\n')?;
     Ok(())
 }
@@ -110,8 +105,9 @@ fn add_csv_best(alloc: Global, csv: &mut Vec<u8>, best: Option<BestMisses>) -> R
 }
 
 fn add_csv_line(alloc: Global, csv: &mut Vec<u8>, row: Row) -> Result<(), AllocError> {
-    let ratio = ratio(alloc, missed_part(row, 10_000))?;
-    let (size, hits, misses) = (row.size, row.hits, row.misses);
+    let (size, misses) = (row.size, row.misses);
+    let hits = row.expected.saturating_sub(u128::from(misses));
+    let ratio = ratio(alloc, missed_part(misses, row.expected, 10_000))?;
     let text = format!(in alloc; "{size},{hits},{misses},{ratio}")?;
     csv.extend_from_slice(text.as_bytes())?;
     add_csv_best(alloc, csv, row.best)?;
@@ -143,8 +139,9 @@ fn text_rows(
     sizes: &[usize],
     powers: &[usize],
 ) -> Result<Vec<u8>, AllocError> {
-    let rows = rows_of(alloc, curve, best, bits, sizes)?;
-    let bars = rows_of(alloc, curve, &None, bits, powers)?;
+    let expected = expected_of(bits, counts);
+    let rows = rows_of(alloc, curve, best, bits, expected, sizes)?;
+    let bars = rows_of(alloc, curve, &None, bits, expected, powers)?;
     let text = text_of(alloc, counts, &rows, &bars)?;
     Ok(text)
 }
@@ -152,13 +149,14 @@ fn text_rows(
 fn point_rows(
     alloc: Global,
     curve: &Curve,
+    counts: Counts,
     best: &Option<Best>,
     bits: u32,
     sizes: &[usize],
     powers: &[usize],
 ) -> Result<Vec<Row>, AllocError> {
     let points = points(alloc, sizes, powers)?;
-    let rows = rows_of(alloc, curve, best, bits, &points)?;
+    let rows = rows_of(alloc, curve, best, bits, expected_of(bits, counts), &points)?;
     Ok(rows)
 }
 
@@ -189,12 +187,12 @@ pub fn report_of(
             Ok(text)
         }
         Form::Csv => {
-            let rows = point_rows(alloc, curve, &best, bits, sizes, powers)?;
+            let rows = point_rows(alloc, curve, counts, &best, bits, sizes, powers)?;
             let csv = csv_of(alloc, options.policies.best(), &rows)?;
             Ok(csv)
         }
         Form::Svg => {
-            let rows = point_rows(alloc, curve, &best, bits, sizes, powers)?;
+            let rows = point_rows(alloc, curve, counts, &best, bits, sizes, powers)?;
             let svg = svg_of(alloc, counts, options.policies.best(), &axis, &rows)?;
             Ok(svg)
         }

@@ -22,13 +22,26 @@ pub struct BestMisses {
     pub bypass: usize,
 }
 
-/// How often the references of a trace hit and miss in a cache of this size.
+/// How often a trace misses in a cache of this size, of how many expected references.
 #[derive(Clone, Copy)]
 pub struct Row {
     pub size: usize,
-    pub hits: u64,
+    pub expected: u128,
     pub misses: u64,
     pub best: Option<BestMisses>,
+}
+
+pub fn expected_of(bits: u32, counts: Counts) -> u128 {
+    (u128::from(counts.references) + u128::from(counts.skipped.unwrap_or(0))) >> bits
+}
+
+pub fn missed_part(missed: u64, expected: u128, scale: u64) -> u64 {
+    let references = u128::from(missed).max(expected);
+    if references == 0 {
+        return 0;
+    }
+    let whole = u128::from(missed) * u128::from(scale) / references;
+    whole as u64
 }
 
 fn best_in(best: &Option<Best>, size: usize) -> Result<Option<BestMisses>, AllocError> {
@@ -39,12 +52,11 @@ fn best_in(best: &Option<Best>, size: usize) -> Result<Option<BestMisses>, Alloc
     Ok(Some(BestMisses { min, bypass }))
 }
 
-fn row_of(curve: &Curve, best: &Option<Best>, bits: u32, size: usize) -> Result<Row, AllocError> {
+fn row_of(curve: &Curve, best: &Option<Best>, bits: u32, expected: u128, size: usize) -> Result<Row, AllocError> {
     let places = size >> bits;
     let misses = curve.misses(places);
-    let hits = curve.references() - misses;
     let best = best_in(best, places)?;
-    Ok(Row { size, hits, misses, best })
+    Ok(Row { size, expected, misses, best })
 }
 
 pub fn rows_of(
@@ -52,11 +64,12 @@ pub fn rows_of(
     curve: &Curve,
     best: &Option<Best>,
     bits: u32,
+    expected: u128,
     sizes: &[usize],
 ) -> Result<Vec<Row>, AllocError> {
     let mut rows = Vec::new(alloc);
     for size in sizes {
-        rows.push(row_of(curve, best, bits, *size)?)?;
+        rows.push(row_of(curve, best, bits, expected, *size)?)?;
     }
     Ok(rows)
 }

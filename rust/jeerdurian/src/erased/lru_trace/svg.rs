@@ -4,7 +4,7 @@
 #[allow(unused_imports)]
 use crate::rattle_std::prelude::*;
 
-use crate::erased::lru_trace::rows::{BestMisses, Counts, Row};
+use crate::erased::lru_trace::rows::{BestMisses, Counts, Row, missed_part};
 use crate::rattle_std::alloc::{AllocError, Global};
 
 const LEFT: u128 = 900;
@@ -15,7 +15,7 @@ const RIGHT: u128 = LEFT + WIDTH;
 
 const BOTTOM: u128 = 3900;
 
-const HEIGHT: u128 = 3200;
+const HEIGHT: u64 = 3200;
 
 const START: &str = "\
 <svg xmlns='http://www.w3.org/2000/svg' viewBox='0 0 7800 4600' width='780' height='460'
@@ -88,11 +88,8 @@ fn missed_by(policy: Policy, row: Row) -> u64 {
 }
 
 fn y_of(policy: Policy, row: Row) -> u128 {
-    let references = u128::from(row.hits) + u128::from(row.misses);
-    if references == 0 {
-        return BOTTOM;
-    }
-    BOTTOM.saturating_sub(u128::from(missed_by(policy, row)) * HEIGHT / references)
+    let part = missed_part(missed_by(policy, row), row.expected, HEIGHT);
+    BOTTOM.saturating_sub(u128::from(part))
 }
 
 fn add_point(alloc: Global, svg: &mut Vec<u8>, octaves: u128, policy: Policy, row: Row) -> Result<(), AllocError> {
