@@ -33,7 +33,7 @@ module _ {K V S H : Type 0} where
     max = fields.max;
   }
 
-  -- the buckets are linked, the hashes of the keys fit, and what holds of every map holds
+  -- the buckets are linked, the hashes of the keys fit, and the state is a map's (`IsMap`)
   pub record Holds (eq : K → K → Bool) (hash_of : H → K → ℕ) (entries : OrderedTable K V) (fields : Fields S H)
       : Type 0 where
     pub linked : IsLinked entries

@@ -15,9 +15,9 @@ impl<K: Eq + Hash, V, L: Limiter<K, V>, S: KeyHasher<K>> LruMap<K, V, L, S> {
 
     /// Lends the value of an entry that `is_eq` accepts, for writing, and makes the entry the newest.
     ///
-    /// `is_eq` gets only entries whose hashes agree with `hash` in the top 7 bits. Only tests show that it gets each at
-    /// most once, and none after it accepted one. It may get an entry of another hash, so let it compare keys. `None`
-    /// means that `is_eq` rejected each entry of this hash, and that nothing has changed.
+    /// `is_eq` gets only entries whose hashes agree with `hash` in the top 7 bits. Only tests show that it gets each of
+    /// these entries at most once, and no entry after it accepted one. It may get an entry of another hash, so let it
+    /// compare keys. `None` means that `is_eq` rejected each entry of this hash, and that nothing has changed.
     /// `map.hasher().hash_named(&key)` returns the hash of a key.
     ///
     /// Cost: `O(1)` expected, with one call of `is_eq` for each entry that it gets.
