@@ -56,7 +56,7 @@ given-names {accepts} {s} {t} {i} {k} {v} {w} E reflexive h =
 
 -- Below, s becomes s' if the limiter accepts, and stays s if it does not.
 
--- An accepted entry adds its cost, if s' does.
+-- an accepted entry adds its cost to the running total, if the total of s' is higher by this cost
 pub given-adds : {K V S : Type 0} (cost : K → V → ℕ) (account : S → ℕ) (accepts : Bool) (s s' : S) (i : K) (v : V)
     (t : S) (k : K) (w : V) → account s' ≡ account s + cost i v
     → ReturnsPairIf accepts (if accepts then s' else s) i v t (Some (k, w)) → account t ≡ account s + cost k w
@@ -70,7 +70,7 @@ pub refused-keeps : {K V S : Type 0} (account : S → ℕ) (accepts : Bool) (s s
 refused-keeps account true s s' i v t h = let e = h.pair in cc
 refused-keeps account false s s' i v t h = ap account h.limiter
 
--- A replacement exchanges the costs, if s' does.
+-- a replacement exchanges the costs in the running total, if the total of s' has the new cost instead of the old one
 pub replaced-exchanges : {K V S : Type 0} (cost : K → V → ℕ) (account : S → ℕ) (accepts : Bool) (s s' : S) (k : K)
     (v w : V) → account s' ≡ account s - cost k v + cost k w
     → cost k v ≤ account s → account (if accepts then s' else s) ≡ account s - cost k v

@@ -12,7 +12,7 @@ use std::hash::Hash;
 /// or removed.
 ///
 /// Each callback accepts every state, length, key and value. In `rules`, the impl defines the result and the effect of
-/// each as functions of these.
+/// each callback as functions of its arguments.
 ///
 /// ```
 /// let limiter = ByLength::new(3);
@@ -64,9 +64,9 @@ pub trait Limiter<K, V> {
 
 /// Accepts or rejects entries whose key is given as an `I`.
 ///
-/// `I` is the key itself, or a name of the key: a `&str` becomes a `String` only if the entry is stored. The impl
-/// defines `offers`: what may be stored for an offered entry, when an offer may run out of memory, and what a
-/// replacement does. Each [`crate::Admission`] is an `Insertion`.
+/// `I` is the type of the key, or of a name of the key, such as a `&str`, which becomes a `String` only if the entry is
+/// stored. The impl defines `offers`: what may be stored for an offered entry, when an offer may run out of memory, and
+/// what a replacement does. Each [`crate::Admission`] is an `Insertion`.
 ///
 /// ```
 /// let mut limiter = ByCost::new(3);
