@@ -1,4 +1,4 @@
--- What is in the buckets of a table: all (`Slot`), or only their states (`BucketState`).
+-- What is in the buckets of a table: states and entries (`Slot`), or only states (`BucketState`).
 use Rattle.std.specs.Prelude.{◌≡◌, ℕ, ◌-◌, if◌then◌else◌, Bool, true, false, List, length, map, count_by}
 use Rattle.std.specs.Prelude.{slice_index_or, nat_eq, Option, Some, None, IsTrue}
 use Rattle.group_table.specs.Sizes.{full_capacity}

@@ -11,11 +11,11 @@ use Rattle.group_table.specs.declared.probe.Probe.{Probe}
 use Rattle.group_table.specs.declared.probe.Searched.{Searched}
 use Rattle.group_table.specs.declared.probe.Searched.TheVariants.{Accepted, Ended, GoesOn}
 
--- how many buckets the groups before this one have
+-- how many buckets the search visited before this group
 abbrev pub passed_by : Probe → ℕ
 passed_by probe = probe.stride - 16
 
--- a search for the hash visits this group after `passed_by` buckets, which are whole groups
+-- a search for the hash visits this group after `passed_by` buckets, which are all in whole groups
 pub record IsProbe (buckets hash : ℕ) (probe : Probe) : Type 0 where
   pub start : probe.start ≡ probed buckets hash (passed_by probe)
   pub whole : passed_by probe % 16 ≡ 0

@@ -10,8 +10,8 @@ hash_tag hash = hash / 2 ^ 57
 abbrev pub filled : {T : Type 0} → ℕ → T → Slot T
 filled hash entry = full (record { tag = hash_tag hash; entry = entry })
 
--- the bucket that a search visits at a step. A search visits groups of 16 buckets. The first begins at the hash; the
--- next begin 16, 32, 48, .. buckets after the group before them.
+-- the bucket that a search visits at a step. A search visits groups of 16 buckets. The first begins at the hash. The
+-- second begins 16 buckets after the first, the third 32 buckets after the second, and so on.
 abbrev pub probed : ℕ → ℕ → ℕ → ℕ
 probed buckets hash step = (hash + 8 * (step / 16) * (step / 16 + 1) + step % 16) % buckets
 

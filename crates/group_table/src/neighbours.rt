@@ -1,4 +1,4 @@
-//! Whether every 16 neighbouring buckets around a bucket contain an empty one.
+//! Whether each run of 16 neighbouring buckets that includes a bucket contains an empty one.
 ghost use Rattle.std.specs.Prelude.{◌≡◌, ◌≢◌, ◌+◌, ◌-◌, ◌%◌, ◌^◌, ◌<◌, Bool, if◌then◌else◌, nat_lt, slice_index};
 ghost use Rattle.std.specs.Prelude.{MatchBool};
 ghost use Rattle.group_table.specs.Bytes.{empty_byte};
