@@ -16,7 +16,7 @@ use Rattle.lru_limits.specs.Stores.{answers, given-adds, refused-keeps, replaced
 abbrev pub in_word : ℕ → ℕ
 in_word n = min n (2 ^ 64 - 1)
 
--- n bytes, rounded up to a multiple of 16, and 16 more, but at most about 2 ^ 64; or 0 if n is 0, because then no block
+-- n bytes, rounded up to a multiple of 16, and 16 more, but at most 2 ^ 64 - 16; or 0 if n is 0, because then no block
 -- is allocated
 abbrev pub block_bytes : ℕ → ℕ
 block_bytes n = if n == 0 then 0 else in_word (n + 31) / 16 * 16
