@@ -60,7 +60,6 @@ module _ {K V S : Type 0} (rules : Rules K V S) where
       else (if nat_le (length c.pairs + 1) (full_capacity (buckets st) / 2) then at_once
       else report_of (target st.max st.entry_bytes (buckets st) (length c.pairs + 1)) 1 c)
 
-  -- the limiter after a query, if there was one
   abbrev pub queried : Option ℕ → S → S
   queried None s = s
   queried (Some bytes) s = (rules.on_grow s bytes).limiter
@@ -110,7 +109,6 @@ module _ {K V S I : Type 0} (rules : Rules K V S) (offers : Offers K V S I) (nam
         new ≡ not_stored rules report pair (make_room rules (record { pairs = old.pairs; limiter = s })) →
         InsertsNew
 
-  -- an insert of a new key, or of the key of a stored pair
   abbrev pub InsertsBy : Type 0
   InsertsBy = MatchOption (lookup_entry (names i) old.pairs) InsertsNew
       (λ pair. exchanged rules offers names i v old pair ≡ (result, new))

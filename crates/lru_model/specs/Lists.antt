@@ -31,7 +31,6 @@ module _ {X : Type 0} where
   last_of zero xs = None
   last_of (suc n) xs = slice_get xs n
 
-  -- the list with x in front, if there is an x
   abbrev pub after : Option X → List X → List X
   after None xs = xs
   after (Some x) xs = x ∷ xs

@@ -64,7 +64,6 @@ module _ {K V S H : Type 0} where
   abbrev pub HasNoBucket : ℕ → State K V S H → Type 0
   HasNoBucket hash st = NoBucketTakes hash (length st.pairs) st.table.states
 
-  -- no bucket takes a pair of this hash, and a rehash does not help
   abbrev pub IsOutgrown : ℕ → State K V S H → Type 0
   IsOutgrown hash st = IsTooSmallFor hash (length st.pairs) st.table.states
 

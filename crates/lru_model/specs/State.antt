@@ -51,13 +51,11 @@ pub record State (K V S H : Type 0) : Type 0 where
 -- these bucket states and counts are as in every map of n pairs
 pub record IsSound (n entry_bytes max : ℕ) (states : List BucketState) (counts : Counts) : Type 0 where
   pub table : IsTable states
-  -- the number of full buckets is the number of pairs
   pub taken : entry_count states ≡ n
   -- links reach every bucket
   pub reachable : (length states ≡ 0) ⊎ (length states < max)
   -- the table takes at most 2 ^ 63 - 16 bytes
   pub usable : (bytes : ℕ) × (usage entry_bytes (length states) ≡ Some bytes)
-  -- the counts fit 64 bits
   pub moved : counts.moved < 2 ^ 64
   pub placed : counts.placed < 2 ^ 64
   pub shrunk : counts.shrunk < 2 ^ 64
@@ -127,7 +125,6 @@ module _ {K V S H : Type 0} where
   abbrev pub growth_left : State K V S H → ℕ
   growth_left st = growth_left_of st.table.states
 
-  -- the bucket of the pair of the named key
   abbrev pub place_in : (K → Bool) → State K V S H → Option ℕ
   place_in names st = place_of names st.pairs st.table.places
 
@@ -141,7 +138,6 @@ module _ {K V S H : Type 0} where
 
   -- what holds of every map
   pub record IsMap (eq : K → K → Bool) (st : State K V S H) : Type 0 where
-    -- no two keys are equal
     pub distinct : IsDistinct eq (keys_of st.pairs)
     pub sized : IsSized st
     pub paid : IsPaid (potential st) st.counts

@@ -44,7 +44,6 @@ module _ {K V S H : Type 0} where
   abbrev pub IsSummed : (K → V → ℕ) → (S → ℕ) → State K V S H → Type 0
   IsSummed cost account st = account st.limiter ≡ sum_by (λ p. cost p.0 p.1) st.pairs
 
--- the pairs whose keys do not pass the test
 abbrev pub others : {K V : Type 0} → (K → Bool) → List (K × V) → List (K × V)
 others test pairs = filter (λ pair. not (test pair.0)) pairs
 

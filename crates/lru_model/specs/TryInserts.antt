@@ -27,7 +27,6 @@ module _ {K V S : Type 0} (terms : Terms K V S) (rules : Rules K V S) where
       else false
 
   module _ {H : Type 0} (key : K) (value : V) (old : State K V S H) where
-    -- a reservation fails, or leaves a limiter that cannot store the pair
     pub data IsUnready (left : State K V S H) : Type 0 where
       not_reserved : growth_left old ≡ 0 → (error : ReserveError) → Reserve rules 1 old (Err error) left →
           IsUnready left
