@@ -19,7 +19,6 @@ abbrev pub pair_slots : {K V N : Type 0} → List (Slot (Entry K V N)) → List 
 pair_slots slots = map pair_slot slots
 
 module _ {N : Type 0} (link : ℕ → N) (none : N) where
-  -- the link to a bucket, or `none`
   abbrev pub link_to : Option ℕ → N
   link_to None = none
   link_to (Some b) = link b
