@@ -1,4 +1,4 @@
--- What a record of the calls on a file says of the blocks of the file. A block is known if the record determines its
+-- What a record of the calls on a file says about the blocks of the file. A block is known if the record determines its
 -- bytes.
 use Rattle.std.specs.Prelude.{◌≡◌, ℕ, zero, suc, nat_eq, Bool, if◌then◌else◌, List, [], ◌∷◌, Option, Some, None, slice_index}
 
@@ -6,7 +6,7 @@ use Rattle.std.specs.Prelude.{◌≡◌, ℕ, zero, suc, nat_eq, Bool, if◌then
 abbrev pub Event : Type 0
 Event = ℕ × ℕ × List ℕ
 
--- the kinds of events: a read, a write or a sync that failed, or that returned Ok
+-- the kinds of events: a read, a write or a sync, which failed or returned Ok
 abbrev pub unread : ℕ → Event
 unread n = (0, n, [])
 
