@@ -13,7 +13,7 @@ use Rattle.lru_limits.specs.Stores.{ReturnsPairIf, given-adds, refused-keeps}
 use Rattle.lru_limits.specs.Admissions.{Terms, offers_of}
 
 module _ {K V A B : Type 0} where
-  -- the second limiter sees a removed entry as the first one left it
+  -- the second limiter sees a removed entry as the first limiter left it
   abbrev pub both_rules : Rules K V A → Rules K V B → Rules K V (Both A B)
   both_rules a b = record {
     is_over_the_limit = λ s n. a.is_over_the_limit s.0 n || b.is_over_the_limit s.1 n;

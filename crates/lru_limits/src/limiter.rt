@@ -55,8 +55,8 @@ pub trait Limiter<K, V> {
     ///
     /// Called by an insert that finds no bucket for a new entry, and by `try_reserve` if too little growth is left. It
     /// is not called if no larger table exists, or if the table is rehashed without growing. After `false` the insert
-    /// evicts the oldest entries to store the new one, and `try_reserve` returns `Refused`. After `true` the allocation
-    /// of the table may still fail. The limiter is not notified of this.
+    /// evicts the oldest entries to store the new entry, and `try_reserve` returns `Refused`. After `true` the
+    /// allocation of the table may still fail. The limiter is not notified of this.
     fn on_grow(&mut self, new_memory_usage: usize) -> bool
         ensures limiter { self.new ≡ (rules.on_grow self.old new_memory_usage).limiter }
         ensures allowed { result ≡ (rules.on_grow self.old new_memory_usage).allowed };
