@@ -45,8 +45,7 @@ module _ {K V S : Type 0} (rules : Rules K V S) where
     fits : (growth_left st ≡ 0 → full_capacity (buckets st) / 2 < length st.pairs + 1 → 16 < buckets st) →
         report ≡ at_once →
         MayReport hash st report
-    -- Or the table is too small. If growth is refused, n pairs are evicted: one, or more if the table has more than 16
-    -- buckets.
+    -- Or the table is too small. If growth is refused, n pairs are evicted. In a table of up to 16 buckets, n is 1.
     too_small : IsOutgrown hash st → (n : ℕ) → 0 < n → (buckets st ≤ 16 → n ≡ 1) →
         full_capacity (buckets st) / 2 + n ≤ length st.pairs + 1 →
         report ≡ report_of (table_for 1 st) n (contents st) →

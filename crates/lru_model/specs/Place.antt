@@ -113,8 +113,8 @@ module _ {K V S H : Type 0} (rules : Rules K V S) where
     denied : (count bytes : ℕ) → table_for 1 old ≡ new_table count bytes → Denies bytes old →
         mid ≡ asked bytes old → CannotGrow old mid
 
-  -- The oldest pairs of `mid` are evicted until a bucket takes the new pair, or until fewer pairs are left than half of
-  -- the pairs that the table may hold. Then the table is rehashed. If there is no pair to evict, the new pair is not
+  -- The oldest pairs of `mid` are evicted until a bucket takes the new pair. Once fewer pairs are left than half of the
+  -- pairs that the table may hold, the table is rehashed instead. If there is no pair to evict, the new pair is not
   -- stored. `old` is the map before the limiter was queried for a larger table, and `mid` the map after.
   pub data Evicts (hash : ℕ) (pair : K × V) (old mid : State K V S H) (outcome : Outcome)
       (new : State K V S H) : Type 0 where

@@ -48,7 +48,7 @@ pub record State (K V S H : Type 0) : Type 0 where
   -- the number of the link `MAX`, above the number of each bucket
   pub max : ℕ
 
--- these bucket states and counts are as in every map of n pairs
+-- in every map of n pairs, this holds of the bucket states and the counts
 pub record IsSound (n entry_bytes max : ℕ) (states : List BucketState) (counts : Counts) : Type 0 where
   pub table : IsTable states
   pub taken : entry_count states ≡ n

@@ -54,7 +54,7 @@ pub record IsNewest {K V : Type 0} (names : K → Bool) (pairs : List (K × V)) 
   pub first : pairs ≡ pair ∷ rest
   pub named : names pair.0 ≡ true
 
--- What an insert evicts or removes. `names` tests whether a key is the inserted one, and `refuses pair` says that the
+-- What an insert evicts or removes. `names` tests whether a key is the inserted key, and `refuses pair` says that the
 -- limiter rejects the new value for this pair.
 pub data EvictsOldest {K V : Type 0} (names : K → Bool) (refuses : K × V → Type 0) (old new : List (K × V))
     : Type 0 where

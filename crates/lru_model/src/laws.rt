@@ -156,9 +156,9 @@ pub fn inserts_grow_little<
 {}
 
 /// Suppose that the map has entries, but no growth left. If a search for the new key meets a deleted bucket first, the
-/// new entry fills this bucket: the limiter is not queried, and nothing moves (`served`). Conversely, an insertion that
-/// ends in the same table without moves met a deleted bucket first (`only`). Then an insert adds the new entry to all
-/// the others in the same table, if the limiter accepts the entry and is not over its limit with it (`added`).
+/// new entry fills this bucket: the limiter is not queried, and nothing moves (`served`). If the limiter also accepts
+/// the entry, and is not over its limit with it, an insert adds the entry to all the others in the same table
+/// (`added`). Conversely, an insertion that ends in the same table without moves met a deleted bucket first (`only`).
 pub fn deleted_buckets_serve<
     K: Eq + Hash,
     V,
@@ -211,8 +211,8 @@ pub fn inserts_pay_for_moves<
 {}
 
 /// Suppose that a table without growth left cannot grow. After the insertion, the map has at least half of the entries
-/// that the table may hold, the new entry included (`half`). If memory runs out, it has at least one less than this
-/// half (`without_memory`). In a table of up to 16 buckets only the oldest entry is evicted (`one`).
+/// that the table may hold, the new entry included (`half`). If memory runs out, the map may have one entry fewer
+/// (`without_memory`). In a table of up to 16 buckets only the oldest entry is evicted (`one`).
 pub fn refused_growth_keeps_half<K: Eq + Hash, V, L: Limiter<K, V>, S: KeyHasher<K>>()
     ensures half { (pair : K × V) (old new : State K V L S) →
         IsRefusedGrowth L.rules old →

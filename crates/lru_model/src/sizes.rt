@@ -57,8 +57,8 @@ pub fn larger_table(
     Some((count, bytes))
 }
 
-/// Returns the greatest number of bytes within the budget that a table takes, among the tables of 4, 8, 16 and so on
-/// buckets, but fewer than `max`. Returns 0 if none is within the budget.
+/// Returns the greatest number of bytes within the budget that a table takes, among the tables of fewer than `max`
+/// buckets (4, 8, 16 and so on). Returns 0 if no table is within the budget.
 pub fn usage_within(max: usize, entry_bytes: usize, budget: usize) -> usize
     ensures { IsGreatestUsage max entry_bytes budget result }
 {

@@ -22,8 +22,8 @@ use lru_limits::{ByLength, Insertion, KeyHasher, Limiter, LookupKey};
 use std::hash::Hash;
 
 /// An insert loses nothing, if the limiter changes no evicted or removed entry. Take a list of the entries that are
-/// left, followed by the entries that the callback got, last one first. This list contains the new entry and the old
-/// ones, newest first (`all`, with a case for each result). If the result is true, the stored entry comes first
+/// left, followed by the entries that the callback got, last one first. This list consists of the new entry and the old
+/// entries, newest first (`all`, with a case for each result). If the result is true, the stored entry comes first
 /// (`stored`). In each case every old entry of another key is left or was passed to the callback (`others`).
 pub fn nothing_is_lost<K: Eq + Hash, V, I: LookupKey<K>, L: Insertion<K, V, I>, S: KeyHasher<K>>()
     ensures all { (key : I) (value : V) (old : State K V L S) (result : Result Bool AllocError)
