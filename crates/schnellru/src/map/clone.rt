@@ -23,8 +23,8 @@ impl<
     /// ```
     ///
     /// A clone of a key must equal the key, and a clone of the hasher must hash alike. So this is no impl of `Clone`.
-    /// Cost: `O(buckets)`. If the map has buckets, it requests memory twice, and for what keys, values, limiter and
-    /// hasher request for their clones.
+    /// Cost: `O(buckets)`, two requests for memory if the map has buckets, and what the clones of keys, values, limiter
+    /// and hasher request.
     ///
     /// # Errors
     ///

@@ -29,7 +29,8 @@ impl<K: Eq + Hash, V, L: Limiter<K, V>, S: KeyHasher<K>> LruMap<K, V, L, S> {
     /// Each error leaves the entries and the table as they are.
     ///
     /// - `TooLarge`: `len` + n overflows, or the map needs a table of more buckets than its links can number, or of
-    ///   more than `isize::MAX - 15` bytes. The table was not rehashed, even if it would then hold the entries.
+    ///   more than `isize::MAX - 15` bytes. The table was not rehashed, even if it would hold the entries after a
+    ///   rehash.
     /// - `Refused`: the limiter refused the larger table.
     /// - `Memory`: the map ran out of memory.
     ///
