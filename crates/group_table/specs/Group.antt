@@ -26,7 +26,7 @@ module _ {T : Type 0} (slots : List (Slot T)) where
   abbrev pub width : ℕ
   width = min 16 (length slots)
 
-  -- the buckets with the tag among the first lanes
+  -- the buckets with the tag, among the first `lanes` lanes
   abbrev pub tagged_lanes : ℕ → ℕ → ℕ → List ℕ
   tagged_lanes tag start lanes = tagged slots tag (λ lane. (start + lane) % length slots) lanes
 
@@ -37,7 +37,7 @@ module _ {T : Type 0} (slots : List (Slot T)) where
   abbrev pub HasEmptyLane : ℕ → ℕ → Type 0
   HasEmptyLane start lanes = (lane : ℕ) × (lane < lanes) × IsEmptyLane start lane
 
-  -- none of the first lanes is empty
+  -- none of the first `lanes` lanes is empty
   abbrev pub HasNoEmptyLane : ℕ → ℕ → Type 0
   HasNoEmptyLane start lanes = (lane : ℕ) → lane < lanes
       → bucket_at (bucket_states slots) ((start + lane) % length slots) ≢ empty
