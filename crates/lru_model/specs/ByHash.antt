@@ -37,7 +37,7 @@ module _ {K V : Type 0} (eq : K → K → Bool) (hash_of : K → ℕ) (all : Lis
       pub last : F
       pub accepted : Asks closure between pair true last
 
-    -- f was called with candidates, each once, and rejected all; each pair of the map with this hash was one of them
+    -- f was called with candidates, each once, and rejected all; each pair of the map with this hash was among them
     pub record GivesNoneByHash (f : F) : Type 0 where
       pub asked : List (K × V)
       pub candidates : AreCandidates asked

@@ -30,7 +30,7 @@ module _ {K V S : Type 0} (rules : Rules K V S) where
   abbrev pub refusal : Option ℕ → ℕ → Contents K V S → Report
   refusal asked n c = record { asked = asked; evicted = n; has_bucket = not (is_empty c.pairs) }
 
-  -- what a table that is too small reports, by the table that it would grow into
+  -- what a table that is too small reports, for each `Target` of its growth
   abbrev pub report_of : Target → ℕ → Contents K V S → Report
   report_of no_table n c = refusal None n c
   report_of same_table n c = at_once
@@ -113,7 +113,7 @@ module _ {K V S I : Type 0} (rules : Rules K V S) (offers : Offers K V S I) (nam
       (λ pair. exchanged rules offers names i v old pair ≡ (result, new))
 
 module _ {K V S I : Type 0} (rules : Rules K V S) (offers : Offers K V S I) (names : I → K → Bool) where
-  -- an insert if the limiter and the pair determine the report
+  -- an insert into a list, if the limiter and the pair determine the report
   abbrev pub InsertsGiven : (S → K × V → Report) → I → V → Contents K V S → Result Bool AllocError → Contents K V S →
       Type 0
   InsertsGiven reports = InsertsBy rules offers names (λ s pair report. report ≡ reports s pair)

@@ -29,7 +29,7 @@ module _ {K V S H : Type 0} (rules : Rules K V S) where
   FailsToGrow bytes st result =
       (Grants rules bytes st × (result ≡ Err Memory)) ⊎ (Denies rules bytes st × (result ≡ Err Refused))
 
-  -- A reservation leaves growth for n pairs or more, or fails. The pairs and the counts of moves stay.
+  -- A reservation fails, or leaves growth for at least n pairs. The pairs and the counts of moves stay.
   pub data Reserve (n : ℕ) (old : State K V S H) (result : Result (Unit {0}) ReserveError)
       (new : State K V S H) : Type 0 where
     -- Nothing changes,
