@@ -181,7 +181,7 @@ impl<K, V, N: LinkType> OrderedTable<K, V, N> {
         promoted::newer_unless_first(&self.linked, self.promoted, b)
     }
 
-    /// Lends the pair in a full bucket for writing. The keys fit the table if the written key has the same hash.
+    /// Lends the pair in a full bucket for writing. The keys still fit the table if the written key has the same hash.
     #[inline]
     pub fn pair_mut(&mut self, b: usize) -> &mut Pair<K, V>
         requires { IsFull self.old.slots b }
