@@ -14,8 +14,8 @@ use lru_limits::{Insertion, KeyHasher};
 use lru_model::laws;
 use std::hash::Hash;
 
-/// A list of calls is a run of steps of the map, so the laws on runs hold of it (`calls`). So is a list that
-/// `run_summing` carries out, and its writes keep the cost (`summing`).
+/// A list of calls is a run of steps of the map, so the laws on runs hold of it (`calls`). A list that `run_summing`
+/// carries out is such a run, too, and its writes keep the cost (`summing`).
 pub fn lists_are_runs<K: Eq + Hash, V, L: Insertion<K, V, K>, S: KeyHasher<K>>()
     ensures calls { (old new : State K V L S) (calls : List (Call K V L)) (replies : List (Reply K V)) →
         IsRun (CallStep L.rules L.offers K.eq S.hash_of) (IsMap K.eq) old calls replies new →
