@@ -138,7 +138,7 @@ module _ {B D E S : Type 0} (d : device.Ghosts D B E S) where
   abbrev pub ShowsTheSame : Cached B D → Cached B D → Type 0
   ShowsTheSame old new = IsGood new.device → (n : ℕ) (block : S) → shown old n ≡ Some block → shown new n ≡ Some block
 
-  -- there was a dirty page, and this is its block or a torn one
+  -- there was a dirty page, and this is its block or a torn block
   abbrev pub IsWritten : Option (Page B) → S → Type 0
   IsWritten None block = ⊥
   IsWritten (Some page) block = IsTrue page.is_dirty × ((block ≡ d.seen page.block) ⊎ d.IsTorn block)
