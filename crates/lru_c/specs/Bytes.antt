@@ -134,7 +134,7 @@ pub data IsReady (key : List ℕ) (old ready : BytesMap) : Type 0 where
   there : has_bytes key old ≡ true → ready ≡ old → IsReady key old ready
   reserved : has_bytes key old ≡ false → Reserve bytes_rules 1 old (Ok tt) ready → IsReady key old ready
 
--- an insert of this key has memory: the key is there, or growth is left
+-- the table needs no memory for an insert of this key: the key is there, or growth is left
 abbrev pub FindsMemory : List ℕ → BytesMap → Type 0
 FindsMemory key ready = has_bytes key ready ≡ false → 1 ≤ growth_left ready
 
