@@ -33,7 +33,7 @@ module _ {T : Type 0} (slots : List (Slot T)) where
   abbrev pub IsEmptyLane : ℕ → ℕ → Type 0
   IsEmptyLane start lane = bucket_at (bucket_states slots) ((start + lane) % length slots) ≡ empty
 
-  -- one of the first lanes is empty
+  -- one of the first `lanes` lanes is empty
   abbrev pub HasEmptyLane : ℕ → ℕ → Type 0
   HasEmptyLane start lanes = (lane : ℕ) × (lane < lanes) × IsEmptyLane start lane
 
