@@ -48,7 +48,7 @@ pub given-is : {S K V : Type 0} (accepts : Bool) (s : S) (k : K) (v : V) (t : S)
 given-is true s k v t p h = ap (λ o. unwrap_or o (k, v)) h.pair
 given-is false s k v t p h = let e = h.pair in cc
 
--- so a reflexive test relates the offered key to the returned key
+-- a reflexive test E relates the offered key to the returned key
 pub given-names : {S K V : Type 0} {accepts : Bool} {s t : S} {i k : K} {v w : V} (E : K → K → Bool)
     → ((x : K) → IsTrue (E x x)) → ReturnsPairIf accepts s i v t (Some (k, w)) → IsTrue (E i k)
 given-names {accepts} {s} {t} {i} {k} {v} {w} E reflexive h =
@@ -64,7 +64,7 @@ given-adds cost account true s s' i v t k w more h = ap account h.limiter ∙ mo
     (sym (given-is true s' i v t (k, w) h))
 given-adds cost account false s s' i v t k w more h = let e = h.pair in cc
 
--- A rejected entry changes nothing.
+-- a rejected entry leaves the running total as it is
 pub refused-keeps : {K V S : Type 0} (account : S → ℕ) (accepts : Bool) (s s' : S) (i : K) (v : V) (t : S)
     → ReturnsPairIf accepts (if accepts then s' else s) i v t None → account t ≡ account s
 refused-keeps account true s s' i v t h = let e = h.pair in cc
