@@ -50,8 +50,8 @@ pub enum PageError<E> {
 
 /// A write-back cache of the blocks of a device.
 ///
-/// It keeps the pinned pages and the pages that were used last, at most `capacity` pages in all. A write changes only
-/// the cached page: the page is then dirty, and goes to the device when it is evicted or flushed.
+/// It keeps the pinned pages and the pages that were used last. The number of all these pages is at most its capacity.
+/// A write changes only the cached page: the page is then dirty, and goes to the device when it is evicted or flushed.
 ///
 /// After a `flush` that returned `Ok`, a crash leaves each block as it was shown at that flush. If a later call wrote
 /// the block, a crash may also leave it as it was written, or torn. `docs/CACHES.md` says what this supposes of a disk.
