@@ -75,8 +75,8 @@ pub extern "C" fn rattle_large_values(
     sum
 }
 
-/// Inserts a value of 1 to 64 under each key, with a limit of the sum. Returns 31 times the number of entries that are
-/// left, plus their cost.
+/// Inserts a value of 1 to 64 under each key, with a limit of the sum of the values. Returns 31 times the number of
+/// entries that are left, plus their cost.
 #[unsafe(no_mangle)]
 pub extern "C" fn rattle_costs(alloc: Global, limit: u64, keys: &[u64]) -> u64 {
     let mut map: LruMap<u64, u64, ByCost> = LruMap::new(
@@ -101,7 +101,8 @@ fn filled(alloc: Global, count: u64) -> LruMap<u64, u64, UnlimitedCompact> {
     map
 }
 
-/// Walks over a map of the keys below a count, newest first, in each of `rounds` rounds. Returns a sum over the values.
+/// Fills a map with the keys below `count`, and walks over it `rounds` times, newest first. Returns a sum over the
+/// values.
 #[unsafe(no_mangle)]
 pub extern "C" fn rattle_walks(alloc: Global, count: u64, rounds: u64) -> u64 {
     let map = filled(alloc, count);
@@ -114,7 +115,7 @@ pub extern "C" fn rattle_walks(alloc: Global, count: u64, rounds: u64) -> u64 {
     sum
 }
 
-/// Copies a map of the keys below a count in each of `rounds` rounds. Returns a sum over the lengths.
+/// Fills a map with the keys below `count`, and copies it `rounds` times. Returns a sum over the lengths.
 #[unsafe(no_mangle)]
 pub extern "C" fn rattle_copies(alloc: Global, count: u64, rounds: u64) -> u64 {
     let map = filled(alloc, count);

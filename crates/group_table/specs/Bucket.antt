@@ -1,4 +1,4 @@
--- What is in the buckets of a table: all (`Slot`), or only their states (`BucketState`).
+-- What is in the buckets of a table: states and entries (`Slot`), or only states (`BucketState`).
 use Rattle.std.specs.Prelude.{◌≡◌, ℕ, ◌-◌, if◌then◌else◌, Bool, true, false, List, length, map, count_by}
 use Rattle.std.specs.Prelude.{slice_index_or, nat_eq, Option, Some, None, IsTrue}
 use Rattle.group_table.specs.Sizes.{full_capacity}
@@ -61,7 +61,6 @@ module _ {A : Type 0} where
 unfoldable pub growth_left : List BucketState → ℕ
 growth_left states = full_capacity (length states) - count_by is_used states
 
--- what a bucket adds to the growth left: one if it is empty
 abbrev pub growth_left_at : List BucketState → ℕ → ℕ
 growth_left_at states b = if is_used (bucket_at states b) then 0 else 1
 
@@ -79,7 +78,6 @@ module _ {T : Type 0} where
   has_tag tag deleted = false
   has_tag tag (full held) = nat_eq held.tag tag
 
-  -- the bucket with another entry
   abbrev pub refilled : Slot T → T → Slot T
   refilled empty entry = empty
   refilled deleted entry = deleted

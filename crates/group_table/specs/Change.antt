@@ -38,7 +38,8 @@ module _ {T : Type 0} where
     pub insertions : new.insertions ≡ one_placed old.insertions
 
 module _ {A : Type 0} where
-  -- the bucket becomes empty if every 16 neighbours contain an empty bucket, and deleted otherwise
+  -- The bucket becomes empty if each run of 16 neighbouring buckets that includes it contains an empty bucket, and
+  -- deleted otherwise.
   abbrev pub Removes : List (Bucket A) → List (Bucket A) → ℕ → Type 0
   Removes old new b =
       (HasEmptyNeighbours (IsEmpty (bucket_states old)) (length (bucket_states old)) b × (new ≡ slice_set old b empty))

@@ -4,7 +4,6 @@ use Rattle.std.specs.declared.alloc.Global.{Global}
 use Rattle.group_table.specs.declared.entries.Row.{Row}
 
 module _ {T : Type 0} where
-  -- the places, or none if there is no block
   abbrev pub places_of : Option (Row T) → List (Option T)
   places_of None = []
   places_of (Some row) = row.cells.places

@@ -11,11 +11,11 @@ use Rattle.group_table.specs.declared.probe.Probe.{Probe}
 use Rattle.group_table.specs.declared.probe.Searched.{Searched}
 use Rattle.group_table.specs.declared.probe.Searched.TheVariants.{Accepted, Ended, GoesOn}
 
--- how many buckets the groups before this one have
+-- how many buckets the search visited before this group
 abbrev pub passed_by : Probe → ℕ
 passed_by probe = probe.stride - 16
 
--- a search for the hash visits this group after `passed_by` buckets, which are whole groups
+-- a search for the hash visits this group after `passed_by` buckets, which are all in whole groups
 pub record IsProbe (buckets hash : ℕ) (probe : Probe) : Type 0 where
   pub start : probe.start ≡ probed buckets hash (passed_by probe)
   pub whole : passed_by probe % 16 ≡ 0
@@ -26,18 +26,18 @@ module _ {T : Type 0} (slots : List (Slot T)) where
   abbrev pub width : ℕ
   width = min 16 (length slots)
 
-  -- the buckets with the tag among the first lanes
+  -- the buckets with the tag, among the first `lanes` lanes
   abbrev pub tagged_lanes : ℕ → ℕ → ℕ → List ℕ
   tagged_lanes tag start lanes = tagged slots tag (λ lane. (start + lane) % length slots) lanes
 
   abbrev pub IsEmptyLane : ℕ → ℕ → Type 0
   IsEmptyLane start lane = bucket_at (bucket_states slots) ((start + lane) % length slots) ≡ empty
 
-  -- one of the first lanes is empty
+  -- one of the first `lanes` lanes is empty
   abbrev pub HasEmptyLane : ℕ → ℕ → Type 0
   HasEmptyLane start lanes = (lane : ℕ) × (lane < lanes) × IsEmptyLane start lane
 
-  -- none of the first lanes is empty
+  -- none of the first `lanes` lanes is empty
   abbrev pub HasNoEmptyLane : ℕ → ℕ → Type 0
   HasNoEmptyLane start lanes = (lane : ℕ) → lane < lanes
       → bucket_at (bucket_states slots) ((start + lane) % length slots) ≢ empty

@@ -18,7 +18,7 @@ HasLane mask lane = bit_at mask lane ≡ 1
 abbrev pub lowest : ℕ → ℕ
 lowest mask = trailing_zeros w16 mask
 
--- With 4 or 8 buckets, bytes of empty buckets are between the bytes and their repetition.
+-- In a table of 4 or 8 buckets, bytes of empty buckets are between the bytes of the buckets and their repetition.
 pub record IsRepeated (control : List ℕ) (buckets : ℕ) : Type 0 where
   pub again : (p : ℕ) → max 16 buckets ≤ p → p < buckets + 16
       → slice_index control p ≡ slice_index control (p - max 16 buckets)

@@ -1,13 +1,13 @@
--- The 16 neighbouring buckets on the circle of all buckets, which a search sees as one group.
+-- Runs of 16 neighbouring buckets on the circle of all buckets. A search reads such a run as one group.
 use Rattle.std.specs.Prelude.{◌≡◌, ℕ, ◌+◌, ◌%◌, ◌<◌}
 
 module _ (Empty : ℕ → Type 0) (buckets b : ℕ) where
-  -- every 16 neighbouring buckets that include this one include an empty bucket
+  -- of any 16 neighbouring buckets with this one among them, at least one is empty
   abbrev pub HasEmptyNeighbours : Type 0
   HasEmptyNeighbours = (start at : ℕ) → at < 16 → (start + at) % buckets ≡ b
       → (lane : ℕ) × (lane < 16) × Empty ((start + lane) % buckets)
 
-  -- some 16 neighbouring buckets that include this one include no empty bucket
+  -- there are 16 neighbouring buckets, this one among them, none of which is empty
   pub record IsHemmedIn : Type 0 where
     pub start : ℕ
     pub at : ℕ

@@ -10,12 +10,12 @@ hash_tag hash = hash / 2 ^ 57
 abbrev pub filled : {T : Type 0} → ℕ → T → Slot T
 filled hash entry = full (record { tag = hash_tag hash; entry = entry })
 
--- the bucket that a search visits at a step. A search visits groups of 16 buckets. The first begins at the hash; the
--- next begin 16, 32, 48, .. buckets after the group before them.
+-- the bucket that a search visits at a step. A search visits groups of 16 buckets. The first begins at the hash. The
+-- second begins 16 buckets after the first, the third 32 buckets after the second, and so on.
 abbrev pub probed : ℕ → ℕ → ℕ → ℕ
 probed buckets hash step = (hash + 8 * (step / 16) * (step / 16 + 1) + step % 16) % buckets
 
--- the first bucket in an order that is not full
+-- in an order of buckets, the first bucket that is not full
 pub record IsFirst (full_at : ℕ → Bool) (order : ℕ → ℕ) (b : ℕ) : Type 0 where
   pub step : ℕ
   pub there : order step ≡ b
@@ -33,6 +33,6 @@ module _ (states : List BucketState) (hash : ℕ) where
     pub there : probed (length states) hash step ≡ b
     pub goes_on : (before : ℕ) → before / 16 < step / 16 → state_probed before ≢ empty
 
-  -- the first bucket in the order of a search that is empty or deleted
+  -- in the order of a search, the first bucket that is empty or deleted
   abbrev pub IsFirstFree : ℕ → Type 0
   IsFirstFree = IsFirst (λ b. is_full (bucket_at states b)) (probed (length states) hash)

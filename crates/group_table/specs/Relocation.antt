@@ -33,7 +33,7 @@ module _ {T N : Type 0} (number : N → ℕ) (none : N) where
     pub one_each : length links ≡ length old
     pub moves : Moves number none (entry_at old) new links
 
-  -- without entries there is nothing to renumber
+  -- if there are no entries, there are no links
   abbrev pub Renumbers : List (Slot T) → List (Slot T) → List N → Type 0
   Renumbers old new links = ((entry_count old ≡ 0) × (links ≡ [])) ⊎ IsRenumbering old new links
 

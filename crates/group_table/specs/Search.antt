@@ -8,12 +8,12 @@ use Rattle.group_table.specs.Bucket.{Slot, empty, bucket_at, entry_at, has_tag, 
 use Rattle.group_table.specs.Probe.{hash_tag, probed, state_probed, Reaches}
 use Rattle.group_table.specs.Fits.{Fits}
 
--- among the first buckets of an order, those with the tag
+-- the buckets with the tag, among the first `steps` buckets of an order
 abbrev pub tagged : {T : Type 0} → List (Slot T) → ℕ → (ℕ → ℕ) → ℕ → List ℕ
 tagged slots tag order steps = filter (λ b. has_tag tag (bucket_at slots b)) (map order (range_with_len 0 steps))
 
 module _ {T : Type 0} (slots : List (Slot T)) (hash : ℕ) where
-  -- among the first buckets of a search, those with the tag of the hash
+  -- the buckets with the tag of the hash, among the first `steps` buckets of a search
   abbrev pub candidates : ℕ → List ℕ
   candidates steps = tagged slots (hash_tag hash) (probed (length slots) hash) steps
 

@@ -13,7 +13,7 @@ IsBucketCount buckets = (buckets ≡ 0) ⊎ IsPowerFromFour buckets
 unfoldable pub full_capacity : ℕ → ℕ
 full_capacity buckets = if nat_le buckets 8 then buckets - 1 else buckets / 8 * 7
 
--- the first of power, 2 * power, 4 * power, .. that is n or more, among the first `tries`
+-- the first of the numbers power, 2 * power, 4 * power and so on that is at least n, if it is among the first `tries`
 abbrev pub first_power_from : ℕ → ℕ → ℕ → ℕ
 first_power_from zero n power = power
 first_power_from (suc tries) n power = if nat_le n power then power else first_power_from tries n (2 * power)
@@ -25,8 +25,8 @@ least_power n = first_power_from 64 n 1
 abbrev pub below : ℕ → ℕ → Option ℕ
 below limit n = if nat_lt n limit then Some n else None
 
--- How many buckets n entries need, if links can number them. No entries need 0, up to 3 need 4, and up to 7 need 8. More
--- entries need the least power of two that is at least eight sevenths of n.
+-- How many buckets n entries need, if links can number them. If n is 0, they need 0 buckets; up to 3, they need 4; up
+-- to 7, they need 8. If n is more, they need the least power of two that is at least eight sevenths of n.
 unfoldable pub buckets_for : ℕ → ℕ → Option ℕ
 buckets_for max entries =
     if entries == 0 then Some 0

@@ -16,7 +16,8 @@ pub fn full_capacity(buckets: usize) -> usize
     }
 }
 
-/// Returns the number of buckets for `capacity` entries: 0 for none, else a power of two.
+/// Returns how many buckets `capacity` entries need: 0 if `capacity` is 0, and otherwise a power of two below `max`.
+/// Returns `None` if no such power is enough.
 #[tactic(auto, unfolding(crate::specs::Sizes::buckets_for))]
 pub fn buckets_for_capacity(capacity: usize, max: usize) -> Option<usize>
     ensures value { result ≡ buckets_for max capacity }

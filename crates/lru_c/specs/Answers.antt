@@ -56,8 +56,8 @@ put_code (Ok true) = 0
 put_code (Ok false) = 1
 put_code (Err error) = 2
 
--- An insert. The first pair of another key that the callback gets is written to a place; if there is none, the place
--- stays as it is. The old value of the key is returned, if there is one.
+-- An insert. The callback may get pairs of other keys, and the first of these is written to `place`. If it gets none,
+-- `place` stays as it is. If the key was there, its old value is returned.
 pub record Inserts (key value : ℕ) (old : Map) (answer : Inserted) (place left : Entry) (new : Map) : Type 0 where
   pub result : Result Bool AllocError
   pub passed : List (ℕ × ℕ)
@@ -68,15 +68,15 @@ pub record Inserts (key value : ℕ) (old : Map) (answer : Inserted) (place left
   pub one_evicted : old.limiter ≤ most_exact_length → length (others (nat_eq key) passed) ≤ 1
   pub returned : answer ≡ inserted_of (put_code result) (lookup (nat_eq key) old.pairs) answer.evicted
 
--- A get that inserts. If the key is there, it becomes the newest, and its value is returned as the old value. Otherwise
--- the value is inserted.
+-- A get that inserts. If the key is there, it becomes the newest key, and its value is returned as the old value.
+-- Otherwise the value is inserted.
 abbrev pub GetsOrInserts : ℕ → ℕ → Map → Inserted → Entry → Entry → Map → Type 0
 GetsOrInserts key value old answer place left new = MatchOption (lookup (nat_eq key) old.pairs)
     (Inserts key value old answer place left new)
     (λ there. (answer ≡ inserted_of 0 (Some there) false) × (left ≡ place) × (new ≡ promoted (nat_eq key) old))
 
--- A call on a handle. If there is a map, it makes this step. Otherwise there is no map afterwards, and the call returns
--- nothing.
+-- A call on a handle. If the handle has a map, the map makes this step. Otherwise it has no map afterwards, either, and
+-- the call returns nothing.
 abbrev pub OnMap : {M : Type 0} → Type 0 → (M → M → Type 0) → Option M → Option M → Type 0
 OnMap returns_nothing step None None = returns_nothing
 OnMap returns_nothing step None (Some after) = ⊥

@@ -46,14 +46,12 @@ names_bytes-lawful bytes = record {
   one = λ q x y. nat_list_eq_equiv.congr (bytes q) x.items y.items;
 }
 
--- what a key writes to a hasher, and its hash
 abbrev pub input_of_bytes : Bytes → List (List ℕ)
 input_of_bytes k = fed.slice fed.u8 k.items
 
 abbrev pub hash_of_bytes : Mixer → Bytes → ℕ
 hash_of_bytes = hash_by input_of_bytes random_builds.ghosts default_hashes.ghosts
 
--- 64 bytes for the entry, plus the bytes of its key and its value
 abbrev pub weight : ℕ → ℕ → ℕ
 weight key value = pair_cost 64 key value
 
@@ -98,8 +96,8 @@ lengths_of pair removed =
 abbrev pub fits : Bytes × Bytes → List ℕ → List ℕ → Bool
 fits pair key value = nat_le (length pair.0.items) (length key) && nat_le (length pair.1.items) (length value)
 
--- A look-up finds this entry: the lengths of its key and value are returned, and both are copied into two buffers if
--- both fit.
+-- A look-up finds this entry. The lengths of its key and its value are returned. If both fit into their buffers, both
+-- are copied.
 abbrev pub Shows : Option (Bytes × Bytes) → Popped → List ℕ → List ℕ → List ℕ → List ℕ → Type 0
 Shows None answer key key_left value value_left = (answer ≡ no_entry) × (key_left ≡ key) × (value_left ≡ value)
 Shows (Some pair) answer key key_left value value_left = (answer ≡ lengths_of pair false)
@@ -130,13 +128,13 @@ pub data Pops (old : BytesMap) (answer : Popped) (key key_left value value_left 
 abbrev pub has_bytes : List ℕ → BytesMap → Bool
 has_bytes key map = is_some (lookup (names_bytes key) map.pairs)
 
--- The map that an insert of this key finds: the old map if the key is there, and otherwise the map after a reservation
--- for one entry.
+-- The map just before this key is inserted. If the key is there, it is the old map, and otherwise the map after a
+-- reservation for one entry.
 pub data IsReady (key : List ℕ) (old ready : BytesMap) : Type 0 where
   there : has_bytes key old ≡ true → ready ≡ old → IsReady key old ready
   reserved : has_bytes key old ≡ false → Reserve bytes_rules 1 old (Ok tt) ready → IsReady key old ready
 
--- an insert of this key has memory: the key is there, or growth is left
+-- the table needs no memory for an insert of this key: the key is there, or growth is left
 abbrev pub FindsMemory : List ℕ → BytesMap → Type 0
 FindsMemory key ready = has_bytes key ready ≡ false → 1 ≤ growth_left ready
 

@@ -32,8 +32,8 @@ pub fn insert(map: &mut Map, key: u64, value: u64, place: &mut Entry) -> Inserte
     }
 }
 
-/// Returns the value of a key, as the replaced one, and makes its entry the newest. If the key is not there, inserts
-/// this value as `insert` does.
+/// Returns the value of a key as if it had been replaced, and makes the entry of the key the newest. If the key is not
+/// there, inserts this value as `insert` does.
 #[inline]
 pub fn get_or_insert(map: &mut Map, key: u64, value: u64, place: &mut Entry) -> Inserted
     requires fits { FitsHandle map.old }

@@ -13,8 +13,8 @@ pub record Memoized (K V S H F : Type 0) : Type 0 where
   pub map : State K V S H
   pub function : F
 
--- The call returned the answer stored at the key, whose entry is then the newest. Or none was stored, and the call
--- returned and inserted the value.
+-- The call returned the value that is stored at the key, and its entry is the newest then. Or no value was stored, and
+-- the call returned this value and inserted it.
 abbrev pub Remembers : {K V S H : Type 0} → Rules K V S → Offers K V S K → (K → K → Bool) → (H → K → ℕ) → K → V
     → State K V S H → State K V S H → Type 0
 Remembers rules offers eq hash_of key value old new = (kept : Result Bool AllocError)

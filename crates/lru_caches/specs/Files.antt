@@ -1,4 +1,4 @@
--- What a record of the calls on a file says of the blocks of the file. A block is known if the record determines its
+-- What a record of the calls on a file says about the blocks of the file. A block is known if the record determines its
 -- bytes.
 use Rattle.std.specs.Prelude.{◌≡◌, ℕ, zero, suc, nat_eq, Bool, if◌then◌else◌, List, [], ◌∷◌, Option, Some, None, slice_index}
 
@@ -6,7 +6,7 @@ use Rattle.std.specs.Prelude.{◌≡◌, ℕ, zero, suc, nat_eq, Bool, if◌then
 abbrev pub Event : Type 0
 Event = ℕ × ℕ × List ℕ
 
--- the kinds of events: a read, a write or a sync that failed, or that returned Ok
+-- the kinds of events: a read, a write or a sync, which failed or returned Ok
 abbrev pub unread : ℕ → Event
 unread n = (0, n, [])
 
@@ -33,8 +33,8 @@ abbrev pub or_else : Option (List ℕ) → List ℕ → Option (List ℕ)
 or_else None bytes = Some bytes
 or_else (Some known) bytes = Some known
 
--- What is known of a block after an event, if `old` was known before. `same`: the event is of this block. A write that
--- failed may leave anything.
+-- What is known of a block after an event, if `old` was known before. `same` says whether the event is of this block. A
+-- write that failed may leave anything.
 abbrev pub known_after : ℕ → Bool → List ℕ → Option (List ℕ) → Option (List ℕ)
 known_after zero same bytes old = old
 known_after (suc zero) same bytes old = if same then or_else old bytes else old
@@ -61,8 +61,8 @@ abbrev pub left : List Event → ℕ → Option (List ℕ)
 left [] n = None
 left (e ∷ earlier) n = left_after e.0 (nat_eq n e.1) (known earlier n) (left earlier n)
 
--- Whether a crash may leave a block that contracts see as `block`: any block, if nothing determines it. `seen` takes
--- the bytes of a block to what contracts see of them.
+-- Whether a crash may leave a block that contracts see as `block`. If nothing determines it, it may be any block.
+-- `seen` takes the bytes of a block to what contracts see of them.
 abbrev pub IsLeft : (List ℕ → List ℕ) → Option (List ℕ) → List ℕ → Type 0
 IsLeft seen None block = Unit {0}
 IsLeft seen (Some only) block = block ≡ seen only

@@ -15,7 +15,7 @@ use Rattle.lru_caches.specs.declared.page_cache.PageError.TheVariants.{Device, M
 
 -- what a contract sees of a cache
 pub record Cached (B D : Type 0) : Type 0 where
-  -- the cached pages by their numbers, newest first: each has a block, and may be dirty, and pinned
+  -- the cached pages by their numbers, newest first: each has a block, and may be dirty or pinned or both
   pub pages : List (ℕ × Page B)
   pub capacity : ℕ
   -- whether no dirty page is evicted
@@ -91,8 +91,8 @@ module _ {B D : Type 0} where
   abbrev pub pinned : Cached B D → ℕ → Bool
   pinned cache n = is_pinned (lookup (nat_eq n) cache.pages)
 
-  -- the pages after a use of page n: this page, and then the others; if these fill the cache, the oldest that may go is
-  -- evicted
+  -- The pages after a use of page n: this page, and then the others. If the others fill the cache, the oldest of them
+  -- that may go is evicted.
   abbrev pub pages_after : ℕ → Page B → Cached B D → List (ℕ × Page B)
   pages_after n page cache =
       (n, page) ∷ with_room cache.capacity cache.keeps_dirty (without (nat_eq n) cache.pages)
@@ -138,7 +138,7 @@ module _ {B D E S : Type 0} (d : device.Ghosts D B E S) where
   abbrev pub ShowsTheSame : Cached B D → Cached B D → Type 0
   ShowsTheSame old new = IsGood new.device → (n : ℕ) (block : S) → shown old n ≡ Some block → shown new n ≡ Some block
 
-  -- there was a dirty page, and this is its block or a torn one
+  -- there was a dirty page, and this is its block or a torn block
   abbrev pub IsWritten : Option (Page B) → S → Type 0
   IsWritten None block = ⊥
   IsWritten (Some page) block = IsTrue page.is_dirty × ((block ≡ d.seen page.block) ⊎ d.IsTorn block)
@@ -180,7 +180,7 @@ module _ {B D E S : Type 0} (d : device.Ghosts D B E S) where
     pub writes : AreWritten numbers pages old written
     pub synced : d.sync_gives written new
 
-  -- a flush that was cut off after some of its writes, or, after all of them, in its sync
+  -- a flush that was cut off after some of its writes, or in the sync after all of them
   pub record IsCutOff (pages : List (ℕ × Page B)) (old new : D) : Type 0 where
     pub numbers : List ℕ
     pub rest : List ℕ
@@ -202,7 +202,8 @@ module _ {B D E S : Type 0} (d : device.Ghosts D B E S) where
   abbrev pub IsFlushCause : D → D → PageError E → Type 0
   IsFlushCause old new e = IsFault old new e ⊎ ((e ≡ Broken) × (d.is_usable old ≡ false))
 
-  -- the pages after a call that failed: all or, if memory ran out, perhaps all except the oldest that may go
+  -- The pages after a call that failed. All are there, but if memory ran out, the oldest page that may go may be
+  -- missing.
   abbrev pub Leaves : Cached B D → Cached B D → PageError E → Type 0
   Leaves old new e = (new.pages ≡ old.pages)
       ⊎ ((e ≡ Memory) × (new.pages ≡ with_room old.capacity old.keeps_dirty old.pages))
@@ -215,7 +216,8 @@ module _ {B D E S : Type 0} (d : device.Ghosts D B E S) where
   -- what each call that reads, writes or pins page n does
   pub record UsesPage {A : Type 0} (n : ℕ) (old : Cached B D) (result : Result A (PageError E)) (new : Cached B D)
       : Type 0 where
-    -- at most dirty pages are written to the device, and none if the cache keeps them or has page n
+    -- a crash may leave more only for pages that were dirty; nothing is written if the cache keeps dirty pages or has
+    -- page n
     pub crash : CrashAdds old.pages old.device new.device
     pub unwritten : IsTrue old.keeps_dirty → CrashKeeps old.device new.device
     pub untouched : IsCached n old → new.device ≡ old.device

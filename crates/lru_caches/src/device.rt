@@ -43,17 +43,18 @@ pub trait BlockDevice<B> {
     /// How many calls have failed, or another number that changes exactly when a call fails.
     ghost faults: { Self → ℕ };
 
-    /// What a crash in the middle of a write may leave of its block, besides the old and the new one. By default it is
-    /// anything. A device that writes a block as a whole defines it as `⊥`.
+    /// What a crash in the middle of a write may leave of its block, besides the old and the new block. By default it
+    /// is anything. A device that writes a block as a whole defines it as `⊥`.
     ghost IsTorn: { Self.Seen → Type 0 } = { λ _. Unit {0} };
 
     /// Each read has returned the known block, if it was known. For a file no code can test this: it is a premise.
     ghost IsHonest: { Self → Type 0 } = { λ _. Unit {0} };
 
-    /// A `write` of a block to this number takes the first state to the second. By default any two states.
+    /// A `write` of a block to this number may lead from the first state to the second. By default this holds of any
+    /// two states.
     ghost write_gives: { Self → ℕ → Self.Seen → Self → Type 0 } = { λ _ _ _ _. Unit {0} };
 
-    /// A `sync` takes the first state to the second. By default any two states.
+    /// A `sync` may lead from the first state to the second. By default this holds of any two states.
     ghost sync_gives: { Self → Self → Type 0 } = { λ _ _. Unit {0} };
 
     /// Returns whether the device has a block of this number.
@@ -80,7 +81,7 @@ pub trait BlockDevice<B> {
         ensures usable { IsTrue (is_usable self.new) }
         ensures numbers { (m : ℕ) → has self.new m ≡ has self.old m };
 
-    /// Replaces a block. A crash may leave what it might leave before, or the new block, or a torn one.
+    /// Replaces a block. A crash may leave what it might leave before, or the new block, or a torn block.
     ///
     /// # Errors
     ///
@@ -98,7 +99,7 @@ pub trait BlockDevice<B> {
         ensures usable { IsTrue (is_usable self.new) }
         ensures numbers { (m : ℕ) → has self.new m ≡ has self.old m };
 
-    /// Makes the blocks durable: a crash leaves exactly what a read returns, once this has returned `Ok`.
+    /// Makes the blocks durable. Once this has returned `Ok`, a crash leaves exactly what a read returns.
     ///
     /// # Errors
     ///

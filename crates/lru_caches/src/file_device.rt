@@ -33,9 +33,9 @@ pub enum FileError {
 
 /// A device of the blocks of a file, of `N` bytes each.
 ///
-/// Nothing is proved of the bytes that an operating system returns or keeps. So contracts see the record of the calls
-/// on the file, which takes no memory (`specs/Files`). Under the premise `IsHonest`, a read returns what was written
-/// there last. The premise says that each read of the file returned what the record says.
+/// Nothing is proved of the bytes that an operating system returns or keeps. So contracts see a record of the calls on
+/// the file (`specs/Files`), which takes no memory. The premise `IsHonest` says that each read of the file returned
+/// what the record says. Under this premise a read returns what was written there last.
 ///
 /// [`HashedFileDevice`] also finds torn and foreign blocks.
 ///

@@ -2,8 +2,8 @@
 //!
 //! [`PageCache`] keeps the blocks of a [`BlockDevice`] that were used last, and writes them back when they are evicted
 //! or flushed. [`FileDevice`] and [`HashedFileDevice`] are devices over a [`Durable`] file. [`Memo`] stores the newest
-//! results of a function, [`Loader`] of one that may fail, and [`MemoTable`] of one that calls itself. [`OrderedMap`]
-//! is a hash map in the order of insertion.
+//! results of a function, [`Loader`] of a function that may fail, and [`MemoTable`] of a function that calls itself.
+//! [`OrderedMap`] is a hash map in the order of insertion.
 #![tactic(auto)]
 
 mod device;

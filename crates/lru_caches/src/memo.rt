@@ -18,8 +18,8 @@ pub(crate) mod table;
 
 /// A function with its newest results, up to a limit, so that it is not called again at the same key.
 ///
-/// Each result is right, and each call is a step of a map: the stored answer becomes the newest, or the result is
-/// inserted (`step` of `answer`).
+/// Each result is right. Each call is a step of a map: the stored answer becomes the newest, or the result is inserted
+/// (`step` of `answer`).
 ///
 /// ```
 /// let mut squares = Memo::new(alloc, ByLength::new(9), |n: &u64| n.wrapping_mul(*n));
@@ -164,7 +164,7 @@ impl<K: Eq + Hash + Drop, V: Drop, F: Fn(&K) -> V, L: Insertion<K, V, K>, S: Key
 > {
     /// Lends a closure what `answer` would return, and returns what the closure returns. The values need not be `Copy`.
     ///
-    /// The closure is called once. It is lent the result even if the result is not stored.
+    /// The closure is called once. The result is lent to it even if it is not stored.
     ///
     /// ```
     /// let mut blocks = Memo::new(alloc, ByLength::new(9), |n: &usize| vec![in alloc; 7u8; *n].ok());

@@ -39,8 +39,8 @@ pub enum PageError<E> {
     /// The device has no block of this number.
     #[error("no such block")]
     NoBlock,
-    /// The cache is full, and no page may be evicted for a new one: each is pinned, or is dirty in a cache that keeps
-    /// dirty pages. Nothing has changed.
+    /// The cache is full, and no page may be evicted for a new one: each page is pinned, or is dirty in a cache that
+    /// keeps dirty pages. Nothing has changed.
     #[error("no page may be evicted")]
     Full,
     /// A `sync` of the device has failed, so what was written before may be lost. Discard the cache.
@@ -50,8 +50,8 @@ pub enum PageError<E> {
 
 /// A write-back cache of the blocks of a device.
 ///
-/// It keeps the pinned pages and the pages that were used last, together at most its capacity. A write changes only the
-/// cached page: the page is then dirty, and goes to the device when it is evicted or flushed.
+/// It keeps the pinned pages and the pages that were used last. The number of all these pages is at most its capacity.
+/// A write changes only the cached page: the page is then dirty, and goes to the device when it is evicted or flushed.
 ///
 /// After a `flush` that returned `Ok`, a crash leaves each block as it was shown at that flush. If a later call wrote
 /// the block, a crash may also leave it as it was written, or torn. `docs/CACHES.md` says what this supposes of a disk.
@@ -97,7 +97,7 @@ impl<B: Copy, D: BlockDevice<B>, S: KeyHasher<u64>> Model for PageCache<B, D, S>
 }
 
 impl<B: Copy, D: BlockDevice<B>> PageCache<B, D, RandomState> {
-    /// Makes an empty cache of a device, for at most `capacity` pages, or for one page if that is 0.
+    /// Makes an empty cache of a device, for at most `capacity` pages, or for one page if `capacity` is 0.
     ///
     /// If strangers choose the block numbers, call `with_hasher`.
     ///
@@ -214,7 +214,7 @@ impl<B: Copy, D: BlockDevice<B>, S: KeyHasher<u64>> PageCache<B, D, S> {
         self.counts.misses
     }
 
-    /// Lends the device. It lacks the writes that are only in dirty pages.
+    /// Lends the device. The device does not have the writes that are only in dirty pages.
     ///
     /// Cost: `O(1)`.
     ///

@@ -58,7 +58,7 @@ module _ {K V : Type 0} (cost : V → ℕ) where
   abbrev pub charges : Offers K V Budget K
   charges = weighs (λ k v. cost v)
 
--- at most the greatest number of 64 bits
+-- the sum of the three costs, but at most the greatest number of 64 bits
 abbrev pub pair_cost : ℕ → ℕ → ℕ → ℕ
 pair_cost overhead k v = min (k + v + overhead) (2 ^ 64 - 1)
 

@@ -16,7 +16,8 @@ use Rattle.lru_limits.specs.Stores.{answers, given-adds, refused-keeps, replaced
 abbrev pub in_word : ℕ → ℕ
 in_word n = min n (2 ^ 64 - 1)
 
--- the bytes, rounded up to a multiple of 16, and 16 more; no block is allocated for no bytes
+-- n bytes, rounded up to a multiple of 16, and 16 more, but at most 2 ^ 64 - 16; or 0 if n is 0, because then no block
+-- is allocated
 abbrev pub block_bytes : ℕ → ℕ
 block_bytes n = if n == 0 then 0 else in_word (n + 31) / 16 * 16
 
@@ -50,7 +51,8 @@ module _ {K V : Type 0} (bytes_of : K → V → ℕ) where
         answers (if fits then record b { table = bytes } else b) fits;
   }
 
-  -- an entry or a new value is accepted if its entry and the table are within the limit, and `owned` fits 64 bits
+  -- An entry is accepted if its bytes and the table together are within the limit, and if `owned` still fits 64 bits
+  -- with it. A new value is accepted if its entry would be, in place of the old entry.
   abbrev pub bytes_terms : Terms K V Bytes
   bytes_terms = record {
     accepts = λ b n k v. can_add (left_for_entries b) b.owned (bytes_of k v);

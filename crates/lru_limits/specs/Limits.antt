@@ -73,7 +73,7 @@ module _ {K V S I : Type 0} {rules : Rules K V S} {offers : Offers K V S I} {mos
   pub storing-memory : LimitsMemory rules offers most → LimitsMemory (stored rules) all_offers (λ s. most s.0)
   storing-memory limits = record { fixed = storing-fixed limits.fixed; within = λ s bytes. limits.within s.0 bytes }
 
--- so the terms do not change the number
+-- if no callback changes the number, the terms do not change it
 module _ {K V S : Type 0} {rules : Rules K V S} {terms : Terms K V S} {number : S → ℕ}
     (fixed : IsFixed rules (offers_of terms) number) where
   admit : (s : S) (n : ℕ) (k : K) (v : V) → number (terms.admit s n k v) ≡ number s

@@ -48,7 +48,7 @@ pub given-is : {S K V : Type 0} (accepts : Bool) (s : S) (k : K) (v : V) (t : S)
 given-is true s k v t p h = ap (λ o. unwrap_or o (k, v)) h.pair
 given-is false s k v t p h = let e = h.pair in cc
 
--- so a reflexive test relates the offered key to the returned key
+-- a reflexive test E relates the offered key to the returned key
 pub given-names : {S K V : Type 0} {accepts : Bool} {s t : S} {i k : K} {v w : V} (E : K → K → Bool)
     → ((x : K) → IsTrue (E x x)) → ReturnsPairIf accepts s i v t (Some (k, w)) → IsTrue (E i k)
 given-names {accepts} {s} {t} {i} {k} {v} {w} E reflexive h =
@@ -56,7 +56,7 @@ given-names {accepts} {s} {t} {i} {k} {v} {w} E reflexive h =
 
 -- Below, s becomes s' if the limiter accepts, and stays s if it does not.
 
--- An accepted entry adds its cost, if s' does.
+-- an accepted entry adds its cost to the running total, if the total of s' is higher by this cost
 pub given-adds : {K V S : Type 0} (cost : K → V → ℕ) (account : S → ℕ) (accepts : Bool) (s s' : S) (i : K) (v : V)
     (t : S) (k : K) (w : V) → account s' ≡ account s + cost i v
     → ReturnsPairIf accepts (if accepts then s' else s) i v t (Some (k, w)) → account t ≡ account s + cost k w
@@ -64,13 +64,13 @@ given-adds cost account true s s' i v t k w more h = ap account h.limiter ∙ mo
     (sym (given-is true s' i v t (k, w) h))
 given-adds cost account false s s' i v t k w more h = let e = h.pair in cc
 
--- A rejected entry changes nothing.
+-- a rejected entry leaves the running total as it is
 pub refused-keeps : {K V S : Type 0} (account : S → ℕ) (accepts : Bool) (s s' : S) (i : K) (v : V) (t : S)
     → ReturnsPairIf accepts (if accepts then s' else s) i v t None → account t ≡ account s
 refused-keeps account true s s' i v t h = let e = h.pair in cc
 refused-keeps account false s s' i v t h = ap account h.limiter
 
--- A replacement exchanges the costs, if s' does.
+-- a replacement exchanges the costs in the running total, if the total of s' has the new cost instead of the old one
 pub replaced-exchanges : {K V S : Type 0} (cost : K → V → ℕ) (account : S → ℕ) (accepts : Bool) (s s' : S) (k : K)
     (v w : V) → account s' ≡ account s - cost k v + cost k w
     → cost k v ≤ account s → account (if accepts then s' else s) ≡ account s - cost k v

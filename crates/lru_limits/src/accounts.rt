@@ -17,8 +17,8 @@ pub use by_cost::ByCost;
 pub use by_weight::ByWeight;
 pub use owned_bytes::OwnedBytes;
 
-/// A value with a cost. An unsigned number of up to 64 bits costs itself, a text the number of its bytes, and a vector
-/// the number of its items.
+/// A value with a cost. The cost of an unsigned number of up to 64 bits is the number. The cost of a text is the number
+/// of its bytes, and the cost of a vector is the number of its items.
 ///
 /// The cost is read again when the entry is evicted or removed, or when the value is replaced. So if the cost of a
 /// stored value changes, the running total is no longer the sum of the costs.
@@ -110,7 +110,7 @@ impl<T> Costed for Vec<T> {
 }
 
 /// A limiter with a running total. It adds the cost of each accepted entry, and subtracts the cost of each evicted or
-/// removed one.
+/// removed entry.
 ///
 /// After each call, the total is the sum over the map's entries, unless somebody writes to the values or to the limiter
 /// through a reference.

@@ -13,12 +13,12 @@ module _ {K V S H : Type 0} (bytes_of : K → V → ℕ) where
       × (table + sum_by (λ pair. bytes_of pair.0 pair.1) st.pairs ≤ n)
 
 module _ {K V H : Type 0} (bytes_of : K → V → ℕ) where
-  -- the limiter counts what the pairs own, and a table no smaller than the map's
+  -- The limiter counts the bytes that the pairs own. Its bytes for the table are at least what the table uses.
   pub record CountsBytes (st : State K V Bytes H) : Type 0 where
     pub table : UsesAtMost st.limiter.table st
     pub owned : IsSummed bytes_of (λ b. b.owned) st
 
-  -- the limiter counts what the map takes (`CountsBytes`), and this is within its limit
+  -- the limiter counts the bytes of the map (`CountsBytes`), and these are within its limit
   pub record KeepsBytes (st : State K V Bytes H) : Type 0 where
     pub counts : CountsBytes st
     pub within : st.limiter.owned + st.limiter.table ≤ st.limiter.limit

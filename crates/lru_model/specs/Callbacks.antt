@@ -1,6 +1,6 @@
 -- Which pairs a call passes to its callback: each evicted or removed pair, and each pair that the limiter returned but
--- the map could not store. The callback gets these pairs as the limiter leaves them, in the order of the limiter's
--- notifications.
+-- the map could not store. The callback gets these pairs as the limiter leaves them, in the order in which the limiter
+-- is notified of them.
 --     rules, offers       the limiter's `Rules` and `Offers` (`lru_limits`)
 --     names i k           the inserted key i names k
 --     hash_of h k         the hash of k by the hasher h
@@ -32,7 +32,7 @@ module _ {K V S : Type 0} where
     };
   }
 
-  -- the offers of that limiter, which leave the list as it is
+  -- the offers of the limiter with a list, which stays as it is
   abbrev pub noting_offers : {I : Type 0} → Offers K V S I → Offers K V (S × List (K × V)) I
   noting_offers offers = record {
     on_insert = λ s n i v t given. offers.on_insert s.0 n i v t.0 given × (t.1 ≡ s.1);

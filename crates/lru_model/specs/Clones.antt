@@ -16,5 +16,5 @@ module _ {K V : Type 0} (same_key : K → K → Type 0) (same_value : V → V �
       pub pairs : AllZip IsPairClone old.pairs new.pairs
       pub limiter : same_limiter old.limiter new.limiter
       pub hasher : same_hasher old.hasher new.hasher
-      -- bucket states, places and counts are the same
+      -- nothing else differs
       pub rest : new ≡ record old { pairs = new.pairs; limiter = new.limiter; hasher = new.hasher }

@@ -1,4 +1,4 @@
--- What a whole drain takes out of a map: pairs from both ends, and the rest when it is dropped.
+-- What a whole drain takes out of a map: pairs from both ends, and the other pairs when the drain is dropped.
 use Rattle.std.specs.Prelude.{◌≡◌, ℕ, zero, suc, List, [], ◌++◌, option_to_list}
 use Rattle.lru_limits.specs.Rules.{Rules}
 use Rattle.lru_model.specs.Lists.{first, last}

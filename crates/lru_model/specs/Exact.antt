@@ -1,5 +1,5 @@
--- How an insert changes a list of pairs and a limiter. These and what the table reports determine the result, unless
--- memory runs out. In a table of up to 16 buckets the growth left determines the report.
+-- How an insert changes a list of pairs and a limiter. The list, the limiter and the report of the table determine the
+-- result, unless memory runs out. In a table of up to 16 buckets the growth left determines the report.
 use Rattle.std.specs.Prelude.{◌≡◌, ◌≢◌, ℕ, ◌+◌, ◌-◌, ◌/◌, ◌<◌, ◌≤◌, nat_lt, nat_le, Bool, true, false, not}
 use Rattle.std.specs.Prelude.{if◌then◌else◌, ◌∷◌, length, Option, Some, None, MatchOption, Result, Ok, IsErr}
 use Rattle.std.specs.declared.alloc.AllocError.{AllocError}
@@ -13,7 +13,7 @@ use Rattle.lru_model.specs.Inserts.{make_room, replacement, with_replaced, with_
 
 -- what the table reports when a pair is inserted into it
 pub record Report : Type 0 where
-  -- the bytes of the table for which the limiter was queried, if it was
+  -- if the limiter was queried for a larger table, the bytes of this table
   pub asked : Option ℕ
   -- how many of the oldest pairs were evicted because growth was refused
   pub evicted : ℕ
@@ -25,12 +25,12 @@ abbrev pub at_once : Report
 at_once = record { asked = None; evicted = 0; has_bucket = true }
 
 module _ {K V S : Type 0} (rules : Rules K V S) where
-  -- growth is refused, after the query `asked` if there is one, and n of these pairs are evicted; without pairs there
-  -- is no bucket
+  -- Growth is refused, after the query `asked`, if there was one. Then the n oldest pairs of c are evicted. If c has no
+  -- pairs, there is no bucket.
   abbrev pub refusal : Option ℕ → ℕ → Contents K V S → Report
   refusal asked n c = record { asked = asked; evicted = n; has_bucket = not (is_empty c.pairs) }
 
-  -- what a table that is too small reports, by the table that it would grow into
+  -- what a table that is too small reports, for each `Target` of its growth
   abbrev pub report_of : Target → ℕ → Contents K V S → Report
   report_of no_table n c = refusal None n c
   report_of same_table n c = at_once
@@ -40,24 +40,25 @@ module _ {K V S : Type 0} (rules : Rules K V S) where
 
   -- what the table of a map may report for a pair of this hash
   pub data MayReport {H : Type 0} (hash : ℕ) (st : State K V S H) (report : Report) : Type 0 where
-    -- Growth is left, a rehash is enough, or a deleted bucket takes the pair (only above 16 buckets).
+    -- Growth is left, or a rehash is enough, or a deleted bucket takes the pair. A deleted bucket exists only in a
+    -- table of more than 16 buckets.
     fits : (growth_left st ≡ 0 → full_capacity (buckets st) / 2 < length st.pairs + 1 → 16 < buckets st) →
         report ≡ at_once →
         MayReport hash st report
-    -- Or the table is too small. If growth is refused, one pair is evicted, and more only above 16 buckets.
+    -- Or the table is too small. If growth is refused, n pairs are evicted. In a table of up to 16 buckets, n is 1.
     too_small : IsOutgrown hash st → (n : ℕ) → 0 < n → (buckets st ≤ 16 → n ≡ 1) →
         full_capacity (buckets st) / 2 + n ≤ length st.pairs + 1 →
         report ≡ report_of (table_for 1 st) n (contents st) →
         MayReport hash st report
 
-  -- what a table of up to 16 buckets reports: each pair that is no longer in c gave back one of the growth left
+  -- What a table of up to 16 buckets reports. Since `st`, its growth left has risen by one for each pair that is no
+  -- longer in c.
   abbrev pub small_report : {H : Type 0} → State K V S H → Contents K V S → Report
   small_report st c =
       if nat_lt 0 (growth_left st + length st.pairs - length c.pairs) then at_once
       else (if nat_le (length c.pairs + 1) (full_capacity (buckets st) / 2) then at_once
       else report_of (target st.max st.entry_bytes (buckets st) (length c.pairs + 1)) 1 c)
 
-  -- the limiter after a query, if there was one
   abbrev pub queried : Option ℕ → S → S
   queried None s = s
   queried (Some bytes) s = (rules.on_grow s bytes).limiter
@@ -87,8 +88,8 @@ exchanged rules offers names i v c pair =
     if (replacement rules offers names pair i v c).taken then trimmed rules (with_replaced rules offers names pair i v c)
     else (Ok false, with_removed rules offers names pair i v c)
 
--- What an insert into a list returns and leaves. `Tells s pair report`: after the limiter returned the pair and became
--- s, the table may report this.
+-- What an insert into a list returns and leaves. `Tells s pair report` says that the table may report `report`, after
+-- the limiter returned the pair and became s.
 module _ {K V S I : Type 0} (rules : Rules K V S) (offers : Offers K V S I) (names : I → K → Bool)
     (Tells : S → K × V → Report → Type 0) (i : I) (v : V) (old : Contents K V S) (result : Result Bool AllocError)
     (new : Contents K V S) where
@@ -107,13 +108,12 @@ module _ {K V S I : Type 0} (rules : Rules K V S) (offers : Offers K V S I) (nam
         new ≡ not_stored rules report pair (make_room rules (record { pairs = old.pairs; limiter = s })) →
         InsertsNew
 
-  -- an insert of a new key, or of the key of a stored pair
   abbrev pub InsertsBy : Type 0
   InsertsBy = MatchOption (lookup_entry (names i) old.pairs) InsertsNew
       (λ pair. exchanged rules offers names i v old pair ≡ (result, new))
 
 module _ {K V S I : Type 0} (rules : Rules K V S) (offers : Offers K V S I) (names : I → K → Bool) where
-  -- an insert if the limiter and the pair determine the report
+  -- an insert into a list, if the limiter and the pair determine the report
   abbrev pub InsertsGiven : (S → K × V → Report) → I → V → Contents K V S → Result Bool AllocError → Contents K V S →
       Type 0
   InsertsGiven reports = InsertsBy rules offers names (λ s pair report. report ≡ reports s pair)
@@ -153,6 +153,5 @@ pub record HasTableFor {K V S H : Type 0} (n : ℕ) (st : State K V S H) : Type 
   pub usable : usage st.entry_bytes count ≡ Some bytes
   pub takes : n ≤ full_capacity count
 
--- there is a table for the pairs, and for one pair more
 abbrev pub HasTables : {K V S H : Type 0} → State K V S H → Type 0
 HasTables st = (table_for 1 st ≢ no_table) × (table_for 0 st ≢ no_table)

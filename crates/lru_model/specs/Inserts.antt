@@ -11,8 +11,8 @@ use Rattle.lru_model.specs.declared.results.Inserted.{Inserted}
 use Rattle.lru_model.specs.State.{State, buckets, growth_left, Contents, contents, Leaves, pop, trim}
 use Rattle.lru_model.specs.Place.{Place, Outcome, placed, refused, no_memory}
 
--- After a new value was offered, the map keeps one of two values, and not this one: the old value if the limiter
--- accepted the new value, and otherwise the new value.
+-- The value that the map does not keep after a new value was offered: the old value if the limiter accepted the new
+-- value, and otherwise the new value.
 abbrev pub unkept_of : {K V S : Type 0} → Replaced K V S → V
 unkept_of r = if r.taken then r.old_value else r.new_value
 
@@ -108,7 +108,7 @@ module _ {K V S I : Type 0} (rules : Rules K V S) (offers : Offers K V S I) (nam
           Insert i v old result new
 
     -- The table may need memory for the pair that the limiter returned. No growth is left. Either there are no buckets,
-    -- or the map contains a pair even after `make_room`: a rehash of a table without pairs needs no memory.
+    -- or the map contains a pair after `make_room`. (A rehash of a table without pairs needs no memory.)
     pub record NeedsMemory (i : I) (v : V) (old : State K V S H) : Type 0 where
       pub no_growth_left : growth_left old ≡ 0
       pub s : S
@@ -116,8 +116,8 @@ module _ {K V S I : Type 0} (rules : Rules K V S) (offers : Offers K V S I) (nam
       pub given : MayGive i v (contents old) s (Some pair)
       pub needed : (buckets old ≡ 0) ⊎ (0 < length (make_room rules (record { pairs = old.pairs; limiter = s })).pairs)
 
-    -- Why an insert runs out of memory. The key is new. Either `on_insert` of the limiter ran out of memory, and nothing
-    -- changed, or the table needed memory.
+    -- Why an insert runs out of memory. The key is new. Either `on_insert` of the limiter ran out of memory, and
+    -- nothing changed; or the table needed memory.
     abbrev pub IsOutOfMemory : I → V → State K V S H → State K V S H → Type 0
     IsOutOfMemory i v old new = (lookup_entry (names i) old.pairs ≡ None)
         × ((offers.may_run_out old.limiter (length old.pairs) i v × (new ≡ old)) ⊎ NeedsMemory i v old)

@@ -1,5 +1,5 @@
--- What an insert keeps. It loses no pair. If growth is left, and the limiter is not over its limit with the new pair,
--- it evicts none. With `ByLength` it leaves the newest pairs.
+-- What an insert keeps. An insert loses no pair. It evicts no pair if growth is left, and if the limiter is not over
+-- its limit with the new pair. With `ByLength` it leaves the newest pairs.
 --     rules, offers       the limiter's `Rules` and `Offers` (`lru_limits`)
 --     names i k           the inserted key i names k
 use Rattle.std.specs.Prelude.{◌≡◌, ◌⊎◌, ℕ, ◌+◌, ◌-◌, ◌^◌, ◌≤◌, ◌<◌, Bool, true, false, not, List, []}
@@ -19,11 +19,12 @@ pub record ChangesNoPair {K V S : Type 0} (rules : Rules K V S) : Type 0 where
   pub value : (s : S) (k : K) (v : V) → (rules.on_removed s k v).value ≡ v
 
 module _ {K V S H I : Type 0} (rules : Rules K V S) (offers : Offers K V S I) (names : I → K → Bool) where
-  -- An insert loses nothing but a value that it replaces. Each old pair is left or was passed to the callback. So is
-  -- the pair that the limiter returned for a new key. `passed` lists what the callback got, oldest first.
+  -- An insert loses nothing but a value that it replaces. Each old pair, and the pair that the limiter returned for a
+  -- new key, is left or was passed to the callback. `passed` lists what the callback got, oldest first.
   pub data LosesNothing (i : I) (v : V) (old : State K V S H) (result : Result Bool AllocError)
       (passed : List (K × V)) (new : State K V S H) : Type 0 where
-    -- A pair is stored as the newest, before the pairs of other keys. (If no pair is left, this one was evicted, too.)
+    -- A pair is stored as the newest, before the pairs of other keys. (If no pair is left, the stored pair was evicted,
+    -- too.)
     stored : (pair : K × V) → Stores rules offers names i v old pair →
         result ≡ Ok (not (is_empty new.pairs)) →
         new.pairs ++ reverse passed ≡ pair ∷ without (names i) old.pairs →
@@ -75,8 +76,9 @@ abbrev pub newest_after : {K V : Type 0} → (K → K → Bool) → ℕ → List
 newest_after eq most inserted old = fold
     (λ left pair. take most ((stored_key (eq pair.0) pair.0 left, pair.1) ∷ without (eq pair.0) left)) old inserted
 
--- What an insert leaves with a maximum length: the new pair first, and then the newest of the others, up to that
--- length. If it runs out of memory, it leaves only the newest of the old pairs, up to one less than that length.
+-- What an insert leaves under a maximum length: the new pair, and then the newest of the other pairs, up to this length
+-- in all. If the insert runs out of memory, it leaves only the newest of the old pairs, and at most one less than this
+-- length.
 pub record LeavesTheNewest {K V : Type 0} (eq : K → K → Bool) (most : ℕ) (key : K) (value : V) (old : List (K × V))
     (result : Result Bool AllocError) (new : List (K × V)) : Type 0 where
   pub answer : IsOk result → result ≡ Ok (nat_lt 0 most)
@@ -87,7 +89,7 @@ pub record LeavesTheNewest {K V : Type 0} (eq : K → K → Bool) (most : ℕ) (
 abbrev pub most_exact_length : ℕ
 most_exact_length = 939524096
 
--- The map is within its maximum length. Links and bytes reach each table that this length needs: the maximum is at most
+-- The map is within its maximum length, and there is a table for each length up to this maximum: the maximum is at most
 -- `most_exact_length`, links have 32 bits, and an entry takes fewer than 2 ^ 32 - 1 bytes.
 pub record KeepsToLength {K V H : Type 0} (st : State K V ℕ H) : Type 0 where
   pub within : length st.pairs ≤ st.limiter

@@ -26,12 +26,11 @@ module _ {X : Type 0} where
   without_last (x ∷ []) = []
   without_last (x ∷ y ∷ ys) = x ∷ without_last (y ∷ ys)
 
-  -- the element at position n - 1, counted from 0, if there is one; none for n = 0
+  -- the n-th element, counted from 1, if there is one
   abbrev pub last_of : ℕ → List X → Option X
   last_of zero xs = None
   last_of (suc n) xs = slice_get xs n
 
-  -- the list with x in front, if there is an x
   abbrev pub after : Option X → List X → List X
   after None xs = xs
   after (Some x) xs = x ∷ xs
@@ -83,6 +82,5 @@ module _ {K V : Type 0} where
   set_value_at (pair ∷ pairs) zero w = (pair.0, w) ∷ pairs
   set_value_at (pair ∷ pairs) (suc i) w = pair ∷ set_value_at pairs i w
 
-  -- the list with the value w in the first pair
   abbrev pub set_newest : List (K × V) → V → List (K × V)
   set_newest pairs w = set_value_at pairs 0 w

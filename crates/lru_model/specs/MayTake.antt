@@ -1,5 +1,5 @@
--- What a call requires of its callback. If n pairs may be evicted, removed or rejected, it may be called n times, each
--- time with any of them.
+-- What a call requires of its callback. If n pairs may be evicted, removed or rejected, the callback may be called n
+-- times, each time with any of these pairs.
 --     rules, offers       the limiter's `Rules` and `Offers` (`lru_limits`)
 --     names i k           the inserted key i names k
 --     closure             how the callback may be called
@@ -24,7 +24,7 @@ module _ {K V S : Type 0} (rules : Rules K V S) where
   IsLeftOf pairs left = (s : S) × (pair : K × V) × Contains pairs pair × (left_of rules s (Some pair) ≡ Some left)
 
   module _ {F : Type 0} (closure : Mut F (K × (V × Unit {0})) (Unit {0})) where
-    -- f may be called once for each of these pairs, each time with any of them, as the limiter leaves it
+    -- f may be called once for each of n pairs; each call may be with any of the n pairs, as the limiter leaves it
     abbrev pub MayTakeEach : List (K × V) → F → Type 0
     MayTakeEach pairs f = MayTake closure (IsLeftOf pairs) (length pairs) f
 

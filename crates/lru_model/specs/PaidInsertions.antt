@@ -1,4 +1,4 @@
--- What all insertions into the table cost. A reservation may make them, too, if no growth was left before it.
+-- What all insertions into the table cost. A reservation may make insertions, too, if no growth was left before it.
 --     terms, rules        the limiter's `Terms` and `Rules` (`lru_limits`)
 --     eq                  whether two keys are equal
 --     hash_of h k         the hash of k by the hasher h
@@ -9,8 +9,9 @@ use Rattle.lru_model.specs.State.{State, growth_left, potential}
 use Rattle.lru_model.specs.TryInserts.{TryInsert}
 use Rattle.lru_model.specs.Runs.{AnyStep, calls, reserves}
 
--- Insertions into the table and the potential together rise by at most 3 for each entry stored, and by 2 for each entry
--- that shrinks rehashed. This holds until the count of stored or of rehashed entries stops at its maximum.
+-- The number of insertions into the table, plus the potential, rises by at most 3 for each entry that is stored, plus 2
+-- for each entry that a shrink rehashed. This holds until the count of stored or of rehashed entries stops at its
+-- maximum.
 pub record PaysForInsertions {K V S H : Type 0} (old new : State K V S H) : Type 0 where
   pub placed : old.counts.placed ≤ new.counts.placed
   pub shrunk : old.counts.shrunk ≤ new.counts.shrunk

@@ -30,8 +30,8 @@ pub record FillsBucket (hash : ℕ) (old new : TableState) : Type 0 where
   pub spends : ((bucket_at old.states bucket ≡ empty) × (growth_left_of new.states + 1 ≡ growth_left_of old.states))
       ⊎ ((bucket_at old.states bucket ≡ deleted) × (16 < length old.states) × (growth_left_of new.states ≡ growth_left_of old.states))
 
--- In a table of n pairs no bucket takes a pair of this hash: no growth is left, and the first free bucket that a
--- search finds is empty. A table without pairs is not searched: without growth left it is rehashed, even if a deleted
+-- In a table of n pairs no bucket takes a pair of this hash: no growth is left, and the first free bucket that a search
+-- finds is empty. A table without pairs is not searched: if it has no growth left, it is rehashed, even if a deleted
 -- bucket could take the pair.
 pub record NoBucketTakes (hash n : ℕ) (states : List BucketState) : Type 0 where
   pub no_growth_left : growth_left_of states ≡ 0
@@ -45,8 +45,8 @@ pub record IsTooSmallFor (hash n : ℕ) (states : List BucketState) : Type 0 whe
   pub begun : (length states ≡ 0) ⊎ (0 < n)
 
 module _ {K V S H : Type 0} where
-  -- the pair is the newest now, in a table of `count` buckets with `spare` growth left, and `moves` entries moved for
-  -- it
+  -- The pair is the newest now. The table has `count` buckets, and `spare` growth left. `moves` entries moved for the
+  -- pair.
   pub record IsPlaced (pair : K × V) (count spare moves : ℕ) (old new : State K V S H) : Type 0 where
     pub table : buckets new ≡ count
     pub room_left : growth_left new ≡ spare
@@ -64,7 +64,6 @@ module _ {K V S H : Type 0} where
   abbrev pub HasNoBucket : ℕ → State K V S H → Type 0
   HasNoBucket hash st = NoBucketTakes hash (length st.pairs) st.table.states
 
-  -- no bucket takes a pair of this hash, and a rehash does not help
   abbrev pub IsOutgrown : ℕ → State K V S H → Type 0
   IsOutgrown hash st = IsTooSmallFor hash (length st.pairs) st.table.states
 
@@ -96,7 +95,7 @@ module _ {K V S H : Type 0} (rules : Rules K V S) where
   OldestEvicted hash (suc n) old new = (before : State K V S H) × OldestEvicted hash n old before
       × HasNoBucket hash before × Leaves before (pop rules (contents before)) new
 
-  -- the pair is stored as `IsPlaced` says, or the map ran out of memory, and the limiter was notified of the pair
+  -- The pair is stored as `IsPlaced` says. Or the map ran out of memory, and the limiter was notified of the pair.
   abbrev pub IsPlacedIfMemory : K × V → ℕ → ℕ → ℕ → State K V S H → Outcome → State K V S H → Type 0
   IsPlacedIfMemory pair count spare moves old placed new = IsPlaced pair count spare moves old new
   IsPlacedIfMemory pair count spare moves old no_memory new = new ≡ unstored pair old
@@ -107,16 +106,16 @@ module _ {K V S H : Type 0} (rules : Rules K V S) where
   IsPlacedByMove pair count old =
       IsPlacedIfMemory pair count (full_capacity count - length old.pairs - 1) (length old.pairs) old
 
-  -- The table cannot grow: links or bytes do not reach a larger table, or the limiter was queried and refuses it. `mid`
-  -- is the map after the query, if there was one.
+  -- The table cannot grow: there is no larger table (`table_for`), or the limiter was queried and refuses the larger
+  -- table. `mid` is the map after the query, or `old` if there was none.
   pub data CannotGrow (old mid : State K V S H) : Type 0 where
     no_target : table_for 1 old ≡ no_table → mid ≡ old → CannotGrow old mid
     denied : (count bytes : ℕ) → table_for 1 old ≡ new_table count bytes → Denies bytes old →
         mid ≡ asked bytes old → CannotGrow old mid
 
-  -- The oldest pairs of `mid` are evicted until the new pair finds a bucket. If fewer pairs are left than half of what
-  -- the table may hold, the table is rehashed instead. If there is no pair to evict, the new pair is rejected. `old` is
-  -- the map before the limiter was queried for a larger table, and `mid` the map after.
+  -- The oldest pairs of `mid` are evicted until a bucket takes the new pair. Once fewer pairs are left than half of the
+  -- pairs that the table may hold, the table is rehashed instead. If there is no pair to evict, the new pair is not
+  -- stored. `old` is the map before the limiter was queried for a larger table, and `mid` the map after.
   pub data Evicts (hash : ℕ) (pair : K × V) (old mid : State K V S H) (outcome : Outcome)
       (new : State K V S H) : Type 0 where
     nothing_to_evict : old.pairs ≡ [] →
@@ -141,18 +140,18 @@ module _ {K V S H : Type 0} (rules : Rules K V S) (hash_of : H → K → ℕ) wh
         FillsBucket (hash_of old.hasher pair.0) old.table new.table →
         outcome ≡ placed → IsPlacedInTable pair old new →
         Place pair old outcome new
-    -- Or no bucket takes the pair, and the table is at most half full with it: then the table is rehashed. Without
-    -- pairs this needs no memory.
+    -- Or no bucket takes the pair, and the table would be at most half full with it: then the table is rehashed. If the
+    -- map has no pairs, this needs no memory.
     rehashed : HasNoBucket (hash_of old.hasher pair.0) old → length old.pairs + 1 ≤ full_capacity (buckets old) / 2 →
         (outcome ≡ no_memory → 0 < length old.pairs) →
         IsPlacedByMove rules pair (buckets old) old outcome new →
         Place pair old outcome new
-    -- Or the table grows, if there is a larger one and the limiter permits it.
+    -- Or the table grows, if there is a larger table and the limiter permits it.
     grown : IsOutgrown (hash_of old.hasher pair.0) old →
         (count bytes : ℕ) → table_for 1 old ≡ new_table count bytes → Grants rules bytes old →
         IsPlacedByMove rules pair count (asked rules bytes old) outcome new →
         Place pair old outcome new
-    -- Otherwise the oldest pairs are evicted, at least one. If there is none, the new pair is rejected.
+    -- Otherwise one or more of the oldest pairs are evicted. If the map has no pairs, the new pair is not stored.
     not_grown : IsOutgrown (hash_of old.hasher pair.0) old →
         (mid : State K V S H) → CannotGrow rules old mid →
         Evicts rules (hash_of old.hasher pair.0) pair old mid outcome new →

@@ -8,7 +8,7 @@ use Rattle.lru_model.specs.declared.results.ReserveError.{ReserveError}
 use Rattle.lru_model.specs.declared.results.ReserveError.TheVariants.{TooLarge, Refused, Memory}
 
 module _ {K V S H : Type 0} (n : ℕ) (st : State K V S H) where
-  -- n is more than the growth left, and the number of pairs with n more is below 2 ^ 64
+  -- the growth left is less than n, and the number of pairs, plus n, is below 2 ^ 64
   abbrev pub NeedsGrowthFor : Type 0
   NeedsGrowthFor = (growth_left st < n) × (length st.pairs + n < 2 ^ 64)
 
@@ -16,10 +16,10 @@ module _ {K V S H : Type 0} (n : ℕ) (st : State K V S H) where
   pub data ReservesNothing (result : Result (Unit {0}) ReserveError) : Type 0 where
     -- there is enough growth left,
     enough_room : n ≤ growth_left st → length st.pairs + n < 2 ^ 64 → result ≡ Ok tt → ReservesNothing result
-    -- or the number of pairs would pass 64 bits, or no table holds them,
+    -- or the number of pairs, plus n, does not fit 64 bits, or no table holds this number of pairs,
     too_many : 2 ^ 64 ≤ length st.pairs + n → result ≡ Err TooLarge → ReservesNothing result
     no_such_table : NeedsGrowthFor → table_for n st ≡ no_table → result ≡ Err TooLarge → ReservesNothing result
-    -- or the allocation for a rehash fails; without pairs a rehash needs no memory
+    -- or the allocation for a rehash fails, which needs memory only if there are pairs
     no_memory_to_rehash : NeedsGrowthFor → table_for n st ≡ same_table → 0 < length st.pairs → result ≡ Err Memory →
         ReservesNothing result
 
@@ -29,7 +29,7 @@ module _ {K V S H : Type 0} (rules : Rules K V S) where
   FailsToGrow bytes st result =
       (Grants rules bytes st × (result ≡ Err Memory)) ⊎ (Denies rules bytes st × (result ≡ Err Refused))
 
-  -- A reservation leaves growth for n pairs or more, or fails. The pairs and the counts of moves stay.
+  -- A reservation fails, or leaves growth for at least n pairs. The pairs and the counts of moves stay.
   pub data Reserve (n : ℕ) (old : State K V S H) (result : Result (Unit {0}) ReserveError)
       (new : State K V S H) : Type 0 where
     -- Nothing changes,

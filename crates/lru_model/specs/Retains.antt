@@ -10,13 +10,13 @@ use Rattle.lru_model.specs.ByHash.{Asks}
 use Rattle.lru_model.specs.Callbacks.{noting, noted}
 
 module _ {K V S : Type 0} (rules : Rules K V S) where
-  -- The contents with one more pair, if the closure returned true for it. Otherwise the pair is removed, and the
-  -- limiter is notified.
+  -- The contents with this pair as the newest, if the closure returned true for it. Otherwise the pair is removed, and
+  -- the limiter is notified.
   abbrev pub answered : (K × V) × Bool → Contents K V S → Contents K V S
   answered (pair, true) c = record { pairs = pair ∷ c.pairs; limiter = c.limiter }
   answered (pair, false) c = record { pairs = c.pairs; limiter = notified_of rules (Some pair) c.limiter }
 
-  -- What is left of these pairs, newest first. Each is listed with the flag that the closure returned for it. The
+  -- What is left of these pairs, newest first. Each pair is listed with the flag that the closure returned for it. The
   -- closure was called with the oldest pair first.
   abbrev pub retained : List ((K × V) × Bool) → S → Contents K V S
   retained [] s = record { pairs = []; limiter = s }

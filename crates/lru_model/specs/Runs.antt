@@ -24,9 +24,9 @@ AreAmong {K} named test = (key : K) → named key ≡ true → test key ≡ true
 
 module _ {K V S H I : Type 0} (rules : Rules K V S) (offers : Offers K V S I) (names : I → K → Bool)
     (hash_of : H → K → ℕ) where
-  -- How one call changes a map if nothing is written through a reference. A call that only looks changes nothing. A
-  -- look-up by a key of any type, or by a hash, promotes the pair that it finds. All inserts of a run are by keys of
-  -- one type I.
+  -- How one call changes a map if nothing is written through a reference. A call that only reads changes nothing. A
+  -- look-up by a key of any type, or by a hash, promotes the pair that it finds. All inserted keys of a run have one
+  -- type, I.
   pub data Step (old new : State K V S H) : Type 0 where
     inserts : (key : I) (value : V) (result : Result Bool AllocError)
         → Insert rules offers names hash_of key value old result new → Step old new
@@ -63,7 +63,7 @@ module _ {K V S H I : Type 0} (rules : Rules K V S) (offers : Offers K V S I) (n
       × IfSome (lookup_entry test old.pairs) (λ there. cost there.0 value ≡ cost there.0 there.1)
       × (new ≡ written test value old))
 
-  -- The call names only keys that pass the test, and does not pop the newest pair. A retain names the keys that it
+  -- The call names only keys that pass the test, and is not `pop_newest`. A retain names the keys that its closure
   -- rejects.
   abbrev pub NamesOnly : (test : K → Bool) → (old new : State K V S H) → AnyStep old new → Type 0
   NamesOnly test old new (calls (inserts key value result h)) = AreAmong (names key) test
@@ -82,11 +82,11 @@ module _ {K V S H I : Type 0} (rules : Rules K V S) (offers : Offers K V S I) (n
   abbrev pub StepAmong : (K → Bool) → State K V S H → State K V S H → Type 0
   StepAmong test old new = (step : AnyStep old new) × NamesOnly test old new step
 
--- the inserted keys of a call that inserts nothing: there are none
+-- for a call that inserts nothing: no inserted key names a key
 abbrev pub no_keys : {K : Type 0} → ⊥ → K → Bool
 no_keys key k = false
 
--- the offers to a limiter if nothing is inserted
+-- for a call that inserts nothing: the limiter is offered nothing
 abbrev pub no_offers : {K V S : Type 0} → Offers K V S ⊥
 no_offers = record {
   on_insert = λ limiter n key value left pair. ⊥;
@@ -100,7 +100,8 @@ no_offers = record {
   };
 }
 
--- `Run IsStep new old`: steps, one after another, lead from `old` to `new`. Each leaves a sound table, as calls do.
+-- `Run IsStep new old` says that steps, one after another, lead from `old` to `new`. Each step leaves a sound table, as
+-- each call does.
 pub data Run {K V S H : Type 0} (IsStep : State K V S H → State K V S H → Type 0) (new : State K V S H) : State K V S H
     → Type 0 where
   ends : Run IsStep new new
@@ -108,7 +109,7 @@ pub data Run {K V S H : Type 0} (IsStep : State K V S H → State K V S H → Ty
       → Run IsStep new old
 
 module _ {K V S H : Type 0} (rules : Rules K V S) (hash_of : H → K → ℕ) where
-  -- a call that inserts nothing: it is a step, whatever type the inserted keys have (`without_insert`)
+  -- a call that inserts nothing; it is a `Step` for any type of inserted keys (`without_insert`)
   abbrev pub StepWithoutInsert : (old new : State K V S H) → Type 0
   StepWithoutInsert = Step rules no_offers no_keys hash_of
 

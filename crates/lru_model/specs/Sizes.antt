@@ -3,7 +3,7 @@ use Rattle.std.specs.Prelude.{◌≡◌, ◌⊎◌, ℕ, ◌+◌, ◌-◌, ◌*�
 use Rattle.std.specs.Prelude.{Option, Some, None}
 use Rattle.group_table.specs.Sizes.{IsPowerFromFour, full_capacity, buckets_for}
 
--- the number of the link `MAX` of 32 bits, and of 64 bits; buckets have smaller numbers
+-- the number of the link `MAX`, if links have 32 bits, and if they have 64; each bucket has a smaller number
 abbrev pub max_of_32_bits : ℕ
 max_of_32_bits = 2 ^ 32 - 1
 
@@ -14,14 +14,16 @@ max_of_64_bits = 2 ^ 64 - 1
 abbrev pub bytes_of : ℕ → ℕ → ℕ
 bytes_of entry_bytes buckets = (entry_bytes * buckets + 15) / 16 * 16 + buckets + 16
 
--- the bytes that a table of this number of buckets uses, if these are at most 2 ^ 63 - 16; no buckets use 0 bytes
+-- the bytes that a table of this number of buckets uses, if these are at most 2 ^ 63 - 16; a table without buckets uses
+-- 0 bytes
 unfoldable pub usage : ℕ → ℕ → Option ℕ
 usage entry_bytes buckets =
     if buckets == 0 then Some 0
     else (if nat_le (bytes_of entry_bytes buckets) (2 ^ 63 - 16) then Some (bytes_of entry_bytes buckets)
     else None)
 
--- the greatest usage within the budget, among tables whose buckets links can number, or 0 if there is none
+-- the greatest number of bytes within the budget that a table uses, among the tables of fewer than `max` buckets; 0 if
+-- no table is within the budget
 pub record IsGreatestUsage (max entry_bytes budget bytes : ℕ) : Type 0 where
   pub within : bytes ≤ budget
   pub of_table : (bytes ≡ 0)
@@ -35,18 +37,17 @@ pub data Target : Type 0 where
   no_table same_table : Target
   new_table : ℕ → ℕ → Target
 
--- the table of this number of buckets and of bytes, or no table if there is no number of bytes
 abbrev pub table_of : ℕ → Option ℕ → Target
 table_of buckets None = no_table
 table_of buckets (Some bytes) = new_table buckets bytes
 
--- the table of this number of buckets, or no table if there is no number
 abbrev pub table_with : ℕ → Option ℕ → Target
 table_with entry_bytes None = no_table
 table_with entry_bytes (Some buckets) = table_of buckets (usage entry_bytes buckets)
 
--- A table of `buckets` buckets grows for `pairs` pairs, which need `need` buckets. If it has fewer, it grows to `need`.
--- If the pairs are at most half of what it may hold, it keeps its size. Otherwise it grows to twice its buckets.
+-- A table of `buckets` buckets grows for `pairs` pairs, which need `need` buckets. If the table has fewer buckets, it
+-- grows to `need` buckets. If it has enough, and `pairs` is at most half of the pairs that it may hold, it keeps its
+-- size. Otherwise it grows to twice its buckets.
 abbrev pub target_from : ℕ → ℕ → ℕ → ℕ → Option ℕ → Target
 target_from max entry_bytes buckets pairs None = no_table
 target_from max entry_bytes buckets pairs (Some need) =

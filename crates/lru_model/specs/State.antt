@@ -48,16 +48,14 @@ pub record State (K V S H : Type 0) : Type 0 where
   -- the number of the link `MAX`, above the number of each bucket
   pub max : ℕ
 
--- what holds of the bucket states and the counts of every map with n pairs
+-- in every map of n pairs, this holds of the bucket states and the counts
 pub record IsSound (n entry_bytes max : ℕ) (states : List BucketState) (counts : Counts) : Type 0 where
   pub table : IsTable states
-  -- the number of full buckets is the number of pairs
   pub taken : entry_count states ≡ n
   -- links reach every bucket
   pub reachable : (length states ≡ 0) ⊎ (length states < max)
   -- the table takes at most 2 ^ 63 - 16 bytes
   pub usable : (bytes : ℕ) × (usage entry_bytes (length states) ≡ Some bytes)
-  -- the counts fit 64 bits
   pub moved : counts.moved < 2 ^ 64
   pub placed : counts.placed < 2 ^ 64
   pub shrunk : counts.shrunk < 2 ^ 64
@@ -66,14 +64,14 @@ pub record IsSound (n entry_bytes max : ℕ) (states : List BucketState) (counts
 abbrev pub IsAhead : ℕ → Counts → Type 0
 IsAhead n counts = counts.shrunk < 2 ^ 64 - 1 → counts.moved + n ≤ 2 * counts.placed + counts.shrunk
 
--- Moves are paid for: inserts moved at most two entries for each stored entry, plus one for each entry that shrinks
--- rehashed. `potential` more moves are paid for, too.
+-- Inserts moved at most two entries for each entry that they stored, plus one for each entry that a shrink rehashed.
+-- Another `potential` moves are paid for in advance.
 pub record IsPaid (potential : ℕ) (counts : Counts) : Type 0 where
   pub moved : counts.moved ≤ 2 * counts.placed + counts.shrunk
   pub ahead : IsAhead potential counts
 
--- Of `was` pairs n are left. Each removed pair may give back one of the growth left; in a table of up to 16 buckets it
--- does.
+-- There were `was` pairs, and n are left. The growth left never falls, and rises by at most one for each removed pair;
+-- in a table of up to 16 buckets, by exactly one.
 pub record GivesBack (was n : ℕ) (old new : List BucketState) : Type 0 where
   pub table : length new ≡ length old
   pub keeps : growth_left_of old ≤ growth_left_of new
@@ -86,19 +84,18 @@ pub record GivesBack (was n : ℕ) (old new : List BucketState) : Type 0 where
 abbrev pub FirstFreeIs : BucketState → ℕ → List BucketState → Type 0
 FirstFreeIs state hash states = (b : ℕ) × IsFirstFree states hash b × (bucket_at states b ≡ state)
 
--- The bucket of a removed pair, `place`, is free now: it is empty if every 16 neighbouring buckets around it contain an
--- empty one, and deleted otherwise. Each other bucket stays as it was.
+-- `place` is the bucket of a removed pair, and is free now. It is empty if each run of 16 neighbouring buckets that
+-- includes it contained an empty bucket before, and deleted otherwise. Each other bucket stays as it was.
 pub record Frees (place : Option ℕ) (old new : TableState) : Type 0 where
   pub bucket : ℕ
   pub there : place ≡ Some bucket
   pub freed : Removes old.states new.states bucket
   pub others : new.places ≡ filter (λ b. not (nat_eq b bucket)) old.places
 
--- the counts of a map that was just made
 abbrev pub no_counts : Counts
 no_counts = record { insertions = 0; moved = 0; placed = 0; shrunk = 0 }
 
--- the counts after an insertion of an entry for which n others moved
+-- the counts after an insertion of an entry, for which `moves` other entries moved
 abbrev pub count_insert : ℕ → Counts → Counts
 count_insert moves c = record c {
   insertions = count_up c.insertions (moves + 1);
@@ -128,26 +125,24 @@ module _ {K V S H : Type 0} where
   abbrev pub growth_left : State K V S H → ℕ
   growth_left st = growth_left_of st.table.states
 
-  -- the bucket of the pair of the named key
   abbrev pub place_in : (K → Bool) → State K V S H → Option ℕ
   place_in names st = place_of names st.pairs st.table.places
 
-  -- The table is sound: what holds of the table and the counts of every map, whatever its keys.
+  -- The table is sound. This holds of the table and the counts of every map; it says nothing about the keys.
   abbrev pub IsSized : State K V S H → Type 0
   IsSized st = IsSound (length st.pairs) st.entry_bytes st.max st.table.states st.counts
 
-  -- twice the number of full and deleted buckets above half of the full capacity, or 0
+  -- twice the number of full and deleted buckets, minus the full capacity, and at least 0
   abbrev pub potential : State K V S H → ℕ
   potential st = full_capacity (buckets st) - 2 * growth_left st
 
   -- what holds of every map
   pub record IsMap (eq : K → K → Bool) (st : State K V S H) : Type 0 where
-    -- no two keys are equal
     pub distinct : IsDistinct eq (keys_of st.pairs)
     pub sized : IsSized st
     pub paid : IsPaid (potential st) st.counts
 
-  -- the pairs that were removed, if any, gave back growth
+  -- how the growth left and the bucket states change if pairs were removed
   abbrev pub FreesGrowth : State K V S H → State K V S H → Type 0
   FreesGrowth old new = GivesBack (length old.pairs) (length new.pairs) old.table.states new.table.states
 
@@ -160,8 +155,8 @@ module _ {K V S H : Type 0} where
       counts = record old.counts { insertions = count_up old.counts.insertions (length old.pairs) };
     }
 
-  -- `new` is `old` with the contents `left`, after some pairs were evicted or removed. Bucket states and places may
-  -- differ; nothing else does.
+  -- `new` is `old` with the contents `left`, after some pairs were evicted or removed. The bucket states and the places
+  -- may have changed, but nothing else.
   pub record Leaves (old : State K V S H) (left : Contents K V S) (new : State K V S H) : Type 0 where
     pub is : new ≡ record old { pairs = left.pairs; limiter = left.limiter; table = new.table }
     pub growth_left : FreesGrowth old new
@@ -197,6 +192,5 @@ module _ {K V S : Type 0} (rules : Rules K V S) where
   abbrev pub IsWithin : Contents K V S → Type 0
   IsWithin c = (c.pairs ≡ []) ⊎ (rules.is_over_the_limit c.limiter (length c.pairs) ≡ false)
 
--- a trim of a map
 abbrev pub Trims : {K V S H : Type 0} → Rules K V S → State K V S H → State K V S H → Type 0
 Trims rules old new = Leaves old (trim rules (contents old)) new

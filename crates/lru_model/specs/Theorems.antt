@@ -12,15 +12,15 @@ use Rattle.lru_model.specs.State.{State, Counts, buckets, contents, potential}
 use Rattle.lru_model.specs.Place.{HasPairsButNoGrowth, CannotGrow}
 use Rattle.lru_model.specs.Inserts.{replacement, with_new_value, MayGive, IsOutOfMemory}
 
--- The count of insertions into the table rises by the entries moved and the entries stored. This holds until a count
--- stops at its maximum.
+-- The count of insertions into the table rises by the number of entries that are moved, plus the number of entries that
+-- are stored. This holds until a count stops at its maximum.
 abbrev pub CountsInsertions : Counts → Counts → Type 0
 CountsInsertions old new = new.insertions < 2 ^ 64 - 1 → new.moved < 2 ^ 64 - 1 → new.placed < 2 ^ 64 - 1 →
     new.insertions + old.moved + old.placed ≡ old.insertions + new.moved + new.placed
 
 module _ {K V S H : Type 0} where
-  -- `moved` and the potential together rise by at most 2 for each entry stored. This holds until the count of stored
-  -- entries stops at its maximum. No entry is counted as rehashed by a shrink.
+  -- The count `moved`, plus the potential, rises by at most 2 for each entry that is stored. This holds until the count
+  -- of stored entries stops at its maximum. No entry is counted as rehashed by a shrink.
   pub record PaysByStoring (old new : State K V S H) : Type 0 where
     pub placed : old.counts.placed ≤ new.counts.placed
     pub shrunk : new.counts.shrunk ≡ old.counts.shrunk
@@ -28,8 +28,8 @@ module _ {K V S H : Type 0} where
         new.counts.moved + potential new + 2 * old.counts.placed
         ≤ old.counts.moved + potential old + 2 * new.counts.placed
 
-  -- `moved` and the potential together rise by at most 2 for each entry stored, and by 1 for each entry that shrinks
-  -- rehashed. This holds until the count of stored or of rehashed entries stops at its maximum.
+  -- The count `moved`, plus the potential, rises by at most 2 for each entry that is stored, plus 1 for each entry that
+  -- a shrink rehashed. This holds until the count of stored or of rehashed entries stops at its maximum.
   pub record PaysForMoves (old new : State K V S H) : Type 0 where
     pub placed : old.counts.placed ≤ new.counts.placed
     pub shrunk : old.counts.shrunk ≤ new.counts.shrunk
@@ -37,7 +37,6 @@ module _ {K V S H : Type 0} where
         new.counts.moved + potential new + 2 * old.counts.placed + old.counts.shrunk
         ≤ old.counts.moved + potential old + 2 * new.counts.placed + new.counts.shrunk
 
-  -- the table uses at most n bytes
   abbrev pub UsesAtMost : ℕ → State K V S H → Type 0
   UsesAtMost most st = (bytes : ℕ) × (usage st.entry_bytes (buckets st) ≡ Some bytes) × (bytes ≤ most)
 
@@ -45,7 +44,6 @@ module _ {K V S H : Type 0} where
   abbrev pub IsSummed : (K → V → ℕ) → (S → ℕ) → State K V S H → Type 0
   IsSummed cost account st = account st.limiter ≡ sum_by (λ p. cost p.0 p.1) st.pairs
 
--- the pairs whose keys do not pass the test
 abbrev pub others : {K V : Type 0} → (K → Bool) → List (K × V) → List (K × V)
 others test pairs = filter (λ pair. not (test pair.0)) pairs
 
@@ -56,11 +54,11 @@ pub record IsNewest {K V : Type 0} (names : K → Bool) (pairs : List (K × V)) 
   pub first : pairs ≡ pair ∷ rest
   pub named : names pair.0 ≡ true
 
--- What an insert evicts or removes. `names` tests whether a key is the inserted one, and `refuses pair` says that the
+-- What an insert evicts or removes. `names` tests whether a key is the inserted key, and `refuses pair` says that the
 -- limiter rejects the new value for this pair.
 pub data EvictsOldest {K V : Type 0} (names : K → Bool) (refuses : K × V → Type 0) (old new : List (K × V))
     : Type 0 where
-  -- what is left begins with the pair of the key, followed by the newest others; or nothing is left
+  -- The pair of the key is the newest, and the newest pairs of other keys follow it in their order. Or nothing is left.
   behind : (newest : K × V) → names newest.0 ≡ true → IsFront new (newest ∷ without names old) →
       EvictsOldest names refuses old new
   -- The key was not there, and its pair is not stored. The oldest pairs may have been evicted.
@@ -70,7 +68,7 @@ pub data EvictsOldest {K V : Type 0} (names : K → Bool) (refuses : K × V → 
       EvictsOldest names refuses old new
 
 module _ {K V S H : Type 0} (rules : Rules K V S) where
-  -- the table has no growth left, would be more than half full, and cannot grow
+  -- the table has pairs but no growth left, would be more than half full with one pair more, and cannot grow
   pub record IsRefusedGrowth (st : State K V S H) : Type 0 where
     pub is_full : HasPairsButNoGrowth st
     pub above_half : full_capacity (buckets st) / 2 < length st.pairs + 1
@@ -78,16 +76,16 @@ module _ {K V S H : Type 0} (rules : Rules K V S) where
     pub mid : State K V S H
     pub refused : CannotGrow rules st mid
 
-  -- What the result of an insert says. If it is true, the pair of the key is the newest, and the limiter is not over
-  -- its limit. If it is false or an error, the key is not there.
+  -- What the result of an insert says. If the result is true, the pair of the key is the newest, and the limiter is not
+  -- over its limit. If the result is false or an error, the key is not there.
   abbrev pub SaysWhether : (K → Bool) → Result Bool AllocError → State K V S H → Type 0
   SaysWhether names (Ok true) new =
       IsNewest names new.pairs × (rules.is_over_the_limit new.limiter (length new.pairs) ≡ false)
   SaysWhether names result new = lookup_entry names new.pairs ≡ None
 
 module _ {K V S H I : Type 0} (rules : Rules K V S) (offers : Offers K V S I) (names : I → K → Bool) where
-  -- The pair that an insert stores. If the key was there, it is the stored key with the new value, as the replacement
-  -- left both. For a new key it is the pair that the limiter returned.
+  -- The pair that an insert stores. If the key was there, this is the stored key with the new value, as the replacement
+  -- left both. If the key is new, this is the pair that the limiter returned.
   pub data Stores (i : I) (v : V) (old : State K V S H) (pair : K × V) : Type 0 where
     left : (was : K × V) → lookup_entry (names i) old.pairs ≡ Some was
         → (replacement rules offers names was i v (contents old)).taken ≡ true →
@@ -97,9 +95,9 @@ module _ {K V S H I : Type 0} (rules : Rules K V S) (offers : Offers K V S I) (n
         (s : S) → MayGive rules offers names i v (contents old) s (Some pair) →
         Stores i v old pair
 
-  -- How an insert ends. Its result says whether the key is there (`says`). If the key is there, the newest pair is the
-  -- pair that the insert stores (`stores`). Only an insert of a new key runs out of memory (`out_of_memory`), and then
-  -- it keeps all pairs but some of the oldest (`keeps`).
+  -- How an insert ends. Its result says whether the key is in the map afterwards (`says`). If it is, the newest pair is
+  -- the pair that the insert stored (`stores`). Only an insert of a new key runs out of memory (`out_of_memory`). Then
+  -- it may have evicted some of the oldest pairs, but no others (`keeps`).
   pub record InsertEnds (hash_of : H → K → ℕ) (i : I) (v : V) (old : State K V S H) (result : Result Bool AllocError)
       (new : State K V S H) : Type 0 where
     pub says : SaysWhether rules (names i) result new

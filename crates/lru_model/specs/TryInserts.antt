@@ -12,7 +12,7 @@ use Rattle.lru_model.specs.Reservations.{Reserve}
 use Rattle.lru_model.specs.Inserts.{Insert}
 use Rattle.lru_model.specs.declared.results.ReserveError.{ReserveError}
 
--- growth is left for one more pair, or a reservation succeeded and left a sound table
+-- `ready` is the map before the insert: `old` if it has growth left, or `old` after a successful reservation
 pub data IsReady {K V S H : Type 0} (rules : Rules K V S) (old ready : State K V S H) : Type 0 where
   has_growth : 0 < growth_left old → ready ≡ old →
       IsReady rules old ready
@@ -27,7 +27,6 @@ module _ {K V S : Type 0} (terms : Terms K V S) (rules : Rules K V S) where
       else false
 
   module _ {H : Type 0} (key : K) (value : V) (old : State K V S H) where
-    -- a reservation fails, or leaves a limiter that cannot store the pair
     pub data IsUnready (left : State K V S H) : Type 0 where
       not_reserved : growth_left old ≡ 0 → (error : ReserveError) → Reserve rules 1 old (Err error) left →
           IsUnready left
@@ -37,7 +36,7 @@ module _ {K V S : Type 0} (terms : Terms K V S) (rules : Rules K V S) where
 
     module _ (eq : K → K → Bool) (hash_of : H → K → ℕ) where
       pub data TryInsert (result : Result (Unit {0}) (K × V)) (new : State K V S H) : Type 0 where
-        -- The key is there, or the limiter cannot store the pair, and nothing changes.
+        -- If the key is there, or if the limiter cannot store the pair, nothing changes.
         there : (pair : K × V) → lookup_entry (eq key) old.pairs ≡ Some pair →
             result ≡ Err (key, value) → new ≡ old →
             TryInsert result new

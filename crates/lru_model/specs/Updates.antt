@@ -20,13 +20,13 @@ module _ {K V S I : Type 0} (rules : Rules K V S) (offers : Offers K V S I) (nam
 
   pub data Update {H : Type 0} (i : I) (v : V) (old : State K V S H) (result : Updated V) (new : State K V S H)
       : Type 0 where
-    -- The limiter accepts the new value. The oldest pairs are evicted while it is over its limit.
+    -- The limiter accepts the new value. The oldest pairs are evicted while the limiter is over its limit.
     updated : (pair : K × V) → lookup_entry (names i) old.pairs ≡ Some pair →
         (replacement rules offers names pair i v (contents old)).taken ≡ true →
         result ≡ Replaced (replacement rules offers names pair i v (contents old)).old_value →
         Leaves old (trim rules (with_updated pair i v (contents old))) new →
         Update i v old result new
-    -- It rejects the new value, and the pair is removed.
+    -- The limiter rejects the new value, and the pair is removed.
     rejected : (pair : K × V) → lookup_entry (names i) old.pairs ≡ Some pair →
         (replacement rules offers names pair i v (contents old)).taken ≡ false →
         result ≡ Rejected (replacement rules offers names pair i v (contents old)).new_value →

@@ -53,7 +53,7 @@ pub enum Updated<V> {
 /// ```
 #[derive(Clone, Copy, Debug, PartialEq, Eq, Error)]
 pub enum ReserveError {
-    /// There is no larger table that holds the entries, or their number overflows.
+    /// No table holds the entries and the reserved ones, or their number overflows.
     #[error("too large")]
     TooLarge = 1,
     /// The limiter refused the table.

@@ -7,7 +7,7 @@ use group_table::{buckets_for_capacity, full_capacity};
 
 const MOST_BYTES: usize = isize::MAX as usize - 15;
 
-/// Returns the bytes of a table of this number of buckets, or `None` if there can be no such table.
+/// Returns how many bytes a table of `buckets` buckets takes, or `None` if these are more than `isize::MAX - 15`.
 #[tactic(auto, unfolding(crate::specs::Sizes::usage))]
 pub fn usage(entry_bytes: usize, buckets: usize) -> Option<usize>
     ensures { result ≡ usage entry_bytes buckets }
@@ -24,7 +24,7 @@ pub fn usage(entry_bytes: usize, buckets: usize) -> Option<usize>
     }
 }
 
-/// Returns the bytes of a table that exists and has buckets.
+/// Returns how many bytes a table takes. The table exists and has buckets.
 pub fn bytes_of(entry_bytes: usize, buckets: usize) -> usize
     requires { bytes_of entry_bytes buckets ≤ 2 ^ 63 - 16 }
     ensures { result ≡ bytes_of entry_bytes buckets }
@@ -33,8 +33,8 @@ pub fn bytes_of(entry_bytes: usize, buckets: usize) -> usize
 }
 
 /// Returns the buckets and the bytes of a larger table: a table of `buckets` buckets grows into it for `pairs` entries.
-/// The entries must be more than half of the capacity of the old table. Returns `None` if links cannot number the
-/// larger table, or if its bytes would pass `isize::MAX - 15`.
+/// The entries must be more than half of the capacity of the old table. Returns `None` if the larger table would have
+/// `max` buckets or more, which links cannot number, or would take more than `isize::MAX - 15` bytes.
 #[tactic(auto, unfolding(crate::specs::Sizes::target))]
 pub fn larger_table(
     max: usize,
@@ -57,7 +57,8 @@ pub fn larger_table(
     Some((count, bytes))
 }
 
-/// Returns the greatest usage within the budget, among tables of 4, 8, 16, .. buckets that links can number, or 0.
+/// Returns the greatest number of bytes within the budget that a table takes, among the tables of fewer than `max`
+/// buckets (4, 8, 16 and so on). Returns 0 if no table is within the budget.
 pub fn usage_within(max: usize, entry_bytes: usize, budget: usize) -> usize
     ensures { IsGreatestUsage max entry_bytes budget result }
 {

@@ -27,7 +27,7 @@ module _ {K V S : Type 0} where
   StoresPairs (calls.Drain front back) = Unit {0}
   StoresPairs call = ⊥
 
-  -- a step; or there is no memory for the returned pairs, and nothing changes
+  -- The step of the call. Or there is no memory for the returned pairs, and nothing changes.
   abbrev pub StepIfMemory : {A : Type 0} → (A → Call K V S → Reply K V → A → Type 0) → A → Call K V S → Reply K V → A
       → Type 0
   StepIfMemory IsStep old call reply new = IsStep old call reply new
@@ -54,7 +54,8 @@ module _ {K V S : Type 0} where
   SetsNoLimiter call = Unit {0}
 
 module _ {K V S : Type 0} (eq : K → K → Bool) (cost : K → V → ℕ) (account : S → ℕ) where
-  -- a write keeps the cost of its pair, and another limiter has the same running total
+  -- the call, if it is a write, keeps the cost of its pair; if it sets a limiter, this limiter has the same running
+  -- total
   abbrev pub KeepsCost : Contents K V S → Call K V S → Type 0
   KeepsCost old (calls.Write key v) =
       MatchOption (lookup_entry (eq key) old.pairs) (Unit {0}) (λ there. cost there.0 v ≡ cost there.0 there.1)
@@ -68,12 +69,12 @@ module _ {K V S H : Type 0} (rules : Rules K V S) (offers : Offers K V S K) (eq 
   CallStep = StepIfMemory (ReplyStep rules offers eq hash_of)
 
   module _ (cost : K → V → ℕ) (account : S → ℕ) where
-    -- a step that keeps the cost; or the reply is that the cost differs, and nothing changes
+    -- A step that keeps the cost. Or the reply is `cost_differs`, and nothing changes.
     abbrev pub SummingStep : State K V S H → Call K V S → Reply K V → State K V S H → Type 0
     SummingStep old call reply new = (KeepsCost eq cost account (contents old) call × CallStep old call reply new)
         ⊎ ((KeepsCost eq cost account (contents old) call → ⊥) × (reply ≡ cost_differs) × (new ≡ old))
 
-  -- A list of these calls is a run of steps of the map. Calls that change nothing are left out.
+  -- The list `calls` is a run of steps of the map. Calls that change nothing are left out.
   pub record AreSteps (calls : List (Call K V S)) (old new : State K V S H) : Type 0 where
     pub any : Run (AnyStep rules offers eq hash_of) new old
     -- the steps name only keys that pass a test, if the calls do

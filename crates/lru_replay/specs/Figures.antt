@@ -4,7 +4,6 @@ use Rattle.lru_model.specs.Sizes.{usage}
 use Rattle.lru_model.specs.State.{State, buckets, growth_left}
 use Rattle.lru_replay.specs.declared.lines.figures.Figures.{Figures}
 
--- these numbers are the figures of the map
 pub record IsFigures {K V S H : Type 0} (st : State K V S H) (figures : Figures) : Type 0 where
   pub len : figures.len ≡ length st.pairs
   pub capacity : figures.capacity ≡ length st.pairs + growth_left st

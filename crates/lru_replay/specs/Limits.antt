@@ -4,7 +4,8 @@ use Rattle.std.specs.Prelude.{ℕ, Option, Some, None}
 use Rattle.lru_limits.specs.Rules.{Rules, Offers}
 use Rattle.lru_limits.specs.Budget.{Budget, by_cost, charges}
 
--- a map is over the limit if the running total is above it; any growth is permitted; a value costs itself
+-- A map is over the limit if the running total is above the limit. Any growth is permitted. The cost of a value is the
+-- value.
 abbrev pub cost_rules : Rules ℕ ℕ Budget
 cost_rules = by_cost (λ value. value)
 

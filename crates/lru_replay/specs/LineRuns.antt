@@ -32,13 +32,13 @@ module _ {S : Type 0} (rules : Rules ℕ ℕ S) (offers : Offers ℕ ℕ S ℕ) 
   TextStep old call text new = (reply : Reply ℕ ℕ) × AnswersCall rules offers old call reply new
       × (text ≡ reply_text (reported old.limiter) reply)
 
-  -- If the line spells a call, the call is carried out. Otherwise the text says that the line is bad, and nothing
-  -- changes.
+  -- If the line spells a call, the call is carried out. Otherwise the text says that the line is bad, and the map stays
+  -- as it is.
   abbrev pub LineStep : Map S → List ℕ → List ℕ → Map S → Type 0
   LineStep old line text new = ((call : Call ℕ ℕ S) × SpellsCall line call × TextStep old call text new)
       ⊎ (((call : Call ℕ ℕ S) → SpellsCall line call → ⊥) × (text ≡ bad_text) × (new ≡ old))
 
-  -- The line is answered: its text and a line feed are written. If a write failed, a beginning of both was written.
+  -- The line is answered: its text and a line feed were written, or a beginning of these if a write failed.
   abbrev pub AnswersLine : Map S → List ℕ → Map S → Option (List ℕ) → Option (List ℕ) → Result (Unit {0}) ReplayError
       → Type 0
   AnswersLine before line after old new result =
@@ -61,14 +61,13 @@ module _ (IsText : List (List ℕ) → List ℕ → Type 0) (from : Option (List
   abbrev pub OfAll : (List ℕ → Type 0) → Type 0
   OfAll Wrote = IfSome from (λ input. (text : List ℕ) × IsText (lines_of input) text × Wrote text)
 
-  -- some lines were read whole, and a part of the next; `Wrote` holds of a text of the whole lines
+  -- some lines were read whole, and a part of the next line; `Wrote` holds of a text of the whole lines
   abbrev pub OfRead : Option (List ℕ) → (List ℕ → Type 0) → Type 0
   OfRead to Wrote = (lines : List (List ℕ)) × (text part : List ℕ)
       × IsText lines text × TakesLines from to lines part × Wrote text
 
 module _ (IsText IsTextSoFar : List (List ℕ) → List ℕ → Type 0) (from to old new : Option (List ℕ)) where
-  -- either all lines were read, and a beginning of a text of them was written; or some lines were read whole, and a
-  -- beginning of a text of these was written
+  -- Either all lines were read, or some lines were read whole. A beginning of a text of these lines was written.
   abbrev pub BeginsText : Type 0
   BeginsText = (OfAll IsText from (Begins old new) × OnSome from (IsAtEnd to))
       ⊎ OfRead IsTextSoFar from to (Begins old new)

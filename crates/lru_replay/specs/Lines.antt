@@ -8,7 +8,6 @@ use Rattle.lru_replay.specs.declared.lines.line.Piece.TheVariants as pieces
 use Rattle.lru_replay.specs.declared.lines.line.Ending.{Ending}
 use Rattle.lru_replay.specs.declared.lines.line.Ending.TheVariants as endings
 
--- the bytes do not contain this byte
 abbrev pub Lacks : ℕ → List ℕ → Type 0
 Lacks byte bytes = AllByRecursion (λ b. b ≢ byte) bytes
 
@@ -55,7 +54,7 @@ module _ (old new : Option (List ℕ)) where
   abbrev pub TakesFirst : Type 0
   TakesFirst = (line : List ℕ) × (TakesFed line ⊎ TakesRest line)
 
-  -- these lines were read with their line feeds, and a part of the next
+  -- these lines were read with their line feeds, and then a part of the next line
   abbrev pub TakesLines : List (List ℕ) → List ℕ → Type 0
   TakesLines lines part = AllByRecursion (Lacks 10) lines × Lacks 10 part
       × Consumes old new (flat_map fed lines ++ part)

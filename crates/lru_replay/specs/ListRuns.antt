@@ -39,11 +39,9 @@ module _ {K V S : Type 0} (rules : Rules K V S) (offers : Offers K V S K) (eq : 
       if r.taken then (Replaced r.old_value, trim rules (with_updated rules offers eq there key v c))
       else (Rejected r.new_value, with_removed rules offers eq there key v c)
 
-  -- what an update of the key returns and leaves
   abbrev pub updated_in_list : Updated V × Contents K V S
   updated_in_list = unwrap_or (option_map updates_pair (lookup_entry (eq key) c.pairs)) (Absent v, c)
 
--- the contents without pairs, after the limiter was notified of the clear
 abbrev pub emptied : {K V S : Type 0} → Rules K V S → Contents K V S → Contents K V S
 emptied rules c = record { pairs = []; limiter = rules.on_cleared c.limiter }
 

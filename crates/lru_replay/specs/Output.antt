@@ -22,7 +22,7 @@ Begins old new text = (part : List ℕ) × IsFront part text × Appends old new 
 abbrev pub Fails : ReplayError → Option (List ℕ) → Option (List ℕ) → List ℕ → Type 0
 Fails e old new text = (e ≡ errors.Write) × Begins old new text
 
--- the text was written, or a beginning of it if a write failed
+-- the text was written, or, if a write failed, a beginning of the text
 abbrev pub Writes : {A : Type 0} → Option (List ℕ) → Option (List ℕ) → Result A ReplayError → List ℕ → Type 0
 Writes old new (Ok _) text = Appends old new text
 Writes old new (Err e) text = Fails e old new text
@@ -99,7 +99,8 @@ figures_text figures = named_text (codes "len ") figures.len ++ (named_text (cod
     ++ (named_text (codes " memory ") figures.memory ++ (named_text (codes " moved ") figures.moved
     ++ placed_text figures.placed figures.shrunk)))
 
--- The text of a reply, if the limiter keeps this cost or no cost. No line gets the reply that a cost differs.
+-- The text of a reply. The first argument is the cost that the limiter keeps, if it keeps one. No line gets the reply
+-- `cost_differs`.
 abbrev pub reply_text : Option ℕ → Reply ℕ ℕ → List ℕ
 reply_text cost (flag there) = flag_text there
 reply_text cost (given result out) = insert_text result ++ rest_text out
@@ -114,10 +115,8 @@ reply_text cost done = codes "ok"
 reply_text cost no_memory = codes "no memory"
 reply_text cost cost_differs = codes "cost differs"
 
--- the text of a line that spells no command
 abbrev pub bad_text : List ℕ
 bad_text = codes "bad"
 
--- what is written if no limiter is named
 abbrev pub no_limiter_text : List ℕ
 no_limiter_text = codes "no limiter" ++ 10 ∷ []

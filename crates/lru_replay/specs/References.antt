@@ -31,8 +31,8 @@ pub record CostsAlike {K V : Type 0} (eq : K → K → Bool) (weight : K → V �
   pub keys : (key other : K) → eq key other ≡ true → cost key ≡ cost other
   pub pairs : (key other : K) (value : V) → eq key other ≡ true → weight key value ≡ weight other value
 
--- Each pair costs what its key costs. The total is the sum of the costs, and at most the limit. Any `most` + 1 keys,
--- even equal ones, together cost more than the limit, and there is a table for 8 * (most + 1) pairs.
+-- Each pair costs what its key costs. The total is the sum of the costs, and at most the limit. Any `most` + 1 keys
+-- together cost more than the limit, even if some are equal, and there is a table for 8 * (most + 1) pairs.
 pub record KeepsToCost {K V H : Type 0} (weight : K → V → ℕ) (cost : K → ℕ) (st : State K V Budget H) : Type 0 where
   pub each : AllByRecursion (λ pair. weight pair.0 pair.1 ≡ cost pair.0) st.pairs
   pub summed : IsSummed weight (λ budget. budget.cost) st
@@ -48,7 +48,7 @@ module _ {K V H : Type 0} (eq : K → K → Bool) where
   abbrev pub of_length : Cache K V ℕ H
   of_length = record { eq = eq; limit = λ n. n; refer = refer eq; Stores = λ n. 0 < n; Keeps = KeepsToLength }
 
-  -- a map with a limit of cost, if the `weight` of each pair is the `cost` of its key
+  -- a map with a limit of cost; the `weight` of each pair is the `cost` of its key
   abbrev pub of_cost : (K → V → ℕ) → (K → ℕ) → Cache K V Budget H
   of_cost weight cost = record {
     eq = eq;
@@ -65,8 +65,8 @@ module _ {K V S H : Type 0} (cache : Cache K V S H) where
     pub limit : cache.limit new.limiter ≡ cache.limit old.limiter
     pub keeps : cache.Keeps old → cache.Keeps new
 
-  -- A reference to a key. The key is the newest afterwards, and the others follow in their order, as far as the limit
-  -- permits (`does`). An entry was stored if the key was not there, unless nothing can be stored (`stored`).
+  -- A reference to a key. The key is the newest afterwards, and the other keys follow in their order, as far as the
+  -- limit permits (`does`). If the key was not there, an entry was stored, unless no entry can be stored (`stored`).
   pub record Reference (key : K) (old new : State K V S H) : Type 0 where
     pub does : LeavesKeys (cache.refer (cache.limit old.limiter) key (keys_of old.pairs)) old new
     pub stored : cache.Stores (cache.limit old.limiter)
@@ -78,7 +78,7 @@ module _ {K V S H : Type 0} (cache : Cache K V S H) where
     pub stored : new.counts.placed ≡ old.counts.placed
 
   -- From the map `old` the program made the references of a trace, one after another, and left the map `new`. `missed`
-  -- of these did not find their key. Between references the program may have read.
+  -- references did not find their key. Between references the program may have read.
   pub data Referenced (old : State K V S H) : (trace : List K) (missed : ℕ) (new : State K V S H) → Type 0 where
     begins : Referenced old [] 0 old
     refers : (key : K) (trace : List K) (missed : ℕ) (mid new : State K V S H) → Referenced old trace missed mid →

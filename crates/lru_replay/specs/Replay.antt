@@ -1,4 +1,5 @@
--- A whole replay: what is written for an input, at its end, and if a read or a write fails.
+-- A whole replay: what is written for an input if nothing fails (`IsOutput`), and what was read and written, by how the
+-- replay ended (`Replays`).
 use Rattle.std.specs.Prelude.{◌≡◌, ℕ, List, [], ◌∷◌, ◌⊎◌, Option, OnSome, IfSome, Result, Ok, Err}
 use Rattle.std.specs.Io.KnownBytes.{Appends, IsAtEnd}
 use Rattle.lru_limits.specs.Limiters.{length_rules, length_offers, memory_rules, no_rules, all_offers}
@@ -61,18 +62,19 @@ module _ (from to old new : Option (List ℕ)) where
     pub replay : OfAll IsReplay from (Appends old new)
     pub at_end : OnSome from (IsAtEnd to)
 
-  -- The first line names no limit, or there is no line. At most that line was read, and `no limiter` was written.
+  -- The first line names no limit, or there is no line. Nothing after the first line was read, and `no limiter` was
+  -- written.
   pub record HasNoLimit : Type 0 where
     pub unnamed : IfSome from (λ input. NamesNoLimit (lines_of input))
     pub reads : TakesFirst from to
     pub writes : Appends old new no_limiter_text
 
-  -- A read failed: the text of the lines that were read whole was written, and nothing else.
+  -- A read failed. The text of the lines that were read whole was written, and nothing else.
   abbrev pub ReadFailed : Type 0
   ReadFailed = OfRead (SoFar IsReplay) from to (Appends old new)
 
-  -- A write failed: what was written is a beginning of the output for all lines. It is also a beginning of the output
-  -- for the lines that were read.
+  -- A write failed. What was written is a beginning of the output for all lines, and a beginning of the output for the
+  -- lines that were read.
   pub record WriteFailed : Type 0 where
     pub cut : OfAll IsOutput from (Begins old new)
     pub reads : BeginsText IsOutput (SoFar IsOutput) from to old new

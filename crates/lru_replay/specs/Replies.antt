@@ -27,14 +27,11 @@ pub data Reply (K V : Type 0) : Type 0 where
   -- the call is done, and returns nothing
   done : Reply K V
   no_memory : Reply K V
-  -- the running total would be wrong after the call, so it was not made
+  -- the running total would be wrong after the call, so the call was not made
   cost_differs : Reply K V
 
--- what a reply says about memory
 pub data MemoryReport : Type 0 where
-  -- nothing ran out of memory
   found_all : MemoryReport
-  -- the call ran out of memory
   runs_out : MemoryReport
   -- an insert ran out of memory, and the reply also lists the pairs that were passed to its callback
   runs_out_with_pairs : MemoryReport
@@ -47,7 +44,6 @@ module _ {K V : Type 0} where
   memory_report (given (Err e) out) = runs_out_with_pairs
   memory_report reply = found_all
 
-  -- the reply that an answer is
   abbrev pub said : Answer K V → Reply K V
   said (answers.Flag b) = flag b
   said (answers.Given result out) = given result out.items
@@ -69,7 +65,6 @@ module _ {K V : Type 0} where
   said answers.Memory = no_memory
   said answers.CostDiffers = cost_differs
 
-  -- the reply that each answer is
   abbrev pub all_said : List (Answer K V) → List (Reply K V)
   all_said [] = []
   all_said (answer ∷ answers) = said answer ∷ all_said answers

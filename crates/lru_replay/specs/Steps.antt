@@ -27,8 +27,8 @@ use Rattle.lru_replay.specs.Replies.{Reply, flag, given, updated, value, pair, l
 use Rattle.lru_replay.specs.Replies.{insert_reply, made_reply}
 
 module _ {K V : Type 0} (eq : K → K → Bool) (hash_of : K → ℕ) where
-  -- What a search by a hash finds for a key: its pair, if the tag of its hash is the tag of that hash; or nothing, if
-  -- the key is not there or has another hash.
+  -- What a search by a hash finds for a key. It may find the pair of the key, if the key's hash and this hash have the
+  -- same tag. It may find nothing, if the key is not there or has another hash.
   pub data FindsByHash (hash : ℕ) (key : K) (pairs : List (K × V)) (result : Option V) : Type 0 where
     found : (there : K × V) → lookup_entry (eq key) pairs ≡ Some there → hash_tag (hash_of there.0) ≡ hash_tag hash
         → result ≡ Some there.1 → FindsByHash hash key pairs result

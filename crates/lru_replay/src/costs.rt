@@ -19,8 +19,9 @@ ghost use Rattle.lru_replay.specs.References.{KeepsToCost, CostsAlike, Reference
 use lru_limits::KeyHasher;
 use std::hash::Hash;
 
-/// A new map keeps to its cost under these premises. Its limit is below 2 ^ 63 and, for each key, below 234,881,023
-/// times the cost of the key. An entry takes fewer than 2 ^ 32 - 1 bytes, and the link type can number 2 ^ 31 buckets.
+/// A new map keeps to its cost (`KeepsToCost`) under these premises. Its limit is below 2 ^ 63. For each key, the limit
+/// is below 234,881,023 times the cost of the key. An entry takes fewer than 2 ^ 32 - 1 bytes, and the link type can
+/// number 2 ^ 31 buckets.
 pub fn maps_keep_to_their_cost<K: Eq + Hash + Drop, V: Drop, S: KeyHasher<K>>()
     ensures { (weight : K → V → ℕ) (cost : K → ℕ) (limit entry_bytes max : ℕ) (hasher : S) →
         limit < 2 ^ 63 → ((key : K) → limit < 234881023 * cost key) → entry_bytes < 2 ^ 32 - 1 →
@@ -94,8 +95,8 @@ pub fn gets_that_insert_if_made_make_references<
 {}
 
 /// A program that makes the references of a trace leaves the keys that an LRU cache with this limit of cost contains
-/// (`keys`), and misses as often as that cache (`misses`). The map counts the misses (`stored`): `placed`, the count of
-/// entries that inserts stored, rises by their number. Equal keys must cost the same.
+/// (`keys`), and misses as often as that cache (`misses`). The map counts the misses: `placed`, the count of entries
+/// that inserts stored, rises by the number of misses (`stored`). Equal keys must cost the same.
 pub fn references_keep_the_newest<K: Eq + Hash + Drop, V: Drop, S: KeyHasher<K>>()
     ensures keys { (weight : K → V → ℕ) (cost : K → ℕ) (trace : List K) (missed : ℕ) (old new : State K V Budget S) →
         CostsAlike K.eq weight cost → Referenced (of_cost K.eq weight cost) old trace missed new →
@@ -108,9 +109,9 @@ pub fn references_keep_the_newest<K: Eq + Hash + Drop, V: Drop, S: KeyHasher<K>>
         new.counts.placed ≡ count_up old.counts.placed missed }
 {}
 
-/// More capacity never means more misses, whichever calls make the references of one trace on two maps. If the keys of
-/// the map with the smaller limit are the newest keys of the other map, this is so after the trace, too (`front`). Then
-/// the map with the smaller limit misses at least as often as the other map (`misses`).
+/// More capacity never means more misses. Suppose that the references of one trace are made on two maps, by any calls,
+/// and that the keys of the map with the smaller limit were the newest keys of the other map. Then they are so after
+/// the trace, too (`front`), and the map with the smaller limit misses at least as often (`misses`).
 pub fn more_capacity_never_misses_more<K: Eq + Hash + Drop, V: Drop, S: KeyHasher<K>>()
     ensures front { (weight : K → V → ℕ) (cost : K → ℕ) (trace : List K) (missed other_missed : ℕ)
         (old small other large : State K V Budget S) →

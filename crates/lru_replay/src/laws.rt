@@ -14,8 +14,8 @@ use lru_limits::{Insertion, KeyHasher};
 use lru_model::laws;
 use std::hash::Hash;
 
-/// A list of calls is a run of steps of the map, so the laws on runs hold of it (`calls`). The same holds of a list
-/// that `run_summing` carries out, and its writes keep the cost (`summing`).
+/// A list of calls is a run of steps of the map, so the laws on runs hold of it (`calls`). A list that `run_summing`
+/// carries out is such a run, too, and its writes keep the cost (`summing`).
 pub fn lists_are_runs<K: Eq + Hash, V, L: Insertion<K, V, K>, S: KeyHasher<K>>()
     ensures calls { (old new : State K V L S) (calls : List (Call K V L)) (replies : List (Reply K V)) →
         IsRun (CallStep L.rules L.offers K.eq S.hash_of) (IsMap K.eq) old calls replies new →
@@ -28,9 +28,9 @@ pub fn lists_are_runs<K: Eq + Hash, V, L: Insertion<K, V, K>, S: KeyHasher<K>>()
 {}
 
 /// A run does what it would do to a list of pairs with distinct keys, without a table, under two premises. The limiter
-/// permits every growth, as `ByLength`, `ByCost` and the unlimited ones do. The link type and memory permit the tables
-/// that the pairs may need. `ListCallStep` says which answers and states the list and the limiter lead to (`exact`).
-/// With n pairs and m calls, it is enough that they permit a table for 8 * (n + m + 1) pairs (`reached`).
+/// permits every growth, as `ByLength`, `ByCost` and the unlimited limiters do. There is a table for each number of
+/// pairs that the map may have. `ListCallStep` says which answers and states the list and the limiter lead to
+/// (`exact`). With n pairs and m calls, a table for 8 * (n + m + 1) pairs is enough (`reached`).
 pub fn granted_calls_are_exact<K: Eq + Hash, V, L: Insertion<K, V, K>, S: KeyHasher<K>>()
     ensures exact { (old new : State K V L S) (calls : List (Call K V L)) (replies : List (Reply K V)) →
         AlwaysGrants L.rules → HasTables old →

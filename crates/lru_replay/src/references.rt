@@ -26,8 +26,8 @@ use lru_model::laws;
 use std::hash::Hash;
 
 /// These calls make a reference if they return `Ok`: an insert (`inserts`), an insert that evicts nothing (`tries`),
-/// and a memo that remembers a value (`remembers`). So do a get that finds the key, whatever is written through the
-/// loan (`gets`), and a promotion of a key that is there (`promotes`). If a get returns `None`, the insert after it
+/// and a call of a memo (`remembers`). A get that finds the key makes one, whatever is written through the loan
+/// (`gets`), and so does a promotion of a key that is there (`promotes`). If a get returns `None`, the insert after it
 /// makes the reference. A reference to a key is also a reference to each equal key (`equal`).
 pub fn calls_make_references<K: Eq + Hash + Drop, V: Drop, S: KeyHasher<K>>()
     ensures inserts { (key : K) (value : V) (kept : Bool) (old new : State K V ByLength S) →
@@ -118,7 +118,7 @@ pub fn calls_change_the_keys<K: Eq + Hash + Drop, V: Drop, S: KeyHasher<K>>()
     laws::calls_keep_the_length::<K, V, ByLength, S>();
 }
 
-/// One more reference of a program that made the references of a trace: it finds its key (`hits`), or does not
+/// A program that made the references of a trace makes one more reference, which finds its key (`hits`) or does not
 /// (`misses`). The map still keeps to its length (`keeps`).
 pub fn programs_make_references<K: Eq + Hash + Drop, V: Drop, S: KeyHasher<K>>()
     ensures hits { (trace : List K) (missed : ℕ) (key : K) (value : V) (old mid new : State K V ByLength S) →
@@ -136,7 +136,7 @@ pub fn programs_make_references<K: Eq + Hash + Drop, V: Drop, S: KeyHasher<K>>()
 /// A program that makes the references of a trace leaves the `max_length` keys that were referenced last (`keys`). It
 /// misses exactly at the references whose reuse distance is at least `max_length`, and at the first reference to each
 /// key (`misses`). The keys that were in the map before count as referenced, the oldest first. The map counts the
-/// misses (`stored`): `placed`, the count of entries that inserts stored, rises by their number.
+/// misses: `placed`, the count of entries that inserts stored, rises by the number of misses (`stored`).
 pub fn references_keep_the_newest<K: Eq + Hash + Drop, V: Drop, S: KeyHasher<K>>()
     ensures keys { (trace : List K) (missed : ℕ) (old new : State K V ByLength S) →
         IsDistinct K.eq (keys_of old.pairs) → length old.pairs ≤ old.limiter →
@@ -151,9 +151,10 @@ pub fn references_keep_the_newest<K: Eq + Hash + Drop, V: Drop, S: KeyHasher<K>>
         new.counts.placed ≡ count_up old.counts.placed missed }
 {}
 
-/// More capacity never means more misses, whichever calls make the references of one trace on two maps. If the keys of
-/// the smaller map are the newest keys of the larger map, this is so after the trace, too (`front`). Even if the
-/// smaller map is only included in the larger one, it misses at least as often (`misses`).
+/// More capacity never means more misses. Suppose that the references of one trace are made on two maps, by any calls.
+/// If the keys of the smaller map were the newest keys of the larger map, they are so after the trace, too (`front`).
+/// If the larger map contained the keys of the smaller map in any order, the smaller map misses at least as often
+/// (`misses`).
 pub fn more_capacity_never_misses_more<K: Eq + Hash + Drop, V: Drop, S: KeyHasher<K>>()
     ensures front { (trace : List K) (missed other_missed : ℕ) (old small other large : State K V ByLength S) →
         Referenced (of_length K.eq) old trace missed small → Referenced (of_length K.eq) other trace other_missed large →
@@ -166,8 +167,9 @@ pub fn more_capacity_never_misses_more<K: Eq + Hash + Drop, V: Drop, S: KeyHashe
         other_missed ≤ missed }
 {}
 
-/// If a smaller map is included in a larger map, it is so after the same calls, too (`included`). So what the smaller
-/// map finds, the larger map finds (`finds`). The calls are those of `calls_change_the_keys`, and references.
+/// If a larger map contains the keys of a smaller map, it contains them after the same calls, too (`included`). So the
+/// larger map finds each key that the smaller map finds (`finds`). The calls are those of `calls_change_the_keys`, and
+/// references.
 pub fn a_smaller_map_is_included<K: Eq + Hash + Drop, V: Drop, S: KeyHasher<K>>()
     ensures included { (calls : List (KeyCall K)) (old small other large : State K V ByLength S) →
         Did K.eq old calls small → Did K.eq other calls large → old.limiter ≤ other.limiter →

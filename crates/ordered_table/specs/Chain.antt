@@ -19,7 +19,6 @@ abbrev pub pair_slots : {K V N : Type 0} → List (Slot (Entry K V N)) → List 
 pair_slots slots = map pair_slot slots
 
 module _ {N : Type 0} (link : ℕ → N) (none : N) where
-  -- the link to a bucket, or `none`
   abbrev pub link_to : Option ℕ → N
   link_to None = none
   link_to (Some b) = link b
@@ -82,7 +81,8 @@ pub record SetsEnd {N : Type 0} (none old new at to : N) : Type 0 where
   pub stays : at ≢ none → new ≡ old
 
 module _ {K V N : Type 0} (number : N → ℕ) (link : ℕ → N) (none : N) where
-  -- The links keep an order of some full buckets: its ends, and the neighbours of each bucket. They reach every bucket.
+  -- The links keep an order of some full buckets: `newest` and `oldest` lead to its ends, and each entry has links to
+  -- its neighbours. Links can number every bucket.
   pub record IsChain (slots : List (Slot (Entry K V N))) (newest oldest : N) (order : List ℕ) : Type 0 where
     pub reached : length slots < number none
     pub distinct : AllPairs ◌≢◌ order
@@ -98,8 +98,8 @@ module _ {K V N : Type 0} (number : N → ℕ) (link : ℕ → N) (none : N) whe
     pub all : (b : ℕ) → IsFull slots b → Contains order b
     pub count : entry_count slots ≡ length order
 
-  -- A bucket with these links is about to be taken out of the chain of these buckets. The slots may have lost its entry
-  -- already, but no other entry.
+  -- Bucket b, with these links, is about to be taken out of the chain of these buckets. Its entry may have left the
+  -- slots already, but no other entry has.
   pub record IsGap (slots : List (Slot (Entry K V N))) (newest oldest : N) (order : List ℕ) (b : ℕ) (newer older : N)
       : Type 0 where
     pub before : List (Slot (Entry K V N))

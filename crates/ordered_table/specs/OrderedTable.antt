@@ -18,11 +18,9 @@ pub record OrderedTable (K V : Type 0) : Type 0 where
   -- how many insertions the table has made
   pub insertions : Insertions
 
--- the order without this bucket
 abbrev pub without_bucket : ℕ → List ℕ → List ℕ
 without_bucket b order = filter (λ c. not (nat_eq c b)) order
 
--- the order with this bucket in front, if there is one
 abbrev pub in_front : Option ℕ → List ℕ → List ℕ
 in_front None order = order
 in_front (Some b) order = b ∷ without_bucket b order
@@ -38,7 +36,6 @@ bucket_before b [] = None
 bucket_before b (c ∷ []) = None
 bucket_before b (c ∷ d ∷ ds) = if nat_eq d b then Some c else bucket_before b (d ∷ ds)
 
--- the entries of these buckets
 abbrev pub entries_in : {T : Type 0} → List (Slot T) → List ℕ → List T
 entries_in slots [] = []
 entries_in slots (b ∷ bs) = option_to_list (entry_at slots b) ++ entries_in slots bs

@@ -21,6 +21,6 @@ module _ {K V : Type 0} (t : OrderedTable K V) where
     pub after : List ℕ
     pub order : t.order ≡ before ++ (middle ++ after)
     pub count : length middle ≡ left
-    -- `front` and `back` are the first and the last bucket that is left, or any numbers if none is
+    -- `front` and `back` are the first and the last bucket that is left, or any numbers if no bucket is left
     pub first : 0 < left → first_bucket middle ≡ Some front
     pub last : 0 < left → last_bucket middle ≡ Some back

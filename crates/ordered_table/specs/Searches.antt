@@ -25,7 +25,7 @@ module _ {K V F : Type 0} (closure : Mut F (Bor K × (Bor V × Unit {0})) Bool) 
     pub accepted : AnswersPair between b true last
 
   -- a search for the hash called f for these buckets, and f rejected all. For any hashes that fit the table, these
-  -- include each bucket whose entry has the hash.
+  -- buckets include each bucket whose entry has the hash.
   pub record FindsNoPair (hash : ℕ) (f : F) : Type 0 where
     pub asked : List ℕ
     pub search : IsSearch slots hash asked

@@ -30,7 +30,7 @@ pub struct Pair<K, V> {
 
 /// A table whose full buckets are in an order, newest first. `N` is the type of its links.
 ///
-/// A contract sees it as its `slots`, the `order` of the full ones, and its `insertions`. The caller computes the
+/// A contract sees it as its `slots`, the `order` of its full buckets, and its `insertions`. The caller computes the
 /// hashes. The keys fit the table (`KeysFit`) as long as equal keys get the same hash.
 ///
 /// ```
@@ -161,7 +161,7 @@ impl<K, V, N: LinkType> OrderedTable<K, V, N> {
         promoted::oldest(&self.linked, self.promoted)
     }
 
-    /// Returns the bucket after a full one in the order, towards the oldest. For the last bucket of the order, the
+    /// Returns the bucket after a full bucket in the order, towards the oldest. For the last bucket of the order, the
     /// result is any number.
     #[inline]
     pub fn older_unless_last(&self, b: usize) -> usize
@@ -171,7 +171,7 @@ impl<K, V, N: LinkType> OrderedTable<K, V, N> {
         promoted::older_unless_last(&self.linked, self.promoted, b)
     }
 
-    /// Returns the bucket before a full one in the order, towards the newest. For the first bucket of the order, the
+    /// Returns the bucket before a full bucket in the order, towards the newest. For the first bucket of the order, the
     /// result is any number.
     #[inline]
     pub fn newer_unless_first(&self, b: usize) -> usize
@@ -181,7 +181,7 @@ impl<K, V, N: LinkType> OrderedTable<K, V, N> {
         promoted::newer_unless_first(&self.linked, self.promoted, b)
     }
 
-    /// Lends the pair in a full bucket for writing. The keys fit the table if the written key has the same hash.
+    /// Lends the pair in a full bucket for writing. The keys still fit the table if the written key has the same hash.
     #[inline]
     pub fn pair_mut(&mut self, b: usize) -> &mut Pair<K, V>
         requires { IsFull self.old.slots b }
@@ -198,8 +198,8 @@ impl<K, V, N: LinkType> OrderedTable<K, V, N> {
 
     /// Returns the bucket of the first pair that `f` accepts.
     ///
-    /// `f` is called with pairs whose tag is the hash's top 7 bits. Only tests show that it is called with each pair at
-    /// most once, and not again after it accepted one.
+    /// `f` is called with pairs whose tag is the hash's top 7 bits. Only tests show that `f` is called with each pair
+    /// at most once, and not again after it accepted one.
     ///
     /// Cost: `O(1)` expected.
     #[inline]

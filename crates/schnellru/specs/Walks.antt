@@ -49,7 +49,8 @@ module _ {K V L S N H : Type 0} {equal : equality.Ghosts K} {input : hashing.Gho
   abbrev pub walk_written : ℕ → V → MutBor (State K V L S)
   walk_written at w = record walk.map { now = record walk.map.now { pairs = set_value_at walk.map.now.pairs at w } }
 
-  -- the walk after it lent the first pair that was left, and w was written there; below, after it lent the last
+  -- the walk after it lent the first pair that was left, and w was written there; `walk_after_last` is for the last
+  -- pair
   abbrev pub walk_after_first : V → IterMut K V L S N H equal input limits links keyed build hash
   walk_after_first w = record walk {
     map = walk_written walk.start w;
@@ -87,14 +88,14 @@ module _ (K V L S N H : RattleType) (key : HashMembers K.Denot)
       (record { hash_input = key.hash_input }) limits
       links (record { hash_of = hashed.hash_of })
       (record { build_hasher = hashed.build_hasher }) hash)) where
-    -- the first pair that was left is lent until r ends, if there is one
+    -- if a pair was left, the first one is lent until the borrow r ends
     abbrev pub lends_next : Option (Bor K.Denot × MutBor V.Denot) → Fml
     lends_next r = follows_if walk_row V walk.ghost_name (lent_name r) (λ w. walk_after_first walk.now w) walk.now
 
     abbrev pub lends_first : Bor K.Denot × MutBor V.Denot → Fml
     lends_first r = follows walk_row V walk.ghost_name r.1.ghost_name (λ w. walk_after_first walk.now w)
 
-    -- the last pair that was left is lent until r ends, if there is one
+    -- if a pair was left, the last one is lent until the borrow r ends
     abbrev pub lends_next_back : Option (Bor K.Denot × MutBor V.Denot) → Fml
     lends_next_back r = follows_if walk_row V walk.ghost_name (lent_name r) (λ w. walk_after_last walk.now w) walk.now
 

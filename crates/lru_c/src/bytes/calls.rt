@@ -20,8 +20,8 @@ fn weight_of(key: usize, value: usize) -> u64
         .saturating_add(OVERHEAD)
 }
 
-/// Inserts a copy of the value under a copy of the key. Takes all memory before it changes an entry. If the key is
-/// there, it needs memory only for the copies.
+/// Inserts a copy of the value under a copy of the key. Allocates all the memory that it needs before it changes an
+/// entry. If the key is there, it needs memory only for the copies.
 pub fn put(alloc: Global, map: &mut BytesMap, key: &[u8], value: &[u8]) -> u32
     ensures puts { Puts key.now value.now map.old result map.new }
     ensures stored { result ≡ 0 → value_of key.now map.new ≡ Some value.now }

@@ -12,8 +12,8 @@ use std::alloc::Global;
 use std::hash::Hash;
 use std::marker::Model;
 
-/// A memo of a function that may fail, such as a read of a file. It stores the newest values that were loaded, up to a
-/// limit, and no failure.
+/// A memo of a function that may fail, such as a read of a file. It stores no failures, only the newest values that
+/// were loaded, up to a limit.
 ///
 /// Each value is right. A failure changes nothing. Any other call is a step of a map, as for a `Memo` (`step` of
 /// `load`).

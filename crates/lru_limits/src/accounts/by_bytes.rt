@@ -10,10 +10,10 @@ use std::marker::Model;
 /// Limits the bytes of the table and of what the entries own, together: `ByBytes::new(200 << 20)` is 200 MiB. A
 /// contract sees it as its limit, the bytes that the entries own, and the bytes of the table.
 ///
-/// It permits a table if the table and what the entries own are within the limit. It rejects an entry or a new value if
-/// its entry alone and the table pass the limit. So after each call of the map, `memory_usage` and what the entries own
-/// are together at most the limit. The premises are in `calls_keep_the_bytes` of `lru_model`. While the table grows,
-/// the old table also exists, and is not counted.
+/// It permits a table if the table and what the entries own are within the limit. It rejects an entry if the table and
+/// this entry alone pass the limit, and a new value if the table and its entry alone would. So after each call of the
+/// map, `memory_usage` and what the entries own are together at most the limit. The premises are in
+/// `calls_keep_the_bytes` of `lru_model`. While the table grows, the old table also exists, and is not counted.
 ///
 /// `shrink_to_fit` does not notify the limiter. `map.set_limiter(map.limiter().with_table(map.memory_usage() as u64))`
 /// makes it count the smaller table.

@@ -10,7 +10,7 @@ use std::marker::Model;
 /// Limits the sum of the costs of the values. A contract sees it as its limit and this sum.
 ///
 /// It rejects an entry or a new value if its cost alone is above the limit, or if the sum would pass `u64::MAX`. After
-/// it accepts one, the map evicts its oldest entries until the sum is within the limit.
+/// it accepts an entry or a value, the map evicts its oldest entries until the sum is within the limit.
 ///
 /// ```
 /// let mut limiter = ByCost::new(3);

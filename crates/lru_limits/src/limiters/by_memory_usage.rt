@@ -8,7 +8,7 @@ use std::marker::Model;
 /// Limits the bytes of the table. A contract sees it as that number.
 ///
 /// It permits a growth if and only if the new table is within the limit. After a refusal the map evicts its oldest
-/// entries. It does not count the old table, which exists during a growth, or what keys and values own.
+/// entries. It counts neither the old table, which exists during a growth, nor what keys and values own.
 ///
 /// ```
 /// let mut limiter = ByMemoryUsage::new(152);

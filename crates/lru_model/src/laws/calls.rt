@@ -14,9 +14,9 @@ ghost use Rattle.lru_model.specs.Theorems.{UsesAtMost, IsSummed, others};
 use lru_limits::{Budgeted, Insertion, KeyHasher, LookupKey};
 use std::hash::Hash;
 
-/// After each call no two keys are equal (`keys`). Inserts moved at most twice as many entries as they stored, plus
-/// those that shrinks rehashed, if the table is sound after the call (`map`). Clause `map` of each call says that it
-/// is.
+/// After each call no two keys are equal (`keys`). If the table is sound after the call, inserts moved at most two
+/// entries for each entry that they stored, plus one for each entry that a shrink rehashed (`map`). The clause `map` of
+/// each call says that the table is sound.
 pub fn calls_keep_maps<K: Eq + Hash, V, I: LookupKey<K>, L: Insertion<K, V, I>, S: KeyHasher<K>>()
     ensures keys { (old new : State K V L S) →
         AnyStep L.rules L.offers I.names S.hash_of old new →
@@ -26,8 +26,8 @@ pub fn calls_keep_maps<K: Eq + Hash, V, I: LookupKey<K>, L: Insertion<K, V, I>, 
         IsMap K.eq old → IsSized new → IsMap K.eq new }
 {}
 
-/// A limiter's running total (`IsAccount`, which each `Summing` has) stays the sum of the costs after each call that
-/// writes nothing through a reference.
+/// If a limiter's running total is the sum of the costs of the entries, it stays so after each call that writes nothing
+/// through a reference. Each `Summing` has such a running total (`IsAccount`).
 pub fn calls_keep_sums<K: Eq + Hash, V, I: LookupKey<K>, L: Insertion<K, V, I>, S: KeyHasher<K>>()
     ensures { (cost : K → V → ℕ) (account : L → ℕ) → IsAccount L.rules L.offers cost account →
         (old new : State K V L S) →
@@ -56,8 +56,8 @@ pub fn calls_keep_the_memory_usage<K: Eq + Hash, V, L: Insertion<K, V, K>, S: Ke
         UsesAtMost (most old.limiter) old → UsesAtMost (most old.limiter) new }
 {}
 
-/// With any limiter that has a budget, as `ByCost` and `ByWeight` have, each call leaves the budget as it is. The
-/// running total stays at most the budget, if it was the sum of the costs of the entries.
+/// With any limiter that has a budget, as `ByCost` and `ByWeight` have, each call leaves the budget as it is. If the
+/// running total was the sum of the costs of the entries, and at most the budget, it stays at most the budget.
 pub fn calls_keep_the_budget<K: Eq + Hash, V, L: Budgeted<K, V>, S: KeyHasher<K>>()
     ensures budget { (old new : State K V L S) →
         Step L.rules (offers_of L.terms) K.eq S.hash_of old new → L.budget_of new.limiter ≡ L.budget_of old.limiter }
@@ -80,8 +80,8 @@ pub fn calls_add_one_pair<
         length new.pairs ≤ length old.pairs + 1 }
 {}
 
-/// A call evicts only from the old end: of the entries whose keys it does not name, the newest are left, in their
-/// order. Only `pop_newest` takes from the other end, and is excluded.
+/// A call evicts only from the old end. Take the entries whose keys the call does not name: those that stay are the
+/// newest of them, in the same order. This excludes `pop_newest`, which removes the newest entry.
 ///
 /// A call names the key that it inserts, looks up or removes, or whose value it writes. A retain names the keys that
 /// its closure rejects.

@@ -1,5 +1,5 @@
-//! What an insert keeps. It loses no entry. If growth is left, and the limiter is not over its limit with the new
-//! entry, it evicts none. With `ByLength` it leaves the newest entries.
+//! What an insert keeps. An insert loses no entry. It evicts no entry if growth is left, and if the limiter is not over
+//! its limit with the new entry. With `ByLength` it leaves the newest entries.
 
 ghost use Rattle.std.specs.Prelude.{◌≡◌, ◌⊎◌, ℕ, ◌-◌, ◌^◌, ◌<◌, ◌≤◌, [], ◌∷◌, ◌++◌, length, reverse, Bool};
 ghost use Rattle.std.specs.Prelude.{true, false, Result, Ok, List, None};
@@ -21,10 +21,10 @@ ghost use Rattle.lru_model.specs.Extends.{InsertsAll};
 use lru_limits::{ByLength, Insertion, KeyHasher, Limiter, LookupKey};
 use std::hash::Hash;
 
-/// An insert loses nothing, if the limiter changes no evicted or removed entry. List the entries that are left, and
-/// then the entries that the callback got, last one first. These are the new entry and the old ones, newest first
-/// (`all`, with a case for each result). If the result is true, the stored entry comes first (`stored`). In each case
-/// every old entry of another key is left or was passed to the callback (`others`).
+/// An insert loses nothing, if the limiter changes no evicted or removed entry. Take a list of the entries that are
+/// left, followed by the entries that the callback got, last one first. This list consists of the new entry and the old
+/// entries, newest first (`all`, with a case for each result). If the result is true, the stored entry comes first
+/// (`stored`). In each case every old entry of another key is left or was passed to the callback (`others`).
 pub fn nothing_is_lost<K: Eq + Hash, V, I: LookupKey<K>, L: Insertion<K, V, I>, S: KeyHasher<K>>()
     ensures all { (key : I) (value : V) (old : State K V L S) (result : Result Bool AllocError)
         (passed : List (K × V)) (new : State K V L S) →
@@ -73,9 +73,9 @@ pub fn inserts_with_room_are_exact<
 {}
 
 /// With `ByLength` an insert leaves its entry first, under the stored key, and then the newest others, up to
-/// `max_length` entries. The premise is that the map keeps to its length (`maps_keep_to_their_length`), or that it is
-/// within its length and has growth left. If the map keeps to its length, the inserts of a list, such as those of
-/// `try_extend`, leave the newest, too (`lists`).
+/// `max_length` entries. This holds if the map keeps to its length (`maps_keep_to_their_length`), or if it is within
+/// its length and has growth left. If the map keeps to its length, inserts one after another, as `try_extend` makes
+/// them, leave the newest entries, too (`lists`).
 pub fn inserts_leave_the_newest<K: Eq + Hash + Drop, V: Drop, S: KeyHasher<K>>()
     ensures newest { (key : K) (value : V) (old : State K V ByLength S) (result : Result Bool AllocError)
         (new : State K V ByLength S) →
@@ -96,9 +96,9 @@ pub fn inserts_leave_the_newest<K: Eq + Hash + Drop, V: Drop, S: KeyHasher<K>>()
         new.pairs ≡ newest_after K.eq old.limiter inserted old.pairs }
 {}
 
-/// A new map with `ByLength` keeps to its length, if this length is at most 939,524,096 and an entry has fewer than 2 ^
-/// 32 - 1 bytes (`begins`). So does a map after any call that does not set the limiter (`goes_on`), and after any write
-/// to a value (`written`).
+/// A new map with `ByLength` keeps to its length, if this length is at most 939,524,096 and an entry has fewer than
+/// 4,294,967,295 bytes (`begins`). A map that keeps to its length goes on to do so after any call that does not set the
+/// limiter (`goes_on`), and after any write to a value (`written`).
 pub fn maps_keep_to_their_length<K: Eq + Hash + Drop, V: Drop, S: KeyHasher<K>>()
     ensures begins { (most entry_bytes : ℕ) (hasher : S) →
         most ≤ most_exact_length → entry_bytes < 2 ^ 32 - 1 →

@@ -15,8 +15,8 @@ pub fn shrinks_keep_the_list<K: Eq + Hash, V, L: Limiter<K, V>, S: KeyHasher<K>>
         × (new.counts.moved ≡ old.counts.moved) × (new.counts.placed ≡ old.counts.placed) }
 {}
 
-/// If a shrink makes the table smaller, it rehashes and counts each entry, and the potential is then at most the number
-/// of entries. Otherwise nothing changes.
+/// If a shrink makes the table smaller, it rehashes and counts each entry. Then the potential is at most the number of
+/// entries. If the table is not made smaller, nothing changes.
 pub fn shrinks_pay_for_moves<K: Eq + Hash, V, L: Limiter<K, V>, S: KeyHasher<K>>()
     ensures shrunk { (old new : State K V L S) →
         Shrink old (Ok true) new →
@@ -25,7 +25,7 @@ pub fn shrinks_pay_for_moves<K: Eq + Hash, V, L: Limiter<K, V>, S: KeyHasher<K>>
         (result ≡ Ok true → ⊥) → Shrink old result new → new ≡ old }
 {}
 
-/// No shrink makes the table larger, or makes it use more memory. A second shrink finds nothing to do.
+/// A shrink adds no buckets to the table, and no bytes. A second shrink finds nothing to do.
 pub fn shrinks_leave_a_tight_table<K: Eq + Hash, V, L: Limiter<K, V>, S: KeyHasher<K>>()
     ensures fewer { (old : State K V L S) (result : Result Bool AllocError) (new : State K V L S) →
         Shrink old result new → buckets new ≤ buckets old }

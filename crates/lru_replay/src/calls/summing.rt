@@ -16,8 +16,8 @@ use std::hash::Hash;
 
 /// Carries out the calls on the map as `run_calls` does, except for calls that would make the limiter's total wrong.
 ///
-/// A write is answered `CostDiffers`, and changes nothing, if it would change the cost of its entry. So is a call that
-/// sets a limiter with another total. So a total that is the sum of the costs stays their sum.
+/// If a write would change the cost of its entry, or if a call would set a limiter with another total, the answer is
+/// `CostDiffers`, and nothing changes. So a total that is the sum of the costs stays their sum.
 ///
 /// ```
 /// let mut costs: LruMap<u64, u64, ByCost> = LruMap::new(alloc, ByCost::new(10), [1, 2, 3, 4], 16);

@@ -9,7 +9,7 @@ use schnellru::{Insertion, LruMap};
 use std::io::Write;
 
 /// Takes out at most `most` of the newest pairs, and writes each. Then it drops the others. If a write fails, nothing
-/// more is written, and the map ends as without the failure.
+/// more is written, and the map ends as if no write had failed.
 pub fn write_drain<L: Insertion<u64, u64, u64>, W: Write>(
     writer: &mut W,
     map: &mut LruMap<u64, u64, L>,

@@ -1,4 +1,4 @@
-//! What a line means: a call on the map, or, for the first line, the limit of the map. Each is a word and at most two
+//! What a line means: a call on the map, or, for the first line, the limit of the map. A line is a word and at most two
 //! numbers.
 ghost use Rattle.std.specs.Prelude.{◌≡◌, ℕ, List, IfSome, IfNone, true, false};
 ghost use Rattle.lru_replay.specs.declared.lines.words.Numbers.TheVariants as numbers;

@@ -16,12 +16,10 @@ counts_of insertions fields = record {
   shrunk = fields.shrunk;
 }
 
--- the bucket states and the places of these entries
 abbrev pub table_state : {K V : Type 0} → OrderedTable K V → TableState
 table_state entries = record { states = bucket_states entries.slots; places = entries.order }
 
 module _ {K V S H : Type 0} where
-  -- a map of these entries
   abbrev pub state_of : OrderedTable K V → Fields S H → State K V S H
   state_of entries fields = record {
     pairs = pairs_of entries;
@@ -33,7 +31,7 @@ module _ {K V S H : Type 0} where
     max = fields.max;
   }
 
-  -- the buckets are linked, the hashes of the keys fit, and what holds of every map holds
+  -- the buckets are linked, the hashes of the keys fit, and the state is a map's (`IsMap`)
   pub record Holds (eq : K → K → Bool) (hash_of : H → K → ℕ) (entries : OrderedTable K V) (fields : Fields S H)
       : Type 0 where
     pub linked : IsLinked entries

@@ -10,7 +10,7 @@ use Rattle.lru_model.specs.Inserts.{replacement, unkept_of, with_removed}
 use Rattle.lru_model.specs.Updates.{with_updated}
 use Rattle.ordered_table.specs.OrderedTable.{OrderedTable, Takes, with_pair, without_bucket}
 
--- The limiter accepted the new value for the pair in a bucket, which keeps its place.
+-- The limiter accepted the new value for the pair in bucket b. The pair keeps its place in the order.
 pub record IsReplaced {K V S : Type 0} (by : Replaced K V S) (b : ℕ) (old new : OrderedTable K V) (limiter : S)
     : Type 0 where
   pub slots : new.slots ≡ (with_pair old b (by.key, by.new_value)).slots
@@ -18,7 +18,7 @@ pub record IsReplaced {K V S : Type 0} (by : Replaced K V S) (b : ℕ) (old new 
   pub insertions : new.insertions ≡ old.insertions
   pub notified : limiter ≡ by.limiter
 
--- The limiter rejected the new value, and the pair was removed.
+-- The limiter rejected the new value, and the pair in bucket b was removed.
 pub record IsRemoved {K V S : Type 0} (rules : Rules K V S) (by : Replaced K V S) (b : ℕ) (old new : OrderedTable K V)
     (limiter : S) : Type 0 where
   pub slots : Removes (with_pair old b (by.key, by.old_value)).slots new.slots b
@@ -27,7 +27,8 @@ pub record IsRemoved {K V S : Type 0} (rules : Rules K V S) (by : Replaced K V S
   pub growth_left : growth_left_of (bucket_states new.slots) ≡ growth_left_of (bucket_states old.slots) + growth_left_at (bucket_states new.slots) b
   pub notified : limiter ≡ (rules.on_removed by.limiter by.key by.old_value).limiter
 
--- The pair in a bucket was evicted or removed. The limiter was notified, and the pair is returned with its changes.
+-- The pair in bucket b was evicted or removed. The limiter was notified, and the pair is returned as the limiter leaves
+-- it.
 pub record IsTakenOut {K V S : Type 0} (rules : Rules K V S) (b : ℕ) (old new : OrderedTable K V) (limiter : S)
     (result : K × V) (after : S) : Type 0 where
   pub pair : K × V

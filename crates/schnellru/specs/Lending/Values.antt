@@ -44,8 +44,8 @@ module _ (K V L S N H : RattleType) (key : HashMembers K.Denot)
     abbrev pub ends_as : State K.Denot V.Denot L.Denot S.Denot → Fml
     ends_as last = follows_so map_row map_row m.ghost_name none (λ _ _. ⊤) (λ n. n ≡ last)
 
-    -- The map ends as `turned` makes it for the key of a pair that satisfies `gives`. This key has the last value
-    -- written through r. If r is `None`, the map stays as it is.
+    -- If r is there, it lends the value of some pair that satisfies `gives`. The map ends as `turned` makes it for this
+    -- pair's key, and this key has the last value written through r. If r is `None`, the map stays as it is.
     abbrev pub lends_given : (K.Denot × V.Denot → Type 0)
         → ((K.Denot → Bool) → State K.Denot V.Denot L.Denot S.Denot → State K.Denot V.Denot L.Denot S.Denot)
         → Option (MutBor V.Denot) → Fml

@@ -9,7 +9,7 @@ use std::alloc::AllocError;
 use std::hash::Hash;
 
 impl<K: Eq + Hash + Drop, V: Drop, L: Insertion<K, V, K>, S: KeyHasher<K>> LruMap<K, V, L, S> {
-    /// Inserts entries one after another, as `insert` does, so the last one becomes the newest.
+    /// Inserts entries one after another, as `insert` does, so the last entry becomes the newest.
     ///
     /// ```
     /// map.try_extend([(4, 40), (5, 50)])?;
@@ -21,7 +21,7 @@ impl<K: Eq + Hash + Drop, V: Drop, L: Insertion<K, V, K>, S: KeyHasher<K>> LruMa
     /// # Errors
     ///
     /// The insert of an entry ran out of memory. The entries before it were inserted, and the others were not. No
-    /// contract says whether the iterator yielded any after it.
+    /// contract says whether the iterator yielded entries after this one.
     ///
     /// Follows std's `Extend::extend`.
     pub fn try_extend<T: IntoIterator<Item = (K, V)>>(

@@ -131,7 +131,7 @@ impl<K: Eq + Hash, V, L: Limiter<K, V>, S: KeyHasher<K>> LruMap<K, V, L, S> {
         &self.hasher
     }
 
-    /// Lends the limiter for writing. A lower limit takes effect at the next `trim`, and at the next insert or update
+    /// Lends the limiter for writing. A lower limit takes effect at the next `trim`, or at the next insert or update
     /// that stores an entry or replaces a value. A lower limit of `ByMemoryUsage` takes effect at the next growth. If
     /// the limiter rejects the entry or the value of a call, this call evicts nothing.
     ///

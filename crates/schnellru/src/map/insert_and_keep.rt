@@ -11,8 +11,8 @@ use std::alloc::AllocError;
 use std::hash::Hash;
 
 impl<K: Eq + Hash + Drop, V: Drop, L: Limiter<K, V>, S: KeyHasher<K>> LruMap<K, V, L, S> {
-    /// Inserts as `insert` does. Returns its result, and the entries that `insert_with` would pass to its callback.
-    /// Memory for these is taken before the map changes.
+    /// Inserts as `insert` does. Returns its result, and the entries that `insert_with` would pass to its callback. It
+    /// allocates the memory for these entries before the map changes.
     ///
     /// ```
     /// let (done, left) = map.insert_and_keep(4, 40)?;

@@ -15,8 +15,8 @@ impl<K: Eq + Hash + Drop, V: Drop, L: Admission<K, V> + Copy, S: KeyHasher<K>> L
     /// Inserts a new key with its value, as the newest entry, if nothing has to be evicted for it. Otherwise returns
     /// the key and the value.
     ///
-    /// If no growth is left, it reserves growth instead of filling a deleted bucket. So if the limiter refuses a larger
-    /// table, it may return an entry that `insert` would store without an eviction.
+    /// If no growth is left, `try_insert` reserves growth instead of filling a deleted bucket. So if the limiter
+    /// refuses a larger table, it may return an entry that `insert` would store without an eviction.
     ///
     /// ```
     /// assert_eq!(rt; map.try_insert(4, 40), Err((4, 40)));
@@ -25,7 +25,7 @@ impl<K: Eq + Hash + Drop, V: Drop, L: Admission<K, V> + Copy, S: KeyHasher<K>> L
     /// ```
     ///
     /// Cost: `O(1)` expected, amortised over the inserts, with one search for the key. If no growth is left, it costs
-    /// what `try_reserve(1)` costs, too. `move_report` does not count the entries that this moves.
+    /// what `try_reserve(1)` costs, too. `move_report` does not count the entries that this reservation moves.
     ///
     /// # Errors
     ///

@@ -7,7 +7,8 @@ use crate::map::LruMap;
 use lru_limits::{KeyHasher, Limiter};
 use std::hash::Hash;
 
-/// An iterator over the entries of a map, newest first, from both ends. It lends each value until its next call.
+/// An iterator over the entries of a map, newest first, from both ends. It lends each value until the next call of the
+/// iterator.
 ///
 /// ```
 /// let mut walk = map.iter_mut();

@@ -1,5 +1,5 @@
 // Erased from crates/group_table/src/neighbours.rt: do not edit.
-//! Whether every 16 neighbouring buckets around a bucket contain an empty one.
+//! Whether each run of 16 neighbouring buckets that includes a bucket contains an empty one.
 
 #[allow(unused_imports)]
 use crate::rattle_std::prelude::*;
@@ -23,8 +23,8 @@ fn ones_if_less(low: u32, high: u16) -> usize {
     (difference >> 32).cast_unsigned() as usize
 }
 
-// Returns all ones if every 16 neighbouring buckets around this one contain an empty one, and 0 otherwise. They do if
-// fewer than 16 used buckets lie between the nearest empty buckets on both sides.
+// Returns all ones if each run of 16 neighbouring buckets that includes this one contains an empty bucket, and 0
+// otherwise. It does if fewer than 16 used buckets lie between the nearest empty buckets on both sides.
 #[inline]
 pub(crate) fn ones_if_empty_neighbours(control: &Control, b: usize) -> usize {
     // `used` has a bit for each used bucket from this one up to the next empty one. Fewer than 16 used buckets are in a

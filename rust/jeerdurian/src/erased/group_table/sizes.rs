@@ -12,7 +12,8 @@ pub fn full_capacity(buckets: usize) -> usize {
     if buckets <= 8 { buckets.saturating_sub(1) } else { buckets / 8 * 7 }
 }
 
-/// Returns the number of buckets for `capacity` entries: 0 for none, else a power of two.
+/// Returns how many buckets `capacity` entries need: 0 if `capacity` is 0, and otherwise a power of two below `max`.
+/// Returns `None` if no such power is enough.
 
 pub fn buckets_for_capacity(capacity: usize, max: usize) -> Option<usize> {
     if capacity == 0 {

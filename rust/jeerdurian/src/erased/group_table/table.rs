@@ -83,7 +83,7 @@ impl<T> Table<T> {
     /// Returns the bucket of the first entry that `f` accepts.
     ///
     /// `f` is called with entries whose tag is the hash's top 7 bits, in the order of the search. Only tests show that
-    /// `f` is called at most once with each. `None` means that `f` rejected each entry of that hash.
+    /// `f` is called at most once with each entry. `None` means that `f` rejected each entry of that hash.
     #[inline]
     pub fn find<F: FnMut(&T) -> bool>(&self, hash: u64, f: F) -> Option<usize> {
         if self.control.is_empty_at(hash) {
@@ -109,9 +109,9 @@ impl<T> Table<T> {
 
     /// Takes the entry out of a full bucket.
     ///
-    /// The bucket becomes empty if every 16 neighbouring buckets around it contain an empty one, as in each table of up
-    /// to 16 buckets. This gives growth left back. Otherwise the bucket becomes deleted, so that searches still go past
-    /// it.
+    /// The bucket becomes empty if each run of 16 neighbouring buckets that includes it contains an empty one. This is
+    /// so in each table of up to 16 buckets. Then the growth left rises by one. Otherwise the bucket becomes deleted,
+    /// so that searches still go past it.
     #[inline(always)]
     pub fn take(&mut self, b: usize) -> T {
         full!(self.control.byte(b));
@@ -126,8 +126,8 @@ impl<T> Table<T> {
     /// Puts an entry with this hash into the first free bucket in the order of a search, and returns the bucket. There
     /// must be growth left.
     ///
-    /// Filling an empty bucket takes one of the growth left; filling a deleted bucket takes none. `place` asks for no
-    /// memory, and moves no other entry.
+    /// If the bucket was empty, the growth left falls by one. If it was deleted, the growth left stays. `place` asks
+    /// for no memory, and moves no other entry.
     ///
     /// ```text
     /// if table.growth_left() > 0 {

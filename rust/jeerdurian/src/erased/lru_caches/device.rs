@@ -41,14 +41,14 @@ pub trait BlockDevice<B> {
     /// The device failed. No block has changed.
     fn read(&mut self, n: u64) -> Result<B, Self::Error>;
 
-    /// Replaces a block. A crash may leave what it might leave before, or the new block, or a torn one.
+    /// Replaces a block. A crash may leave what it might leave before, or the new block, or a torn block.
     ///
     /// # Errors
     ///
     /// The device failed. Afterwards that block may be anything, and no other block has changed.
     fn write(&mut self, n: u64, block: &B) -> Result<(), Self::Error>;
 
-    /// Makes the blocks durable: a crash leaves exactly what a read returns, once this has returned `Ok`.
+    /// Makes the blocks durable. Once this has returned `Ok`, a crash leaves exactly what a read returns.
     ///
     /// # Errors
     ///

@@ -13,8 +13,8 @@ pub(crate) mod table;
 
 /// A function with its newest results, up to a limit, so that it is not called again at the same key.
 ///
-/// Each result is right, and each call is a step of a map: the stored answer becomes the newest, or the result is
-/// inserted (`step` of `answer`).
+/// Each result is right. Each call is a step of a map: the stored answer becomes the newest, or the result is inserted
+/// (`step` of `answer`).
 ///
 /// ```text
 /// let mut squares = Memo::new(alloc, ByLength::new(9), |n: &u64| n.wrapping_mul(*n));
@@ -98,7 +98,7 @@ impl<K: Eq + Hash, V: Copy, F: Fn(&K) -> V, L: Insertion<K, V, K>, S: KeyHasher<
 impl<K: Eq + Hash, V, F: Fn(&K) -> V, L: Insertion<K, V, K>, S: KeyHasher<K>> Memo<K, V, F, L, S> {
     /// Lends a closure what `answer` would return, and returns what the closure returns. The values need not be `Copy`.
     ///
-    /// The closure is called once. It is lent the result even if the result is not stored.
+    /// The closure is called once. The result is lent to it even if it is not stored.
     ///
     /// ```text
     /// let mut blocks = Memo::new(alloc, ByLength::new(9), |n: &usize| vec![in alloc; 7u8; *n].ok());

@@ -71,8 +71,8 @@ impl BuildHasher for RandomState {
 
 /// The hasher that a `RandomState` makes.
 ///
-/// A whole number is written as its bytes, the lowest first: `write_u64(n)` does what `write(&n.to_le_bytes())` does.
-/// Two writes differ from one write of the bytes of both.
+/// A whole number is written as its bytes, the lowest byte first: `write_u64(n)` does what `write(&n.to_le_bytes())`
+/// does. Two writes differ from one write of the bytes of both.
 ///
 /// ```text
 /// let mut hasher = state.build_hasher();

@@ -8,9 +8,9 @@ use crate::rattle_std::hash::{BuildHasher, Hash};
 
 /// A value that names at most one key, up to equality, and hashes as that key does.
 ///
-/// It is implemented for every key itself, and for `&str` if the keys are `String`s. In your own impl, `names` says
-/// which key a value names, `is_key` computes this, and you prove two laws. A derived `Hash` of a struct with one field
-/// writes what the field writes.
+/// Every key type implements it for its own keys, and `&str` implements it for keys of type `String`. In your own impl,
+/// `names` says which key a value names, `is_key` computes this, and you prove two laws. A derived `Hash` of a struct
+/// with one field writes what the field writes.
 ///
 /// ```text
 /// let key = String::from_str(rt.alloc(), "a")?;

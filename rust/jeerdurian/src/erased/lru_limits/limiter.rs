@@ -13,7 +13,7 @@ use crate::rattle_std::hash::Hash;
 /// or removed.
 ///
 /// Each callback accepts every state, length, key and value. In `rules`, the impl defines the result and the effect of
-/// each as functions of these.
+/// each callback as functions of its arguments.
 ///
 /// ```text
 /// let limiter = ByLength::new(3);
@@ -49,16 +49,16 @@ pub trait Limiter<K, V> {
     ///
     /// Called by an insert that finds no bucket for a new entry, and by `try_reserve` if too little growth is left. It
     /// is not called if no larger table exists, or if the table is rehashed without growing. After `false` the insert
-    /// evicts the oldest entries to store the new one, and `try_reserve` returns `Refused`. After `true` the allocation
-    /// of the table may still fail. The limiter is not notified of this.
+    /// evicts the oldest entries to store the new entry, and `try_reserve` returns `Refused`. After `true` the
+    /// allocation of the table may still fail. The limiter is not notified of this.
     fn on_grow(&mut self, new_memory_usage: usize) -> bool;
 }
 
 /// Accepts or rejects entries whose key is given as an `I`.
 ///
-/// `I` is the key itself, or a name of the key: a `&str` becomes a `String` only if the entry is stored. The impl
-/// defines `offers`: what may be stored for an offered entry, when an offer may run out of memory, and what a
-/// replacement does. Each [`crate::Admission`] is an `Insertion`.
+/// `I` is the type of the key, or of a name of the key, such as a `&str`, which becomes a `String` only if the entry is
+/// stored. The impl defines `offers`: what may be stored for an offered entry, when an offer may run out of memory, and
+/// what a replacement does. Each [`crate::Admission`] is an `Insertion`.
 ///
 /// ```text
 /// let mut limiter = ByCost::new(3);

@@ -94,7 +94,7 @@ pub enum Answer<K, V> {
         report: MoveReport,
     },
     /// To `Insert` and `GetOrInsert`: out of memory. To `InsertWith`, `List` and `Drain`: out of memory for the pairs
-    /// to return, and nothing has changed. A reservation reports this in `Reserved`, a shrink in `Shrunk`.
+    /// to return, and nothing has changed. A reservation reports this in `Reserved`, and a shrink in `Shrunk`.
     Memory,
     /// To `Write` and `SetLimiter`, under a limiter with a running total: the total would be wrong, and nothing has
     /// changed.

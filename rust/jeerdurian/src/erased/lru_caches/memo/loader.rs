@@ -8,8 +8,8 @@ use crate::erased::schnellru::{Insertion, KeyHasher, LruMap, RandomState, laws};
 use crate::rattle_std::alloc::Global;
 use crate::rattle_std::hash::Hash;
 
-/// A memo of a function that may fail, such as a read of a file. It stores the newest values that were loaded, up to a
-/// limit, and no failure.
+/// A memo of a function that may fail, such as a read of a file. It stores no failures, only the newest values that
+/// were loaded, up to a limit.
 ///
 /// Each value is right. A failure changes nothing. Any other call is a step of a map, as for a `Memo` (`step` of
 /// `load`).

@@ -25,9 +25,9 @@ impl<B: Copy, D: BlockDevice<B>, S: KeyHasher<u64>> PageCache<B, D, S> {
 
     /// Returns a block, and makes its page the newest.
     ///
-    /// If the page is not cached and the cache is full, the oldest page that may go is evicted. If this page is dirty,
-    /// it is written to the device first. A pinned page may not go, nor a dirty one if the cache [keeps dirty
-    /// pages](Self::set_keeps_dirty).
+    /// If the page is not cached and the cache is full, the oldest page that may go is evicted. If the evicted page is
+    /// dirty, it is written to the device first. A pinned page may not go, and a dirty page may not go if the cache
+    /// [keeps dirty pages](Self::set_keeps_dirty).
     ///
     /// ```text
     /// assert_eq!(rt; (cache.read(1), cache.len()), (Ok(20), 1));

@@ -5,8 +5,8 @@ use crate::rattle_std::prelude::*;
 use crate::erased::lru_limits::admission::Admission;
 use crate::erased::lru_limits::limiter::Limiter;
 
-/// Limits nothing except by its links of 32 bits: at most 1,879,048,192 entries. Its buckets are smaller than those
-/// under `Unlimited`.
+/// Limits nothing except by its links of 32 bits: at most 1,879,048,192 entries. Its buckets are smaller than under
+/// `Unlimited`.
 ///
 /// ```text
 /// assert!(rt; !Limiter::<u64, u64>::is_over_the_limit(&UnlimitedCompact, usize::MAX));

@@ -5,15 +5,17 @@ use crate::rattle_std::prelude::*;
 use crate::erased::lru_limits::{Admission, ByBytes, Insertion, KeyHasher, Limiter, OwnedBytes, Summing};
 use crate::rattle_std::hash::Hash;
 
-/// With `ByBytes` each call keeps the table and what the entries own together within the limit (`kept`, `memory`). So
-/// does a `try_insert` (`tried`). Each call leaves the limit as it is (`limit`). A growth is permitted only if the new
-/// table fits (`grown`). The old table is not counted, so at the peak the map takes at most the limit and the bytes of
-/// the old table.
+/// With `ByBytes`, the table and what the entries own take at most the limit together after each call, if they did
+/// before it (`kept`, `memory`). So they do after a `try_insert` (`tried`). Each call leaves the limit as it is
+/// (`limit`). The limiter permits a growth only if the new table and what the entries own are within the limit
+/// (`grown`). The old table is not counted. So while both tables exist, the map takes at most the limit, plus the bytes
+/// of the old table.
 ///
-/// A new map is within its limit (`begins`). `set_limiter` may set another limit, or another number of bytes for the
-/// table. If the table alone is within the limit, the trim of `set_limiter` gets within it (`trimmed`).
+/// A new map is within its limit (`begins`). A limiter that `set_limiter` sets may have another limit, or count other
+/// bytes for the table. If the bytes that it counts for the table are within its limit, the trim of `set_limiter`
+/// brings the map within this limit (`trimmed`).
 pub fn calls_keep_the_bytes<K: OwnedBytes + Eq + Hash, V: OwnedBytes, S: KeyHasher<K>>() {}
 
-/// What `calls_keep_the_bytes` says of each call (`kept`, `limit`) holds of any calls, and any writes of values that
-/// own what the old values owned.
+/// What `calls_keep_the_bytes` says of each call (`kept`, `limit`) holds of any calls one after another. Values may be
+/// written, too, if they own as many bytes as the old values.
 pub fn runs_keep_the_bytes<K: OwnedBytes + Eq + Hash, V: OwnedBytes, S: KeyHasher<K>>() {}

@@ -6,21 +6,21 @@ use crate::erased::lru_limits::{Budgeted, Insertion, KeyHasher, Limiter, LookupK
 use crate::rattle_std::hash::Hash;
 
 /// After any calls, and any writes through the references that they lend, no two keys are equal. Inserts moved at most
-/// twice as many entries as they stored, plus those that shrinks rehashed. The table is sound after each call, as
-/// clause `map` of each call says (`Run`).
+/// two entries for each entry that they stored, plus one for each entry that a shrink rehashed. `Run` includes that the
+/// table is sound after each call, as the clause `map` of each call says.
 pub fn runs_keep_maps<K: Eq + Hash, V, I: LookupKey<K>, L: Insertion<K, V, I>, S: KeyHasher<K>>() {}
 
-/// A limiter's running total stays the sum of the costs after any calls, and any writes of values that cost what the
-/// old values cost.
+/// If a limiter's running total is the sum of the costs of the entries, it stays so after any calls, and after any
+/// writes of values that cost what the old values cost.
 pub fn runs_keep_sums<K: Eq + Hash, V, I: LookupKey<K>, L: Insertion<K, V, I>, S: KeyHasher<K>>() {}
 
-/// Over any calls the count of moved entries and the potential together rise by at most two for each stored entry, and
-/// by one for each entry that shrinks rehash. This holds until the count of stored or of rehashed entries reaches
+/// Over any calls, the count of moved entries, plus the potential, rises by at most 2 for each entry that is stored,
+/// plus 1 for each entry that a shrink rehashed. This holds until the count of stored or of rehashed entries reaches
 /// `u64::MAX`.
 pub fn runs_pay_for_moves<K: Eq + Hash, V, I: LookupKey<K>, L: Insertion<K, V, I>, S: KeyHasher<K>>() {}
 
-/// Any calls evict only from the old end, unless one of them is `pop_newest`: of the entries whose keys no call names,
-/// the newest are left, in their order.
+/// Any calls evict only from the old end, unless one of them is `pop_newest`. Take the entries whose keys no call
+/// names: those that stay are the newest of them, in the same order.
 pub fn runs_evict_the_oldest<K: Eq + Hash, V, I: LookupKey<K>, L: Insertion<K, V, I>, S: KeyHasher<K>>() {}
 
 /// Each insert of a run evicts only from the old end, whatever the other calls of the run are, even `pop_newest`. It

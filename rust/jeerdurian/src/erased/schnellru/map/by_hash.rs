@@ -9,11 +9,11 @@ use crate::erased::schnellru::map::LruMap;
 use crate::rattle_std::hash::Hash;
 
 impl<K: Eq + Hash, V, L: Limiter<K, V>, S: KeyHasher<K>> LruMap<K, V, L, S> {
-    /// Lends the value of an entry that `is_eq` accepts, for writing, and makes the entry the newest.
+    /// Searches for an entry that `is_eq` accepts, lends its value for writing, and makes the entry the newest.
     ///
-    /// `is_eq` gets only entries whose hashes agree with `hash` in the top 7 bits. Only tests show that it gets each at
-    /// most once, and none after it accepted one. It may get an entry of another hash, so let it compare keys. `None`
-    /// means that `is_eq` rejected each entry of this hash, and that nothing has changed.
+    /// `is_eq` gets only entries whose hashes agree with `hash` in the top 7 bits. Only tests show that it gets each of
+    /// these entries at most once, and no entry after it accepted one. It may get an entry of another hash, so let it
+    /// compare keys. `None` means that `is_eq` rejected each entry of this hash, and that nothing has changed.
     /// `map.hasher().hash_named(&key)` returns the hash of a key.
     ///
     /// Cost: `O(1)` expected, with one call of `is_eq` for each entry that it gets.
@@ -48,8 +48,8 @@ impl<K: Eq + Hash, V, L: Limiter<K, V>, S: KeyHasher<K>> LruMap<K, V, L, S> {
         Some(&self.pair_in(b).value)
     }
 
-    /// Lends the value of an entry that `is_eq` accepts, for writing. The order stays. `is_eq` is called as in
-    /// `get_by_hash`.
+    /// Searches for an entry that `is_eq` accepts, and lends its value for writing. The order stays. `is_eq` is called
+    /// as in `get_by_hash`.
     ///
     /// ```text
     /// let hash = RandomState::default().hash_one(&1u64);

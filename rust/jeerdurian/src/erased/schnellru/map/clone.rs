@@ -18,7 +18,8 @@ impl<K: TryClone, V: TryClone, L: Limiter<K, V> + TryClone, S: TryClone> LruMap<
     /// ```
     ///
     /// A clone of a key must equal the key, and a clone of the hasher must hash alike. So this is no impl of `Clone`.
-    /// Cost: `O(buckets)`, the requests for memory of the clones, and two more if the map has buckets.
+    /// Cost: `O(buckets)`, two requests for memory if the map has buckets, and what the clones of keys, values, limiter
+    /// and hasher request.
     ///
     /// # Errors
     ///

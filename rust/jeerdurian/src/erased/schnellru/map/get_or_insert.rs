@@ -101,8 +101,8 @@ impl<K: Eq + Hash, V, L: Limiter<K, V>, S: KeyHasher<K>> LruMap<K, V, L, S> {
     /// Lends the value of a key for writing. If the key is not there, inserts it with the value that the closure
     /// returns.
     ///
-    /// If the key is there, the closure is not called, and its entry becomes the newest. `None` means, as `false` does
-    /// for `insert`, that the new entry is not in the map. A caller's proof cannot use `writes_back`: call
+    /// If the key is there, the closure is not called, and the entry of the key becomes the newest. `None` means that
+    /// the new entry is not in the map, as `false` does for `insert`. A caller's proof cannot use `writes_back`: call
     /// `ensure_newest` and `newest_mut` instead.
     ///
     /// ```text

@@ -17,10 +17,11 @@ impl<K: Eq + Hash, V, L: Limiter<K, V>, S: KeyHasher<K>> LruMap<K, V, L, S> {
     /// would be over the limit with one more entry, the oldest is evicted first.
     ///
     /// If no bucket takes the entry, a table with fewer than half of the entries that it may hold is rehashed, and any
-    /// other grows. If there is no larger table, or the limiter refuses it, the oldest entries are evicted until a
-    /// bucket is free, or until fewer than half are left. If there is no entry to evict, the new one is not stored, and
-    /// the result is false. At the end, if the key is in the map, the oldest entries are evicted while the limiter is
-    /// over its limit. A replaced value is dropped before anything is evicted.
+    /// other table grows. If there is no larger table, or the limiter refuses it, the oldest entries are evicted until
+    /// a bucket is free, or until the table has fewer than half of the entries that it may hold; then it is rehashed.
+    /// If there is no entry to evict, the new entry is not stored, and the result is false. At the end, if the key is
+    /// in the map, the oldest entries are evicted while the limiter is over its limit. A replaced value is dropped
+    /// before anything is evicted.
     ///
     /// ```text
     /// assert!(rt; map.insert(1, 10)?);
@@ -28,8 +29,8 @@ impl<K: Eq + Hash, V, L: Limiter<K, V>, S: KeyHasher<K>> LruMap<K, V, L, S> {
     /// assert_eq!(rt; map.peek(&1), Some(&20));
     /// ```
     ///
-    /// Cost: `O(1)` expected, amortised over the inserts. An insert that grows the table moves all entries; over all
-    /// inserts these are at most two for each new entry, and one for each entry that a shrink rehashed.
+    /// Cost: `O(1)` expected, amortised over the inserts. An insert that grows the table moves all entries. All inserts
+    /// together move at most two entries for each new entry, plus one for each entry that a shrink rehashed.
     ///
     /// # Errors
     ///
@@ -51,12 +52,12 @@ impl<K: Eq + Hash, V, L: Limiter<K, V>, S: KeyHasher<K>> LruMap<K, V, L, S> {
 }
 
 impl<K: Eq + Hash, V, L: Limiter<K, V>, S: KeyHasher<K>> LruMap<K, V, L, S> {
-    /// Inserts as `insert` does, and passes entries to the callback, with what `on_removed` wrote to them: the evicted
+    /// Inserts as `insert` does, and passes these entries to the callback, as `on_removed` left them: the evicted
     /// entries, oldest first; an entry that is removed because its new value is rejected; and an entry that `on_insert`
     /// returned but the map could not store.
     ///
-    /// Each of these is passed on once, even if the result is an `Err`. Only tests show that the limiter is not called
-    /// again before this. A replaced value is not passed on.
+    /// Each of these entries is passed on once, even if the result is an `Err`. Only tests show that an entry is passed
+    /// on before the limiter is called again. A replaced value is not passed on.
     ///
     /// ```text
     /// let mut left = None;
@@ -118,8 +119,8 @@ impl<K: Eq + Hash, V, L: Limiter<K, V>, S: KeyHasher<K>> LruMap<K, V, L, S> {
     /// Inserts as `insert_with` does. If the key is there, also returns the value that the map does not keep, with what
     /// `on_replace` wrote to it: the old value, or the new value if the limiter rejects it.
     ///
-    /// The limiter drops the offered key if the key is there, and the key and the value if `on_insert` rejects them or
-    /// runs out of memory.
+    /// If the key is there, the limiter drops the offered key. If `on_insert` rejects the entry or runs out of memory,
+    /// the limiter drops the key and the value.
     ///
     /// ```text
     /// let inserted = map.insert_full(1, 11, &mut |_, _| {})?;

@@ -9,8 +9,8 @@ use crate::rattle_std::alloc::AllocError;
 use crate::rattle_std::hash::Hash;
 
 impl<K: Eq + Hash, V, L: Limiter<K, V>, S: KeyHasher<K>> LruMap<K, V, L, S> {
-    /// Inserts as `insert` does. Returns its result, and the entries that `insert_with` would pass to its callback.
-    /// Memory for these is taken before the map changes.
+    /// Inserts as `insert` does. Returns its result, and the entries that `insert_with` would pass to its callback. It
+    /// allocates the memory for these entries before the map changes.
     ///
     /// ```text
     /// let (done, left) = map.insert_and_keep(4, 40)?;

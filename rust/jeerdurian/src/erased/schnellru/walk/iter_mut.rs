@@ -6,7 +6,8 @@ use crate::erased::lru_limits::{KeyHasher, Limiter};
 use crate::erased::schnellru::map::LruMap;
 use crate::rattle_std::hash::Hash;
 
-/// An iterator over the entries of a map, newest first, from both ends. It lends each value until its next call.
+/// An iterator over the entries of a map, newest first, from both ends. It lends each value until the next call of the
+/// iterator.
 ///
 /// ```text
 /// let mut walk = map.iter_mut();

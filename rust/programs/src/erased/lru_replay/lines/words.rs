@@ -1,5 +1,5 @@
 // Erased from crates/lru_replay/src/lines/words.rt: do not edit.
-//! What a line means: a call on the map, or, for the first line, the limit of the map. Each is a word and at most two
+//! What a line means: a call on the map, or, for the first line, the limit of the map. A line is a word and at most two
 //! numbers.
 
 #[allow(unused_imports)]
