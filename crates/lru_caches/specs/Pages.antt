@@ -1,8 +1,8 @@
 -- A page cache: which blocks it shows, which of its pages are dirty, and what a crash may leave.
 --     d    the ghost members of the device: what contracts see of a block, the blocks, what a crash may leave of them
-use Rattle.std.specs.Prelude.{◌≡◌, ◌≢◌, ◌⊎◌, ◌+◌, ◌-◌, ◌^◌, ℕ, min, Bool, true, false, not, ◌&&◌, ◌||◌}
+use Rattle.std.specs.Prelude.{◌≡◌, ◌≢◌, ◌⊎◌, ◌+◌, ◌-◌, ◌^◌, ◌<◌, ℕ, zero, suc, min, Bool, true, false, not, ◌&&◌, ◌||◌}
 use Rattle.std.specs.Prelude.{if◌then◌else◌, List, [], ◌∷◌, ◌++◌, map, length, reverse, filter, nat_eq, nat_lt, Option}
-use Rattle.std.specs.Prelude.{Some, None, option_map, is_some, IsTrue, IsPermutation, Result, Err, IfErr, OnOk, OnErr}
+use Rattle.std.specs.Prelude.{Some, None, option_map, is_some, IsTrue, IsPermutation, Result, Ok, Err, IfErr, OnOk, OnErr}
 use Rattle.std.specs.List.{find}
 use Rattle.std.specs.List.Sorted.{IsStrictlyIncreasing}
 use Rattle.std.specs.Map.{lookup, keys_of, set_value}
@@ -229,3 +229,21 @@ module _ {B D E S : Type 0} (d : device.Ghosts D B E S) where
     pub mode : new.keeps_dirty ≡ old.keeps_dirty
     pub counted : OnOk result (new.counts ≡ counted n old)
     pub uncounted : OnErr result (new.counts ≡ old.counts)
+
+  -- what a read of page n does if it succeeds
+  pub record ReadsPage (n : ℕ) (old new : Cached B D) : Type 0 where
+    pub block : B
+    pub shows : d.IsHonest new.device → shown new n ≡ Some (d.seen block)
+    pub pages : new.pages ≡ pages_read n block old
+    pub uses : UsesPage n old (Ok tt) new
+
+  -- `count` pages were read, one after another, from page `start` on
+  abbrev pub ReadsPages : ℕ → ℕ → Cached B D → Cached B D → Type 0
+  ReadsPages start zero old new = new ≡ old
+  ReadsPages start (suc count) old new =
+      (between : Cached B D) × ReadsPages start count old between × ReadsPage (start + count) between new
+
+  -- the pages before some page below `end` were read, and then the read of this page failed
+  abbrev pub ReadsUntil : ℕ → ℕ → Cached B D → Cached B D → PageError E → Type 0
+  ReadsUntil start end old new e = (count : ℕ) × (start + count < end) × (between : Cached B D)
+      × ReadsPages start count old between × UsesPage {A = Unit {0}} (start + count) between (Err e) new

@@ -9,4 +9,6 @@ mod page_cache;
 pub use devices::{Durable, FileDevice, FileError, HashedFileDevice};
 pub use memo::{Loader, Memo};
 pub use ordered_map::{Entries, IntoEntries, Keys, OrderedMap, Values};
+#[cfg(feature = "runtime-rng")]
+pub use page_cache::with_cache;
 pub use page_cache::{BlockDevice, PageCache, PageError, Unclosed};

@@ -1,8 +1,10 @@
 //! How often and when callbacks are called, which no clause of a contract says.
 
+use jeerdurian::caches::{FileDevice, PageCache};
 use jeerdurian::{Admission, Limiter, LruMap, More, UnlimitedCompact, Updated};
 use std::cell::{Cell, RefCell};
 use std::hash::{BuildHasherDefault, DefaultHasher};
+use std::io::Cursor;
 use std::rc::Rc;
 
 type Log = Rc<RefCell<Vec<String>>>;
@@ -249,6 +251,31 @@ fn calls_and_moves_hash_once() {
     let mut large = LruMap::with_hasher(UnlimitedCompact, Builds::default());
     (0..3u64).for_each(|n| assert!(large.insert(n, [n; 32])));
     assert_eq!(large.hasher().0.get(), 3);
+}
+
+/// A hasher that shares its count.
+struct Shared(Rc<Builds>);
+
+impl std::hash::BuildHasher for Shared {
+    type Hasher = Itself;
+
+    fn build_hasher(&self) -> Itself {
+        self.0.build_hasher()
+    }
+}
+
+/// A hit and a miss of a page cache hash the number of their page once. An eviction finds its page twice.
+#[test]
+fn a_page_cache_hashes_the_number_of_a_page_once() {
+    let builds = Rc::new(Builds::default());
+    let device = FileDevice::<_, 4>::new(Cursor::new(vec![0; 40]), 10);
+    let mut cache = PageCache::with_hasher(device, 2, Shared(builds.clone()));
+    for (n, hashes) in [(0, 1), (1, 1), (1, 1), (2, 3), (2, 1)] {
+        assert_eq!((cache.read(n), builds.0.replace(0)), (Ok([0; 4]), hashes));
+        assert_eq!((cache.write(n, [0; 4]), builds.0.replace(0)), (Ok(()), 1));
+    }
+    assert_eq!((cache.write(5, [0; 4]), builds.0.replace(0)), (Ok(()), 3));
+    cache.discard();
 }
 
 /// A table that stays at most half full is rehashed at its size, and never grows, by inserts of both kinds.

@@ -43,6 +43,18 @@ fn example_pages() {
     writes_its_output("example_pages", env!("CARGO_BIN_EXE_example_pages"));
 }
 
+/// After each of 100,000 crashes, each committed record is there.
+#[test]
+fn crashes_of_example_pages() {
+    let folder = Path::new(env!("CARGO_TARGET_TMPDIR")).join("crashes");
+    fs::create_dir_all(&folder).unwrap();
+    fs::write(folder.join("stdin"), "crashes 100000\n").unwrap();
+    let mut run = Command::new(env!("CARGO_BIN_EXE_example_pages"));
+    let run = run.current_dir(&folder).stdin(File::open(folder.join("stdin")).unwrap()).output().unwrap();
+    let output = String::from_utf8(run.stdout).unwrap();
+    assert!(run.status.success() && output.starts_with("100000 crashes, 0 lost; "), "{output}");
+}
+
 #[test]
 fn rows() {
     writes_its_output("rows", env!("CARGO_BIN_EXE_rows"));

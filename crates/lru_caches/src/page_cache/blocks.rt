@@ -1,7 +1,8 @@
 //! Reads and writes of the blocks of a page cache.
-ghost use Rattle.std.specs.Prelude.{◌≡◌, ◌≢◌, ◌⊎◌, ℕ, Some, false, IsTrue, IfOk, OnOk, OnErr, IsOk};
+ghost use Rattle.std.specs.Prelude.{◌≡◌, ◌≢◌, ◌⊎◌, ◌-◌, ℕ, Some, false, IsTrue, IfOk, IfErr, OnOk, OnErr, IsOk};
 ghost use Rattle.std.specs.Fn.{FnOnceReturnsAt, FnOnceReturnsAtMut};
 ghost use Rattle.lru_caches.specs.Pages.{shown, pages_read, pages_written, IsCached, IsGood, ShowsTheSame, UsesPage};
+ghost use Rattle.lru_caches.specs.Pages.{ReadsPages, ReadsUntil};
 
 use crate::device::BlockDevice;
 use crate::page_cache::evict::{find_room, replace};
@@ -9,6 +10,7 @@ use crate::page_cache::flush::reserve_number;
 use crate::page_cache::pages::{Page, admit, load, overwrite, promote, read_newest, write_newest};
 use crate::page_cache::{PageCache, PageError};
 use schnellru::KeyHasher;
+use std::ops::Range;
 
 impl<B: Copy, D: BlockDevice<B>, S: KeyHasher<u64>> PageCache<B, D, S> {
     /// Makes a page the newest. If it is not cached, it is read first.
@@ -21,13 +23,21 @@ impl<B: Copy, D: BlockDevice<B>, S: KeyHasher<u64>> PageCache<B, D, S> {
         ensures broken { D.is_usable self.old.device ≡ false → IsOk result ⊎ (result ≡ Err PageError.Broken) }
         ensures uses { UsesPage D.BlockDevice n self.old result self.new }
     {
-        if promote(&mut self.map, &mut self.counts, n) {
+        let hash = self.map.hasher().hash_named(&n);
+        if promote(&mut self.map, &mut self.counts, hash, n) {
             return Ok(());
         }
         admit(&self.device, n)?;
         reserve_number(&mut self.numbers, self.map.len())?;
         let gone = find_room(&self.map, self.capacity, self.keeps_dirty)?;
-        load(&mut self.map, &mut self.device, &mut self.counts, gone, n)
+        load(
+            &mut self.map,
+            &mut self.device,
+            &mut self.counts,
+            gone,
+            hash,
+            n,
+        )
     }
 
     /// Returns a block, and makes its page the newest.
@@ -89,6 +99,33 @@ impl<B: Copy, D: BlockDevice<B>, S: KeyHasher<u64>> PageCache<B, D, S> {
         Ok(read_newest(&self.map, read))
     }
 
+    /// Reads the blocks of these numbers into the cache, in their order, each as `read` does.
+    ///
+    /// If there are more blocks than the capacity, only the last of them stay cached.
+    ///
+    /// ```
+    /// assert!(rt; cache.prefetch(2..4) == Ok(()) && cache.contains(2) && cache.contains(3));
+    /// ```
+    ///
+    /// Cost: as a `read` of each block.
+    ///
+    /// # Errors
+    ///
+    /// As the first `read` that fails. The blocks before it were read.
+    pub fn prefetch(&mut self, blocks: Range<u64>) -> Result<(), PageError<D::Error>>
+        ensures reads { OnOk result
+            (ReadsPages D.BlockDevice blocks.start (blocks.end - blocks.start) self.old self.new) }
+        ensures failed { IfErr result (ReadsUntil D.BlockDevice blocks.start blocks.end self.old self.new) }
+        ensures keeps { ShowsTheSame D.BlockDevice self.old self.new }
+        ensures capacity { self.new.capacity ≡ self.old.capacity }
+        ensures mode { self.new.keeps_dirty ≡ self.old.keeps_dirty }
+    {
+        for n in blocks.start..blocks.end {
+            self.bring(n)?;
+        }
+        Ok(())
+    }
+
     /// Replaces a block in the cache, and makes its page the newest. The device gets the block later.
     ///
     /// If the page is not cached and the cache is full, a page is evicted for it, as by `read`. A pin stays.
@@ -114,7 +151,8 @@ impl<B: Copy, D: BlockDevice<B>, S: KeyHasher<u64>> PageCache<B, D, S> {
         ensures uses { UsesPage D.BlockDevice n self.old result self.new }
     {
         admit(&self.device, n)?;
-        if overwrite(&mut self.map, &mut self.counts, n, block) {
+        let hash = self.map.hasher().hash_named(&n);
+        if overwrite(&mut self.map, &mut self.counts, hash, n, block) {
             return Ok(());
         }
         reserve_number(&mut self.numbers, self.map.len())?;
@@ -129,6 +167,7 @@ impl<B: Copy, D: BlockDevice<B>, S: KeyHasher<u64>> PageCache<B, D, S> {
             &mut self.device,
             &mut self.counts,
             gone,
+            hash,
             n,
             page,
         )

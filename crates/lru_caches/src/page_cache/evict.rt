@@ -65,6 +65,7 @@ fn evict<B: Copy, D: BlockDevice<B>, S: KeyHasher<u64>>(
     ensures absent { (m : ℕ) → lookup (nat_eq m) map.old.pairs ≡ None → lookup (nat_eq m) map.new.pairs ≡ None }
     ensures evicted { OnOk result (map.new.pairs ≡ evicted gone map.old.pairs) }
     ensures no_more { length map.new.pairs ≤ length map.old.pairs }
+    ensures hasher { map.new.hasher ≡ map.old.hasher }
 {
     let Some(n) = gone else {
         return Ok(());
@@ -81,12 +82,14 @@ pub(super) fn replace<B: Copy, D: BlockDevice<B>, S: KeyHasher<u64>>(
     device: &mut D,
     counts: &mut Counts,
     gone: Option<u64>,
+    hash: u64,
     n: u64,
     page: Page<B>,
 ) -> Result<(), PageError<D::Error>>
     requires usable { IsTrue (D.is_usable device.old) }
     requires number { IsTrue (D.has device.old n) }
     requires absent { lookup (nat_eq n) map.old.pairs ≡ None }
+    requires hash { hash ≡ S.hash_of map.old.hasher n }
     requires as_read { page.is_dirty ≡ false → D.IsHonest device.old
         → D.blocks device.old n ≡ Some (D.seen page.block) }
     requires clean { AreClean D.BlockDevice map.old.pairs device.old }
@@ -111,7 +114,7 @@ pub(super) fn replace<B: Copy, D: BlockDevice<B>, S: KeyHasher<u64>>(
     ensures uncounted { OnErr result (counts.new ≡ counts.old) }
 {
     evict(map, device, gone)?;
-    add_page(map, n, page)?;
+    add_page(map, hash, n, page)?;
     counts.misses = counts.misses.saturating_add(1);
     Ok(())
 }

@@ -85,11 +85,13 @@ pub(super) fn load<B: Copy, D: BlockDevice<B>, S: KeyHasher<u64>>(
     device: &mut D,
     counts: &mut Counts,
     gone: Option<u64>,
+    hash: u64,
     n: u64,
 ) -> Result<(), PageError<D::Error>>
     requires usable { IsTrue (D.is_usable device.old) }
     requires number { IsTrue (D.has device.old n) }
     requires absent { lookup (nat_eq n) map.old.pairs ≡ None }
+    requires hash { hash ≡ S.hash_of map.old.hasher n }
     requires clean { AreClean D.BlockDevice map.old.pairs device.old }
     requires there { AreThere D.BlockDevice map.old.pairs device.old }
     ensures clean { AreClean D.BlockDevice map.new.pairs device.new }
@@ -117,24 +119,28 @@ pub(super) fn load<B: Copy, D: BlockDevice<B>, S: KeyHasher<u64>>(
         is_dirty: false,
         is_pinned: false,
     };
-    replace(map, device, counts, gone, n, page)
+    replace(map, device, counts, gone, hash, n, page)
 }
 
 /// Makes a page the newest, and returns whether it is cached.
 pub(super) fn promote<B: Copy, S: KeyHasher<u64>>(
     map: &mut Pages<B, S>,
     counts: &mut Counts,
+    hash: u64,
     n: u64,
 ) -> bool
+    requires { hash ≡ S.hash_of map.old.hasher n }
     ensures there { result ≡ is_some (lookup (nat_eq n) map.old.pairs) }
     ensures same { (m : ℕ) → lookup (nat_eq m) map.new.pairs ≡ lookup (nat_eq m) map.old.pairs }
     ensures len { length map.new.pairs ≡ length map.old.pairs }
     ensures used { (page : Page B) → lookup (nat_eq n) map.old.pairs ≡ Some page
         → map.new.pairs ≡ (n, page) ∷ without (nat_eq n) map.old.pairs }
     ensures stays { result ≡ false → map.new.pairs ≡ map.old.pairs }
+    ensures hasher { map.new.hasher ≡ map.old.hasher }
     ensures counts { counts.new ≡ (if result then hit counts.old else counts.old) }
 {
-    let there = map.promote(&n);
+    let _len = map.len();
+    let there = map.get_by_hash(hash, |other, _| *other == n).is_some();
     counts.count_hit_if(there);
     there
 }
@@ -143,11 +149,14 @@ pub(super) fn promote<B: Copy, S: KeyHasher<u64>>(
 pub(super) fn overwrite<B: Copy, S: KeyHasher<u64>>(
     map: &mut Pages<B, S>,
     counts: &mut Counts,
+    hash: u64,
     n: u64,
     block: B,
 ) -> bool
+    requires { hash ≡ S.hash_of map.old.hasher n }
     ensures there { result ≡ is_some (lookup (nat_eq n) map.old.pairs) }
     ensures stays { result ≡ false → map.new.pairs ≡ map.old.pairs }
+    ensures hasher { result ≡ false → map.new.hasher ≡ map.old.hasher }
     ensures others { (m : ℕ) → m ≢ n → lookup (nat_eq m) map.new.pairs ≡ lookup (nat_eq m) map.old.pairs }
     ensures len { length map.new.pairs ≡ length map.old.pairs }
     ensures written { result ≡ true → lookup (nat_eq n) map.new.pairs ≡ Some (record {
@@ -165,28 +174,37 @@ pub(super) fn overwrite<B: Copy, S: KeyHasher<u64>>(
     ) ∷ without (nat_eq n) map.old.pairs }
     ensures counts { counts.new ≡ (if result then hit counts.old else counts.old) }
 {
-    match map.get(&n) {
-        Some(page) => {
-            counts.hits = counts.hits.saturating_add(1);
-            page.block = block;
-            page.is_dirty = true;
-            true
-        }
-        None => false,
+    if !promote(map, counts, hash, n) {
+        return false;
+    }
+    fill_newest(map, block);
+    true
+}
+
+fn fill_newest<B: Copy, S: KeyHasher<u64>>(map: &mut Pages<B, S>, block: B)
+    ensures { (n : ℕ) (page : Page B) (others : List (ℕ × Page B)) → map.old.pairs ≡ (n, page) ∷ others
+        → map.new.pairs ≡ (n, record page { block = block; is_dirty = true }) ∷ others }
+{
+    if let Some(page) = map.newest_mut() {
+        page.block = block;
+        page.is_dirty = true;
     }
 }
 
 pub(super) fn add_page<B: Copy, E, S: KeyHasher<u64>>(
     map: &mut Pages<B, S>,
+    hash: u64,
     n: u64,
     page: Page<B>,
 ) -> Result<(), PageError<E>>
-    requires { lookup (nat_eq n) map.old.pairs ≡ None }
+    requires absent { lookup (nat_eq n) map.old.pairs ≡ None }
+    requires hash { hash ≡ S.hash_of map.old.hasher n }
     ensures added { OnOk result (map.new.pairs ≡ (n, page) ∷ map.old.pairs) }
     ensures stay { OnErr result (map.new.pairs ≡ map.old.pairs) }
     ensures memory { IfErr result (λ e. e ≡ PageError.Memory) }
 {
-    map.try_insert(n, page).map_err(|_| PageError::Memory)
+    map.try_insert_hashed(hash, n, page)
+        .map_err(|_| PageError::Memory)
 }
 
 pub(super) fn read_newest<B: Copy, S: KeyHasher<u64>, R, U: FnOnce(&B) -> R>(

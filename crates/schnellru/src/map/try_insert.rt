@@ -53,12 +53,44 @@ impl<K: Eq + Hash + Drop, V: Drop, L: Admission<K, V> + Copy, S: KeyHasher<K>> L
         ensures map { IsMap K.eq self.new }
     {
         let hash = self.hasher.hash_named(&key);
-        let inserted = self.try_insert_hashed(hash, key, value);
+        self.try_insert_hashed(hash, key, value)
+    }
+
+    /// Does what `try_insert` does, by the known hash of the key.
+    ///
+    /// The hash must be what `map.hasher().hash_named(&key)` returns, which the prover checks.
+    ///
+    /// ```
+    /// let hash = map.hasher().hash_named(&4);
+    /// assert_eq!(rt; map.try_insert_hashed(hash, 4, 40), Err((4, 40)));
+    /// map.pop_oldest();
+    /// assert_eq!(rt; map.try_insert_hashed(hash, 4, 40), Ok(()));
+    /// ```
+    ///
+    /// Cost: as `try_insert`, without hashing.
+    ///
+    /// # Errors
+    ///
+    /// As `try_insert`.
+    ///
+    /// Follows `RawEntryMut::insert_hashed_nocheck` of the crate `hashlink`.
+    pub fn try_insert_hashed(&mut self, hash: u64, key: K, value: V) -> Result<(), (K, V)>
+        requires hash { (k : K) → IsTrue (K.eq key k) → hash ≡ S.hash_of self.old.hasher k }
+        ensures step { TryInsert L.terms L.rules key value self.old K.eq S.hash_of result self.new }
+        ensures calls { Run (Step L.rules (offers_of L.terms) K.eq S.hash_of) self.new self.old }
+        ensures added { OnOk result (self.new.pairs ≡ (key, value) ∷ self.old.pairs) }
+        ensures within { OnOk result (L.rules.is_over_the_limit self.new.limiter (length self.new.pairs) ≡ false) }
+        ensures returned { IfErr result (λ back. back ≡ (key, value)) }
+        ensures keeps { OnErr result (self.new.pairs ≡ self.old.pairs) }
+        ensures unchanged { 0 < growth_left self.old → OnErr result (self.new ≡ self.old) }
+        ensures map { IsMap K.eq self.new }
+    {
+        let inserted = self.try_insert_if_absent(hash, key, value);
         let _ = &self.entries;
         inserted
     }
 
-    fn try_insert_hashed(&mut self, hash: u64, key: K, value: V) -> Result<(), (K, V)>
+    fn try_insert_if_absent(&mut self, hash: u64, key: K, value: V) -> Result<(), (K, V)>
         requires hash { (k : K) → IsTrue (K.eq key k) → hash ≡ S.hash_of self.old.hasher k }
         ensures { TryInsert L.terms L.rules key value self.old K.eq S.hash_of result self.new }
     {

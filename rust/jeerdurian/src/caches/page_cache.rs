@@ -291,6 +291,22 @@ impl<B: Copy, D: BlockDevice<B>, S: BuildHasher> PageCache<B, D, S> {
         self.cache.read_with(n, read)
     }
 
+    /// Reads the blocks of these numbers into the cache, in their order, each as `read` does.
+    ///
+    /// # Errors
+    ///
+    /// As the first `read` that fails. The blocks before it were read.
+    ///
+    /// ```
+    /// # use jeerdurian::caches::{FileDevice, PageCache};
+    /// # let file = std::io::Cursor::new(*b"zeroone.two.");
+    /// # let mut cache = PageCache::new(FileDevice::<_, 4>::new(file, 3), 2);
+    /// assert!(cache.prefetch(1..3) == Ok(()) && cache.contains(1) && cache.contains(2));
+    /// ```
+    pub fn prefetch(&mut self, blocks: core::ops::Range<u64>) -> Result<(), PageError<D::Error>> {
+        self.cache.prefetch(blocks)
+    }
+
     /// Replaces a block in the cache, and makes its page the newest. The device gets the block later.
     ///
     /// Cost: `O(1)` expected, amortised over the growth of the table, and at most one write of the device.
@@ -481,6 +497,34 @@ impl<B: Copy, D: BlockDevice<B>, S: BuildHasher> PageCache<B, D, S> {
     pub fn discard(self) -> D {
         self.cache.discard().0
     }
+}
+
+/// Makes a cache as [`PageCache::new`] does, lends it to a closure, and closes it at the end. Returns what the closure
+/// returned, and the device; or, if the last flush failed, the cache as [`PageCache::close`] returns it.
+///
+/// If the closure panics, the cache is dropped, and its dirty pages are lost.
+///
+/// ```
+/// use jeerdurian::caches::{FileDevice, with_cache};
+///
+/// let file = std::io::Cursor::new(*b"zeroone.two.");
+/// let (read, closed) = with_cache(FileDevice::<_, 4>::new(file, 3), 2, |cache| {
+///     cache.write(1, *b"uno.")?;
+///     cache.read(2)
+/// });
+/// assert_eq!(read, Ok(*b"two."));
+/// assert_eq!(closed.ok().unwrap().file().get_ref(), b"zerouno.two.");
+/// ```
+#[cfg(feature = "runtime-rng")]
+#[allow(clippy::type_complexity)]
+pub fn with_cache<B: Copy, D: BlockDevice<B>, R>(
+    device: D,
+    capacity: usize,
+    work: impl FnOnce(&mut PageCache<B, D>) -> R,
+) -> (R, Result<D, Unclosed<B, D>>) {
+    let mut cache = PageCache::new(device, capacity);
+    let done = work(&mut cache);
+    (done, cache.close())
 }
 
 /// A cache that was not closed, because its flush failed.

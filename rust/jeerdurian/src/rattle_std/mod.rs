@@ -63,6 +63,10 @@ pub mod mem {
     pub use core::mem::*;
 }
 
+pub mod ops {
+    pub use core::ops::*;
+}
+
 pub mod str {
     pub use core::str::*;
 }

@@ -1,10 +1,23 @@
-use Rattle.std.proofs.Common.{refl}
-use Rattle.lru_model.specs.TryInserts.{there}
-use Rattle.lru_model.proofs.PairLists.NamedPlaces.{named_there}
+use Rattle.std.proofs.Common.{subst}
+use Rattle.lru_model.specs.State.{IsMap}
+use Rattle.lru_model.proofs.Theorems.AdmittedPairs.{says}
 use Rattle.schnellru.proofs.map.LruMap.try_insert_hashed.Goals as goal
 
-pub returns-in-Some : goal.returns-in-Some
-returns-in-Some g c =
-    let old = c.args.self.now in let named = named_there (g.K.PartialEq.eq c.args.key) old.pairs old.table.places
-    c.in-Some.field-0 c.in-Some.ensures.found in
-    there named.0 named.1 refl refl
+pub returns : goal.returns
+returns g c =
+    let old : IsMap g.K.PartialEq.eq c.args.self.now = subst
+    (IsMap g.K.PartialEq.eq) c.self.view_is c.self.invariant.map in
+    let new : IsMap g.K.PartialEq.eq c.try_insert_if_absent-inserted.new.self = subst
+    (IsMap g.K.PartialEq.eq) c.self-2.view_is c.self-2.invariant.map in
+    let step = c.try_insert_if_absent-inserted.ensures in
+    let said = says g.L.Admission.terms g.L.Limiter.rules g.K.PartialEq.eq g.S.KeyHasher.hash_of
+    c.args.key c.args.value c.args.self.now old.sized _ _ new.sized step in record {
+      step = step;
+      calls = said.calls;
+      added = said.added;
+      within = said.within;
+      returned = said.returned;
+      keeps = said.keeps;
+      unchanged = said.unchanged;
+      map = new;
+    }

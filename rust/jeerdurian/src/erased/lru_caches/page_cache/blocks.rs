@@ -10,17 +10,19 @@ use crate::erased::lru_caches::page_cache::flush::reserve_number;
 use crate::erased::lru_caches::page_cache::pages::{Page, admit, load, overwrite, promote, read_newest, write_newest};
 use crate::erased::lru_caches::page_cache::{PageCache, PageError};
 use crate::erased::schnellru::KeyHasher;
+use crate::rattle_std::ops::Range;
 
 impl<B: Copy, D: BlockDevice<B>, S: KeyHasher<u64>> PageCache<B, D, S> {
     /// Makes a page the newest. If it is not cached, it is read first.
     pub(super) fn bring(&mut self, n: u64) -> Result<(), PageError<D::Error>> {
-        if promote(&mut self.map, &mut self.counts, n) {
+        let hash = self.map.hasher().hash_named(&n);
+        if promote(&mut self.map, &mut self.counts, hash, n) {
             return Ok(());
         }
         admit(&self.device, n)?;
         reserve_number(&mut self.numbers, self.map.len())?;
         let gone = find_room(&self.map, self.capacity, self.keeps_dirty)?;
-        load(&mut self.map, &mut self.device, &mut self.counts, gone, n)
+        load(&mut self.map, &mut self.device, &mut self.counts, gone, hash, n)
     }
 
     /// Returns a block, and makes its page the newest.
@@ -61,6 +63,26 @@ impl<B: Copy, D: BlockDevice<B>, S: KeyHasher<u64>> PageCache<B, D, S> {
         Ok(read_newest(&self.map, read))
     }
 
+    /// Reads the blocks of these numbers into the cache, in their order, each as `read` does.
+    ///
+    /// If there are more blocks than the capacity, only the last of them stay cached.
+    ///
+    /// ```text
+    /// assert!(rt; cache.prefetch(2..4) == Ok(()) && cache.contains(2) && cache.contains(3));
+    /// ```
+    ///
+    /// Cost: as a `read` of each block.
+    ///
+    /// # Errors
+    ///
+    /// As the first `read` that fails. The blocks before it were read.
+    pub fn prefetch(&mut self, blocks: Range<u64>) -> Result<(), PageError<D::Error>> {
+        for n in blocks.start..blocks.end {
+            self.bring(n)?;
+        }
+        Ok(())
+    }
+
     /// Replaces a block in the cache, and makes its page the newest. The device gets the block later.
     ///
     /// If the page is not cached and the cache is full, a page is evicted for it, as by `read`. A pin stays.
@@ -77,13 +99,14 @@ impl<B: Copy, D: BlockDevice<B>, S: KeyHasher<u64>> PageCache<B, D, S> {
     /// `Full`, `Device` and `Memory` as for `read`. After an error the block is not replaced.
     pub fn write(&mut self, n: u64, block: B) -> Result<(), PageError<D::Error>> {
         admit(&self.device, n)?;
-        if overwrite(&mut self.map, &mut self.counts, n, block) {
+        let hash = self.map.hasher().hash_named(&n);
+        if overwrite(&mut self.map, &mut self.counts, hash, n, block) {
             return Ok(());
         }
         reserve_number(&mut self.numbers, self.map.len())?;
         let gone = find_room(&self.map, self.capacity, self.keeps_dirty)?;
         let page = Page { block, is_dirty: true, is_pinned: false };
-        replace(&mut self.map, &mut self.device, &mut self.counts, gone, n, page)
+        replace(&mut self.map, &mut self.device, &mut self.counts, gone, hash, n, page)
     }
 
     /// Lends a closure a block for writing in place, makes its page dirty and the newest, and returns what the closure

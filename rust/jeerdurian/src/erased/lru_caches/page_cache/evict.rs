@@ -55,11 +55,12 @@ pub(super) fn replace<B: Copy, D: BlockDevice<B>, S: KeyHasher<u64>>(
     device: &mut D,
     counts: &mut Counts,
     gone: Option<u64>,
+    hash: u64,
     n: u64,
     page: Page<B>,
 ) -> Result<(), PageError<D::Error>> {
     evict(map, device, gone)?;
-    add_page(map, n, page)?;
+    add_page(map, hash, n, page)?;
     counts.misses = counts.misses.saturating_add(1);
     Ok(())
 }

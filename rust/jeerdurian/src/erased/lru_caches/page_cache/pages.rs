@@ -58,16 +58,23 @@ pub(super) fn load<B: Copy, D: BlockDevice<B>, S: KeyHasher<u64>>(
     device: &mut D,
     counts: &mut Counts,
     gone: Option<u64>,
+    hash: u64,
     n: u64,
 ) -> Result<(), PageError<D::Error>> {
     let block = read_block(device, n)?;
     let page = Page { block, is_dirty: false, is_pinned: false };
-    replace(map, device, counts, gone, n, page)
+    replace(map, device, counts, gone, hash, n, page)
 }
 
 /// Makes a page the newest, and returns whether it is cached.
-pub(super) fn promote<B: Copy, S: KeyHasher<u64>>(map: &mut Pages<B, S>, counts: &mut Counts, n: u64) -> bool {
-    let there = map.promote(&n);
+pub(super) fn promote<B: Copy, S: KeyHasher<u64>>(
+    map: &mut Pages<B, S>,
+    counts: &mut Counts,
+    hash: u64,
+    n: u64,
+) -> bool {
+    let _len = map.len();
+    let there = map.get_by_hash(hash, |other, _| *other == n).is_some();
     counts.count_hit_if(there);
     there
 }
@@ -76,26 +83,31 @@ pub(super) fn promote<B: Copy, S: KeyHasher<u64>>(map: &mut Pages<B, S>, counts:
 pub(super) fn overwrite<B: Copy, S: KeyHasher<u64>>(
     map: &mut Pages<B, S>,
     counts: &mut Counts,
+    hash: u64,
     n: u64,
     block: B,
 ) -> bool {
-    match map.get(&n) {
-        Some(page) => {
-            counts.hits = counts.hits.saturating_add(1);
-            page.block = block;
-            page.is_dirty = true;
-            true
-        }
-        None => false,
+    if !promote(map, counts, hash, n) {
+        return false;
+    }
+    fill_newest(map, block);
+    true
+}
+
+fn fill_newest<B: Copy, S: KeyHasher<u64>>(map: &mut Pages<B, S>, block: B) {
+    if let Some(page) = map.newest_mut() {
+        page.block = block;
+        page.is_dirty = true;
     }
 }
 
 pub(super) fn add_page<B: Copy, E, S: KeyHasher<u64>>(
     map: &mut Pages<B, S>,
+    hash: u64,
     n: u64,
     page: Page<B>,
 ) -> Result<(), PageError<E>> {
-    map.try_insert(n, page).map_err(|_| PageError::Memory)
+    map.try_insert_hashed(hash, n, page).map_err(|_| PageError::Memory)
 }
 
 pub(super) fn read_newest<B: Copy, S: KeyHasher<u64>, R, U: FnOnce(&B) -> R>(map: &Pages<B, S>, read: U) -> R {

@@ -40,12 +40,34 @@ impl<K: Eq + Hash, V, L: Admission<K, V> + Copy, S: KeyHasher<K>> LruMap<K, V, L
     /// Follows std's `HashMap::try_insert`.
     pub fn try_insert(&mut self, key: K, value: V) -> Result<(), (K, V)> {
         let hash = self.hasher.hash_named(&key);
-        let inserted = self.try_insert_hashed(hash, key, value);
+        self.try_insert_hashed(hash, key, value)
+    }
+
+    /// Does what `try_insert` does, by the known hash of the key.
+    ///
+    /// The hash must be what `map.hasher().hash_named(&key)` returns, which the prover checks.
+    ///
+    /// ```text
+    /// let hash = map.hasher().hash_named(&4);
+    /// assert_eq!(rt; map.try_insert_hashed(hash, 4, 40), Err((4, 40)));
+    /// map.pop_oldest();
+    /// assert_eq!(rt; map.try_insert_hashed(hash, 4, 40), Ok(()));
+    /// ```
+    ///
+    /// Cost: as `try_insert`, without hashing.
+    ///
+    /// # Errors
+    ///
+    /// As `try_insert`.
+    ///
+    /// Follows `RawEntryMut::insert_hashed_nocheck` of the crate `hashlink`.
+    pub fn try_insert_hashed(&mut self, hash: u64, key: K, value: V) -> Result<(), (K, V)> {
+        let inserted = self.try_insert_if_absent(hash, key, value);
         let _ = &self.entries;
         inserted
     }
 
-    fn try_insert_hashed(&mut self, hash: u64, key: K, value: V) -> Result<(), (K, V)> {
+    fn try_insert_if_absent(&mut self, hash: u64, key: K, value: V) -> Result<(), (K, V)> {
         match self.find_hashed(hash, &key) {
             Some(_) => Err((key, value)),
             None => self.try_insert_new(hash, key, value),
