@@ -1,5 +1,5 @@
 -- The hasher after it wrote the bytes of a number.
---     written-le_bytes_N      if the number has N bytes
+--     written-le_bytes_N      the hasher after a number of N bytes
 --     number_writes           the lemmas for numbers that one step writes
 use Rattle.std.proofs.Common.{◌≡◌, ◌<◌, ◌+◌, ◌*◌, ◌/◌, ◌%◌, ◌^◌, ℕ, ap, arith, ◌∙◌}
 use Rattle.std.specs.Hash.{le_bytes}

@@ -3,8 +3,7 @@ ghost use Rattle.lru_limits.specs.Limiters.{no_rules, all_terms};
 use crate::admission::Admission;
 use crate::limiter::Limiter;
 
-/// Limits nothing except by its links of 32 bits: at most 1,879,048,192 entries. Its buckets are smaller than under
-/// `Unlimited`.
+/// Limits only by its links of 32 bits, to 1,879,048,192 entries. The map's buckets are smaller than under `Unlimited`.
 ///
 /// ```
 /// assert!(rt; !Limiter::<u64, u64>::is_over_the_limit(&UnlimitedCompact, usize::MAX));
