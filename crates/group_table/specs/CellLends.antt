@@ -1,4 +1,4 @@
--- What becomes of the owner of places if a `&mut` to one of its entries is returned.
+-- How a write through a `&mut` to an entry changes the owner of the places.
 use Rattle.std.specs.Prelude.{ℕ, List, slice_set, Option, Some}
 use Rattle.std.specs.Borrow.{Fml, RattleType, MutBor, Lends}
 use Rattle.group_table.specs.declared.cells.Cells.{Cells}

@@ -1,4 +1,4 @@
--- What becomes of the entries of a table if a `&mut` to one of them is returned.
+-- How a write through a `&mut` to an entry changes the entries of a table.
 use Rattle.std.specs.Prelude.{ℕ, List, slice_set, Option, Some}
 use Rattle.std.specs.Borrow.{Lends, Fml, RattleType, MutBor}
 use Rattle.group_table.specs.contracts.entries.Entries.{the_row}

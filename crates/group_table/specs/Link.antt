@@ -1,8 +1,8 @@
--- What a width of links promises.
+-- The laws of a link type.
 --     IsLinkType number link most         the laws of `LinkType`, if `MAX` is most
 --     link_below laws n below             the link of a number below the number of `MAX` is not `MAX`
 --     narrowest_most                      the number of `MAX` in the narrowest width
---     numbers_are_links                   an unsigned number is a link that is its own number
+--     numbers_are_links                   each number up to `most` is its own link
 use Rattle.std.specs.Prelude.{◌≡◌, ◌≢◌, ◌≤◌, ◌<◌, ℕ, refl}
 use Rattle.std.proofs.Common.{ap, arith}
 
@@ -23,7 +23,7 @@ pub link_below : {N : Type 0} {number : N → ℕ} {link : ℕ → N} {most : N}
 link_below {N} {number} {link} {most} laws n below same =
     absurd (omega (arith, laws.number_of_link n below, ap number same, below))
 
--- each number up to most is its own link, and most itself names no bucket
+-- each number up to `most` is its own link, and `most` means no bucket
 pub numbers_are_links : (most : ℕ) → narrowest_most ≤ most → IsLinkType (λ n. n) (λ n. n) most
 numbers_are_links most wide = record {
   number_of_link = λ n below. refl;
