@@ -1,4 +1,4 @@
--- What becomes of an `OrderedTable` if a `&mut` to one of its pairs is returned.
+-- How a write through a `&mut` to a pair changes an `OrderedTable`.
 use Rattle.std.specs.Prelude.{ℕ}
 use Rattle.std.specs.Borrow.{Lends, Fml, RattleType, MutBor}
 use Rattle.group_table.specs.declared.link.LinkType as link_type
@@ -14,7 +14,7 @@ abbrev pub lends_pair : (K V N : RattleType) → link_type.Ghosts N.Denot
 lends_pair K V N links t b r = Lends (linked_row K V N links) (pair_row K V) t r
     (λ last. with_pair t.now b (last.key, last.value))
 
--- `lends_pair` for the `LinkedTable` below
+-- `lends_pair` for a `LinkedTable`
 abbrev pub lends_linked_pair : (K V N : RattleType) → link_type.Ghosts N.Denot
     → MutBor (OrderedTable K.Denot V.Denot) → ℕ → MutBor (Pair K.Denot V.Denot) → Fml
 lends_linked_pair K V N links t b r = Lends (links_row K V N links) (pair_row K V) t r
