@@ -8,6 +8,6 @@ use Rattle.group_table.specs.contracts.cells.Cells.{the_row}
 abbrev pub with_places : {T : Type 0} → Cells T → List (Option T) → Cells T
 with_places c places = record { mark = c.mark; start = c.start; places = places }
 
--- once the borrow r ends, the place holds the last value written through r
+-- after the borrow r ends, the place holds the last value written through r
 abbrev pub lends_place : (R : RattleType) → MutBor (Cells R.Denot) → ℕ → MutBor R.Denot → Fml
 lends_place R c b r = Lends (the_row R) R c r (λ last. with_places c.now (slice_set c.now.places b (Some last)))

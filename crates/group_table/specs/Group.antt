@@ -33,11 +33,9 @@ module _ {T : Type 0} (slots : List (Slot T)) where
   abbrev pub IsEmptyLane : ℕ → ℕ → Type 0
   IsEmptyLane start lane = bucket_at (bucket_states slots) ((start + lane) % length slots) ≡ empty
 
-  -- one of the first `lanes` lanes is empty
   abbrev pub HasEmptyLane : ℕ → ℕ → Type 0
   HasEmptyLane start lanes = (lane : ℕ) × (lane < lanes) × IsEmptyLane start lane
 
-  -- none of the first `lanes` lanes is empty
   abbrev pub HasNoEmptyLane : ℕ → ℕ → Type 0
   HasNoEmptyLane start lanes = (lane : ℕ) → lane < lanes
       → bucket_at (bucket_states slots) ((start + lane) % length slots) ≢ empty

@@ -6,7 +6,6 @@
 use Rattle.std.specs.Prelude.{◌≡◌, ◌≢◌, ◌≤◌, ◌<◌, ℕ, refl}
 use Rattle.std.proofs.Common.{ap, arith}
 
--- the greatest number of eight bits
 abbrev pub narrowest_most : ℕ
 narrowest_most = 255
 
@@ -23,7 +22,6 @@ pub link_below : {N : Type 0} {number : N → ℕ} {link : ℕ → N} {most : N}
 link_below {N} {number} {link} {most} laws n below same =
     absurd (omega (arith, laws.number_of_link n below, ap number same, below))
 
--- each number up to `most` is its own link, and `most` means no bucket
 pub numbers_are_links : (most : ℕ) → narrowest_most ≤ most → IsLinkType (λ n. n) (λ n. n) most
 numbers_are_links most wide = record {
   number_of_link = λ n below. refl;

@@ -31,5 +31,4 @@ unfolding le_bytes
 written-le_bytes_16 h n fits =
     rw (word-low_bytes_8 n, word-high_bytes n fits)
 
--- the hasher after a number of 2, 4 or 8 bytes
 pub ruleset number_writes = (written-le_bytes_2, written-le_bytes_4, written-le_bytes_8)

@@ -7,7 +7,7 @@
 --     by_weight, weighs      the rules and the offers of a limiter, for a given cost of an entry
 --     budget_terms           the terms of these offers
 --     by_cost, charges       the rules and the offers, for a given cost of a value
---     pair_cost o k v        the cost of an entry: k for its key, v for its value, o for itself
+--     pair_cost o k v        the cost of an entry: k + v + o, but at most `u64::MAX`
 --     weighs-sums, charges-sums        the laws of `Summing`
 use Rattle.std.specs.Prelude.{◌+◌, ◌-◌, ◌^◌, ◌&&◌, ℕ, min, Bool, true, nat_lt, nat_le, if◌then◌else◌, refl}
 use Rattle.lru_limits.specs.Rules.{Rules, Offers}
@@ -58,7 +58,6 @@ module _ {K V : Type 0} (cost : V → ℕ) where
   abbrev pub charges : Offers K V Budget K
   charges = weighs (λ k v. cost v)
 
--- the sum of the three costs, but at most `u64::MAX`
 abbrev pub pair_cost : ℕ → ℕ → ℕ → ℕ
 pair_cost overhead k v = min (k + v + overhead) (2 ^ 64 - 1)
 

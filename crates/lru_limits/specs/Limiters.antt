@@ -12,7 +12,7 @@ use Rattle.lru_limits.specs.Stores.{plain}
 abbrev pub length_rules : {K V : Type 0} → Rules K V ℕ
 length_rules = plain (λ most length. nat_lt most length) (λ _ _. true)
 
--- every entry is accepted, unless `most` is 0
+-- every entry is accepted if `most` is above 0
 abbrev pub length_terms : {K V : Type 0} → Terms K V ℕ
 length_terms = never_changes (λ most _ _. nat_lt 0 most)
 
@@ -23,11 +23,9 @@ length_offers = offers_of length_terms
 abbrev pub memory_rules : {K V : Type 0} → Rules K V ℕ
 memory_rules = plain (λ _ _. false) (λ most bytes. nat_le bytes most)
 
--- no map is over the limit, and any growth is permitted
 abbrev pub no_rules : {K V S : Type 0} → Rules K V S
 no_rules = plain (λ _ _. false) (λ _ _. true)
 
--- entries are stored as they come
 abbrev pub all_terms : {K V S : Type 0} → Terms K V S
 all_terms = never_changes (λ _ _ _. true)
 

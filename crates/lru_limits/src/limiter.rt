@@ -25,7 +25,7 @@ pub trait Limiter<K, V> {
 
     ghost rules: { Rules K V Self };
 
-    /// Returns whether a map of `length` entries is over the limit. Then the map evicts its oldest entry.
+    /// Returns whether a map of `length` entries is over the limit. If so, the map evicts its oldest entry.
     ///
     /// Called at two times:
     ///
@@ -95,8 +95,8 @@ pub trait Insertion<K: Eq + Hash, V, I: LookupKey<K>>: Limiter<K, V> {
         ensures out_of_memory { OnErr result (offers.may_run_out self.old length key value) };
 
     /// Called by an insert or an update before `new_value` replaces `old_value`. The map has `length` entries, and
-    /// `new_key` names the stored `old_key`. The stored key stays equal. Returns whether the new value is accepted. If
-    /// not, the map removes the entry and calls `on_removed` with it.
+    /// `new_key` names the stored `old_key`. The limiter may change `old_key` only to an equal key. Returns whether the
+    /// new value is accepted. If not, the map removes the entry and calls `on_removed` with it.
     fn on_replace(
         &mut self,
         length: usize,

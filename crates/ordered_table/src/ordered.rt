@@ -199,7 +199,7 @@ impl<K, V, N: LinkType> OrderedTable<K, V, N> {
     /// Returns the bucket of the first pair that `f` accepts.
     ///
     /// `f` is called with pairs whose tag is the hash's top 7 bits. Only tests show that `f` is called with each pair
-    /// at most once, and not again after it accepted one.
+    /// at most once, and not again after it returned true.
     ///
     /// Cost: `O(1)` expected.
     #[inline]

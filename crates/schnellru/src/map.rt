@@ -1,5 +1,5 @@
-//! The type `LruMap`. A contract sees a map as a `State`. It contains the pairs, newest first, the limiter and hasher,
-//! the states of the buckets, and the counts.
+//! The type `LruMap`. A contract sees a map as a `State`. The `State` contains the pairs, newest first, the limiter and
+//! hasher, the states of the buckets, and the counts.
 ghost use Rattle.std.specs.Prelude.{◌≡◌};
 ghost use Rattle.lru_limits.specs.Mixing.{seeded};
 ghost use Rattle.lru_model.specs.Sizes.{max_of_32_bits};

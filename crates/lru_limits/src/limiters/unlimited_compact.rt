@@ -3,7 +3,8 @@ ghost use Rattle.lru_limits.specs.Limiters.{no_rules, all_terms};
 use crate::admission::Admission;
 use crate::limiter::Limiter;
 
-/// Limits only by its links of 32 bits, to 1,879,048,192 entries. The map's buckets are smaller than under `Unlimited`.
+/// Sets no limit, but its links of 32 bits permit at most 1,879,048,192 entries. Buckets are smaller than under
+/// `Unlimited`.
 ///
 /// ```
 /// assert!(rt; !Limiter::<u64, u64>::is_over_the_limit(&UnlimitedCompact, usize::MAX));

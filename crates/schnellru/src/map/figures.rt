@@ -135,8 +135,8 @@ impl<K: Eq + Hash, V, L: Limiter<K, V>, S: KeyHasher<K>> LruMap<K, V, L, S> {
     /// that stores an entry or replaces a value. A lower limit of `ByMemoryUsage` takes effect at the next growth. An
     /// insert or update evicts nothing if the limiter rejects its entry or value.
     ///
-    /// Do not write a limiter with another running total. For example, `*map.limiter_mut() = ByCost::new(n)` would
-    /// count the stored entries as 0. Instead, call `set_limiter` with `map.limiter().with_limit(n)`.
+    /// Do not write a limiter with another running total. `*map.limiter_mut() = ByCost::new(n)` would count the stored
+    /// entries as 0. Instead, call `set_limiter` with `map.limiter().with_limit(n)`.
     ///
     /// ```
     /// *map.limiter_mut() = ByLength::new(1);

@@ -16,14 +16,14 @@ use std::hash::Hash;
 impl<K: Eq + Hash + Drop, V: Drop, L: Limiter<K, V>, S: KeyHasher<K>> LruMap<K, V, L, S> {
     /// Inserts a key with a value, as the newest entry. Returns whether the key is in the map afterwards.
     ///
-    /// If the key is there, the stored key stays. If the limiter then rejects the new value, the entry is removed, and
-    /// the result is false. If the key is new, the limiter returns the entry to store, or none. If one more entry would
-    /// be over the limit, the oldest entry is evicted first.
+    /// If the key is there, the stored key stays and gets the new value. If the limiter rejects the new value, the
+    /// entry is removed, and the result is false. If the key is new, the limiter returns the entry to store, or `None`.
+    /// If the limiter would be over its limit with one more entry, the oldest entry is evicted first.
     ///
     /// If no bucket can take the new entry, the table grows. A table with fewer than half of the entries that it may
     /// hold is rehashed instead. If no larger table exists, or if the limiter refuses it, the oldest entries are
-    /// evicted until a bucket can take the new entry. If fewer than half of the entries that the table may hold are
-    /// left before that, the table is rehashed. If there is no entry to evict, the new entry is not stored, and the
+    /// evicted until a bucket can take the new entry. If the evictions leave fewer than half of the entries that the
+    /// table may hold, the table is rehashed. If there is no entry to evict, the new entry is not stored, and the
     /// result is false.
     ///
     /// At the end, if the key is in the map, the oldest entries are evicted while the limiter is over its limit. A
@@ -63,7 +63,7 @@ impl<K: Eq + Hash + Drop, V: Drop, L: Limiter<K, V>, S: KeyHasher<K>> LruMap<K, 
 impl<K: Eq + Hash, V: Drop, L: Limiter<K, V>, S: KeyHasher<K>> LruMap<K, V, L, S> {
     /// Does what `insert` does, and passes these entries to the callback: the evicted entries, oldest first; an entry
     /// that is removed because its new value is rejected; and an entry that `on_insert` returned but the map could not
-    /// store. Before that, `on_removed` may write to the entry.
+    /// store. Before each call of the callback, `on_removed` may write to the entry.
     ///
     /// The callback gets each of these entries once, even if the result is an `Err`. Only tests show that the callback
     /// gets an entry before the limiter is called again. The callback does not get a replaced value.

@@ -107,8 +107,8 @@ impl<K: Eq + Hash, V, L: Limiter<K, V>, S: KeyHasher<K>> LruMap<K, V, L, S> {
     {
         self.settle();
         self.make_room(sink);
-        // `insert_without_growth` takes the key and the value as two arguments. Before it passes a pair, each insert
-        // would clear the pair's memory.
+        // `insert_without_growth` takes the key and the value as two arguments, because each insert would first clear
+        // memory for a pair.
         let (key, value) = pair;
         if self.growth_left() == 0 {
             return self.insert_without_growth(hash, key, value, sink);

@@ -12,7 +12,7 @@ use std::mem;
 impl<K: Eq + Hash + Drop, V: Drop, L: Limiter<K, V>, S: KeyHasher<K>> LruMap<K, V, L, S> {
     /// Evicts the oldest entries while the limiter is over its limit.
     ///
-    /// `ByMemoryUsage` is never over its limit.
+    /// Evicts nothing under `ByMemoryUsage`, which is never over its limit.
     ///
     /// ```
     /// *map.limiter_mut() = ByLength::new(1);
