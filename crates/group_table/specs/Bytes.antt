@@ -1,4 +1,4 @@
--- The values of control bytes. Only the public clauses of the module `group` cite this module.
+-- The values of control bytes. Among public clauses, only those of the module `group` cite this module.
 use Rattle.std.specs.Prelude.{ℕ, ◌<◌, ◌≤◌}
 
 abbrev pub empty_byte : ℕ

@@ -7,7 +7,7 @@ use Rattle.std.specs.Fn.{Shared, FnReturnsAt}
 use Rattle.group_table.specs.Bucket.{Slot, empty, deleted, full}
 
 module _ {T F : Type 0} (closure : Shared F (Bor T × Unit {0}) (Result T AllocError)) (f : F) where
-  -- the bucket of the copy is the old bucket, but with an entry that f may return for the old entry
+  -- the bucket of the copy equals the old bucket, but a full bucket contains what f may return for the old entry
   abbrev pub IsCopyOf : Slot T → Slot T → Type 0
   IsCopyOf empty copy = copy ≡ empty
   IsCopyOf deleted copy = copy ≡ deleted

@@ -12,7 +12,6 @@ narrowest_most = 255
 pub record IsLinkType {N : Type 0} (number : N → ℕ) (link : ℕ → N) (most : N) : Type 0 where
   -- the link of a number below the number of `MAX` has that number
   pub number_of_link : (n : ℕ) → n < number most → number (link n) ≡ n
-  -- links of equal numbers are equal
   pub equal_by_number : (a b : N) → number a ≡ number b → a ≡ b
   -- a link has at least eight bits
   pub wide_enough : narrowest_most ≤ number most

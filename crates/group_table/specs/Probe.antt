@@ -10,12 +10,12 @@ hash_tag hash = hash / 2 ^ 57
 abbrev pub filled : {T : Type 0} → ℕ → T → Slot T
 filled hash entry = full (record { tag = hash_tag hash; entry = entry })
 
--- the bucket that a search visits at a step. A search visits groups of 16 buckets. The first group begins at `hash %
--- buckets`. The second begins 16 buckets after the first, the third 32 buckets after the second, and so on.
+-- the bucket that a search visits at a step. A search visits groups of 16 buckets. The first group begins at the hash,
+-- modulo `buckets`. The second begins 16 buckets after the first, the third 32 buckets after the second, and so on.
 abbrev pub probed : ℕ → ℕ → ℕ → ℕ
 probed buckets hash step = (hash + 8 * (step / 16) * (step / 16 + 1) + step % 16) % buckets
 
--- b is the first bucket in an order that is not full
+-- in an order of buckets, b is the first that is not full
 pub record IsFirst (full_at : ℕ → Bool) (order : ℕ → ℕ) (b : ℕ) : Type 0 where
   pub step : ℕ
   pub there : order step ≡ b
@@ -33,6 +33,6 @@ module _ (states : List BucketState) (hash : ℕ) where
     pub there : probed (length states) hash step ≡ b
     pub goes_on : (before : ℕ) → before / 16 < step / 16 → state_probed before ≢ empty
 
-  -- a bucket is the first one in the order of a search that is empty or deleted
+  -- in the order of a search, a bucket is the first that is not full
   abbrev pub IsFirstFree : ℕ → Type 0
   IsFirstFree = IsFirst (λ b. is_full (bucket_at states b)) (probed (length states) hash)

@@ -99,7 +99,7 @@ impl<T> Table<T> {
     ///
     /// # Errors
     ///
-    /// Out of memory. With 0 buckets it never fails.
+    /// Out of memory. With 0 buckets the call never fails.
     pub fn with_buckets(alloc: Global, buckets: usize) -> Result<Self, AllocError>
         requires count { IsBucketCount buckets }
         requires addressable { buckets + 16 < 2 ^ 63 }

@@ -10,7 +10,8 @@ use std::marker::Model;
 /// Limits the sum of the costs of the entries. An entry costs the cost of its key, plus the cost of its value, plus
 /// `OVERHEAD`, but at most `u64::MAX`. A contract sees the limiter as its limit and this sum.
 ///
-/// `ByWeight` rejects an entry that alone costs more than the limit, or whose cost would make the sum pass `u64::MAX`.
+/// `ByWeight` rejects an entry, or its new value, if the entry alone costs more than the limit, or if the sum would
+/// pass `u64::MAX`.
 ///
 /// ```
 /// let mut limiter: ByWeight<16> = ByWeight::new(100);

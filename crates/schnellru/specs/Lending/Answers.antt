@@ -6,7 +6,7 @@ use Rattle.schnellru.specs.declared.map.get_or_insert.NotLent.TheVariants.{NotKe
 use mathlib.Core.Option as maybe
 
 module _ {V E : Type 0} where
-  -- the result with `Ok None` for `NotKept`
+  -- the result, in which `NotKept` becomes `Ok None`
   abbrev pub lent_or_none : Result (MutBor V) (NotLent E) → Result (Option (MutBor V)) E
   lent_or_none (Ok x) = Ok (Some x)
   lent_or_none (Err NotKept) = Ok None

@@ -26,11 +26,10 @@ impl<K: Eq + Hash, V, L: Limiter<K, V>, S: KeyHasher<K>> LruMap<K, V, L, S> {
     ///
     /// # Errors
     ///
-    /// Each error leaves the entries and the table as they are.
+    /// After an error, the entries and the table are unchanged.
     ///
-    /// - `TooLarge`: `len` + n overflows, or the map needs a table of more buckets than its links can number, or of
-    ///   more than `isize::MAX - 15` bytes. The map does not rehash its table instead, even if the entries would then
-    ///   fit.
+    /// - `TooLarge`: `len` + n overflows, or the table would need more buckets than the links can number, or more than
+    ///   `isize::MAX - 15` bytes. The map does not rehash its table instead, even if the entries would then fit.
     /// - `Refused`: the limiter refused the larger table.
     /// - `Memory`: the map ran out of memory.
     ///

@@ -1,4 +1,5 @@
-//! Stores a new pair in a free bucket. If none is free, first rehashes or grows the table, or evicts the oldest pairs.
+//! Stores a new pair in a free bucket. If no bucket can take the pair, first rehashes or grows the table, or evicts the
+//! oldest pairs.
 ghost use Rattle.std.specs.Prelude.{◌≡◌, ℕ, ◌+◌, ◌-◌, ◌*◌, ◌/◌, ◌<◌, ◌≤◌, [], ◌∷◌, length, true, None, Some, List};
 ghost use Rattle.std.specs.Prelude.{Ok, OnOk, OnErr, IfErr, IsOk};
 ghost use Rattle.group_table.specs.Sizes.{IsPowerFromFour, full_capacity};
