@@ -136,7 +136,7 @@ impl<K: Eq + Hash, V, L: Limiter<K, V>, S: KeyHasher<K>> LruMap<K, V, L, S> {
     /// insert or update evicts nothing if the limiter rejects its entry or value.
     ///
     /// Do not write a limiter with another running total. `*map.limiter_mut() = ByCost::new(n)` would count the stored
-    /// entries as 0. Instead, call `set_limiter` with `map.limiter().with_limit(n)`.
+    /// entries as 0. Call `set_limiter` with `map.limiter().with_limit(n)`.
     ///
     /// ```
     /// *map.limiter_mut() = ByLength::new(1);
