@@ -51,7 +51,7 @@ module _ {K V : Type 0} (bytes_of : K → V → ℕ) where
   }
 
   -- An entry is accepted if its bytes plus the table are at most the limit, and `owned` plus its bytes fits 64 bits. A
-  -- new value is accepted if, after the old entry is subtracted, the entry with this value would be accepted.
+  -- new value is accepted if its entry would be accepted after the removal of the old entry.
   abbrev pub bytes_terms : Terms K V Bytes
   bytes_terms = record {
     accepts = λ b n k v. can_add (left_for_entries b) b.owned (bytes_of k v);

@@ -11,8 +11,8 @@ use std::alloc::AllocError;
 use std::hash::Hash;
 
 impl<K: Eq + Hash + Drop, V: Drop, L: Limiter<K, V>, S: KeyHasher<K>> LruMap<K, V, L, S> {
-    /// Does what `insert` does. Returns the result of `insert`, and the entries that `insert_with` would pass to its
-    /// callback. The memory for these entries is allocated before the map changes.
+    /// Calls `insert_with`. Returns its result, and the entries that it passes to its callback. The memory for these
+    /// entries is allocated before the map changes.
     ///
     /// ```
     /// let (done, left) = map.insert_and_keep(4, 40)?;
