@@ -42,7 +42,7 @@ abbrev pub none_val : Val
 none_val = vstruct (vcons (vstruct vnil) vnil)
 
 module _ (R : RattleType) where
-  -- the owner of places and the right to give a block back, by what they have in memory
+  -- the memory of the owner of places and of the right to give a block back
   abbrev pub BucketState : RattleType
   BucketState = Struct (shape (cells.the_type R))
 
@@ -62,7 +62,6 @@ module _ (R : RattleType) where
   abbrev pub size_of : ℕ
   size_of = type_size R
 
-  -- the allocator's type for a block of n places
   abbrev pub block_ty : ℕ → Ty
   block_ty n = bare (ty_array (lone R.mir) n)
 

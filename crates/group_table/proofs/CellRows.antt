@@ -1,4 +1,4 @@
--- A place is taken out of a row and put back. A `&` to a row shows a place. Bare memory is a row of places.
+-- A place is taken out of a row and put back. A `&` to a row gives a `&` to a place. Bare memory is a row of places.
 use Rattle.std.proofs.Common.{◌≡◌, ℕ, zero, suc, ◌+◌, ◌*◌, ◌^◌, ◌<◌, List, [], ◌∷◌, length, replicate, length-set, refl}
 use Rattle.std.proofs.Common.{sym, subst, arith, suc-mul, zero-mul}
 use Rattle.std.specs.Prelude.{Option, Some, None, get_or, slice_set}
@@ -70,7 +70,7 @@ module _ (R : RattleType) where
         (apply∗ 𝓤 (sem 𝓛 (place R block far p)) (sem 𝓛 (places R block (o + size) (slice_set more b p)))) $
         move ! (1 ∷ 0 ∷ []) $ done !)
 
-    -- the owner once the place b holds p
+    -- the owner after place b got p
     abbrev pub Back : Ptr → List Held → ℕ → ℕ × ℕ → Held → SProp 𝓤
     Back start held b at p =
         wand 𝓤 (sem 𝓛 (place R at.0 (b * size + at.1) p)) (sem 𝓛 (owns_cells R start (slice_set held b p)))

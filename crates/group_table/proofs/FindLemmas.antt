@@ -217,7 +217,7 @@ module _ {T : Type 0} (control : List ℕ) (entries : List (Option T)) (laid_out
   none_on q t p = rw (length-bucket_states (slots_of control entries), length-laid_out control entries laid_out)
       (none_up_to t (omega arith))
 
--- a search for the hash goes past its first n steps: `f` rejected the candidates there and is then `g`, and no bucket
+-- a search for the hash goes past its first n steps: `f` rejected the candidates there and became `g`, and no bucket
 -- there is empty
 pub record GoesPast {T F : Type 0} (closure : Mut F (Bor T × Unit {0}) Bool) (slots : List (Slot T)) (hash n : ℕ)
     (f g : F) : Type 0 where

@@ -1,4 +1,4 @@
--- A rehash in place: before the first place, past each place, and after the last.
+-- A rehash in place: before the first place, after each place, and after the last place.
 use Rattle.std.proofs.Common.{◌≡◌, ◌≢◌, ℕ, ◌+◌, ◌-◌, ◌^◌, ◌<◌, ◌≤◌, ◌⊎◌, List, length, replicate, get_or, set}
 use Rattle.std.proofs.Common.{Option, Some, None, refl, ap, sym, ◌∙◌, subst, arith, inl, inr, count_by, is_some}
 use Rattle.std.proofs.Common.{get_or-set_same, get_or-set_other, length-set}

@@ -32,7 +32,7 @@ whole_rounds n power = elim (dec_lt n 16) [
         absurd (omega (arith, z, pow-suc 2 (suc k), pow-suc 2 k))
 
 module _ (n start : ℕ) where
-  -- the lane is a bucket, not one of the bytes between the buckets and their repetition
+  -- the lane belongs to a bucket, not to a byte between the buckets and their repetition
   abbrev pub IsReal : ℕ → Type 0
   IsReal lane = (start + lane < n) ⊎ (max 16 n ≤ start + lane)
 
@@ -190,8 +190,8 @@ repeated_bytes control entries laid_out pos = record { again = again; between = 
     between p q r = laid_out.bytes p (omega (arith, long))
         ∙ byte_at-between (slots_of control entries) p (omega (arith, same)) r
 
--- the closure rejected the entries with the tag in the first `lanes` lanes, and the mask contains the later lanes with
--- the tag
+-- The closure rejected the entries with the tag in the first `lanes` lanes. The mask contains the later lanes with the
+-- tag.
 pub record AsksLanes {T F : Type 0} (closure : Mut F (Bor T × Unit {0}) Bool) (control : List ℕ)
     (entries : List (Option T)) (tag start : ℕ) (f : F) (mask : ℕ) (g : F) : Type 0 where
   pub lanes : ℕ

@@ -64,7 +64,6 @@ module _ {T : Type 0} (control : List ℕ) (entries : List (Option T)) (r : ℕ)
   one_full : ◌≡◌ {A = ℕ} (cond (is_full (bucket_at (slots_of control entries) b)) 1 0) 1
   one_full = ap (λ t. cond {A = ℕ} t 1 0) there
 
-  -- what the fields are after a removal
   pub record Removed (byte gained : ℕ) : Type 0 where
     pub is_valid : IsValid (written control entries b byte) (set entries b None) (r + gained)
     pub count : entry_count (slots_of (written control entries b byte) (set entries b None)) + 1

@@ -10,14 +10,14 @@ use Rattle.group_table.specs.Bytes.{empty_byte}
 use Rattle.group_table.specs.Group.{IsEmptyAt}
 use Rattle.group_table.proofs.Circle.{distance}
 
--- `run` used buckets are directly before this one: 16, or fewer if an empty bucket precedes them
+-- `run` used buckets are directly before b: 16, or fewer if an empty bucket precedes them
 pub record IsRunBefore (control : List ℕ) (buckets b run : ℕ) : Type 0 where
   pub bound : run ≤ 16
   pub used : (x steps : ℕ) → x < buckets → 0 < steps → steps ≤ run → (x + steps) % buckets ≡ b
       → slice_index control x ≢ empty_byte
   pub ends : run < 16 → (x : ℕ) → x < buckets → (x + (run + 1)) % buckets ≡ b → slice_index control x ≡ empty_byte
 
--- `run` used buckets begin with this one: 16, or fewer if an empty bucket follows them
+-- `run` used buckets begin with b: 16, or fewer if an empty bucket follows them
 pub record IsRunFrom (control : List ℕ) (buckets b run : ℕ) : Type 0 where
   pub bound : run ≤ 16
   pub used : (steps : ℕ) → steps < run → slice_index control ((b + steps) % buckets) ≢ empty_byte

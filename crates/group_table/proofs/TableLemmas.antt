@@ -1,4 +1,4 @@
--- What holds of every table, from the invariant of its fields.
+-- What holds for every table follows from the invariant of its fields.
 use Rattle.std.proofs.Common.{◌≡◌, ℕ, ◌+◌, ◌-◌, ◌<◌, ◌≤◌, List, length, Option, ap, sym, ◌∙◌, arith, inl, inr, count_by}
 use Rattle.group_table.specs.Sizes.{full_capacity, IsBucketCount}
 use Rattle.group_table.specs.Bucket.{empty, bucket_at, is_used, is_deleted, growth_left}

@@ -79,7 +79,6 @@ module _ {T N : Type 0} {number : N → ℕ} {none : N} {IsGiven : (ℕ → ℕ)
     put_within : b < length now
     put_within = omega (arith, in_placed, half.placed_length, half.now_length)
 
-  -- what is known about the bucket that the entry was put into
   pub record IsPut (hash b : ℕ) : Type 0 where
     pub reached : IsFreeFor control half.placed hash b
     pub in_whole : b < length whole

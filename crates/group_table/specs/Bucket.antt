@@ -13,7 +13,7 @@ pub record Tagged (T : Type 0) : Type 0 where
   pub tag : ℕ
   pub entry : T
 
--- a bucket, which holds an entry with its tag if it is full
+-- a bucket; if it is full, it contains an entry with its tag
 abbrev pub Slot : Type 0 → Type 0
 Slot T = Bucket (Tagged T)
 

@@ -1,4 +1,4 @@
--- The values of control bytes. No public clause cites this module, except the clauses of module `group`.
+-- The values of control bytes. Among public clauses, only those of the module `group` cite this module.
 use Rattle.std.specs.Prelude.{ℕ, ◌<◌, ◌≤◌}
 
 abbrev pub empty_byte : ℕ
@@ -11,6 +11,6 @@ deleted_byte = 128
 abbrev pub IsTag : ℕ → Type 0
 IsTag byte = byte < deleted_byte
 
--- empty or deleted: the top bit is set
+-- the byte of an empty or deleted bucket has its top bit set
 abbrev pub IsFreeByte : ℕ → Type 0
 IsFreeByte byte = deleted_byte ≤ byte

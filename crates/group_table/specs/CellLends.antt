@@ -1,4 +1,4 @@
--- What becomes of the owner of places if a `&mut` to one of its entries is returned.
+-- How a write through a `&mut` to an entry changes the owner of the places.
 use Rattle.std.specs.Prelude.{ℕ, List, slice_set, Option, Some}
 use Rattle.std.specs.Borrow.{Fml, RattleType, MutBor, Lends}
 use Rattle.group_table.specs.declared.cells.Cells.{Cells}
@@ -8,6 +8,6 @@ use Rattle.group_table.specs.contracts.cells.Cells.{the_row}
 abbrev pub with_places : {T : Type 0} → Cells T → List (Option T) → Cells T
 with_places c places = record { mark = c.mark; start = c.start; places = places }
 
--- once the borrow r ends, the place holds the last value written through r
+-- after the borrow r ends, the place holds the last value written through r
 abbrev pub lends_place : (R : RattleType) → MutBor (Cells R.Denot) → ℕ → MutBor R.Denot → Fml
 lends_place R c b r = Lends (the_row R) R c r (λ last. with_places c.now (slice_set c.now.places b (Some last)))

@@ -11,7 +11,7 @@ use denote.Sharing.{nothing, said, beside}
 use denote.RawPtr.{Ptr, block_ptr, null_ptr}
 
 module _ (R : RattleType) where
-  -- one place, n bytes into a block: an entry, or bare memory for one
+  -- one place, o bytes into a block: an entry, or bare memory for one
   abbrev pub place : ℕ → ℕ → Option R.Denot → Fml
   place block o (Some entry) = part_at R full_share entry block o
   place block o None = froom (raw (lone R.mir)) block o

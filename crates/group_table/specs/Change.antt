@@ -25,21 +25,21 @@ insertion_count c = count_up c.placed c.moved
 abbrev pub MayFill : List BucketState → ℕ → Type 0
 MayFill states b = (0 < growth_left states) ⊎ (bucket_at states b ≡ deleted)
 
--- there are no buckets, or no growth is left and the first free bucket is empty
+-- there are no buckets; or no growth is left, and the first free bucket is empty
 abbrev pub HasNoPlace : List BucketState → ℕ → Type 0
 HasNoPlace states hash = (length states ≡ 0)
     ⊎ ((growth_left states ≡ 0) × (b : ℕ) × IsFirstFree states hash b × (bucket_at states b ≡ empty))
 
 module _ {T : Type 0} where
-  -- the entry filled the first free bucket, and each other bucket stays
+  -- the entry filled the first free bucket, and no other bucket changed
   pub record Places (old new : Table T) (hash : ℕ) (entry : T) (b : ℕ) : Type 0 where
     pub first : IsFirstFree (bucket_states old.slots) hash b
     pub slots : new.slots ≡ slice_set old.slots b (filled hash entry)
     pub insertions : new.insertions ≡ one_placed old.insertions
 
 module _ {A : Type 0} where
-  -- The bucket becomes empty if each run of 16 neighbouring buckets that includes it contains an empty bucket, and
-  -- deleted otherwise.
+  -- If each run of 16 neighbouring buckets that includes bucket b contains an empty bucket, b becomes empty. Otherwise
+  -- b becomes deleted.
   abbrev pub Removes : List (Bucket A) → List (Bucket A) → ℕ → Type 0
   Removes old new b =
       (HasEmptyNeighbours (IsEmpty (bucket_states old)) (length (bucket_states old)) b × (new ≡ slice_set old b empty))

@@ -4,18 +4,18 @@ use Rattle.group_table.specs.Sizes.{IsPowerFromFour}
 use Rattle.group_table.specs.Bytes.{empty_byte, IsFreeByte}
 use Rattle.group_table.specs.Lanes.{IsRepeated}
 
--- the number of buckets: 16 fewer than the control bytes
+-- the number of buckets is the number of control bytes minus 16
 abbrev pub buckets_of : List ℕ → ℕ
 buckets_of control = length control - 16
 
--- the bytes of a table with buckets: one for each bucket, and 16 more, which repeat the first
+-- the control bytes of a table with buckets: one for each bucket, and 16 more, which repeat the first ones
 pub record IsCircle (control : List ℕ) : Type 0 where
   pub power : IsPowerFromFour (buckets_of control)
   pub long : length control ≡ buckets_of control + 16
   pub fits : length control < 2 ^ 63
   pub repeated : IsRepeated control (buckets_of control)
 
--- the bytes of any table, and the number of its last bucket, or 0 if there is none
+-- the control bytes of any table; `last` is the number of its last bucket, or 0 if there are no buckets
 abbrev pub IsControl : List ℕ → ℕ → Type 0
 IsControl control last = ((control ≡ []) × (last ≡ 0)) ⊎ (IsCircle control × (last + 1 ≡ buckets_of control))
 

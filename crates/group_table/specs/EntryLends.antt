@@ -1,8 +1,8 @@
--- What becomes of the entries of a table if a `&mut` to one of them is returned.
+-- How a write through a `&mut` to an entry changes the entries of a table.
 use Rattle.std.specs.Prelude.{ℕ, List, slice_set, Option, Some}
 use Rattle.std.specs.Borrow.{Lends, Fml, RattleType, MutBor}
 use Rattle.group_table.specs.contracts.entries.Entries.{the_row}
 
--- once the borrow r ends, the place has the last value written through r
+-- after the borrow r ends, the place holds the last value written through r
 abbrev pub lends_held : (T : RattleType) → MutBor (List (Option T.Denot)) → ℕ → MutBor T.Denot → Fml
 lends_held T e b r = Lends (the_row T) T e r (λ last. slice_set e.now b (Some last))

@@ -16,7 +16,7 @@ pub record IsAhead (control : List ℕ) (walk : FullBuckets) (from : ℕ) : Type
   pub lanes : (lane : ℕ) → HasLane walk.lanes lane
       ↔ ((lane < 16) × IsTag (slice_index control (walk.start + lane)) × (from ≤ walk.start + lane))
 
--- the first full bucket from a bucket on, or the number of buckets if there is none
+-- `next` is the first full bucket from bucket `from` on, or the number of buckets if there is none
 pub record IsNextFull (control : List ℕ) (from next : ℕ) : Type 0 where
   pub bound : from ≤ next
   pub within : next ≤ buckets_of control

@@ -1,4 +1,4 @@
--- What the code reads in the group of buckets that begins at a place. No public clause cites this module.
+-- What the code reads in a group of buckets. No public clause cites this module.
 use Rattle.std.specs.Prelude.{◌≡◌, ◌≢◌, ℕ, ◌+◌, ◌-◌, ◌%◌, ◌<◌, ◌≤◌, min, Bool, true, List, [], ◌∷◌, ◌++◌, length}
 use Rattle.std.specs.Prelude.{nat_lt, slice_index}
 use Rattle.std.specs.Borrow.{Bor}
@@ -11,11 +11,11 @@ use Rattle.group_table.specs.declared.probe.Probe.{Probe}
 use Rattle.group_table.specs.declared.probe.Searched.{Searched}
 use Rattle.group_table.specs.declared.probe.Searched.TheVariants.{Accepted, Ended, GoesOn}
 
--- how many buckets the search visited before this group
+-- how many buckets the search visited before the current group
 abbrev pub passed_by : Probe → ℕ
 passed_by probe = probe.stride - 16
 
--- a search for the hash visits this group after `passed_by` buckets, which are all in whole groups
+-- a search for the hash visits the current group after `passed_by` buckets, a multiple of 16
 pub record IsProbe (buckets hash : ℕ) (probe : Probe) : Type 0 where
   pub start : probe.start ≡ probed buckets hash (passed_by probe)
   pub whole : passed_by probe % 16 ≡ 0
@@ -33,17 +33,16 @@ module _ {T : Type 0} (slots : List (Slot T)) where
   abbrev pub IsEmptyLane : ℕ → ℕ → Type 0
   IsEmptyLane start lane = bucket_at (bucket_states slots) ((start + lane) % length slots) ≡ empty
 
-  -- one of the first `lanes` lanes is empty
   abbrev pub HasEmptyLane : ℕ → ℕ → Type 0
   HasEmptyLane start lanes = (lane : ℕ) × (lane < lanes) × IsEmptyLane start lane
 
-  -- none of the first `lanes` lanes is empty
   abbrev pub HasNoEmptyLane : ℕ → ℕ → Type 0
   HasNoEmptyLane start lanes = (lane : ℕ) → lane < lanes
       → bucket_at (bucket_states slots) ((start + lane) % length slots) ≢ empty
 
 module _ {T F : Type 0} (closure : Mut F (Bor T × Unit {0}) Bool) (slots : List (Slot T)) (tag start : ℕ) (f : F) where
-  -- f was called for the buckets with the tag, in the order of the lanes; it rejected all but the last, which is b
+  -- f was called for the buckets with the tag, in the order of the lanes; it accepted the last, b, and rejected the
+  -- others
   pub record AcceptsIn (b : ℕ) (g : F) : Type 0 where
     pub lanes : ℕ
     pub in_group : lanes ≤ width slots
@@ -62,14 +61,14 @@ module _ {T F : Type 0} (closure : Mut F (Bor T × Unit {0}) Bool) (slots : List
   SearchesGroup Ended g = RejectsGroup g × HasEmptyLane slots start (width slots)
   SearchesGroup GoesOn g = RejectsGroup g × HasNoEmptyLane slots start (width slots)
 
--- the byte is a tag
+-- whether the byte of bucket b is a tag
 abbrev pub full_at : List ℕ → ℕ → Bool
 full_at control b = nat_lt (slice_index control b) deleted_byte
 
 abbrev pub IsEmptyAt : List ℕ → ℕ → Type 0
 IsEmptyAt control b = slice_index control b ≡ empty_byte
 
--- the first empty or deleted bucket of the group that begins here
+-- b is the first empty or deleted bucket of the group that begins at `start`
 pub record IsFreeLane (control : List ℕ) (buckets start b : ℕ) : Type 0 where
   pub first : IsFirst (full_at control) (λ lane. (start + lane) % buckets) b
   pub in_group : first.step < 16

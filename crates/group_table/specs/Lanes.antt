@@ -1,13 +1,13 @@
--- Masks of the sixteen lanes of a group. No public clause cites this module, except the clauses of module `group`.
+-- Masks of the sixteen lanes of a group. Among public clauses, only those of the module `group` cite this module.
 use Rattle.std.specs.Prelude.{ℕ, ◌≡◌, ◌+◌, ◌-◌, ◌<◌, ◌≤◌, ◌↔◌, max, List, slice_index}
 use Rattle.group_table.specs.Bytes.{empty_byte}
 use Rattle.std.specs.Int.{w16, bit_at, trailing_zeros}
 
--- bit i of the mask is set exactly if i names a lane whose byte has the property
+-- bit i of the mask is set if and only if i is a lane whose byte has the property
 abbrev pub IsMaskOf : (ℕ → Type 0) → List ℕ → ℕ → Type 0
 IsMaskOf P bytes mask = (lane : ℕ) → (bit_at mask lane ≡ 1) ↔ ((lane < 16) × P (slice_index bytes lane))
 
--- bit i of the mask is set exactly if i names a lane from `start` on whose byte has the property
+-- bit i of the mask is set if and only if i is a lane of the group from `start` on, and its byte has the property
 abbrev pub IsMaskAt : (ℕ → Type 0) → List ℕ → ℕ → ℕ → Type 0
 IsMaskAt P bytes start mask = (lane : ℕ) → (bit_at mask lane ≡ 1) ↔ ((lane < 16) × P (slice_index bytes (start + lane)))
 
@@ -18,7 +18,8 @@ HasLane mask lane = bit_at mask lane ≡ 1
 abbrev pub lowest : ℕ → ℕ
 lowest mask = trailing_zeros w16 mask
 
--- In a table of 4 or 8 buckets, bytes of empty buckets are between the bytes of the buckets and their repetition.
+-- The bytes after the buckets repeat the bytes of the first buckets. In a table of 4 or 8 buckets, empty bytes are in
+-- between.
 pub record IsRepeated (control : List ℕ) (buckets : ℕ) : Type 0 where
   pub again : (p : ℕ) → max 16 buckets ≤ p → p < buckets + 16
       → slice_index control p ≡ slice_index control (p - max 16 buckets)

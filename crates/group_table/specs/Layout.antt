@@ -1,4 +1,4 @@
--- How the fields of a `Table` lay out its buckets. No public clause cites this module.
+-- How the fields of a `Table` represent its buckets. No public clause cites this module.
 use Rattle.std.specs.Prelude.{◌≡◌, ℕ, ◌+◌, ◌-◌, ◌^◌, ◌<◌, ◌≤◌, ◌⊎◌, max, List, [], ◌∷◌, length, Option, Some, None}
 use Rattle.std.specs.Prelude.{if◌then◌else◌, nat_lt, nat_eq, slice_index, slice_index_or, slice_set, count_by}
 use Rattle.group_table.specs.Sizes.{IsPowerFromFour, full_capacity}
@@ -11,12 +11,12 @@ module _ {T : Type 0} where
   byte_of deleted = deleted_byte
   byte_of (full held) = held.tag
 
-  -- a bucket by its control byte and its entry
+  -- the bucket with this control byte and this entry
   abbrev pub slot_of : ℕ → Option T → Slot T
   slot_of byte (Some entry) = full (record { tag = byte; entry = entry })
   slot_of byte None = if nat_eq byte deleted_byte then deleted else empty
 
-  -- the buckets by their control bytes and entries
+  -- the buckets with these control bytes and entries
   abbrev pub slots_of : List ℕ → List (Option T) → List (Slot T)
   slots_of bytes [] = []
   slots_of [] (entry ∷ entries) = []
@@ -25,7 +25,7 @@ module _ {T : Type 0} where
   abbrev pub states_by : List ℕ → List (Option T) → List BucketState
   states_by bytes entries = bucket_states (slots_of bytes entries)
 
-  -- the control byte at a position: first the bytes of the buckets, then empty ones up to position 16, and then the
+  -- the control byte at a position: first the bytes of the buckets, then empty bytes before position 16, and then the
   -- bytes of the first buckets again
   abbrev pub byte_at : List (Slot T) → ℕ → ℕ
   byte_at slots position =
@@ -38,7 +38,7 @@ module _ {T : Type 0} where
   Agrees byte (Some entry) = IsTag byte
   Agrees byte None = (byte ≡ deleted_byte) ⊎ (byte ≡ empty_byte)
 
-  -- the bytes after one bucket and its repetition were written
+  -- the control bytes after the byte of bucket b and its repetition were written
   abbrev pub written : List ℕ → List (Option T) → ℕ → ℕ → List ℕ
   written control entries b byte = slice_set (slice_set control b byte) (b + max 16 (length entries)) byte
 

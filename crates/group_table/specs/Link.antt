@@ -1,19 +1,17 @@
--- What a width of links promises.
+-- The laws of a link type.
 --     IsLinkType number link most         the laws of `LinkType`, if `MAX` is most
 --     link_below laws n below             the link of a number below the number of `MAX` is not `MAX`
 --     narrowest_most                      the number of `MAX` in the narrowest width
---     numbers_are_links                   an unsigned number is a link that is its own number
+--     numbers_are_links                   each number up to `most` is its own link
 use Rattle.std.specs.Prelude.{◌≡◌, ◌≢◌, ◌≤◌, ◌<◌, ℕ, refl}
 use Rattle.std.proofs.Common.{ap, arith}
 
--- the greatest number of eight bits
 abbrev pub narrowest_most : ℕ
 narrowest_most = 255
 
 pub record IsLinkType {N : Type 0} (number : N → ℕ) (link : ℕ → N) (most : N) : Type 0 where
   -- the link of a number below the number of `MAX` has that number
   pub number_of_link : (n : ℕ) → n < number most → number (link n) ≡ n
-  -- links of equal numbers are equal
   pub equal_by_number : (a b : N) → number a ≡ number b → a ≡ b
   -- a link has at least eight bits
   pub wide_enough : narrowest_most ≤ number most
@@ -23,7 +21,6 @@ pub link_below : {N : Type 0} {number : N → ℕ} {link : ℕ → N} {most : N}
 link_below {N} {number} {link} {most} laws n below same =
     absurd (omega (arith, laws.number_of_link n below, ap number same, below))
 
--- each number up to most is its own link, and most itself names no bucket
 pub numbers_are_links : (most : ℕ) → narrowest_most ≤ most → IsLinkType (λ n. n) (λ n. n) most
 numbers_are_links most wide = record {
   number_of_link = λ n below. refl;

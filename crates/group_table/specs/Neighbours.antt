@@ -2,12 +2,12 @@
 use Rattle.std.specs.Prelude.{◌≡◌, ℕ, ◌+◌, ◌%◌, ◌<◌}
 
 module _ (Empty : ℕ → Type 0) (buckets b : ℕ) where
-  -- of any 16 neighbouring buckets with this one among them, at least one is empty
+  -- each run of 16 neighbouring buckets that includes b contains an empty bucket
   abbrev pub HasEmptyNeighbours : Type 0
   HasEmptyNeighbours = (start at : ℕ) → at < 16 → (start + at) % buckets ≡ b
       → (lane : ℕ) × (lane < 16) × Empty ((start + lane) % buckets)
 
-  -- there are 16 neighbouring buckets, this one among them, none of which is empty
+  -- some run of 16 neighbouring buckets that includes b contains no empty bucket
   pub record IsHemmedIn : Type 0 where
     pub start : ℕ
     pub at : ℕ

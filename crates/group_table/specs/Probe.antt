@@ -10,12 +10,12 @@ hash_tag hash = hash / 2 ^ 57
 abbrev pub filled : {T : Type 0} → ℕ → T → Slot T
 filled hash entry = full (record { tag = hash_tag hash; entry = entry })
 
--- the bucket that a search visits at a step. A search visits groups of 16 buckets. The first begins at the hash. The
--- second begins 16 buckets after the first, the third 32 buckets after the second, and so on.
+-- the bucket that a search visits at a step. A search visits groups of 16 buckets. The first group begins at the hash,
+-- modulo `buckets`. The second begins 16 buckets after the first, the third 32 buckets after the second, and so on.
 abbrev pub probed : ℕ → ℕ → ℕ → ℕ
 probed buckets hash step = (hash + 8 * (step / 16) * (step / 16 + 1) + step % 16) % buckets
 
--- in an order of buckets, the first bucket that is not full
+-- in an order of buckets, b is the first that is not full
 pub record IsFirst (full_at : ℕ → Bool) (order : ℕ → ℕ) (b : ℕ) : Type 0 where
   pub step : ℕ
   pub there : order step ≡ b
@@ -23,16 +23,16 @@ pub record IsFirst (full_at : ℕ → Bool) (order : ℕ → ℕ) (b : ℕ) : Ty
   pub full_before : (before : ℕ) → before < step → IsTrue (full_at (order before))
 
 module _ (states : List BucketState) (hash : ℕ) where
-  -- what is in the bucket that a search visits at a step
+  -- the state of the bucket that a search visits at a step
   abbrev pub state_probed : ℕ → BucketState
   state_probed step = bucket_at states (probed (length states) hash step)
 
-  -- a search reaches this bucket: no group before its group has an empty bucket, at which the search would end
+  -- a search reaches bucket b, because no group before the group of b has an empty bucket, which would end the search
   pub record Reaches (b : ℕ) : Type 0 where
     pub step : ℕ
     pub there : probed (length states) hash step ≡ b
     pub goes_on : (before : ℕ) → before / 16 < step / 16 → state_probed before ≢ empty
 
-  -- in the order of a search, the first bucket that is empty or deleted
+  -- in the order of a search, a bucket is the first that is not full
   abbrev pub IsFirstFree : ℕ → Type 0
   IsFirstFree = IsFirst (λ b. is_full (bucket_at states b)) (probed (length states) hash)

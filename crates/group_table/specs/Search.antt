@@ -17,7 +17,8 @@ module _ {T : Type 0} (slots : List (Slot T)) (hash : ℕ) where
   abbrev pub candidates : ℕ → List ℕ
   candidates steps = tagged slots (hash_tag hash) (probed (length slots) hash) steps
 
-  -- these are the candidates of the first `steps` steps; a search reaches each step, and no candidate is there twice
+  -- `asked` lists the candidates of the first `steps` steps; a search reaches each step, and `asked` has no bucket
+  -- twice
   pub record IsSearch (asked : List ℕ) : Type 0 where
     pub steps : ℕ
     pub within : steps ≤ length slots
@@ -27,18 +28,18 @@ module _ {T : Type 0} (slots : List (Slot T)) (hash : ℕ) where
     pub distinct : AllPairs ◌≢◌ asked
 
 module _ {T F : Type 0} (closure : Mut F (Bor T × Unit {0}) Bool) (slots : List (Slot T)) where
-  -- a call of f with the entry in the bucket may return `answer`, and leave f as g
+  -- a call of f with the entry in bucket b may return `answer` and turn f into g
   pub record Answers (f : F) (b : ℕ) (answer : Bool) (g : F) : Type 0 where
     pub entry : T
     pub there : entry_at slots b ≡ Some entry
     pub called : CalledAt closure f entry answer g
 
-  -- f was called with the entries in these buckets, one after another, rejected each, and is then g
+  -- f was called with the entries in the buckets `asked`, in this order, rejected each, and became g
   abbrev pub RejectsEach : F → List ℕ → F → Type 0
   RejectsEach f asked g = FoldsTo (λ p b q. Answers p b false q) f asked g
 
-  -- a search for the hash called f with the entries in these buckets; f accepted the last, in b, and rejected the
-  -- others
+  -- a search for the hash called f with the entries in the buckets `asked`, which f rejected, and then with the entry
+  -- in b, which f accepted
   pub record Finds (hash : ℕ) (f : F) (b : ℕ) : Type 0 where
     pub asked : List ℕ
     pub search : IsSearch slots hash (asked ++ b ∷ [])
@@ -47,8 +48,9 @@ module _ {T F : Type 0} (closure : Mut F (Bor T × Unit {0}) Bool) (slots : List
     pub last : F
     pub accepted : Answers between b true last
 
-  -- a search for the hash called f with the entries in these buckets, and f rejected all. If a bucket has the tag and a
-  -- search reaches it, it is among them. For all hashes that fit, each entry of this hash is among them.
+  -- A search for the hash called f with the entries in the buckets `asked`, and f rejected each. `asked` contains each
+  -- bucket with the tag that a search reaches. For all hashes that fit, `asked` contains the bucket of each entry with
+  -- this hash.
   pub record FindsNone (hash : ℕ) (f : F) : Type 0 where
     pub asked : List ℕ
     pub search : IsSearch slots hash asked

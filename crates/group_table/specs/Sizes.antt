@@ -1,11 +1,11 @@
--- How many entries a number of buckets takes, and how many buckets entries need. Quotients are rounded down.
+-- How many entries n buckets may hold, and how many buckets n entries need. Quotients are rounded down.
 use Rattle.std.specs.Prelude.{◌≡◌, ◌⊎◌, ℕ, zero, suc, ◌-◌, ◌*◌, ◌/◌, ◌^◌, ◌==◌, nat_lt, nat_le, if◌then◌else◌, Option}
 use Rattle.std.specs.Prelude.{Some, None}
 
 abbrev pub IsPowerFromFour : ℕ → Type 0
 IsPowerFromFour buckets = (k : ℕ) × (buckets ≡ 4 * 2 ^ k)
 
--- none, or a power of two from 4 on
+-- 0, or a power of two from 4 on
 abbrev pub IsBucketCount : ℕ → Type 0
 IsBucketCount buckets = (buckets ≡ 0) ⊎ IsPowerFromFour buckets
 
@@ -25,8 +25,8 @@ least_power n = first_power_from 64 n 1
 abbrev pub below : ℕ → ℕ → Option ℕ
 below limit n = if nat_lt n limit then Some n else None
 
--- How many buckets n entries need, if links can number them. If n is 0, they need 0 buckets; up to 3, they need 4; up
--- to 7, they need 8. If n is more, they need the least power of two that is at least eight sevenths of n.
+-- How many buckets n entries need, or `None` if this number is not below `max`. No entries need 0 buckets, up to 3 need
+-- 4, and up to 7 need 8. More entries need the least power of two that is at least 8 * n / 7.
 unfoldable pub buckets_for : ℕ → ℕ → Option ℕ
 buckets_for max entries =
     if entries == 0 then Some 0

@@ -1,9 +1,9 @@
--- What a contract sees of a `Table`, and what holds of every table.
+-- What a contract sees of a `Table`, and what holds for every table.
 use Rattle.std.specs.Prelude.{◌≡◌, ℕ, ◌+◌, ◌^◌, ◌<◌, ◌≤◌, List, length, count_by, slice_set}
 use Rattle.group_table.specs.Sizes.{IsBucketCount, full_capacity}
 use Rattle.group_table.specs.Bucket.{Slot, BucketState, bucket_at, refilled, is_deleted, is_used}
 
--- how many insertions the table has made: of new entries, and of entries that it moved
+-- how many new entries the table has stored, and how many entries it has moved
 pub record Insertions : Type 0 where
   pub placed : ℕ
   pub moved : ℕ
@@ -17,7 +17,7 @@ pub record Table (T : Type 0) : Type 0 where
 abbrev pub with_entry : {T : Type 0} → Table T → ℕ → T → Table T
 with_entry t b entry = record t { slots = slice_set t.slots b (refilled (bucket_at t.slots b) entry) }
 
--- what holds of the bucket states of every table
+-- what holds for the bucket states of every table
 pub record IsTable (states : List BucketState) : Type 0 where
   pub count : IsBucketCount (length states)
   pub addressable : length states + 16 < 2 ^ 63

@@ -14,7 +14,7 @@ use std::alloc::{AllocError, Allocator};
 use std::marker::{Model, PhantomData, Send, Sync};
 use std::mem::{align_of, size_of};
 
-// Where the places begin. It owns nothing.
+// The address of the first place. It owns nothing.
 pub(crate) struct Block<T> {
     start: *mut T,
 }
@@ -128,7 +128,7 @@ pub(crate) fn deallocate<T, A: Allocator>(
 {
     let Cells { mark: _ } = cells;
     let Deed { mark: _ } = deed;
-    // SAFETY: by `deed`, this allocator gave this block with these bytes. No place holds an entry.
+    // SAFETY: `deed` shows that this allocator allocated this block with this size. No place holds an entry.
     unsafe {
         alloc.deallocate(
             block.start as *mut u8,

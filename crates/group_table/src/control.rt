@@ -1,4 +1,4 @@
-//! Control bytes: one for each bucket, and 16 more, which repeat the first buckets. So a group is read in one piece.
+//! Control bytes: one for each bucket, and 16 more, which repeat the first ones. So a group is read in one piece.
 ghost use Rattle.std.specs.Prelude.{◌≡◌, ℕ, ◌+◌, ◌-◌, ◌%◌, ◌^◌, ◌<◌, ◌≤◌, [], length, max, replicate, slice_index};
 ghost use Rattle.std.specs.Prelude.{slice_set, Bool, if◌then◌else◌, nat_eq, nat_lt, ◌⊎◌, IfOk};
 ghost use Rattle.group_table.specs.Sizes.{IsPowerFromFour};
@@ -70,9 +70,9 @@ impl Control {
         self.last == 0
     }
 
-    // Returns whether there are no buckets, before a search for this hash. Without buckets a search begins at bucket 0;
-    // with buckets it seldom does. So most searches test only where they begin, which they compute anyway. The sum in
-    // the second test keeps the compiler from joining the tests.
+    // Returns whether there are no buckets. Without buckets, a search begins at bucket 0. With buckets, a search seldom
+    // begins there. So for most searches the first test is enough, and they need its value anyway. The sum in the
+    // second test keeps the compiler from joining the tests.
     #[inline]
     pub(crate) fn is_empty_at(&self, hash: u64) -> bool
         ensures { result ≡ nat_eq (buckets_of self.now) 0 }
@@ -146,7 +146,7 @@ impl Control {
     }
 }
 
-// Returns the control byte of a bucket with an entry of this hash. Its top bit is clear.
+// Returns the control byte of a bucket with an entry of this hash. The byte's top bit is clear.
 #[inline]
 pub(crate) fn tag_of(hash: u64) -> u8
     ensures value { result ≡ hash_tag hash }
@@ -181,8 +181,8 @@ fn set_both(bytes: &mut [u8], last: usize, b: usize, byte: u8)
     ensures { bytes.new ≡ slice_set (slice_set bytes.old b byte) (b + max 16 (buckets_of bytes.old)) byte }
 {
     bytes[b] = byte;
-    // Writes the repetition of one of the first 16 buckets. For other buckets it writes the same byte again, which
-    // avoids a branch.
+    // Writes the repetition of one of the first 16 buckets. For any other bucket, this line writes the same byte again,
+    // which avoids a branch.
     bytes[sixteen_before(b, last) + 16] = byte;
 }
 

@@ -1,4 +1,4 @@
-//! The fields of a table: the control bytes and the entries, written together.
+//! Writes the control bytes and the entries of a table together.
 ghost use Rattle.std.specs.Prelude.{◌≡◌, ℕ, ◌<◌, ◌≤◌, length, replicate, slice_set, slice_index, slice_index_or};
 ghost use Rattle.std.specs.Prelude.{None, Some, IsSome, IfOk};
 ghost use Rattle.group_table.specs.Control.{buckets_of};
@@ -19,7 +19,7 @@ pub(crate) fn no_links<N: LinkType>(alloc: Global, count: usize) -> Result<Vec<N
     Ok(links)
 }
 
-// Drops the entries in the first `count` places. The others hold none.
+// Drops the entries in the first `count` places. The other places hold no entry.
 pub(crate) fn drop_first<T: Drop>(control: &Control, entries: &mut Entries<T>, count: usize)
     requires buckets { length entries.old ≤ buckets_of control.now }
     requires within { count ≤ length entries.old }
@@ -62,7 +62,7 @@ pub(crate) fn fill_bucket<T>(
     entries.write(b, entry);
 }
 
-// Writes the tag and the entry of a bucket.
+// Writes the tag and the entry of a bucket, and returns the entry that was there.
 #[inline]
 pub(crate) fn put<T>(
     control: &mut Control,

@@ -6,8 +6,8 @@ ghost use Rattle.group_table.specs.FullBuckets.{IsAhead, IsNextFull};
 use crate::control::Control;
 use crate::group::{lowest_lane, without_lowest};
 
-// Where a walk over the full buckets is. It keeps the lanes of a group that are still to come, so no step waits for the
-// one before.
+// The position of a walk over the full buckets. It keeps the full lanes of the group that are still to visit, so no
+// step waits for the step before.
 #[derive(Drop)]
 pub(crate) struct FullBuckets {
     start: usize,

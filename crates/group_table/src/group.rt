@@ -1,4 +1,4 @@
-//! Groups of sixteen control bytes, and masks of their lanes: bit i is lane i.
+//! Groups of sixteen control bytes, and masks of their lanes. Bit i of a mask is lane i.
 ghost use Rattle.std.specs.Prelude.{◌≡◌, ◌≢◌, ◌≤◌, ◌<◌, ◌+◌, ◌-◌, ◌^◌, ◌↔◌, ℕ, length, slice_index};
 ghost use Rattle.std.specs.Int.Count.{count_trailing_zeros};
 ghost use Rattle.group_table.specs.Bytes.{empty_byte, IsTag, IsFreeByte};

@@ -1,7 +1,7 @@
 //! The bucket table of the LRU map, and the widths of its links.
 #![tactic(auto)]
 
-// Marks code that is never reached, on hot paths.
+// Marks code on hot paths that is never reached.
 macro_rules! nowhere {
     () => {{
         let none: [Option<()>; 0] = [];

@@ -4,10 +4,10 @@ ghost use Rattle.group_table.specs.Link.{IsLinkType};
 
 /// The type of a link. A link is the number of a bucket, or `MAX`, which means no bucket.
 ///
-/// A table with links of type `N` has fewer than `N::MAX` buckets, so the width of the links limits its size. The trait
-/// is implemented for `u8`, `u16`, `u32` and `usize`.
+/// A table with links of type `N` has fewer than `N::MAX` buckets, so the width of the links limits the size of the
+/// table. The trait is implemented for `u8`, `u16`, `u32` and `usize`.
 pub trait LinkType: Copy {
-    /// No bucket. Its number is at least 255, and greater than the number of every bucket.
+    /// The link that means no bucket. Its number is at least 255, and greater than the number of every bucket.
     const MAX: Self;
 
     /// `MAX`, as contracts see it.
@@ -16,10 +16,10 @@ pub trait LinkType: Copy {
     /// The number of a link.
     ghost number: { Self → ℕ };
 
-    /// The link of a number below the number of `MAX`.
+    /// The link with this number, which is below the number of `MAX`.
     ghost link: { ℕ → Self };
 
-    /// Returns the link of this number. No bits are cut off.
+    /// Returns the link with this number. No bits are lost.
     fn from_usize(value: usize) -> Self
         requires { value < number MAX }
         ensures { result ≡ link value };
@@ -28,8 +28,8 @@ pub trait LinkType: Copy {
     fn into_usize(self) -> usize
         ensures { result ≡ number self };
 
-    /// A number below the number of `MAX` comes back from its link. Links of equal numbers are equal. No width is below
-    /// 8 bits.
+    /// States three laws. If n is below the number of `MAX`, the link of n has the number n. Links with equal numbers
+    /// are equal. A link has at least 8 bits.
     ghost laws: { IsLinkType number link MAX };
 }
 

@@ -1,4 +1,4 @@
-//! Whether each run of 16 neighbouring buckets that includes a bucket contains an empty one.
+//! Tests whether each run of 16 neighbouring buckets around a bucket contains an empty bucket.
 ghost use Rattle.std.specs.Prelude.{◌≡◌, ◌≢◌, ◌+◌, ◌-◌, ◌%◌, ◌^◌, ◌<◌, Bool, if◌then◌else◌, nat_lt, slice_index};
 ghost use Rattle.std.specs.Prelude.{MatchBool};
 ghost use Rattle.group_table.specs.Bytes.{empty_byte};
@@ -36,8 +36,8 @@ fn ones_if_less(low: u32, high: u16) -> usize
     (difference >> 32).cast_unsigned() as usize
 }
 
-// Returns all ones if each run of 16 neighbouring buckets that includes this one contains an empty bucket, and 0
-// otherwise. It does if fewer than 16 used buckets lie between the nearest empty buckets on both sides.
+// Returns all ones if each run of 16 neighbouring buckets that includes b contains an empty bucket, and 0 otherwise.
+// Each run contains one if fewer than 16 used buckets lie between the nearest empty buckets on both sides of b.
 #[inline]
 pub(crate) fn ones_if_empty_neighbours(control: &Control, b: usize) -> usize
     requires bucket { b < buckets_of control.now }
@@ -47,9 +47,9 @@ pub(crate) fn ones_if_empty_neighbours(control: &Control, b: usize) -> usize
         × MatchBool empty (HasEmptyNeighbours (IsEmptyAt control.now) (buckets_of control.now) b)
         (IsHemmedIn (IsEmptyAt control.now) (buckets_of control.now) b) }
 {
-    // `used` has a bit for each used bucket from this one up to the next empty one. Fewer than 16 used buckets are in a
-    // row around this one if and only if `used` is less than the mask of the empty buckets before. Comparing the masks
-    // takes fewer instructions than two counts and their sum.
+    // `used` has a bit for each used bucket from b up to the next empty bucket. `used` is less than the mask of the
+    // empty buckets before b if and only if fewer than 16 used buckets are in a row around b. Comparing the masks takes
+    // fewer instructions than two counts and their sum.
     let used = lanes_below(empty_from(control, b));
     ones_if_less(used, empty_before(control, b))
 }

@@ -1,5 +1,5 @@
 -- The hasher after it wrote the bytes of a number.
---     written-le_bytes_N      if the number has N bytes
+--     written-le_bytes_N      the hasher after a number of N bytes
 --     number_writes           the lemmas for numbers that one step writes
 use Rattle.std.proofs.Common.{◌≡◌, ◌<◌, ◌+◌, ◌*◌, ◌/◌, ◌%◌, ◌^◌, ℕ, ap, arith, ◌∙◌}
 use Rattle.std.specs.Hash.{le_bytes}
@@ -31,5 +31,4 @@ unfolding le_bytes
 written-le_bytes_16 h n fits =
     rw (word-low_bytes_8 n, word-high_bytes n fits)
 
--- the hasher after a number of 2, 4 or 8 bytes
 pub ruleset number_writes = (written-le_bytes_2, written-le_bytes_4, written-le_bytes_8)

@@ -1,6 +1,6 @@
--- A limiter that stores entries as they come: which entries it accepts.
---     Terms K V S                  which entries it accepts, and the limiter after an offer
---     offers_of terms              its offers: an entry is stored as it came if the terms accept it
+-- What a limiter accepts, if it stores each accepted entry unchanged.
+--     Terms K V S                  which entries the limiter accepts, and the limiter after an offer
+--     offers_of terms              the offers: an entry is stored unchanged if the terms accept it
 --     never_changes admits         the terms of a limiter that never changes
 --     offers_of-lawful             the laws of `Insertion`
 use Rattle.std.specs.Prelude.{ℕ, Bool, true}
@@ -9,11 +9,11 @@ use Rattle.lru_limits.specs.Rules.{Offers}
 use Rattle.lru_limits.specs.Laws.{IsInsertion}
 use Rattle.lru_limits.specs.Stores.{ReturnsPairIf, given-names}
 
--- Each function is named after its callback. The number that it gets is the number of entries of the map.
+-- Each function has the name of its callback. Its number argument is the number of entries of the map.
 pub record Terms (K V S : Type 0) : Type 0 where
   -- whether an entry with a new key is accepted
   pub accepts : S → ℕ → K → V → Bool
-  -- the limiter after such an entry was offered
+  -- the limiter after an entry with a new key was offered
   pub admit : S → ℕ → K → V → S
   -- whether a new value of a stored key is accepted
   pub accepts_in_place : S → ℕ → K → V → V → Bool
@@ -40,7 +40,7 @@ module _ {K V S : Type 0} (terms : Terms K V S) where
     keeps_key = λ s n k i v w named. e.refl k;
   }
 
--- a new value of a stored key is always accepted
+-- the terms of a limiter that never changes and accepts every new value of a stored key
 abbrev pub never_changes : {K V S : Type 0} → (S → K → V → Bool) → Terms K V S
 never_changes admits = record {
   accepts = λ s n k v. admits s k v;

@@ -1,6 +1,6 @@
 -- Two limiters that limit one map.
---     both_rules a b      a map is over the limit if either says so, may grow if both permit it, and both are notified
---     both_terms a b      an entry is accepted if both accept it
+--     both_rules a b      over the limit if either limiter says so; a table is permitted if both permit it
+--     both_terms a b      an entry is accepted if both limiters accept it
 --     both-sums           a running total of the first limiter is a running total of both
 use Rattle.std.specs.Prelude.{◌≡◌, ◌≤◌, ◌+◌, ◌-◌, ◌&&◌, ◌||◌, ℕ, Bool, true, false, Some, None, IsTrue}
 use Rattle.std.specs.Prelude.{if◌then◌else◌, refl}
@@ -13,7 +13,7 @@ use Rattle.lru_limits.specs.Stores.{ReturnsPairIf, given-adds, refused-keeps}
 use Rattle.lru_limits.specs.Admissions.{Terms, offers_of}
 
 module _ {K V A B : Type 0} where
-  -- the second limiter sees a removed entry as the first limiter left it
+  -- the second limiter sees what the first limiter wrote to a removed entry
   abbrev pub both_rules : Rules K V A → Rules K V B → Rules K V (Both A B)
   both_rules a b = record {
     is_over_the_limit = λ s n. a.is_over_the_limit s.0 n || b.is_over_the_limit s.1 n;
@@ -35,7 +35,7 @@ module _ {K V A B : Type 0} where
         };
   }
 
-  -- what either limiter rejects changes neither limiter
+  -- if either limiter rejects an entry or a value, neither limiter changes
   abbrev pub both_terms : Terms K V A → Terms K V B → Terms K V (Both A B)
   both_terms a b = record {
     accepts = λ s n k v. a.accepts s.0 n k v && b.accepts s.1 n k v;
@@ -48,8 +48,7 @@ module _ {K V A B : Type 0} where
         then record { 0 = a.admit_in_place s.0 n k v w; 1 = b.admit_in_place s.1 n k v w } else s;
   }
 
--- `given-adds` and `replaced-exchanges` (in `Stores`), if the change of the running total is known only for an accepted
--- entry
+-- `given-adds` and `replaced-exchanges` of `Stores` for a premise that holds only if the limiter accepts
 module _ {K V S : Type 0} (cost : K → V → ℕ) (account : S → ℕ) where
   adds_if : (accepts : Bool) (s s' : S) (i : K) (v : V) (t : S) (k : K) (w : V)
       → (IsTrue accepts → account s' ≡ account s + cost i v)

@@ -1,13 +1,13 @@
 -- The limiters by a cost: their limit, and their sum of costs.
 --     Budget                 the limit and the sum
---     can_add limit sum c    the cost c is at most the limit, and sum + c fits 64 bits
---     charged b c            c is added to the sum, if it can be
---     refunded b c           c is subtracted from the sum, which is 0 if c is greater
---     exchanged b c d        a value of cost c is replaced by one of cost d, if it can be
---     by_weight, weighs      the rules and the offers of a limiter, if an entry has this cost
+--     can_add limit sum c    whether the cost c is at most the limit, and sum + c fits 64 bits
+--     charged b c            the budget b after c is added to its sum; unchanged if `can_add` is false
+--     refunded b c           the budget b after c is subtracted from its sum, but at least 0
+--     exchanged b c d        the budget b after d replaces the cost c; unchanged if `can_add` is false
+--     by_weight, weighs      the rules and the offers of a limiter, for a given cost of an entry
 --     budget_terms           the terms of these offers
---     by_cost, charges       the rules and the offers, if a value has this cost
---     pair_cost o k v        the cost of an entry: k for its key, v for its value, o for itself
+--     by_cost, charges       the rules and the offers, for a given cost of a value
+--     pair_cost o k v        the cost of an entry: k + v + o, but at most `u64::MAX`
 --     weighs-sums, charges-sums        the laws of `Summing`
 use Rattle.std.specs.Prelude.{◌+◌, ◌-◌, ◌^◌, ◌&&◌, ℕ, min, Bool, true, nat_lt, nat_le, if◌then◌else◌, refl}
 use Rattle.lru_limits.specs.Rules.{Rules, Offers}
@@ -58,7 +58,6 @@ module _ {K V : Type 0} (cost : V → ℕ) where
   abbrev pub charges : Offers K V Budget K
   charges = weighs (λ k v. cost v)
 
--- the sum of the three costs, but at most the greatest number of 64 bits
 abbrev pub pair_cost : ℕ → ℕ → ℕ → ℕ
 pair_cost overhead k v = min (k + v + overhead) (2 ^ 64 - 1)
 

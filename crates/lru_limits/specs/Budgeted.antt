@@ -20,10 +20,10 @@ pub record IsBudgeted {K V S : Type 0} (rules : Rules K V S) (offers : Offers K 
   pub removed : (s : S) (k : K) (v : V) → budget (rules.on_removed s k v).limiter ≡ budget s
   pub cleared : (s : S) → budget (rules.on_cleared s) ≡ budget s
   pub grown : (s : S) (n : ℕ) → budget (rules.on_grow s n).limiter ≡ budget s
-  -- the entry of a new key is stored as it is, if it is accepted
+  -- if the entry of a new key is accepted, it is stored unchanged
   pub gives : (s : S) (n : ℕ) (k : K) (v : V) (t : S) (given : Option (K × V)) → offers.on_insert s n k v t given
       → given ≡ (if accepts s k v then Some (k, v) else None)
-  -- if it is not accepted, the offer may store nothing and leave the limiter as it is
+  -- if the entry is not accepted, the offer can store nothing and leave the limiter unchanged
   pub refuses : (s : S) (n : ℕ) (k : K) (v : V) → accepts s k v ≡ false → offers.on_insert s n k v s None
   -- an offer never runs out of memory
   pub finds : (s : S) (n : ℕ) (k : K) (v : V) → offers.may_run_out s n k v → ⊥
@@ -35,7 +35,7 @@ pub record IsBudgeted {K V S : Type 0} (rules : Rules K V S) (offers : Offers K 
   -- a new limiter has its budget, and the running total 0
   pub made_budget : (b : ℕ) → budget (made b) ≡ b
   pub made_empty : (b : ℕ) → account (made b) ≡ 0
-  -- another budget leaves the running total as it is
+  -- `rebudgeted` sets the budget, and does not change the running total
   pub set_budget : (b : ℕ) (s : S) → budget (rebudgeted b s) ≡ b
   pub set_keeps : (b : ℕ) (s : S) → account (rebudgeted b s) ≡ account s
 

@@ -1,10 +1,10 @@
--- The limiter by bytes: its limit, what the entries own, and the table.
---     in_word n              n, but at most the greatest number of 64 bits
+-- The limiter by bytes.
+--     in_word n              n, but at most `u64::MAX`
 --     block_bytes n          what a block of n bytes takes from the allocator
 --     both_own of_k of_v     what an entry owns: what its key and its value own
 --     Bytes                  the three numbers of the limiter
---     left_for_entries b     the bytes within the limit that the table leaves to entries
---     by_bytes, bytes_offers, bytes_terms      the rules, the offers and their terms, if an entry owns these bytes
+--     left_for_entries b     the limit minus the bytes of the table, but at least 0
+--     by_bytes, bytes_offers, bytes_terms      the rules, the offers and their terms, for given bytes of an entry
 --     bytes-sums             the laws of `Summing`
 use Rattle.std.specs.Prelude.{◌≡◌, ◌+◌, ◌-◌, ◌*◌, ◌/◌, ◌^◌, ◌==◌, ℕ, min, Bool, true, false, nat_lt, nat_le, if◌then◌else◌, refl}
 use Rattle.lru_limits.specs.Rules.{Rules, Offers}
@@ -16,8 +16,7 @@ use Rattle.lru_limits.specs.Stores.{answers, given-adds, refused-keeps, replaced
 abbrev pub in_word : ℕ → ℕ
 in_word n = min n (2 ^ 64 - 1)
 
--- n bytes, rounded up to a multiple of 16, and 16 more, but at most 2 ^ 64 - 16; or 0 if n is 0, because then no block
--- is allocated
+-- 0 if n is 0, because then no block is allocated; else n rounded up to a multiple of 16, plus 16, at most 2 ^ 64 - 16
 abbrev pub block_bytes : ℕ → ℕ
 block_bytes n = if n == 0 then 0 else in_word (n + 31) / 16 * 16
 
@@ -25,9 +24,9 @@ abbrev pub both_own : {K V : Type 0} → (K → ℕ) → (V → ℕ) → K → V
 both_own of_k of_v k v = in_word (of_k k + of_v v)
 
 pub record Bytes : Type 0 where
-  -- the limit of the bytes of the table and of what the entries own, together
+  -- the limit of `owned` plus `table`
   pub limit : ℕ
-  -- the sum of the bytes that entries own
+  -- the sum of the bytes that the entries own
   pub owned : ℕ
   -- the bytes of the table that the limiter permitted last
   pub table : ℕ
@@ -41,7 +40,7 @@ grown_owns true b n = refl
 grown_owns false b n = refl
 
 module _ {K V : Type 0} (bytes_of : K → V → ℕ) where
-  -- A table is permitted if it and what the entries own are within the limit. The old table is not counted.
+  -- A table is permitted if its bytes plus `owned` are at most the limit. The old table is not counted.
   abbrev pub by_bytes : Rules K V Bytes
   by_bytes = record {
     is_over_the_limit = λ b n. nat_lt (left_for_entries b) b.owned;
@@ -51,8 +50,8 @@ module _ {K V : Type 0} (bytes_of : K → V → ℕ) where
         answers (if fits then record b { table = bytes } else b) fits;
   }
 
-  -- An entry is accepted if its bytes and the table together are within the limit, and if `owned` still fits 64 bits
-  -- with it. A new value is accepted if its entry would be, in place of the old entry.
+  -- An entry is accepted if its bytes plus the table are at most the limit, and `owned` plus its bytes fits 64 bits. A
+  -- new value is accepted if its entry would be accepted after the removal of the old entry.
   abbrev pub bytes_terms : Terms K V Bytes
   bytes_terms = record {
     accepts = λ b n k v. can_add (left_for_entries b) b.owned (bytes_of k v);

@@ -1,6 +1,6 @@
 -- Look-up keys that are made of other look-up keys.
---     number-lawful          a number names the number that is equal to it
---     field-lawful of_q of_k      a look-up key names a key if a field of it names a field of the key
+--     number-lawful          a number names the equal number
+--     field-lawful of_q of_k      a look-up key names a key if its field names the key's field
 --     both-lawful            a look-up key of two parts names a key if each part does
 use Rattle.std.specs.Prelude.{◌≡◌, ◌&&◌, ◌++◌, ℕ, Bool, true, false, List, IsTrue, nat_eq}
 use Rattle.std.proofs.Common.{refl, ap, arith}

@@ -2,7 +2,7 @@
 --     IsLookup names eq query_input key_input        the laws of `LookupKey`: what a query and a key write to a hasher
 --     IsInsertion names eq offers                    the laws of `Insertion`
 --     IsAccount rules offers cost account            the laws of `Summing`
---     kept_value r                                   the value that stays: the new one if r accepts it, else the old
+--     kept_value r                                   the value that stays: the new one if r accepts it, or the old one
 use Rattle.std.specs.Prelude.{◌≡◌, ◌≤◌, ◌+◌, ◌-◌, ℕ, Bool, List, Some, None, IsTrue, if◌then◌else◌}
 use Rattle.lru_limits.specs.Rules.{Rules, Offers, Replaced}
 
@@ -10,7 +10,7 @@ pub record IsLookup {Q K : Type 0} (names : Q → K → Bool) (eq : K → K → 
     (key_input : K → List (List ℕ)) : Type 0 where
   -- a value that names a key writes to a hasher what the key writes
   pub writes : (q : Q) (k : K) → IsTrue (names q k) → query_input q ≡ key_input k
-  -- a value that names a key names the keys that are equal to it, and no other
+  -- a value that names a key x names exactly the keys that equal x
   pub one : (q : Q) (x y : K) → IsTrue (names q x) → names q y ≡ eq x y
 
 pub record IsInsertion {K V S I : Type 0} (names : I → K → Bool) (eq : K → K → Bool)
@@ -27,14 +27,14 @@ kept_value r = if r.taken then r.new_value else r.old_value
 
 pub record IsAccount {K V S I : Type 0} (rules : Rules K V S) (offers : Offers K V S I) (cost : K → V → ℕ)
     (account : S → ℕ) : Type 0 where
-  -- an entry to store adds its cost
+  -- if an offer returns an entry to store, the running total grows by its cost
   pub adds : (s : S) (n : ℕ) (i : I) (v : V) (t : S) (k : K) (w : V) → offers.on_insert s n i v t (Some (k, w))
       → account t ≡ account s + cost k w
   pub refuses : (s : S) (n : ℕ) (i : I) (v : V) (t : S) → offers.on_insert s n i v t None → account t ≡ account s
-  -- a replacement subtracts the cost of the old entry, and adds the cost of the stored key with the value that stays
+  -- a replacement subtracts the cost of the old entry, and adds the cost of the stored key with `kept_value`
   pub exchanges : (s : S) (n : ℕ) (k : K) (i : I) (v w : V) → cost k v ≤ account s →
       let r = offers.on_replace s n k i v w in account r.limiter ≡ account s - cost k v + cost r.key (kept_value r)
-  -- a removed entry subtracts its cost
+  -- the removal of an entry subtracts its cost
   pub takes_off : (s : S) (k : K) (v : V) → cost k v ≤ account s → account (rules.on_removed s k v).limiter
       ≡ account s - cost k v
   -- after a clear the running total is 0

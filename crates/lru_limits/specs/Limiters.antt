@@ -1,18 +1,18 @@
--- What the limiters of this crate decide. `Budget` has the limiters by cost, and `Bytes` the limiter by bytes.
+-- What the limiters of this crate decide. `Budget` contains the limiters by cost, and `Bytes` the limiter by bytes.
 --     length_rules, length_terms, length_offers      the limit by length; the state is the limit
 --     memory_rules                     the rules of the limit by memory usage; the state is the limit
 --     no_rules                         the rules of a limiter that limits nothing
---     all_terms, all_offers            a limiter that stores each entry
+--     all_terms, all_offers            the terms and offers of a limiter that stores each entry
 use Rattle.std.specs.Prelude.{ℕ, true, false, nat_lt, nat_le}
 use Rattle.lru_limits.specs.Rules.{Rules, Offers}
 use Rattle.lru_limits.specs.Admissions.{Terms, offers_of, never_changes}
 use Rattle.lru_limits.specs.Stores.{plain}
 
--- a map of more entries than `most` is over the limit, and any growth is permitted
+-- a map of more than `most` entries is over the limit, and any growth is permitted
 abbrev pub length_rules : {K V : Type 0} → Rules K V ℕ
 length_rules = plain (λ most length. nat_lt most length) (λ _ _. true)
 
--- entries are stored as they come, unless `most` is 0
+-- every entry is accepted if `most` is above 0
 abbrev pub length_terms : {K V : Type 0} → Terms K V ℕ
 length_terms = never_changes (λ most _ _. nat_lt 0 most)
 
@@ -23,11 +23,9 @@ length_offers = offers_of length_terms
 abbrev pub memory_rules : {K V : Type 0} → Rules K V ℕ
 memory_rules = plain (λ _ _. false) (λ most bytes. nat_le bytes most)
 
--- no map is over the limit, and any growth is permitted
 abbrev pub no_rules : {K V S : Type 0} → Rules K V S
 no_rules = plain (λ _ _. false) (λ _ _. true)
 
--- entries are stored as they come
 abbrev pub all_terms : {K V S : Type 0} → Terms K V S
 all_terms = never_changes (λ _ _ _. true)
 

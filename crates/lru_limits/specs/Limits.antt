@@ -2,9 +2,9 @@
 --     IsFixed rules offers number          no callback changes this number of the limiter
 --     LimitsLength rules offers most       a map that is not over the limit has at most `most` entries
 --     LimitsMemory rules offers most       a table that the limiter permits has at most `most` bytes
---     length-limits, memory-limits         `ByLength` and `ByMemoryUsage` satisfy these laws,
---     storing-length, storing-memory       `Storing` does if the limiter in it does,
---     both-first_length, ..                and `Both` does if its first or second limiter does
+--     length-limits, memory-limits         `ByLength` and `ByMemoryUsage` satisfy these laws
+--     storing-length, storing-memory       if a limiter satisfies them, so does `Storing` of it
+--     both-first_length, ..                if the first or second limiter satisfies them, so does `Both`
 use Rattle.std.specs.Prelude.{◌≡◌, ◌≤◌, ◌&&◌, ◌||◌, ℕ, Bool, true, false, Option, Some, None, if◌then◌else◌, refl}
 use Rattle.std.proofs.Common.{ap, ◌∙◌, arith}
 use Rattle.std.proofs.lemmas.Bool.{true≢false}
@@ -37,7 +37,7 @@ module _ {K V S I : Type 0} (rules : Rules K V S) (offers : Offers K V S I) wher
     pub within : (s : S) (bytes : ℕ) → (rules.on_grow s bytes).allowed ≡ true → bytes ≤ most s
 
 module _ {K V : Type 0} where
-  -- a limiter that never changes
+  -- the number of a limiter that never changes
   pub plain-fixed : {S : Type 0} {over grants : S → ℕ → Bool} {admits : S → K → V → Bool} (number : S → ℕ)
       → IsFixed (plain over grants) (offers_of (never_changes admits)) number
   plain-fixed number = record {

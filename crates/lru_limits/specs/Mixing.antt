@@ -1,11 +1,11 @@
 -- The hasher as functions.
---     Mixer                   the state, and two keys: for words, and for the bytes that are left
+--     Mixer                   the state, a key for words, and a key for the last bytes, fewer than eight
 --     folded a b              the xor of the two halves of the 128 bits of a * b
 --     joined key state word   the state after a word
---     rest_word bytes         fewer than eight bytes as a word, with their count as its top byte
+--     rest_word bytes         fewer than eight bytes as a word, whose top byte is their count
 --     written h bytes         the hasher after a write: a word for each eight bytes, and one for the rest
 --     closed h                the hash
---     seeded words            the hasher before the first write
+--     seeded words            the hasher with these four seeds, before the first write
 use Rattle.std.specs.Prelude.{ℕ, ◌+◌, ◌*◌, ◌/◌, ◌%◌, ◌^◌, ◌==◌, List, length, drop, fold, bit_xor, slice_index}
 use Rattle.std.specs.Prelude.{if◌then◌else◌}
 use Rattle.std.specs.Int.{w64, from_le_bytes}
@@ -22,7 +22,7 @@ folded a b = bit_xor (a * b % 2 ^ 64) (a * b / 2 ^ 64)
 abbrev pub joined : ℕ → ℕ → ℕ → ℕ
 joined key state word = folded (bit_xor state word) key
 
--- a byte past the end counts as 0
+-- bytes past the end count as 0
 abbrev pub rest_word : List ℕ → ℕ
 rest_word bytes = from_le_bytes w64 bytes + length bytes * 2 ^ 56
 
@@ -36,7 +36,7 @@ written h bytes =
 abbrev pub closed : Mixer → ℕ
 closed h = h.state
 
--- each word has a constant of its own, and the last two words make one key
+-- each seed is xored with its own constant, and the last two seeds make one key
 abbrev pub seeded : List ℕ → Mixer
 seeded words = record {
   state = bit_xor (slice_index words 0) 0x6a09_e667_f3bc_c908;

@@ -1,9 +1,9 @@
--- What a limiter does, as functions and relations of its states S, each named after its callback.
+-- What a limiter with states S does, as functions and relations that are named after the callbacks.
 --     Rules K V S         what a limiter does with lengths, removed entries, clears and growth
---     Offers K V S I      what it does with entries whose key is offered as an I
+--     Offers K V S I      what a limiter does with entries whose key is offered as an I
 --     Notified K V S      the limiter, key and value after `on_removed`
---     Allowed S           the limiter after `on_grow`, and its answer
---     Replaced K V S      what `on_replace` leaves
+--     Allowed S           the limiter after `on_grow`, and the result of `on_grow`
+--     Replaced K V S      the limiter, key and values after `on_replace`
 use Rattle.std.specs.Prelude.{ℕ, Bool, Option}
 
 pub record Notified (K V S : Type 0) : Type 0 where
@@ -33,8 +33,8 @@ pub record Rules (K V S : Type 0) : Type 0 where
   pub on_grow : S → ℕ → Allowed S
 
 pub record Offers (K V S I : Type 0) : Type 1 where
-  -- What may result if an entry is offered to a map of n entries: the limiter, and the entry to store, if any. This is
-  -- a relation, because the key to store may be made in fresh memory, whose address nothing determines.
+  -- Which limiter and which entry to store may result if an entry is offered to a map of n entries. `on_insert` is a
+  -- relation, because the stored key may be in newly allocated memory, whose address is not determined.
   pub on_insert : S → ℕ → I → V → S → Option (K × V) → Type 0
   pub may_run_out : S → ℕ → I → V → Type 0
   -- the result for the stored key, the offered key, the old value and the new value

@@ -1,9 +1,9 @@
--- Words for limiters that store an entry as it came.
+-- Definitions for limiters that store an entry unchanged.
 --     plain over grants                    the rules of a limiter that never changes
---     rules_at of to rules                 the rules of a limiter around another, which `of` takes out and `to` puts in
---     ReturnsPairIf accepts s k v t given  t is s, and given is the entry if it is accepted, and else nothing
---     unmoved s k v                        the limiter s after a removed entry, which it did not change
---     answers s b                          the answer b to a growth, and the limiter s
+--     rules_at of to rules                 the rules of a wrapper: `of` unwraps the inner limiter, `to` wraps it
+--     ReturnsPairIf accepts s k v t given  t is s, and given is the entry, or `None` if it is rejected
+--     unmoved s k v                        the limiter s after a removal, with the entry unchanged
+--     answers s b                          the result b of `on_grow`, and the limiter s
 --     replaces s k v w                     the new value w is accepted, and the limiter is s
 --     given-is, given-names                the returned entry is the offered one
 --     given-adds, refused-keeps, replaced-exchanges      the running total afterwards, for a `Summing` of your own
@@ -48,15 +48,15 @@ pub given-is : {S K V : Type 0} (accepts : Bool) (s : S) (k : K) (v : V) (t : S)
 given-is true s k v t p h = ap (λ o. unwrap_or o (k, v)) h.pair
 given-is false s k v t p h = let e = h.pair in cc
 
--- a reflexive test E relates the offered key to the returned key
+-- for a reflexive test E, the offered key and the returned key satisfy E
 pub given-names : {S K V : Type 0} {accepts : Bool} {s t : S} {i k : K} {v w : V} (E : K → K → Bool)
     → ((x : K) → IsTrue (E x x)) → ReturnsPairIf accepts s i v t (Some (k, w)) → IsTrue (E i k)
 given-names {accepts} {s} {t} {i} {k} {v} {w} E reflexive h =
     subst (λ x. IsTrue (E i x)) (sym (ap (λ p. p.0) (given-is accepts s i v t (k, w) h))) (reflexive i)
 
--- Below, s becomes s' if the limiter accepts, and stays s if it does not.
+-- Below, the limiter becomes s' if it accepts, and stays s if it rejects.
 
--- an accepted entry adds its cost to the running total, if the total of s' is higher by this cost
+-- If the total of s' is higher by the cost of the entry, then an accepted entry adds its cost to the running total.
 pub given-adds : {K V S : Type 0} (cost : K → V → ℕ) (account : S → ℕ) (accepts : Bool) (s s' : S) (i : K) (v : V)
     (t : S) (k : K) (w : V) → account s' ≡ account s + cost i v
     → ReturnsPairIf accepts (if accepts then s' else s) i v t (Some (k, w)) → account t ≡ account s + cost k w
@@ -64,13 +64,14 @@ given-adds cost account true s s' i v t k w more h = ap account h.limiter ∙ mo
     (sym (given-is true s' i v t (k, w) h))
 given-adds cost account false s s' i v t k w more h = let e = h.pair in cc
 
--- a rejected entry leaves the running total as it is
+-- a rejected entry does not change the running total
 pub refused-keeps : {K V S : Type 0} (account : S → ℕ) (accepts : Bool) (s s' : S) (i : K) (v : V) (t : S)
     → ReturnsPairIf accepts (if accepts then s' else s) i v t None → account t ≡ account s
 refused-keeps account true s s' i v t h = let e = h.pair in cc
 refused-keeps account false s s' i v t h = ap account h.limiter
 
--- a replacement exchanges the costs in the running total, if the total of s' has the new cost instead of the old one
+-- If the total of s' contains the new cost instead of the old one, then a replacement exchanges these costs in the
+-- total.
 pub replaced-exchanges : {K V S : Type 0} (cost : K → V → ℕ) (account : S → ℕ) (accepts : Bool) (s s' : S) (k : K)
     (v w : V) → account s' ≡ account s - cost k v + cost k w
     → cost k v ≤ account s → account (if accepts then s' else s) ≡ account s - cost k v

@@ -1,4 +1,4 @@
-//! Costs, limiters with a running total of costs, two limiters by cost, and one by bytes.
+//! Costs, and limiters with a running total of costs or bytes.
 ghost use Rattle.std.specs.Prelude.{◌≡◌, ◌+◌, ℕ, Some, None, if◌then◌else◌, string_len, vec_len};
 ghost use Rattle.lru_limits.specs.Admissions.{offers_of};
 ghost use Rattle.lru_limits.specs.Budget.{can_add};
@@ -20,8 +20,8 @@ pub use owned_bytes::OwnedBytes;
 /// A value with a cost. The cost of an unsigned number of up to 64 bits is the number. The cost of a text is the number
 /// of its bytes, and the cost of a vector is the number of its items.
 ///
-/// The cost is read again when the entry is evicted or removed, or when the value is replaced. So if the cost of a
-/// stored value changes, the running total is no longer the sum of the costs.
+/// The limiter reads the cost again when the entry is evicted or removed, or when the value is replaced. So if the cost
+/// of a stored value changes, the running total is no longer the sum of the costs.
 ///
 /// ```
 /// struct Page {
@@ -112,8 +112,8 @@ impl<T> Costed for Vec<T> {
 /// A limiter with a running total. It adds the cost of each accepted entry, and subtracts the cost of each evicted or
 /// removed entry.
 ///
-/// After each call, the total is the sum over the map's entries, unless somebody writes to the values or to the limiter
-/// through a reference.
+/// If nobody writes to the values or to the limiter through a reference, the total after each call is the sum of the
+/// costs of the map's entries.
 ///
 /// ```
 /// let limiter = ByCost::new(3);
@@ -132,7 +132,7 @@ pub trait Summing<K, V>: Admission<K, V> {
     fn account(&self) -> u64
         ensures { result ≡ account self.now };
 
-    /// How each callback changes the running total.
+    /// States how each callback changes the running total.
     ghost laws: { IsAccount Self.rules (offers_of Self.terms) cost_of account };
 }
 

@@ -1,4 +1,4 @@
-//! Limiters that store each entry as it came, or reject it.
+//! Limiters that store each entry unchanged, or reject it.
 ghost use Rattle.std.specs.Prelude.{◌≡◌};
 ghost use Rattle.lru_limits.specs.Admissions.{Terms, offers_of, offers_of-lawful};
 
@@ -7,9 +7,9 @@ use crate::limiter::{Insertion, Limiter};
 use std::alloc::{AllocError, Global};
 use std::hash::Hash;
 
-/// Accepts or rejects entries, and stores an accepted entry as it came.
+/// Accepts or rejects entries, and stores an accepted entry unchanged.
 ///
-/// Every such limiter is an [`Insertion`], can be in [`crate::Both`], and permits `try_insert`. `never_changes` of
+/// Every `Admission` is an [`Insertion`], can be in [`crate::Both`], and permits `try_insert`. `never_changes` of
 /// `specs/Admissions.antt` makes the terms of a limiter that never changes.
 ///
 /// ```
@@ -18,7 +18,7 @@ use std::hash::Hash;
 /// assert!(rt; limiter.accepts_in_place(1, &1u64, &2u64, &3u64));
 /// ```
 pub trait Admission<K, V>: Limiter<K, V> {
-    /// Which entries are accepted, and the limiter after an offer.
+    /// Defines which entries are accepted, and the limiter after an offer.
     ghost terms: { Terms K V Self };
 
     /// Returns whether `admit` would accept this entry.
@@ -26,7 +26,8 @@ pub trait Admission<K, V>: Limiter<K, V> {
         ensures { result ≡ terms.accepts self.now length key.now value.now };
 
     /// Called by an insert with a new key and its value, before the insert evicts anything. The map has `length`
-    /// entries. Returns whether the entry is accepted; if not, it is dropped, and the map does not change.
+    /// entries. Returns whether the entry is accepted. If not, the entry is dropped, and the map's entries do not
+    /// change.
     fn admit(&mut self, length: usize, key: &K, value: &V) -> bool
         ensures answer { result ≡ terms.accepts self.old length key.now value.now }
         ensures limiter { self.new ≡ terms.admit self.old length key.now value.now };
@@ -36,7 +37,7 @@ pub trait Admission<K, V>: Limiter<K, V> {
         ensures { result ≡ terms.accepts_in_place self.now length key.now old_value.now new_value.now };
 
     /// Called by an insert or an update before `new_value` replaces `old_value` of a stored key. The map has `length`
-    /// entries. Returns whether the new value is accepted; if not, the map removes the entry.
+    /// entries. Returns whether the new value is accepted. If not, the map removes the entry.
     fn admit_in_place(&mut self, length: usize, key: &K, old_value: &V, new_value: &V) -> bool
         ensures answer { result ≡ terms.accepts_in_place self.old length key.now old_value.now new_value.now }
         ensures limiter { self.new ≡ terms.admit_in_place self.old length key.now old_value.now new_value.now };
@@ -45,7 +46,7 @@ pub trait Admission<K, V>: Limiter<K, V> {
 impl<K: Eq + Hash + Drop, V: Drop, L: Admission<K, V>> Insertion<K, V, K> for L {
     ghost offers = { offers_of L.terms };
 
-    // Forced inline: the caller then takes the entry as it came, and branches instead of selecting between `Some` and
+    // Forced inline, so that the caller uses the entry unchanged, and branches instead of selecting between `Some` and
     // `None`.
     #[inline(always)]
     fn on_insert(

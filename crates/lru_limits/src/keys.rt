@@ -1,4 +1,4 @@
-//! What a key may be looked up by.
+//! Values that look up a key, and the hash of a key.
 ghost use Rattle.std.specs.Prelude.{◌≡◌, Bool, ℕ, IsTrue};
 ghost use Rattle.lru_limits.specs.Hashing.{hash_by, hash_by-equal};
 ghost use Rattle.lru_limits.specs.Laws.{IsLookup};
@@ -6,11 +6,11 @@ ghost use Rattle.lru_limits.specs.Texts.{names_text, names_text-lawful};
 
 use std::hash::{BuildHasher, Hash};
 
-/// A value that names at most one key, up to equality, and hashes as that key does.
+/// A value that looks up a key. It names at most one key, up to equality, and has the hash of this key.
 ///
-/// Every key type implements it for its own keys, and `&str` implements it for keys of type `String`. In your own impl,
-/// `names` says which key a value names, `is_key` computes this, and you prove two laws. A derived `Hash` of a struct
-/// with one field writes what the field writes.
+/// Every key type implements `LookupKey` for its own keys, and `&str` implements it for `String` keys. In your own
+/// impl, define in `names` which key a value names, compute `names` in `is_key`, and prove two laws. If a struct has
+/// one field, its derived `Hash` writes what the field writes.
 ///
 /// ```
 /// let key = String::from_str(rt.alloc(), "a")?;

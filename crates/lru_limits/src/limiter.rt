@@ -1,4 +1,4 @@
-//! What a limiter is: the callbacks of a map, and their laws.
+//! The traits of a limiter: the callbacks of a map, and their laws.
 ghost use Rattle.std.specs.Prelude.{◌≡◌, IfOk, OnErr};
 ghost use Rattle.lru_limits.specs.Laws.{IsInsertion};
 ghost use Rattle.lru_limits.specs.Rules.{Rules, Offers};
@@ -11,8 +11,8 @@ use std::hash::Hash;
 /// Decides when a map is over its limit, and whether its table may grow. It is notified of each entry that is evicted
 /// or removed.
 ///
-/// Each callback accepts every state, length, key and value. In `rules`, the impl defines the result and the effect of
-/// each callback as functions of its arguments.
+/// A callback may be called with any state, length, key and value. In `rules`, the impl defines the result and the
+/// effect of each callback as functions of its arguments.
 ///
 /// ```
 /// let limiter = ByLength::new(3);
@@ -25,23 +25,23 @@ pub trait Limiter<K, V> {
 
     ghost rules: { Rules K V Self };
 
-    /// Returns whether a map of `length` entries is over the limit, so that its oldest entry is evicted.
+    /// Returns whether a map of `length` entries is over the limit. If so, the map evicts its oldest entry.
     ///
     /// Called at two times:
     ///
-    /// - Before an insert stores a new entry in a map that is not empty, with the length that the map will have.
-    ///   `try_insert` then calls it on a copy of the limiter, even in an empty map.
+    /// - Before an insert stores a new entry in a map that is not empty, with the length after the insert. `try_insert`
+    ///   calls it on a copy of the limiter, even if the map is empty.
     /// - By `trim` and `set_limiter`, and by an insert or an update that stored an entry or replaced a value, with the
-    ///   length of the map. It is called again after each eviction, but not for an empty map.
+    ///   length of the map. Called again after each eviction, but not for an empty map.
     fn is_over_the_limit(&self, length: usize) -> bool
         ensures { result ≡ rules.is_over_the_limit self.now length };
 
-    /// Called with each entry that is evicted, removed, popped or taken by an iterator, as soon as it is out of the
-    /// map. The limiter may write to the key and the value before the caller of the map gets them.
+    /// Called with each entry that is evicted, removed, popped or taken by an iterator, as soon as the entry is out of
+    /// the map. The limiter may write to the key and the value before the caller of the map gets them.
     ///
-    /// It is also called with an entry that `on_insert` returned, if the map cannot store it. If `on_replace` returned
-    /// false, it is called with the removed entry. It is not called for entries that a clear or a `Drain` drops. Nor is
-    /// it called for entries dropped with the map or an `IntoIter`, but no contract says so.
+    /// Also called with an entry that `on_insert` returned but the map cannot store, and with an entry that is removed
+    /// because `on_replace` returned false. Not called for entries that a clear or a `Drain` drops. Entries that are
+    /// dropped with the map or with an `IntoIter` cause no call, either, but no contract says so.
     fn on_removed(&mut self, key: &mut K, value: &mut V)
         ensures limiter { self.new ≡ (rules.on_removed self.old key.old value.old).limiter }
         ensures key { key.new ≡ (rules.on_removed self.old key.old value.old).key }
@@ -53,10 +53,10 @@ pub trait Limiter<K, V> {
 
     /// Returns whether the map may have a larger table, of `new_memory_usage` bytes.
     ///
-    /// Called by an insert that finds no bucket for a new entry, and by `try_reserve` if too little growth is left. It
-    /// is not called if no larger table exists, or if the table is rehashed without growing. After `false` the insert
-    /// evicts the oldest entries to store the new entry, and `try_reserve` returns `Refused`. After `true` the
-    /// allocation of the table may still fail. The limiter is not notified of this.
+    /// Called by an insert that finds no bucket for a new entry, and by `try_reserve` if too little growth is left. Not
+    /// called if no larger table exists, or if the table is rehashed without growing. After `false` the insert evicts
+    /// the oldest entries to store the new entry, and `try_reserve` returns `Refused`. After `true` the allocation of
+    /// the table may still fail. The limiter is not notified of this failure.
     fn on_grow(&mut self, new_memory_usage: usize) -> bool
         ensures limiter { self.new ≡ (rules.on_grow self.old new_memory_usage).limiter }
         ensures allowed { result ≡ (rules.on_grow self.old new_memory_usage).allowed };
@@ -64,9 +64,9 @@ pub trait Limiter<K, V> {
 
 /// Accepts or rejects entries whose key is given as an `I`.
 ///
-/// `I` is the type of the key, or of a name of the key, such as a `&str`, which becomes a `String` only if the entry is
-/// stored. The impl defines `offers`: what may be stored for an offered entry, when an offer may run out of memory, and
-/// what a replacement does. Each [`crate::Admission`] is an `Insertion`.
+/// `I` is the type of the key, or of a name of the key. For example, a `&str` becomes a `String` only if the limiter
+/// accepts the entry. The impl defines `offers`: what may be stored for an offered entry, when an offer may run out of
+/// memory, and what a replacement does. Each [`crate::Admission`] is an `Insertion`.
 ///
 /// ```
 /// let mut limiter = ByCost::new(3);
@@ -77,12 +77,12 @@ pub trait Insertion<K: Eq + Hash, V, I: LookupKey<K>>: Limiter<K, V> {
     ghost offers: { Offers K V Self I };
 
     /// Called by an insert with a new key and its value, before the insert evicts anything. The map has `length`
-    /// entries. Returns the entry to store, or `None` to reject it; then the map does not change.
+    /// entries. Returns the entry to store, or `None` to reject it. After `None` the map's entries do not change.
     ///
     /// # Errors
     ///
-    /// Out of memory to make the key. This happens only if `offers.may_run_out` permits it. The limiter is then
-    /// unchanged.
+    /// The limiter could not allocate the key. This happens only if `offers.may_run_out` permits it. The limiter is
+    /// then unchanged.
     fn on_insert(
         &mut self,
         alloc: Global,
@@ -95,8 +95,8 @@ pub trait Insertion<K: Eq + Hash, V, I: LookupKey<K>>: Limiter<K, V> {
         ensures out_of_memory { OnErr result (offers.may_run_out self.old length key value) };
 
     /// Called by an insert or an update before `new_value` replaces `old_value`. The map has `length` entries, and
-    /// `new_key` names the stored `old_key`. The stored key stays. Returns whether the new value is accepted. If not,
-    /// the map removes the entry and calls `on_removed` with it.
+    /// `new_key` names the stored `old_key`. The limiter may change `old_key` only to an equal key. Returns whether the
+    /// new value is accepted. If not, the map removes the entry and calls `on_removed` with it.
     fn on_replace(
         &mut self,
         length: usize,
@@ -116,6 +116,6 @@ pub trait Insertion<K: Eq + Hash, V, I: LookupKey<K>>: Limiter<K, V> {
         ensures new_value { new_value.new ≡
             (offers.on_replace self.old length old_key.old new_key old_value.old new_value.old).new_value };
 
-    /// The offered key names the key of the stored entry, and a replacement leaves an equal key.
+    /// States that the offered key names the key of the entry to store, and that a replacement leaves an equal key.
     ghost laws: { IsInsertion I.names K.eq offers };
 }

@@ -1,4 +1,4 @@
-//! The limiters that look at no key or value, two limiters for one map, and an adapter for limiters of your own.
+//! Limiters that read no keys or values, a pair of limiters for one map, and an adapter for your own limiter.
 ghost use Rattle.std.specs.Prelude.{◌≡◌, ◌-◌, ◌^◌};
 
 use crate::accounts::{ByCost, Costed};
@@ -19,9 +19,9 @@ pub use storing::Storing;
 pub use unlimited::Unlimited;
 pub use unlimited_compact::UnlimitedCompact;
 
-/// The links of a map have 32 bits under `ByLength`, `ByMemoryUsage`, `ByBytes` and `UnlimitedCompact`, and 64 bits
-/// under `Unlimited`, `ByCost` and `ByWeight`. `Storing` has the links of the limiter inside, and `Both` has the links
-/// of its first limiter. These widths are proved here, except those of `ByBytes`, `ByWeight` and `Both`.
+/// States the width of a map's links: 32 bits under `ByLength`, `ByMemoryUsage`, `ByBytes` and `UnlimitedCompact`, and
+/// 64 bits under `Unlimited`, `ByCost` and `ByWeight`. `Storing` has the links of the limiter inside, and `Both` has
+/// the links of its first limiter. The contract does not cover `ByBytes`, `ByWeight` and `Both`.
 pub fn limiters_fix_their_links<K, V, C: Costed, L: Limiter<K, V>>()
     ensures by_length { ⟦<<ByLength as Limiter<K, V>>::LinkType as LinkType>⟧.MAX ≡ 2 ^ 32 - 1 }
     ensures by_memory_usage { ⟦<<ByMemoryUsage as Limiter<K, V>>::LinkType as LinkType>⟧.MAX ≡ 2 ^ 32 - 1 }

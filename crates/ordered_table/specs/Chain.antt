@@ -1,5 +1,5 @@
--- How links keep an order of buckets: each entry contains the numbers of its two neighbours. No public clause cites
--- this module.
+-- How links keep an order of buckets: each entry contains links to its two neighbours. No public clause cites this
+-- module.
 use Rattle.std.specs.Prelude.{◌≡◌, ◌≢◌, ◌⊎◌, ℕ, zero, suc, ◌<◌, slice_index_or, List, [], ◌∷◌, length, map}
 use Rattle.std.specs.Prelude.{Option, Some, None, option_map, unwrap_or, Contains, AllPairs}
 use Rattle.group_table.specs.Bucket.{empty, deleted, full, Slot, IsFull, bucket_at, entry_at, entry_count}
@@ -37,7 +37,7 @@ module _ {K V N : Type 0} where
   abbrev pub older_at : List (Slot (Entry K V N)) → ℕ → Option N
   older_at slots b = option_map (λ entry. entry.older) (entry_at slots b)
 
-  -- the entry in a bucket has these links now, and nothing else has changed
+  -- the entry in bucket b now has these links, and nothing else has changed
   pub record SetsLinks (old new : List (Slot (Entry K V N))) (b : ℕ) (newer older : N) : Type 0 where
     pub pairs : pair_slots new ≡ pair_slots old
     pub newer_there : newer_at new b ≡ Some newer
@@ -60,7 +60,7 @@ module _ {K V N : Type 0} (number : N → ℕ) where
   SetsOlder = SetsLink (λ entry. entry.older) (λ entry. entry.newer)
 
 module _ {N : Type 0} (number : N → ℕ) (none : N) (links : List N) where
-  -- the link to the new bucket of an entry, by the link to its old bucket
+  -- turns the link to an entry's old bucket into the link to its new bucket
   abbrev pub moved_link : N → N
   moved_link l = slice_index_or links (number l) none
 
@@ -68,14 +68,14 @@ module _ {N : Type 0} (number : N → ℕ) (none : N) (links : List N) where
   abbrev pub HasPlace : N → Type 0
   HasPlace l = (l ≡ none) ⊎ (number l < length links)
 
-  -- the entry in a bucket has links to the new buckets of its neighbours, and nothing else has changed
+  -- the entry in bucket b now has links to the new buckets of its neighbours, and nothing else has changed
   pub record MovesLinks {K V : Type 0} (old new : List (Slot (Entry K V N))) (b : ℕ) : Type 0 where
     pub pairs : pair_slots new ≡ pair_slots old
     pub newer_there : newer_at new b ≡ option_map moved_link (newer_at old b)
     pub older_there : older_at new b ≡ option_map moved_link (older_at old b)
     pub others : (c : ℕ) → c ≢ b → entry_at new c ≡ entry_at old c
 
--- the end of a chain is `to` now if the link `at` is `none`, and stays otherwise
+-- if the link `at` is `none`, the end of a chain is now `to`; otherwise the end stays
 pub record SetsEnd {N : Type 0} (none old new at to : N) : Type 0 where
   pub ends : at ≡ none → new ≡ to
   pub stays : at ≢ none → new ≡ old
@@ -98,7 +98,7 @@ module _ {K V N : Type 0} (number : N → ℕ) (link : ℕ → N) (none : N) whe
     pub all : (b : ℕ) → IsFull slots b → Contains order b
     pub count : entry_count slots ≡ length order
 
-  -- Bucket b, with these links, is about to be taken out of the chain of these buckets. Its entry may have left the
+  -- Bucket b, with these two links, is about to be taken out of the chain `order`. The entry of b may have left the
   -- slots already, but no other entry has.
   pub record IsGap (slots : List (Slot (Entry K V N))) (newest oldest : N) (order : List ℕ) (b : ℕ) (newer older : N)
       : Type 0 where
@@ -114,15 +114,15 @@ module _ {K V N : Type 0} (number : N → ℕ) (link : ℕ → N) (none : N) whe
   abbrev pub KeepsOrder : Chain K V N → List ℕ → Type 0
   KeepsOrder chain = IsChain chain.table.slots chain.newest chain.oldest
 
-  -- a bucket with these links is about to be taken out of a chain with this order
+  -- bucket b with these two links is about to be taken out of a chain with this order
   abbrev pub HasGap : Chain K V N → List ℕ → ℕ → N → N → Type 0
   HasGap chain = IsGap chain.table.slots chain.newest chain.oldest
 
-  -- the links keep an order of some buckets, including this one
+  -- the links keep an order of some buckets, including b
   abbrev pub InChain : Chain K V N → ℕ → Type 0
   InChain chain b = (order : List ℕ) × KeepsOrder chain order × Contains order b
 
-  -- the links keep an order of some buckets, without this one
+  -- the links keep an order of some buckets, without b
   abbrev pub OutOfChain : Chain K V N → ℕ → Type 0
   OutOfChain chain b = (order : List ℕ) × KeepsOrder chain order × (Contains order b → ⊥)
 

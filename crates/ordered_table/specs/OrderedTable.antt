@@ -11,7 +11,7 @@ use Rattle.group_table.specs.Table.{Insertions, IsTable}
 use Rattle.group_table.specs.Fits.{Fits}
 
 pub record OrderedTable (K V : Type 0) : Type 0 where
-  -- the buckets; a full bucket has its pair
+  -- the buckets; a full bucket contains a pair
   pub slots : List (Slot (K × V))
   -- the full buckets, newest first
   pub order : List ℕ
@@ -25,12 +25,12 @@ abbrev pub in_front : Option ℕ → List ℕ → List ℕ
 in_front None order = order
 in_front (Some b) order = b ∷ without_bucket b order
 
--- the bucket after this one in the order, if there is one
+-- the bucket after b in the order, if there is one
 abbrev pub bucket_after : ℕ → List ℕ → Option ℕ
 bucket_after b [] = None
 bucket_after b (c ∷ cs) = if nat_eq c b then first cs else bucket_after b cs
 
--- the bucket before this one in the order, if there is one
+-- the bucket before b in the order, if there is one
 abbrev pub bucket_before : ℕ → List ℕ → Option ℕ
 bucket_before b [] = None
 bucket_before b (c ∷ []) = None
@@ -57,7 +57,7 @@ module _ {K V : Type 0} where
   abbrev pub KeysFit : (K → ℕ) → List (Slot (K × V)) → Type 0
   KeysFit hash_of slots = Fits slots (hash_in hash_of slots)
 
-  -- the pair is the newest now, in the first free bucket that a search for its hash finds
+  -- the pair is now the newest, in the first free bucket b in the order of a search for its hash
   pub record Lands (old new : OrderedTable K V) (hash : ℕ) (pair : K × V) (b : ℕ) : Type 0 where
     pub first : IsFirstFree (bucket_states old.slots) hash b
     pub may : MayFill (bucket_states old.slots) b
@@ -66,7 +66,7 @@ module _ {K V : Type 0} where
     pub insertions : new.insertions ≡ one_placed old.insertions
     pub growth_left : growth_left (bucket_states new.slots) + growth_left_at (bucket_states old.slots) b ≡ growth_left (bucket_states old.slots)
 
-  -- the pair was taken out of its bucket, and the others keep their order
+  -- the pair was taken out of bucket b, and the other pairs keep their order
   pub record Takes (old new : OrderedTable K V) (b : ℕ) (taken : K × V) : Type 0 where
     pub pair : entry_at old.slots b ≡ Some taken
     pub removed : Removes old.slots new.slots b
@@ -74,7 +74,7 @@ module _ {K V : Type 0} where
     pub insertions : new.insertions ≡ old.insertions
     pub growth_left : growth_left (bucket_states new.slots) ≡ growth_left (bucket_states old.slots) + growth_left_at (bucket_states new.slots) b
 
-  -- what holds of every table whose buckets are linked
+  -- what holds for every `OrderedTable`
   pub record IsLinked (t : OrderedTable K V) : Type 0 where
     pub table : IsTable (bucket_states t.slots)
     -- the order contains each full bucket once, and no other bucket

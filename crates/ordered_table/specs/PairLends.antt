@@ -1,4 +1,4 @@
--- What becomes of an `OrderedTable` if a `&mut` to one of its pairs is returned.
+-- How a write through a `&mut` to a pair changes an `OrderedTable`.
 use Rattle.std.specs.Prelude.{ℕ}
 use Rattle.std.specs.Borrow.{Lends, Fml, RattleType, MutBor}
 use Rattle.group_table.specs.declared.link.LinkType as link_type
@@ -8,13 +8,13 @@ use Rattle.ordered_table.specs.contracts.ordered.OrderedTable.{the_row as linked
 use Rattle.ordered_table.specs.contracts.linked.LinkedTable.{the_row as links_row}
 use Rattle.ordered_table.specs.contracts.ordered.Pair.{the_row as pair_row}
 
--- once the borrow r ends, the bucket has the last pair written through r
+-- after the borrow r ends, the bucket contains the last pair written through r
 abbrev pub lends_pair : (K V N : RattleType) → link_type.Ghosts N.Denot
     → MutBor (OrderedTable K.Denot V.Denot) → ℕ → MutBor (Pair K.Denot V.Denot) → Fml
 lends_pair K V N links t b r = Lends (linked_row K V N links) (pair_row K V) t r
     (λ last. with_pair t.now b (last.key, last.value))
 
--- `lends_pair` for the `LinkedTable` below
+-- `lends_pair` for a `LinkedTable`
 abbrev pub lends_linked_pair : (K V N : RattleType) → link_type.Ghosts N.Denot
     → MutBor (OrderedTable K.Denot V.Denot) → ℕ → MutBor (Pair K.Denot V.Denot) → Fml
 lends_linked_pair K V N links t b r = Lends (links_row K V N links) (pair_row K V) t r

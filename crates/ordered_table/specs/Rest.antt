@@ -1,9 +1,9 @@
--- How the fields of a walk show what is left of it. No public clause cites this module.
+-- How the fields of a walk determine the pairs that are left. No public clause cites this module.
 use Rattle.std.specs.Prelude.{◌≡◌, ℕ, ◌<◌, List, [], ◌∷◌, ◌++◌, length, take, nat_eq, if◌then◌else◌, Some}
 use Rattle.ordered_table.specs.OrderedTable.{OrderedTable, IsLinked, entries_in}
 use Rattle.lru_model.specs.Lists.{first as first_bucket, last as last_bucket}
 
--- the buckets from this one on
+-- the buckets of an order from b on
 abbrev pub from_bucket : ℕ → List ℕ → List ℕ
 from_bucket b [] = []
 from_bucket b (c ∷ cs) = if nat_eq c b then c ∷ cs else from_bucket b cs

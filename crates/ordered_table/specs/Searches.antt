@@ -9,13 +9,13 @@ use Rattle.group_table.specs.Search.{IsSearch}
 use Rattle.lru_model.specs.ByHash.{Asks}
 
 module _ {K V F : Type 0} (closure : Mut F (Bor K × (Bor V × Unit {0})) Bool) (slots : List (Slot (K × V))) where
-  -- f was called with the pair in bucket b, returned `answer`, and is then g
+  -- f was called with the pair in bucket b, returned `answer`, and became g
   pub record AnswersPair (f : F) (b : ℕ) (answer : Bool) (g : F) : Type 0 where
     pub pair : K × V
     pub there : entry_at slots b ≡ Some pair
     pub asked : Asks closure f pair answer g
 
-  -- a search for the hash called f for these buckets, and f rejected all but the last, which is b
+  -- a search for the hash called f for the buckets `before`, which f rejected, and then for b, which f accepted
   pub record FindsPair (hash : ℕ) (f : F) (b : ℕ) : Type 0 where
     pub before : List ℕ
     pub search : IsSearch slots hash (before ++ b ∷ [])
@@ -24,8 +24,8 @@ module _ {K V F : Type 0} (closure : Mut F (Bor K × (Bor V × Unit {0})) Bool) 
     pub last : F
     pub accepted : AnswersPair between b true last
 
-  -- a search for the hash called f for these buckets, and f rejected all. For any hashes that fit the table, these
-  -- buckets include each bucket whose entry has the hash.
+  -- A search for the hash called f for the buckets `asked`, and f rejected each. For any hashes that fit the table,
+  -- `asked` contains each bucket whose entry has the hash.
   pub record FindsNoPair (hash : ℕ) (f : F) : Type 0 where
     pub asked : List ℕ
     pub search : IsSearch slots hash asked

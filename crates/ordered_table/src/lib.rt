@@ -1,7 +1,7 @@
 //! The table of an LRU map: a bucket table whose entries are in an order, newest first.
 //!
-//! [`OrderedTable`] moves a pair to either end of the order, and takes one out of it, in constant time. It knows no
-//! limit and calls no limiter: `LruMap` of `schnellru` adds both.
+//! [`OrderedTable`] moves a pair to either end of the order, or takes a pair out, in constant time. It has no limiter.
+//! `LruMap` of `schnellru` adds one.
 #![tactic(auto)]
 
 mod linked;

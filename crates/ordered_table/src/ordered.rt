@@ -31,7 +31,7 @@ pub struct Pair<K, V> {
 /// A table whose full buckets are in an order, newest first. `N` is the type of its links.
 ///
 /// A contract sees it as its `slots`, the `order` of its full buckets, and its `insertions`. The caller computes the
-/// hashes. The keys fit the table (`KeysFit`) as long as equal keys get the same hash.
+/// hashes. The keys fit the table (`KeysFit`) if each pair was inserted with the hash of its key.
 ///
 /// ```
 /// let hasher = RandomState::default();
@@ -47,8 +47,8 @@ pub struct Pair<K, V> {
 /// ```
 pub struct OrderedTable<K, V, N: LinkType> {
     linked: LinkedTable<K, V, N>,
-    // The bucket of the last promotion, if the links do not show it yet. The next call that changes the order rewrites
-    // the links.
+    // The bucket of the last promotion, if this promotion is not yet written into the links. The next call that changes
+    // the order writes it.
     promoted: Option<usize>,
 }
 
@@ -77,7 +77,7 @@ impl<K, V, N: LinkType> Model for OrderedTable<K, V, N> {
 impl<K, V, N: LinkType> OrderedTable<K, V, N> {
     ghost use Rattle.ordered_table.specs.PairLends.{lends_pair};
 
-    /// Makes a table of no buckets, which takes no memory.
+    /// Makes a table without buckets, and allocates nothing.
     pub fn new(alloc: Global) -> Self
         ensures slots { result.slots ≡ [] }
         ensures order { result.order ≡ [] }
@@ -91,7 +91,7 @@ impl<K, V, N: LinkType> OrderedTable<K, V, N> {
         }
     }
 
-    /// Returns the bytes of an entry, which is a pair and two links.
+    /// Returns the size of an entry, which is a pair and two links.
     pub const fn entry_bytes() -> usize
         ensures { result ≡ entry_size K.row V.row N.row }
     {
@@ -126,7 +126,7 @@ impl<K, V, N: LinkType> OrderedTable<K, V, N> {
         self.linked.growth_left()
     }
 
-    /// Returns how many pairs were put into the table. A pair that moves is not counted again.
+    /// Returns how many pairs were put into the table. A moved pair is not counted again.
     #[inline]
     pub fn placed(&self) -> u64
         ensures placed { result ≡ self.now.insertions.placed }
@@ -199,7 +199,7 @@ impl<K, V, N: LinkType> OrderedTable<K, V, N> {
     /// Returns the bucket of the first pair that `f` accepts.
     ///
     /// `f` is called with pairs whose tag is the hash's top 7 bits. Only tests show that `f` is called with each pair
-    /// at most once, and not again after it accepted one.
+    /// at most once, and not again after it returned true.
     ///
     /// Cost: `O(1)` expected.
     #[inline]
@@ -214,7 +214,7 @@ impl<K, V, N: LinkType> OrderedTable<K, V, N> {
 }
 
 impl<K: Eq + Hash, V, N: LinkType> OrderedTable<K, V, N> {
-    /// Returns the bucket of the key that `key` names; `hash` is the hash of this key.
+    /// Returns the bucket of the key that `key` names. `hash` must be the hash of this key.
     ///
     /// Cost: `O(1)` expected.
     #[inline]

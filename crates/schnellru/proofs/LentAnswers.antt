@@ -119,7 +119,6 @@ module _ {M : Type 1} {𝓤 : Ura M} (𝓛 : Logic 𝓤) (𝓜 : Model 𝓤 𝓛
         peeks ! Got _ (shows 𝓛 Got) x (v ∷ []) (λ is₁.
         let typed = got.typed x (v ∷ []) is₁ in lands_as ! refl refl typed.0 $
         sets ! (of_opd ! (get ! refl)) refl typed.0 $
-        -- in hand: what is lent; what follows; the tokens
         nothing ! $ move ! (1 ∷ 0 ∷ []) $ fjoin ! $
         move ! (2 ∷ []) $ use1 𝓛 (raw taken ⊛ raw left) takes $ split ! $ move ! (0 ∷ 2 ∷ []) $ join ! $
         use0 𝓛 (raw (Outlive 𝓤 ls (emp 𝓤))) (outlive_holds 𝓤 ls within) $ move ! (1 ∷ 0 ∷ []) $ join ! $
@@ -132,7 +131,6 @@ module _ {M : Type 1} {𝓤 : Ura M} (𝓛 : Logic 𝓤) (𝓜 : Model 𝓤 𝓛
         lands_as ! refl refl (given.typed e (u ∷ []) is₂).0 $
         rewrite ! 0 (λ (d : Gives.Denot). ‵ (Gives.own_val d (u ∷ []))) is_kept refl $
         returns ! (look_at ! 0 refl) $ free_all ! refl $
-        -- in hand: the answer; the tokens that were taken; the others; what follows
         move ! (1 ∷ 2 ∷ []) $ use2 𝓛 (raw tokens) gives $
         move ! (2 ∷ []) $ use1 𝓛 (‵ (Made (lent_or_none x)))
         (ends 𝓛 K (param 1 V) L S N H key limits links hashed hash m Step x) $

@@ -168,14 +168,12 @@ module _ {M : Type 1} {𝓤 : Ura M} (𝓛 : Logic 𝓤) (𝓜 : Model 𝓤 𝓛
         peeks ! R _ (shows 𝓛 R) s us (λ is.
         let word = low.val_is s us is in
         rewrite ! 1 Cell word refl $ move ! (1 ∷ []) $ well_typed ! (λ ok.
-        -- in hand: the cell; what the walk owns; the open borrow, in three parts; the pointer; other tokens; what lives
         sets ! (of_opd ! (load ! (through ! refl (fld ! refl (stop !))) (look_in ! 0 (sub ! 1 refl (whole !))))) refl
         (tt, record { fits = ok.1.1.0.fits }) $
         sets ! (of_opd ! (load ! (through ! refl (fld ! refl (stop !))) (look_in ! 0 (sub ! 2 refl (whole !))))) refl
         (tt, record { fits = ok.1.1.1.0.fits }) $
         sets ! (bin ! (get ! refl) (get ! refl) tt) refl (tt, tt) $
         rewrite ! 0 Cell (sym word) refl $ closes ! tt R s us b o $
-        -- in hand: self's name; its borrow; the token; the pointer; the other tokens; what lives
         first ! $ branches ! (get ! refl)
         (λ more.
         let low_at = ltb→lt (walk_start s) (walk_end s) more in let there = true_of _ more in
@@ -197,7 +195,6 @@ module _ {M : Type 1} {𝓤 : Ura M} (𝓛 : Logic 𝓤) (𝓜 : Model 𝓤 𝓛
         (tt, (record { fits = lit< tt }, ((tt, (tt, tt)), tt))) $
         use1 𝓛 (‵ ((option.the_row X).own_val (Some x) (live 1 (of_list (val x ∷ [])) ∷ []))) (some_of 𝓛 X x (val x)) $
         move ! (2 ∷ []) $ pick ! (λ ws. split ! $ drop ! $ split ! $ move ! (1 ∷ []) $ heard ! _ (λ got.
-        -- in hand: what follows; the pair; the tokens
         returns_within ! (End.post y) refl (look_at ! 0 refl) $ free_all ! refl $
         use0 𝓛 (raw (fact 𝓤 (option_map deref_pair_mut (Some x) ≡ next s))) (fact_i 𝓤 _ (emp 𝓤) (rw there (sym got))) $
         move ! (1 ∷ 0 ∷ []) $ join ! $ move ! (1 ∷ 0 ∷ []) $ join ! $ nothing ! $ nothing ! $ fjoin ! $ join ! $

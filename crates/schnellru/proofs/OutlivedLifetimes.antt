@@ -6,7 +6,7 @@ use base.Logic.{SProp, ent, id⊢, sep, emp, via, fst∗, snd∗, emp∗, mono_l
 use contract.BorrowLft.{◌⊑◌}
 use contract.Monad.{fact, fact_i, fact_use}
 
--- the first lifetime of each pair ends no later than the second
+-- in each pair, the first lifetime ends before the second or with it
 abbrev pub AllWithin : List (Lft × Lft) → Type 0
 AllWithin [] = Unit {0}
 AllWithin (l ∷ ls) = (l.0 ⊑ l.1) × AllWithin ls

@@ -1,4 +1,4 @@
--- What a contract sees of a drain: each step is a `PopNewest` or a `PopOldest`. Its drop is `cleared`.
+-- What a contract sees of a drain: each step is a `PopNewest` or a `PopOldest`, and the drop is `cleared`.
 use Rattle.std.specs.Prelude.{◌≡◌, length, Option}
 use Rattle.std.specs.Borrow.{GName}
 use Rattle.std.specs.Iterator.{at_most, Count}
@@ -6,7 +6,7 @@ use Rattle.lru_model.specs.State.{State}
 use Rattle.schnellru.specs.declared.walk.drain.Drain.{Drain}
 
 module _ {K V L S N H : Type 0} where
-  -- the map that a drain takes from, as it is now
+  -- the current state of the map that a drain takes from
   abbrev pub drain_map : Drain K V L S N H → State K V L S
   drain_map d = d.map.now
 
@@ -17,7 +17,7 @@ module _ {K V L S N H : Type 0} where
   abbrev pub drain_left : Drain K V L S N H → Count
   drain_left d = at_most (length (drain_map d).pairs)
 
-  -- the drain takes the pair that the pop removes, if there is one
+  -- the step of the drain is this pop of the map
   pub record TakesBy (pop : State K V L S → Option (K × V) → State K V L S → Type 0) (old : Drain K V L S N H)
       (result : Option (K × V)) (new : Drain K V L S N H) : Type 0 where
     pub pops : pop (drain_map old) result (drain_map new)

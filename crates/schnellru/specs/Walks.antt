@@ -1,4 +1,4 @@
--- What a contract sees of an `IterMut`, and what becomes of it once the loan of a value has ended.
+-- What a contract sees of an `IterMut`, also after the loan of a value has ended.
 use Rattle.std.proofs.Common.{refl, arith}
 use Rattle.std.specs.Prelude.{ℕ, ◌+◌, ◌-◌, ◌≤◌, [], length, slice_get, Option, None, Some, if◌then◌else◌, nat_lt}
 use Rattle.std.specs.Borrow.{Fml, GName, RattleType, Bor, MutBor, follows, follows_if}
@@ -21,7 +21,7 @@ use mathlib.Core.Option as maybe
 pub one_less : (n m : ℕ) → n ≤ m → n - 1 ≤ m
 one_less n m h = omega (arith, h)
 
--- the ghost name of the value that is lent, if one is
+-- the ghost name of the lent value, if there is one
 abbrev pub lent_name : {K V : Type 0} → Option (Bor K × MutBor V) → maybe.Option GName
 lent_name (Some pair) = maybe.some pair.1.ghost_name
 lent_name None = maybe.none
@@ -31,14 +31,14 @@ module _ {K V L S N H : Type 0} {equal : equality.Ghosts K} {input : hashing.Gho
     {links : link_type.Ghosts N}
     {keyed : key_hasher.Ghosts S K H} {build : builder.Ghosts S H} {hash : hasher.Ghosts H}
     (walk : IterMut K V L S N H equal input limits links keyed build hash) where
-  -- the map now, and the ghost name of the reference to it
+  -- the current map, and the ghost name of the reference to it
   abbrev pub walk_map : State K V L S
   walk_map = walk.map.now
 
   abbrev pub walk_lender : GName
   walk_lender = walk.map.ghost_name
 
-  -- the pairs that are left are at the positions from `walk_start` up to `walk_end`
+  -- the pairs that are left are at the positions from `walk_start` to `walk_end - 1`
   abbrev pub walk_start : ℕ
   walk_start = walk.start
 
@@ -49,8 +49,7 @@ module _ {K V L S N H : Type 0} {equal : equality.Ghosts K} {input : hashing.Gho
   abbrev pub walk_written : ℕ → V → MutBor (State K V L S)
   walk_written at w = record walk.map { now = record walk.map.now { pairs = set_value_at walk.map.now.pairs at w } }
 
-  -- the walk after it lent the first pair that was left, and w was written there; `walk_after_last` is for the last
-  -- pair
+  -- the walk after it lent the first pair that was left, and the caller wrote w; `walk_after_last` is for the last pair
   abbrev pub walk_after_first : V → IterMut K V L S N H equal input limits links keyed build hash
   walk_after_first w = record walk {
     map = walk_written walk.start w;

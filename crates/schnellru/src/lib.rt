@@ -2,10 +2,10 @@
 //!
 //! [`LruMap`] is the map, and [`ByLength`] is one of its limiters. `docs/LIMITERS.md` shows how to write a limiter and
 //! a look-up key. `docs/CALLING.md` shows how to prove code that calls the map. `docs/DIFFERENCES.md` lists what
-//! differs from the Rust crate. The theorems on all calls are the contracts of the functions of [`laws`].
+//! differs from the Rust crate. Each function of [`laws`] states a theorem about all calls as its contract.
 #![tactic(auto)]
 
-// Marks code that is never reached, as the macro of this name in `group_table` does.
+// Marks code that is never reached. `group_table` has the same macro.
 macro_rules! nowhere {
     () => {{
         let none: [Option<()>; 0] = [];

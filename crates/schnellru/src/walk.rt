@@ -15,7 +15,7 @@ pub(crate) mod into_iter;
 pub(crate) mod iter_mut;
 mod positions;
 
-/// The iterator over a map under this limiter.
+/// The iterator that `LruMap::iter` returns.
 ///
 /// ```
 /// let mut walk = map.iter();

@@ -11,7 +11,7 @@ use crate::cells::bytes_of;
 use crate::control::DELETED;
 
 impl<T> Table<T> {
-    /// Returns the number of buckets: none, or a power of two from 4 on.
+    /// Returns the number of buckets: 0, or a power of two from 4 on.
     #[inline]
     pub fn buckets(&self) -> usize
         ensures value { result ≡ length self.now.slots }
@@ -20,7 +20,7 @@ impl<T> Table<T> {
         self.control.buckets()
     }
 
-    /// Returns whether a table with buckets has a bucket of this number.
+    /// Returns whether the table has bucket b. The table must have buckets.
     ///
     /// ```
     /// let table: Table<u64> = Table::with_buckets(alloc, 8)?;
@@ -53,7 +53,7 @@ impl<T> Table<T> {
         self.growth_left
     }
 
-    /// Returns how many insertions the table has made. A moved entry counts as one insertion. Each count stops at
+    /// Returns how many insertions the table has made. A moved entry counts as one insertion. The count stops at
     /// `u64::MAX`.
     #[inline]
     pub fn insertion_count(&self) -> u64

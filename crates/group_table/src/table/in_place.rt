@@ -13,7 +13,7 @@ use crate::fields::put;
 use crate::link::LinkType;
 use crate::probe::{first_free, is_read_first};
 
-// Inserts every entry again, over cleared control bytes, and writes to `links` where each is now.
+// Inserts every entry again into cleared control bytes, and writes the new bucket of each entry to `links`.
 pub(crate) fn place_again<T, N: LinkType, H: Fn(&T) -> u64>(
     before: &Control,
     control: &mut Control,
@@ -43,7 +43,7 @@ pub(crate) fn place_again<T, N: LinkType, H: Fn(&T) -> u64>(
         (slots_of control.new entries.new) links.new.items hash_at }
 {
     for b in 0..before.buckets() {
-        // Another entry was moved here, or none was here before.
+        // Bucket b already has its new entry, or had no entry before.
         if control.byte(b) < DELETED || before.byte(b) >= DELETED {
             continue;
         }
@@ -57,7 +57,7 @@ pub(crate) fn place_again<T, N: LinkType, H: Fn(&T) -> u64>(
         let mut next = Some(entries.read(b));
         'turns: while let Some(entry) = next {
             let place = first_free(control, hash);
-            // No entry in a place up to `b` waits.
+            // No entry that waits for its insertion is in a place up to b.
             let byte = if place <= b {
                 EMPTY
             } else {

@@ -7,10 +7,10 @@ use crate::admission::Admission;
 use crate::limiter::Limiter;
 use std::marker::Model;
 
-/// Limits the sum of the costs of the values. A contract sees it as its limit and this sum.
+/// Limits the sum of the costs of the values. A contract sees the limiter as its limit and this sum.
 ///
-/// It rejects an entry or a new value if its cost alone is above the limit, or if the sum would pass `u64::MAX`. After
-/// it accepts an entry or a value, the map evicts its oldest entries until the sum is within the limit.
+/// `ByCost` rejects an entry or a new value if the cost of the value alone is above the limit, or if the sum would pass
+/// `u64::MAX`. After `ByCost` accepts, the map evicts its oldest entries until the sum is within the limit.
 ///
 /// ```
 /// let mut limiter = ByCost::new(3);
@@ -75,7 +75,7 @@ impl ByCost {
         self.limit
     }
 
-    /// Returns the sum of the costs so far.
+    /// Returns the sum of the costs.
     ///
     /// ```
     /// assert_eq!(rt; limiter.cost(), 2);

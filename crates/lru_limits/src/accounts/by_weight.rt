@@ -7,10 +7,11 @@ use crate::admission::Admission;
 use crate::limiter::Limiter;
 use std::marker::Model;
 
-/// Limits the sum of the costs of the entries: the cost of the key, the cost of the value, and `OVERHEAD`. A contract
-/// sees it as its limit and this sum.
+/// Limits the sum of the costs of the entries. An entry costs the cost of its key, plus the cost of its value, plus
+/// `OVERHEAD`, but at most `u64::MAX`. A contract sees the limiter as its limit and this sum.
 ///
-/// It rejects what [`crate::ByCost`] rejects. An entry costs at most `u64::MAX`.
+/// `ByWeight` rejects an entry, or its new value, if the entry alone costs more than the limit, or if the sum would
+/// pass `u64::MAX`.
 ///
 /// ```
 /// let mut limiter: ByWeight<16> = ByWeight::new(100);
@@ -73,7 +74,7 @@ impl<const OVERHEAD: u64> ByWeight<OVERHEAD> {
         self.limit
     }
 
-    /// Returns the sum of the costs so far.
+    /// Returns the sum of the costs.
     ///
     /// ```
     /// assert_eq!(rt; limiter.cost(), 19);

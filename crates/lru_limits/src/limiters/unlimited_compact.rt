@@ -3,7 +3,7 @@ ghost use Rattle.lru_limits.specs.Limiters.{no_rules, all_terms};
 use crate::admission::Admission;
 use crate::limiter::Limiter;
 
-/// Limits nothing except by its links of 32 bits: at most 1,879,048,192 entries. Its buckets are smaller than under
+/// Sets no limit, but its links of 32 bits permit at most 1,879,048,192 entries. Buckets are smaller than under
 /// `Unlimited`.
 ///
 /// ```

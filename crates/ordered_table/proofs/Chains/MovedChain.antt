@@ -42,7 +42,7 @@ module _ {N : Type 0} (number : N → ℕ) (none : N) {K V : Type 0} where
         others = w.others;
       }
 
-  -- the links of the entries in the buckets before this one have been moved
+  -- the links of the entries from the old buckets below `old` have been rewritten
   pub record MovedUpTo (start now : List (Slot (Entry K V N))) (links : List N) (old : ℕ) : Type 0 where
     pub pairs : pair_slots now ≡ pair_slots start
     pub newer : (b : ℕ) → b < old → get_or links b none ≢ none

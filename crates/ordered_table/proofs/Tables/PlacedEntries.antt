@@ -1,4 +1,4 @@
--- An entry was inserted into the first free bucket of a table, and was then linked in front of the chain of the others.
+-- An entry was inserted into the first free bucket of a table, and then linked in front of the chain.
 use Rattle.std.proofs.Common.{◌≡◌, ℕ, ◌+◌, ◌<◌, List, ◌∷◌, length, Some, ap, ◌∙◌, slice_set}
 use Rattle.std.proofs.lemmas.List.{get_or-set_same}
 use Rattle.std.specs.Prelude.{Contains, option_map}
@@ -71,7 +71,6 @@ module _ {N : Type 0} {number : N → ℕ} {link : ℕ → N} {none : N}
         (along number (length linked.slots) linked.slots newest')
     shown_whole = IsWhole-shown laws linked_whole
 
-    -- what holds of the table afterwards
     pub record Placed : Type 0 where
       pub lands : growth_left (bucket_states new.slots) + growth_left_at (bucket_states old.slots) b ≡ growth_left (bucket_states old.slots)
           → Lands before after hash pair b

@@ -77,7 +77,7 @@ promoted_kept t u None linked other same full = tt
 promoted_kept t u (Some f) linked other same full =
     other.only f (subst (λ o. Contains o f) (sym same) (linked.all f full))
 
--- `next` is the bucket after b, if there is one, in the order with f in front
+-- in the order with f in front, `next` is the bucket after b, if there is one
 abbrev pub LeadsTo : List ℕ → ℕ → ℕ → ℕ → Type 0
 LeadsTo order f b next = (b ≡ f → first_bucket order ≡ Some next)
     × (b ≢ f → (c : ℕ) → bucket_after b order ≡ Some c → next ≡ c)

@@ -12,8 +12,7 @@ ghost use Rattle.ordered_table.specs.Chain.{newer_at, older_at, pair_slots};
 use crate::linked::Entry;
 use group_table::{LinkType, Table};
 
-// A table with links to its newest and its oldest entry, which are `MAX` if it has none. Only the contracts know the
-// order.
+// A table with links to its newest and its oldest entry. Both links are `MAX` if there are no entries.
 #[derive(Drop)]
 pub(crate) struct Chain<K, V, N> {
     pub(crate) table: Table<Entry<K, V, N>>,
@@ -54,7 +53,8 @@ impl<K, V, N: LinkType> Chain<K, V, N> {
         }
     }
 
-    // Compares the link with the number of buckets instead of `MAX`, which saves an instruction.
+    // Returns whether the link leads to a bucket. Compares it with the number of buckets instead of `MAX`, which saves
+    // an instruction.
     #[inline]
     pub(crate) fn leads(&self, link: N) -> bool
         requires some { 0 < length self.now.table.slots }
@@ -98,8 +98,8 @@ impl<K, V, N: LinkType> Chain<K, V, N> {
         self.oldest = link;
     }
 
-    // Puts a bucket that is in no chain in front of this chain. Its entry already has the links of a newest entry: the
-    // older link leads to `first`, the newest entry so far.
+    // Puts a bucket in front of this chain. Its entry already has the links of a newest entry: the older link leads to
+    // `first`, the newest entry so far.
     #[inline]
     pub(crate) fn link_placed(&mut self, b: usize, first: N)
         requires first { first ≡ self.old.newest }
@@ -151,7 +151,7 @@ impl<K, V, N: LinkType> Chain<K, V, N> {
         }
     }
 
-    // Rewrites the links of entries that moved, and the ends: `links` contains the new number of each old bucket.
+    // Rewrites the links of the moved entries, and the two ends. `links` contains the new bucket for each old bucket.
     pub(crate) fn rewrite(&mut self, links: &[N])
         requires reached { length self.old.table.slots < N.number N.MAX }
         requires moved { Moved N.number N.link N.MAX self.old links.now }

@@ -1,5 +1,5 @@
-//! The order of a table whose newest bucket is `promoted`, if there is one. The links may still show this bucket
-//! elsewhere.
+//! The order of a table in which `promoted`, if there is one, is the newest bucket. The links may still have this
+//! bucket elsewhere.
 ghost use Rattle.std.specs.Prelude.{◌≡◌, ◌<◌, ℕ, length, Some, None, IfSome};
 ghost use Rattle.group_table.specs.Bucket.{IsFull};
 ghost use Rattle.lru_model.specs.Lists.{first as first_bucket, last as last_bucket};
@@ -34,7 +34,7 @@ pub(crate) fn oldest<K, V, N: LinkType>(
 {
     let b = table.oldest();
     match promoted {
-        // The links show the promoted bucket last. So the bucket before it is the oldest, if there is one.
+        // In the links, the promoted bucket is the last. So the bucket before it is the oldest, if there is one.
         Some(p) if p == b => {
             if table.newest() == p {
                 p
@@ -101,7 +101,7 @@ pub(crate) fn newer_unless_first<K, V, N: LinkType>(
     }
 }
 
-// Makes the promoted bucket, if there is one, the newest by the links, too.
+// Writes the promotion, if there is one, into the links.
 #[inline(always)]
 pub(crate) fn settle<K, V, N: LinkType>(
     table: &mut LinkedTable<K, V, N>,

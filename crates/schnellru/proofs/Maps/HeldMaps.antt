@@ -1,4 +1,4 @@
--- What holds of every map follows from what holds of its linked table.
+-- What holds for every map follows from what holds for its linked table.
 use Rattle.std.proofs.Common.{◌≡◌, ℕ, suc, ◌+◌, ◌-◌, ◌*◌, ◌^◌, ◌<◌, ◌≤◌, ◌⊎◌, Bool, true, false, cond, List, length}
 use Rattle.std.proofs.Common.{Some, sym, ap, ◌∙◌, subst, arith}
 use Rattle.group_table.specs.Sizes.{full_capacity}

@@ -1,4 +1,4 @@
--- A callback that keeps each pair that it gets, while its vector has space.
+-- A callback that keeps each pair while its vector has space.
 use Rattle.std.proofs.Common.{◌≡◌, ℕ, ◌+◌, ◌<◌, ◌≤◌, List, [], ◌∷◌, ◌++◌, length, Vec, Global, MutBor, vec_len}
 use Rattle.std.proofs.Common.{vec_capacity, refl, ap, ◌∙◌, arith}
 use Rattle.std.proofs.lemmas.Fn.{chained_keeps}
@@ -16,7 +16,7 @@ pub record IsKept {K V : Type 0} (old new : MutBor (Vec (K × V) Global)) (pair 
 module _ {K V F : Type 0} (closure : Mut F (K × (V × Unit {0})) (Unit {0})) (kept : F → MutBor (Vec (K × V) Global))
     (keeps : (f : F) (pair : K × V) (g : F) → Called closure f (pair.0, (pair.1, tt)) tt g
     → IsKept (kept f) (kept g) pair) (first : F) (growth_left : ℕ) where
-  -- the vector after the callback got these pairs
+  -- the vector after the callback got the pairs `xs`
   pub record AllKept (xs : List (K × V)) (f : F) : Type 0 where
     pub same : (kept f).ghost_name ≡ (kept first).ghost_name
     pub capacity : vec_capacity (kept f).now ≡ growth_left

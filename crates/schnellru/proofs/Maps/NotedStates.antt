@@ -1,4 +1,4 @@
--- What holds of a map whose limiter comes with a list of what was passed to the callback.
+-- Facts about a map whose limiter is combined with the list of the pairs passed to the callback.
 use Rattle.std.proofs.Common.{◌≡◌, ℕ, ◌+◌, Bool, true, false, List, [], ◌∷◌, ◌++◌, length, Option, Some, None, refl}
 use Rattle.std.proofs.Common.{ap, ◌∙◌, cond}
 use Rattle.std.proofs.Common.{arith, sym, subst}

@@ -48,7 +48,7 @@ module _ {K V S H F G : Type 0} (rules : Rules K V S) (closure : Mut F (Bor K ×
   abbrev after_asked : List ((K × V) × Bool) → Contents K V (S × List (K × V))
   after_asked asked = retained (noting rules) asked (old.limiter, [])
 
-  -- The closure has still to be called with the `left` newest pairs. What is left of the others comes after these.
+  -- The closure has still to be called with the `left` newest pairs. In the map, these come before the kept pairs.
   pub record IsRetainedTo (left : ℕ) (st : State K V S H) (f : F) (g : G) : Type 0 where
     pub asked : List ((K × V) × Bool)
     pub rest : List (K × V)

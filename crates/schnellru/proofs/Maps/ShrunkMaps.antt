@@ -1,4 +1,4 @@
--- A map keeps its pairs and their order when all of them move into fewer buckets, which is counted.
+-- A shrink keeps the pairs and their order, and counts the moved pairs.
 use Rattle.std.proofs.Common.{◌≡◌, ℕ, ◌+◌, ◌<◌, ◌≤◌, ◌⊎◌, inl, inr, Bool, length, Option, Some, sym, ap, ◌∙◌}
 use Rattle.std.proofs.Common.{subst, arith}
 use Rattle.group_table.specs.Sizes.{full_capacity, buckets_for}

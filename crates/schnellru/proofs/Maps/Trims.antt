@@ -11,7 +11,8 @@ use Rattle.schnellru.proofs.Maps.NotedStates.{takes_more, noted_pop}
 
 module _ {K V S H F : Type 0} (rules : Rules K V S) (closure : Mut F (K × (V × Unit {0})) (Unit {0}))
     (old : State K V S H) (sink : F) where
-  -- the evicted pairs were passed to the callback, and a trim of what is left ends as a trim of the old map
+  -- The evicted pairs were passed to the callback. A trim of the current map and a trim of the old map have the same
+  -- result.
   abbrev pub IsTrimmedTo : State K V S H → F → Type 0
   IsTrimmedTo st f = Passes closure sink f (λ before after.
       Leaves (noted before old) (contents (noted after st)) (noted after st)

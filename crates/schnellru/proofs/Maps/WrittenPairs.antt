@@ -25,7 +25,7 @@ length-more (y ∷ front) x = omega (arith, length-more front x)
 
 module _ {K V F : Type 0} (closure : Mut F (Bor K × (MutBor V × Unit {0})) (Unit {0} × (MutBor V × Unit {0})))
     (old : List (K × V)) (first : F) where
-  -- the closure wrote into the first `at` pairs, and is f now
+  -- the closure wrote to the first `at` pairs, and became f
   pub record IsWrittenTo (at : ℕ) (pairs : List (K × V)) (f : F) : Type 0 where
     pub front : List (K × V)
     pub rest : List (K × V)

@@ -31,7 +31,7 @@ module _ {K V S H : Type 0} where
     max = fields.max;
   }
 
-  -- the buckets are linked, the hashes of the keys fit, and the state is a map's (`IsMap`)
+  -- the buckets are linked, the hashes of the keys fit, and the state satisfies `IsMap`
   pub record Holds (eq : K → K → Bool) (hash_of : H → K → ℕ) (entries : OrderedTable K V) (fields : Fields S H)
       : Type 0 where
     pub linked : IsLinked entries

@@ -11,7 +11,7 @@ module _ {K V F : Type 0} (closure : Mut F (K × (V × Unit {0})) (Unit {0})) wh
   Passes f g step = (first : F) (before : List (K × V)) → CalledWith closure first before f → (after : List (K × V))
       × CalledWith closure first after g × step before after
 
-  -- if a replacement is rejected, the callback gets the pair as the limiter leaves it
+  -- after a rejected replacement, the callback gets the removed pair, with what `on_removed` wrote
   abbrev pub PassesRemoved : {S : Type 0} → Rules K V S → Replaced K V S → F → F → Type 0
   PassesRemoved rules by f g = let notified = rules.on_removed by.limiter by.key by.old_value in
       Called closure f (notified.key, (notified.value, tt)) tt g

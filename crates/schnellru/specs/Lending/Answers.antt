@@ -6,13 +6,13 @@ use Rattle.schnellru.specs.declared.map.get_or_insert.NotLent.TheVariants.{NotKe
 use mathlib.Core.Option as maybe
 
 module _ {V E : Type 0} where
-  -- what is lent, or none if the key is not there
+  -- the result, in which `NotKept` becomes `Ok None`
   abbrev pub lent_or_none : Result (MutBor V) (NotLent E) → Result (Option (MutBor V)) E
   lent_or_none (Ok x) = Ok (Some x)
   lent_or_none (Err NotKept) = Ok None
   lent_or_none (Err (Failed e)) = Err e
 
-  -- the result with a flag instead of the value: whether a value is lent
+  -- the result with a flag instead of the value: true if a value is lent
   abbrev pub is_kept : Result (Option (MutBor V)) E → Result Bool E
   is_kept (Ok o) = Ok (is_some o)
   is_kept (Err e) = Err e
@@ -23,13 +23,13 @@ module _ {V E : Type 0} where
   abbrev pub NoneLent : Result (Option (MutBor V)) E → Type 0
   NoneLent r = is_kept r ≡ Ok true → ⊥
 
-  -- the value that is lent, if one is
+  -- the value that is lent, if there is one
   abbrev pub value_lent : Result (Option (MutBor V)) E → Option V
   value_lent (Ok (Some x)) = Some x.now
   value_lent (Ok None) = None
   value_lent (Err e) = None
 
-  -- the ghost name of the reference that is lent, if one is
+  -- the ghost name of the lent reference, if there is one
   abbrev pub name_lent : Result (Option (MutBor V)) E → maybe.Option GName
   name_lent (Ok (Some x)) = maybe.some x.ghost_name
   name_lent (Ok None) = maybe.none

@@ -19,7 +19,7 @@ module _ (K V L S N H : RattleType) (key : HashMembers K.Denot)
     (hashed : HasherMembers S.Denot K.Denot H.Denot) (hash : hasher.Ghosts H.Denot)
     (m : MutBor (State K.Denot V.Denot L.Denot S.Denot)) {E : Type 0}
     (Step : Result Bool E → State K.Denot V.Denot L.Denot S.Denot → Type 0) where
-  -- The get left the map `made`, and lends its newest value. Once w is written there, the map is n.
+  -- The get left the map `made`, and lends its newest value. After w is written there, the map is n.
   abbrev pub Made : Result (Option (MutBor V.Denot)) E → State K.Denot V.Denot L.Denot S.Denot → V.Denot → Type 0
   Made r n w = (made : State K.Denot V.Denot L.Denot S.Denot) × Step (is_kept r) made
       × (newest_value made.pairs ≡ value_lent r)
@@ -29,12 +29,12 @@ module _ (K V L S N H : RattleType) (key : HashMembers K.Denot)
   abbrev pub LendsNone : Result (Option (MutBor V.Denot)) E → State K.Denot V.Denot L.Denot S.Denot → Type 0
   LendsNone r n = Step (is_kept r) n × IsMap key.eq n
 
-  -- what becomes of the map, for a result whose error may say that the key is not there (`NotKept`)
+  -- the map after the loan, for a result that is `NotKept` if the key is not there
   abbrev pub lends_or : Result (MutBor V.Denot) (NotLent E) → Fml
   lends_or r = LendsSoOk (map_row K V L S N H key limits links hashed hash) V m r
       (λ n w. Made (lent_or_none r) n w) (λ n. LendsNone (lent_or_none r) n)
 
-  -- what becomes of the map, for a result that is `Ok None` if the key is not there
+  -- the map after the loan, for a result that is `Ok None` if the key is not there
   abbrev pub lends_made : Result (Option (MutBor V.Denot)) E → Fml
   lends_made r = follows_so (map_row K V L S N H key limits links hashed hash) V m.ghost_name
       (name_lent r)

@@ -1,4 +1,4 @@
--- What a map is once a reference into it has ended.
+-- What a map is after a reference into it has ended.
 use Rattle.std.specs.Prelude.{◌≡◌, ℕ, Bool, List, [], ◌∷◌, Option, Some, OnSome, IfNone, ⊤, if◌then◌else◌, nat_eq}
 use Rattle.std.specs.Option.{option_copied_mut}
 use Rattle.std.specs.Borrow.{Fml, RattleType, Bor, MutBor, follows, follows_so, Lends, LendsIf, LendsSo}
@@ -35,17 +35,17 @@ module _ (K V L S N H : RattleType) (key : HashMembers K.Denot)
       (record { hash_of = hashed.hash_of }) (record { build_hasher = hashed.build_hasher }) hash
 
   module _ (m : MutBor (State K.Denot V.Denot L.Denot S.Denot)) where
-    -- The map ends as `base`, with the last value written through r for the named key. If r is `None`, the map stays as
-    -- it is.
+    -- The map ends as `base`, with the last value written through r for the named key. If r is `None`, the map does not
+    -- change.
     abbrev pub lends_value : (K.Denot → Bool) → State K.Denot V.Denot L.Denot S.Denot → Option (MutBor V.Denot) → Fml
     lends_value names base r = LendsIf map_row V m r (λ last. written names last base) m.now
 
-    -- the map ends as `last`; a part of it was lent for reading
+    -- a part of the map was lent for reading, and the map ends as `last`
     abbrev pub ends_as : State K.Denot V.Denot L.Denot S.Denot → Fml
     ends_as last = follows_so map_row map_row m.ghost_name none (λ _ _. ⊤) (λ n. n ≡ last)
 
-    -- If r is there, it lends the value of some pair that satisfies `gives`. The map ends as `turned` makes it for this
-    -- pair's key, and this key has the last value written through r. If r is `None`, the map stays as it is.
+    -- If r is `Some`, it lends the value of a pair that satisfies `gives`. The map ends as the result of `turned` for
+    -- this pair's key, where the key has the last value written through r. If r is `None`, the map does not change.
     abbrev pub lends_given : (K.Denot × V.Denot → Type 0)
         → ((K.Denot → Bool) → State K.Denot V.Denot L.Denot S.Denot → State K.Denot V.Denot L.Denot S.Denot)
         → Option (MutBor V.Denot) → Fml
@@ -54,11 +54,11 @@ module _ (K V L S N H : RattleType) (key : HashMembers K.Denot)
         × (n ≡ written (key.eq pair.0) last (turned (key.eq pair.0) m.now))))
         (λ n. IfNone r (n ≡ m.now))
 
-    -- The newest pair of the map ends with the last value written through r. If r is `None`, the map stays as it is.
+    -- The newest pair of the map ends with the last value written through r. If r is `None`, the map does not change.
     abbrev pub lends_newest : Option (MutBor V.Denot) → Fml
     lends_newest r = LendsIf map_row V m r (λ last. record m.now { pairs = set_newest m.now.pairs last }) m.now
 
-    -- `lends_newest` for a reference that is always there
+    -- `lends_newest` for a result that is always a reference
     abbrev pub lends_newest_value : MutBor V.Denot → Fml
     lends_newest_value r = Lends map_row V m r (λ last. record m.now { pairs = set_newest m.now.pairs last })
 

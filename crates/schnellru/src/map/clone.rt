@@ -13,8 +13,7 @@ impl<
     L: Limiter<K, V> + Clone,
     S: KeyHasher<K> + Clone + Drop,
 > LruMap<K, V, L, S> {
-    /// Clones the entries, in order, the limiter and the hasher. The table of the clone has the same buckets and
-    /// counts.
+    /// Clones the entries in their order, the limiter and the hasher. The clone has the same bucket states and counts.
     ///
     /// ```
     /// let mut copy = map.clone()?;
@@ -22,9 +21,9 @@ impl<
     /// assert_eq!(rt; (copy.len(), map.len()), (2, 3));
     /// ```
     ///
-    /// A clone of a key must equal the key, and a clone of the hasher must hash alike. So this is no impl of `Clone`.
-    /// Cost: `O(buckets)`, two requests for memory if the map has buckets, and what the clones of keys, values, limiter
-    /// and hasher request.
+    /// A clone of a key must equal the key, and a clone of the hasher must return the same hashes. `Clone` cannot
+    /// require this, so `LruMap` does not implement it. Cost: `O(buckets)`, two requests for memory if the map has
+    /// buckets, and what the clones of keys, values, limiter and hasher request.
     ///
     /// # Errors
     ///

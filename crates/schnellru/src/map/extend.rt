@@ -21,7 +21,7 @@ impl<K: Eq + Hash + Drop, V: Drop, L: Insertion<K, V, K>, S: KeyHasher<K>> LruMa
     /// # Errors
     ///
     /// The insert of an entry ran out of memory. The entries before it were inserted, and the others were not. No
-    /// contract says whether the iterator yielded entries after this one.
+    /// contract says whether the iterator yielded entries after the failed one.
     ///
     /// Follows std's `Extend::extend`.
     pub fn try_extend<T: IntoIterator<Item = (K, V)>>(

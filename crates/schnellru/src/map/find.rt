@@ -70,7 +70,7 @@ impl<K: Eq + Hash, V, L: Limiter<K, V>, S: KeyHasher<K>> LruMap<K, V, L, S> {
         self.entries.promote(b);
     }
 
-    // Lets the links show the last promotion, so that the code after it need not test for one.
+    // Writes the last promotion into the links. The code after this call then need not test for one.
     #[inline(always)]
     pub(crate) fn settle(&mut self)
         ensures { self.new ≡ self.old }

@@ -13,10 +13,10 @@ use std::hash::Hash;
 impl<K: Eq + Hash, V, L: Limiter<K, V>, S: KeyHasher<K>> LruMap<K, V, L, S> {
     ghost use Rattle.schnellru.specs.Lending.Values.{lends_value, lends_newest, lends_newest_value, ends_as};
 
-    /// Lends the value of a key for writing, and makes its entry the newest. `None` means that the key is not there.
+    /// Lends the value of a key for writing, and makes its entry the newest. Returns `None` if the key is not there.
     /// The limiter is not notified of writes.
     ///
-    /// `String` keys are looked up by a `&str`, as `map.get(&"a")`.
+    /// A `&str` looks up a `String` key: `map.get(&"a")`.
     ///
     /// ```
     /// if let Some(value) = map.get(&1) {
@@ -44,7 +44,7 @@ impl<K: Eq + Hash, V, L: Limiter<K, V>, S: KeyHasher<K>> LruMap<K, V, L, S> {
 
     /// Returns the entry of a key, and makes it the newest.
     ///
-    /// The returned key is the stored key, which may differ from the equal key that is looked up.
+    /// The returned key is the stored key, not the equal key that is looked up.
     ///
     /// ```
     /// assert!(rt; map.get_key_value(&1) == Some((&1, &10)));
@@ -118,8 +118,8 @@ impl<K: Eq + Hash, V, L: Limiter<K, V>, S: KeyHasher<K>> LruMap<K, V, L, S> {
 
     /// Lends the value of the newest entry for writing.
     ///
-    /// `None` means that the map is empty. After `ensure_newest` returned true, the newest value is the value of its
-    /// key. Cost: `O(1)`.
+    /// Returns `None` if the map is empty. If `ensure_newest` has just returned true, the newest value is the value of
+    /// its key. Cost: `O(1)`.
     ///
     /// ```
     /// if let Some(count) = map.newest_mut() {

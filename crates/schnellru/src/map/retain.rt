@@ -13,7 +13,7 @@ use lru_limits::{KeyHasher, Limiter};
 use std::hash::Hash;
 
 impl<K: Eq + Hash + Drop, V: Drop, L: Limiter<K, V>, S: KeyHasher<K>> LruMap<K, V, L, S> {
-    /// Removes the entries for which the closure returns false. The others keep their order.
+    /// Removes the entries for which the closure returns false. The other entries keep their order.
     ///
     /// The closure is called with each entry, oldest first. The limiter is notified of each removal.
     ///

@@ -1,4 +1,5 @@
-//! Stores a new pair, in a free bucket, or after a rehash, a growth, or evictions of the oldest pairs.
+//! Stores a new pair in a free bucket. If no bucket can take the pair, first rehashes or grows the table, or evicts the
+//! oldest pairs.
 ghost use Rattle.std.specs.Prelude.{◌≡◌, ℕ, ◌+◌, ◌-◌, ◌*◌, ◌/◌, ◌<◌, ◌≤◌, [], ◌∷◌, length, true, None, Some, List};
 ghost use Rattle.std.specs.Prelude.{Ok, OnOk, OnErr, IfErr, IsOk};
 ghost use Rattle.group_table.specs.Sizes.{IsPowerFromFour, full_capacity};
@@ -96,7 +97,7 @@ impl<K: Eq + Hash, V, L: Limiter<K, V>, S: KeyHasher<K>> LruMap<K, V, L, S> {
         }
     }
 
-    // Stores the pair after it evicted the oldest pairs.
+    // Evicts the oldest pairs until the pair can be stored. An empty map cannot store it.
     fn store_without_growth<F: FnMut(K, V)>(
         &mut self,
         hash: u64,

@@ -9,9 +9,9 @@ use std::hash::Hash;
 use std::iter::FusedIterator;
 use std::marker::Model;
 
-/// An iterator that owns a map and takes the entries out of it from both ends: `next` takes the newest.
+/// An iterator that owns a map, and takes its entries out from both ends. `next` takes the newest.
 ///
-/// Dropping the iterator drops the other entries, and does not notify the limiter.
+/// Dropping the iterator drops the remaining entries without notifying the limiter.
 ///
 /// ```
 /// assert_eq!(rt; map.into_iter().next_back(), Some((1, 10)));

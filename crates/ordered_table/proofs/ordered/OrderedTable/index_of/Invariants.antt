@@ -1,4 +1,4 @@
--- `at` is the bucket at some position of the order, and `index` further is the bucket `b`.
+-- `at` is the bucket at some position of the order, and `b` is the bucket `index` positions further.
 use Rattle.std.proofs.Common.{◌≡◌, ℕ, ◌+◌, ◌-◌, length, slice_get, Some}
 use Rattle.ordered_table.proofs.ordered.OrderedTable.index_of.Given as goal
 

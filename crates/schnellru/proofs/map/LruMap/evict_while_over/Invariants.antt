@@ -1,5 +1,4 @@
--- The limiter is over its limit, and there are pairs. The evicted pairs were passed to the callback, and others are
--- still to be evicted.
+-- The limiter is over its limit, and there are pairs. The evicted pairs were passed to the callback.
 use Rattle.std.proofs.Common.{◌≡◌, ◌<◌, true, length}
 use Rattle.lru_model.specs.MayTake.{MayTakeEach}
 use Rattle.schnellru.proofs.Maps.Trims.{IsTrimmedTo}

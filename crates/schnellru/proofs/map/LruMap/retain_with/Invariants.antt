@@ -1,5 +1,5 @@
--- The closure was called with all pairs except the newest `left`, and `next` is the bucket of the oldest of these
--- `left`. The pairs that it rejected were passed to the callback.
+-- The closure has still to be called with the newest `left` pairs, and `next` is the bucket of the oldest of them. The
+-- pairs that the closure rejected were passed to the callback.
 use Rattle.std.proofs.Common.{◌≡◌, length}
 use denote.Param.Always.{always_mut}
 use Rattle.lru_model.specs.Lists.{last_of}

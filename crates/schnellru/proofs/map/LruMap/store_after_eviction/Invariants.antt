@@ -1,5 +1,5 @@
--- Some of the oldest pairs were evicted and passed to the callback. At least half of what the table may hold is left,
--- and no bucket takes the new pair yet.
+-- Some of the oldest pairs were evicted and passed to the callback. The table has at least half of the pairs that it
+-- may hold, and no bucket can take the new pair yet.
 use Rattle.std.proofs.Common.{◌≡◌, ℕ, ◌/◌, ◌∷◌, length}
 use Rattle.group_table.specs.Sizes.{full_capacity}
 use Rattle.lru_model.specs.State.{buckets, contents, Leaves, pops}

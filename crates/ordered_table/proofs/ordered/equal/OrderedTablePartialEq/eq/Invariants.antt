@@ -3,7 +3,8 @@ use Rattle.std.specs.Cmp.Lexicographic.{pointwise}
 use Rattle.ordered_table.specs.OrderedTable.{pairs_of}
 use Rattle.ordered_table.proofs.ordered.equal.OrderedTablePartialEq.eq.Given as goal
 
--- both tables have equally many entries left; these are equal if and only if all entries are
+-- Both walks have the same number of entries left. These entries are equal if and only if all entries of the tables are
+-- equal.
 abbrev pub invariant-entries : goal.invariant-entries
 invariant-entries g l =
     (length l.ours ≡ length l.theirs)
