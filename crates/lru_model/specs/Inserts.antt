@@ -75,15 +75,15 @@ module _ {K V S I : Type 0} (rules : Rules K V S) (offers : Offers K V S I) (nam
   abbrev pub unkept_value : I → V → Contents K V S → Option V
   unkept_value i v c = option_map (λ pair. unkept_of (replacement pair i v c)) (lookup_entry (names i) c.pairs)
 
-  -- for a new key, `on_insert` of the limiter may return `given`, a pair to store or none, and leave the limiter s
+  -- if a new key is offered, `on_insert` of the limiter may return `given` (a pair or none) and leave the limiter as s
   abbrev pub MayGive : I → V → Contents K V S → S → Option (K × V) → Type 0
   MayGive i v c s given = offers.on_insert c.limiter (length c.pairs) i v s given
 
   module _ {H : Type 0} (hash_of : H → K → ℕ) where
     pub data Insert (i : I) (v : V) (old : State K V S H) (result : Result Bool AllocError)
         (new : State K V S H) : Type 0 where
-      -- The key is there, and the limiter accepts the new value. The pair becomes the newest with this value. The
-      -- oldest pairs are evicted while the limiter is over its limit.
+      -- The key is there, and the limiter accepts the new value. The pair becomes the newest, with the new value. The
+      -- oldest pairs are then evicted while the limiter is over its limit.
       replaced : (pair : K × V) → lookup_entry (names i) old.pairs ≡ Some pair →
           (replacement pair i v (contents old)).taken ≡ true →
           result ≡ Ok (not (is_empty new.pairs)) → Leaves old (trim rules (with_replaced pair i v (contents old))) new →
@@ -93,7 +93,7 @@ module _ {K V S I : Type 0} (rules : Rules K V S) (offers : Offers K V S I) (nam
           (replacement pair i v (contents old)).taken ≡ false →
           result ≡ Ok false → Leaves old (with_removed pair i v (contents old)) new →
           Insert i v old result new
-      -- The key is new, and the limiter runs out of memory, or returns no pair to store,
+      -- The key is new, and the limiter runs out of memory, or returns no pair to store. All pairs stay.
       no_memory_to_admit : lookup_entry (names i) old.pairs ≡ None →
           offers.may_run_out old.limiter (length old.pairs) i v →
           IsErr result → new ≡ old →
@@ -102,14 +102,15 @@ module _ {K V S I : Type 0} (rules : Rules K V S) (offers : Offers K V S I) (nam
           (s : S) → MayGive i v (contents old) s None →
           result ≡ Ok false → new ≡ record old { limiter = s } →
           Insert i v old result new
-      -- or it returns a pair, which is inserted into the table, with evictions before and after.
+      -- The key is new, and the limiter returns a pair. This pair is inserted into the table, with evictions before and
+      -- after.
       admitted : lookup_entry (names i) old.pairs ≡ None →
           (s : S) (pair : K × V) → MayGive i v (contents old) s (Some pair) →
           PlacesNew rules hash_of pair (record old { limiter = s }) result new →
           Insert i v old result new
 
-    -- The table may need memory for the pair that the limiter returned. No growth is left. Either there are no buckets,
-    -- or the map contains a pair after `make_room`. (A rehash of a table without pairs needs no memory.)
+    -- Why the table may need memory for the pair that the limiter returned. No growth is left, and either there are no
+    -- buckets, or the map contains a pair after `make_room`. (A rehash of a table without pairs needs no memory.)
     pub record NeedsMemory (i : I) (v : V) (old : State K V S H) : Type 0 where
       pub no_growth_left : growth_left old ≡ 0
       pub s : S
@@ -118,7 +119,7 @@ module _ {K V S I : Type 0} (rules : Rules K V S) (offers : Offers K V S I) (nam
       pub needed : (buckets old ≡ 0) ⊎ (0 < length (make_room rules (record { pairs = old.pairs; limiter = s })).pairs)
 
     -- Why an insert runs out of memory. The key is new. Either `on_insert` of the limiter ran out of memory, and
-    -- nothing changed; or the table needed memory.
+    -- nothing changed, or the table needed memory.
     abbrev pub IsOutOfMemory : I → V → State K V S H → State K V S H → Type 0
     IsOutOfMemory i v old new = (lookup_entry (names i) old.pairs ≡ None)
         × ((offers.may_run_out old.limiter (length old.pairs) i v × (new ≡ old)) ⊎ NeedsMemory i v old)
