@@ -3,7 +3,6 @@
 -- calls of `on_removed`.
 --     rules, offers       the limiter's `Rules` and `Offers` (`lru_limits`)
 --     names i k           the inserted key i names k
---     hash_of h k         the hash of k by the hasher h
 --     closure             how the callback may be called
 --     f, g                the callback before and after
 use Rattle.std.specs.Prelude.{◌≡◌, ℕ, Bool, List, [], ◌∷◌, ◌++◌, Result}

@@ -1,6 +1,5 @@
 -- How gets, writes, removals, pops and a clear change a map. Each other kind of call has a file of its own.
---     rules      the limiter's `Rules` (`lru_limits`)
---     names      whether a key is the one that is looked up
+--     names      whether a key is the looked-up key
 use Rattle.std.specs.Prelude.{◌≡◌, Bool, List, [], Option, Some, None, option_map, replicate}
 use Rattle.std.specs.Map.{set_value}
 use Rattle.group_table.specs.Bucket.{empty}

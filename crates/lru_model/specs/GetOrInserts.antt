@@ -1,7 +1,5 @@
 -- What `ensure_newest` and `get_or_insert` do: they look up a key, and insert it if it is not there.
---     rules, offers       the limiter's `Rules` and `Offers` (`lru_limits`)
 --     names i k           the inserted key i names k
---     hash_of h k         the hash of k by the hasher h
 --     makes v             the closure may return v
 use Rattle.std.specs.Prelude.{◌≡◌, ℕ, Bool, true, Some, None, Result, Ok, OnErr}
 use Rattle.std.specs.declared.alloc.AllocError.{AllocError}

@@ -1,6 +1,5 @@
 -- What a call requires of its callback. If the call may evict, remove or reject n pairs, the callback may be called n
 -- times, each time with any of these pairs.
---     rules, offers       the limiter's `Rules` and `Offers` (`lru_limits`)
 --     names i k           the inserted key i names k
 --     closure             how the callback may be called
 --     f                   the callback before the call

@@ -1,7 +1,5 @@
 -- What all insertions into the table cost. Insertions by a reservation count, too, if no growth was left before it.
---     terms, rules        the limiter's `Terms` and `Rules` (`lru_limits`)
 --     eq                  whether two keys are equal
---     hash_of h k         the hash of k by the hasher h
 use Rattle.std.specs.Prelude.{◌≡◌, ℕ, ◌+◌, ◌-◌, ◌*◌, ◌^◌, ◌≤◌, ◌<◌, Bool, Result}
 use Rattle.lru_limits.specs.Rules.{Rules}
 use Rattle.lru_limits.specs.Admissions.{Terms, offers_of}

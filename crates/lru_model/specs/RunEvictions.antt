@@ -1,7 +1,5 @@
 -- What each insert of a run evicts, whatever the other calls of the run are.
---     rules, offers       the limiter's `Rules` and `Offers` (`lru_limits`)
 --     names i k           the key i of a call names k
---     hash_of h k         the hash of k by the hasher h
 use Rattle.std.specs.Prelude.{◌≡◌, ℕ, Bool, false}
 use Rattle.lru_limits.specs.Rules.{Rules, Offers}
 use Rattle.lru_model.specs.State.{State, contents}

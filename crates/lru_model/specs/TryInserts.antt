@@ -1,7 +1,5 @@
 -- What `try_insert` does: it inserts a new pair only if nothing has to be evicted for it.
---     terms, rules        the limiter's `Terms` and `Rules` (`lru_limits`)
 --     eq                  whether two keys are equal
---     hash_of h k         the hash of k by the hasher h
 use Rattle.std.specs.Prelude.{◌≡◌, ℕ, ◌+◌, ◌<◌, Bool, true, false, not, if◌then◌else◌, length, Some, None}
 use Rattle.std.specs.Prelude.{Result, Ok, Err}
 use Rattle.lru_limits.specs.Rules.{Rules}

@@ -1,5 +1,4 @@
 -- What `update` does: it offers the limiter a new value for a key that is there.
---     rules, offers       the limiter's `Rules` and `Offers` (`lru_limits`)
 --     names i k           the given key i names the key k
 use Rattle.std.specs.Prelude.{◌≡◌, Bool, true, false, List, [], Some, None}
 use Rattle.lru_limits.specs.Rules.{Rules, Offers}
