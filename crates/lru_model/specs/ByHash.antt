@@ -28,7 +28,7 @@ module _ {K V : Type 0} (eq : K → K → Bool) (hash_of : K → ℕ) (all : Lis
     pub tags : (pair : K × V) → Contains pairs pair → hash_tag (hash_of pair.0) ≡ hash_tag hash
 
   module _ {F : Type 0} (closure : Mut F (Bor K × (Bor V × Unit {0})) Bool) where
-    -- f was called with candidates, each once: it returned false for those in `before`, and then true for `pair`
+    -- f was called with candidates, each once; it returned false for each one in `before`, and then true for `pair`
     pub record GivesByHash (f : F) (pair : K × V) : Type 0 where
       pub before : List (K × V)
       pub candidates : AreCandidates (before ++ pair ∷ [])
@@ -37,7 +37,8 @@ module _ {K V : Type 0} (eq : K → K → Bool) (hash_of : K → ℕ) (all : Lis
       pub last : F
       pub accepted : Asks closure between pair true last
 
-    -- f was called with candidates, each once, and returned false for all; each pair with this hash was among them
+    -- f was called with candidates, each once, and returned false for all; they include each pair whose key has this
+    -- hash
     pub record GivesNoneByHash (f : F) : Type 0 where
       pub asked : List (K × V)
       pub candidates : AreCandidates asked

@@ -31,7 +31,7 @@ module _ {K V S : Type 0} where
     };
   }
 
-  -- the offers of the limiter with a list; they do not change the list
+  -- the offers of the limiter with a list; the list stays as it is
   abbrev pub noting_offers : {I : Type 0} → Offers K V S I → Offers K V (S × List (K × V)) I
   noting_offers offers = record {
     on_insert = λ s n i v t given. offers.on_insert s.0 n i v t.0 given × (t.1 ≡ s.1);

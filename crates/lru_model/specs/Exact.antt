@@ -51,8 +51,8 @@ module _ {K V S : Type 0} (rules : Rules K V S) where
         report ≡ report_of (table_for 1 st) n (contents st) →
         MayReport hash st report
 
-  -- What a table of up to 16 buckets reports. c is the contents of `st` after some pairs left: the growth left has
-  -- risen by one for each.
+  -- What a table of up to 16 buckets reports. c is the contents of `st` after some pairs were removed. The growth left
+  -- has risen by one for each of them.
   abbrev pub small_report : {H : Type 0} → State K V S H → Contents K V S → Report
   small_report st c =
       if nat_lt 0 (growth_left st + length st.pairs - length c.pairs) then at_once

@@ -42,7 +42,7 @@ module _ {K V S H I : Type 0} (rules : Rules K V S) (offers : Offers K V S I) (n
         ⊎ ((s : S) × MayGive rules offers names i v (contents old) s None × (result ≡ Ok false)) →
         passed ≡ [] → new.pairs ≡ old.pairs →
         LosesNothing i v old result passed new
-    -- The key is new, and the pair that the limiter returns is not stored. The callback gets it last.
+    -- The key is new, and the pair that the limiter returns is not stored. The callback gets this pair last.
     pair_not_stored : lookup_entry (names i) old.pairs ≡ None →
         (s : S) (pair : K × V) → MayGive rules offers names i v (contents old) s (Some pair) →
         (result ≡ Ok true → ⊥) →

@@ -82,7 +82,7 @@ module _ {K V S H I : Type 0} (rules : Rules K V S) (offers : Offers K V S I) (n
   abbrev pub StepAmong : (K → Bool) → State K V S H → State K V S H → Type 0
   StepAmong test old new = (step : AnyStep old new) × NamesOnly test old new step
 
--- `names` for calls that insert and update nothing: there is no key to name one with
+-- `names` for calls that insert and update nothing: there is no inserted key
 abbrev pub no_keys : {K : Type 0} → ⊥ → K → Bool
 no_keys key k = false
 
@@ -114,6 +114,6 @@ module _ {K V S H : Type 0} (rules : Rules K V S) (hash_of : H → K → ℕ) wh
   abbrev pub StepWithoutInsert : (old new : State K V S H) → Type 0
   StepWithoutInsert = Step rules no_offers no_keys hash_of
 
-  -- such calls, and writes of values or of the limiter, one after another
+  -- these calls, writes of values, and changes of the limiter, one after another
   abbrev pub RunWithoutInsert : (new old : State K V S H) → Type 0
   RunWithoutInsert = Run (AnyStep rules no_offers no_keys hash_of)

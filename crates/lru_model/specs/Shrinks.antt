@@ -18,7 +18,7 @@ module _ {K V S H : Type 0} where
   abbrev pub shrink_counted : State K V S H → State K V S H
   shrink_counted st = record st { counts = record st.counts { shrunk = count_up st.counts.shrunk (length st.pairs) } }
 
-  -- If the pairs need fewer buckets, they move into the least number of buckets that holds them. The moves are counted.
+  -- If the table has more buckets than the pairs need, the pairs move into the least number of buckets that holds them.
   pub data Shrink (old : State K V S H) (result : Result Bool AllocError) (new : State K V S H) : Type 0 where
     -- The table has no more buckets than the pairs need.
     kept : IsTight old →

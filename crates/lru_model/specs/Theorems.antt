@@ -72,7 +72,7 @@ module _ {K V S H : Type 0} (rules : Rules K V S) where
   pub record IsRefusedGrowth (st : State K V S H) : Type 0 where
     pub is_full : HasPairsButNoGrowth st
     pub above_half : full_capacity (buckets st) / 2 < length st.pairs + 1
-    -- the map after its limiter was queried
+    -- the map after its limiter was queried, or `st` if there was no query
     pub mid : State K V S H
     pub refused : CannotGrow rules st mid
 

@@ -82,7 +82,7 @@ pub fn inserts_pass_few<K: Eq + Hash, V, I: LookupKey<K>, L: Insertion<K, V, I>,
 
 /// If a table has up to 16 buckets, `small_report` computes what the table reports about an insert (`Report` in
 /// `specs/Exact`). It uses only the entries, the limiter, the number of buckets, the growth left, and constants of the
-/// map. The insert changes the entries as this report says, unless memory runs out.
+/// map. The insert changes the entries as this report says. Memory may still run out.
 pub fn small_inserts_are_exact<
     K: Eq + Hash,
     V,
@@ -99,8 +99,8 @@ pub fn small_inserts_are_exact<
 /// An insert changes the entries as the report of the table says (`exact`). The report says for how many bytes the
 /// limiter was queried, if it was, and how many entries were evicted because growth was refused. Every insert has a
 /// report (`given`). Suppose that two inserts have equal arguments and reports, and equal entries and limiters before
-/// them. If both return `Ok`, they return and leave the same (`alike`). The limiter and the arguments must determine
-/// what `on_insert` does (`IsDetermined`).
+/// them. If both return `Ok`, they return the same, and leave the same entries and limiter (`alike`). The limiter and
+/// the arguments must determine what `on_insert` does (`IsDetermined`).
 pub fn inserts_are_exact_unless_refused<
     K: Eq + Hash,
     V,
@@ -158,9 +158,9 @@ pub fn inserts_grow_little<
 
 /// Suppose that the map has entries, but no growth left. If the first free bucket that a search for the new key finds
 /// is deleted, the new entry fills this bucket. The limiter is not queried for a growth, and nothing moves (`served`).
-/// If the key is new, and the limiter accepts its entry and is then not over its limit, an insert evicts nothing
-/// (`added`). Conversely, if an insertion keeps the number of buckets, and evicts and moves nothing, the first free
-/// bucket was deleted (`only`).
+/// If the limiter also accepts the new entry, and is then not over its limit, an insert evicts nothing (`added`).
+/// Conversely, if an insertion keeps the number of buckets, and evicts and moves nothing, the first free bucket was
+/// deleted (`only`).
 pub fn deleted_buckets_serve<
     K: Eq + Hash,
     V,

@@ -1,4 +1,4 @@
-//! The types that the calls of a map return. Types of std are not among them.
+//! The types that the calls of a map return.
 
 use std::fmt::Display;
 use thiserror::Error;

@@ -25,7 +25,7 @@ pub fn usage(entry_bytes: usize, buckets: usize) -> Option<usize>
     }
 }
 
-/// Returns how many bytes a table with one or more buckets takes. They must be at most `isize::MAX - 15`.
+/// Returns how many bytes a table with one or more buckets takes. These bytes must be at most `isize::MAX - 15`.
 pub fn bytes_of(entry_bytes: usize, buckets: usize) -> usize
     requires { bytes_of entry_bytes buckets ≤ 2 ^ 63 - 16 }
     ensures { result ≡ bytes_of entry_bytes buckets }

@@ -28,8 +28,8 @@ pub fn calls_keep_maps<K: Eq + Hash, V, I: LookupKey<K>, L: Insertion<K, V, I>, 
         IsMap K.eq old → IsSized new → IsMap K.eq new }
 {}
 
-/// If the running total of the limiter is the sum of the costs of the entries before a call, it is this sum after the
-/// call, too. The call may write nothing through a reference. Each `Summing` has such a running total (`IsAccount`).
+/// Suppose that the running total of the limiter is the sum of the costs of the entries. It is this sum after each call
+/// that writes nothing through a reference, too. Each `Summing` has such a running total (`IsAccount`).
 pub fn calls_keep_sums<K: Eq + Hash, V, I: LookupKey<K>, L: Insertion<K, V, I>, S: KeyHasher<K>>()
     ensures { (cost : K → V → ℕ) (account : L → ℕ) → IsAccount L.rules L.offers cost account →
         (old new : State K V L S) →
@@ -60,8 +60,8 @@ pub fn calls_keep_the_memory_usage<K: Eq + Hash, V, L: Insertion<K, V, K>, S: Ke
 {}
 
 /// Suppose that the limiter has a budget, as `ByCost` and `ByWeight` have. No call changes the budget (`budget`). If
-/// the running total is the sum of the costs of the entries, and at most the budget, it is at most the budget after a
-/// call (`total`).
+/// the running total is at most the budget, and is the sum of the costs of the entries, it is at most the budget after
+/// each call (`total`).
 pub fn calls_keep_the_budget<K: Eq + Hash, V, L: Budgeted<K, V>, S: KeyHasher<K>>()
     ensures budget { (old new : State K V L S) →
         Step L.rules (offers_of L.terms) K.eq S.hash_of old new → L.budget_of new.limiter ≡ L.budget_of old.limiter }

@@ -21,8 +21,8 @@ pub fn runs_keep_maps<K: Eq + Hash, V, I: LookupKey<K>, L: Insertion<K, V, I>, S
         IsMap K.eq old → IsMap K.eq new }
 {}
 
-/// If the running total of the limiter is the sum of the costs of the entries, it still is after any calls. Values may
-/// be written between the calls, if each new value costs as much as the old value.
+/// If the running total of the limiter is the sum of the costs of the entries, it is this sum after any calls, too.
+/// Values may be written between the calls, if each new value costs as much as the old value.
 pub fn runs_keep_sums<K: Eq + Hash, V, I: LookupKey<K>, L: Insertion<K, V, I>, S: KeyHasher<K>>()
     ensures sum { (cost : K → V → ℕ) (account : L → ℕ) → IsAccount L.rules L.offers cost account →
         (old new : State K V L S) →
@@ -91,7 +91,7 @@ pub fn runs_keep_the_memory_usage<K: Eq + Hash, V, L: Insertion<K, V, K>, S: Key
 {}
 
 /// `calls_keep_the_budget` also holds of any calls, one after another, and any writes of values that cost as much as
-/// the old values. Writes of other values still keep the budget itself (`budget`).
+/// the old values. Writes of other values do not change the budget, either (`budget`).
 pub fn runs_keep_the_budget<K: Eq + Hash, V, L: Budgeted<K, V>, S: KeyHasher<K>>()
     ensures total { (old new : State K V L S) →
         Run (StepOrKeptWrite L.rules (offers_of L.terms) K.eq S.hash_of L.cost_of) new old →
