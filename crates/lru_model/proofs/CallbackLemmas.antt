@@ -1,4 +1,4 @@
--- For callers that pass a callback to a map. The callback must accept each pair that may be evicted, removed or rejected.
+-- For callers that pass a callback, which must accept each pair that may be evicted, removed or rejected.
 --     always_each, always_replaced, always_inserted      it does if it may always be called
 --     may_take_always      the same, for `search`: name it on the function, in `#[tactic(auto, using(..))]`
 --     takes_always         after such calls it may still always be called

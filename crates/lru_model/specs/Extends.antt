@@ -1,5 +1,4 @@
 -- Inserts of a list of pairs, one after another.
---     names i k           the inserted key i names k
 use Rattle.std.specs.Prelude.{ℕ, Bool, List, [], ◌∷◌, ◌++◌, Ok, Err}
 use Rattle.std.specs.declared.alloc.AllocError.{AllocError}
 use Rattle.lru_limits.specs.Rules.{Rules, Offers}

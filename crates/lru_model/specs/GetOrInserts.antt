@@ -1,5 +1,4 @@
 -- What `ensure_newest` and `get_or_insert` do: they look up a key, and insert it if it is not there.
---     names i k           the inserted key i names k
 --     makes v             the closure may return v
 use Rattle.std.specs.Prelude.{◌≡◌, ℕ, Bool, true, Some, None, Result, Ok, OnErr}
 use Rattle.std.specs.declared.alloc.AllocError.{AllocError}

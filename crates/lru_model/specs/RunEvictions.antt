@@ -1,5 +1,4 @@
 -- What each insert of a run evicts, whatever the other calls of the run are.
---     names i k           the key i of a call names k
 use Rattle.std.specs.Prelude.{◌≡◌, ℕ, Bool, false}
 use Rattle.lru_limits.specs.Rules.{Rules, Offers}
 use Rattle.lru_model.specs.State.{State, contents}

@@ -1,5 +1,4 @@
 -- What `try_insert` does: it inserts a new pair only if nothing has to be evicted for it.
---     eq                  whether two keys are equal
 use Rattle.std.specs.Prelude.{◌≡◌, ℕ, ◌+◌, ◌<◌, Bool, true, false, not, if◌then◌else◌, length, Some, None}
 use Rattle.std.specs.Prelude.{Result, Ok, Err}
 use Rattle.lru_limits.specs.Rules.{Rules}

@@ -1,5 +1,4 @@
--- If there is a table for one pair more, there is a table for the pairs. This needs an entry of one byte or more. (A
--- full table of 2 ^ 61 buckets for entries of 0 bytes may grow for one pair more, but not for its own pairs.)
+-- If there is a table for one pair more, and an entry takes a byte or more, there is a table for the pairs.
 use Rattle.std.proofs.Common.{◌≡◌, ◌≢◌, ℕ, ◌+◌, ◌*◌, ◌/◌, ◌^◌, ◌<◌, ◌≤◌, inl, inr, ◌⊎◌, length, Some, refl, arith}
 use Rattle.std.proofs.Common.{pow-add, pow_pos}
 use Rattle.std.proofs.Math.Nat.{mul-le-mul_right}
