@@ -1,8 +1,8 @@
--- For callers that pass a callback, which must accept each pair that may be evicted, removed or rejected.
---     always_each, always_replaced, always_inserted      it does if it may always be called
+-- For callers that pass a callback: it may be called with each pair that may be evicted, removed or rejected,
+--     always_each, always_replaced, always_inserted      if it may always be called
 --     may_take_always      the same, for `search`: name it on the function, in `#[tactic(auto, using(..))]`
---     takes_always         after such calls it may still always be called
---     each_by              it does if an invariant of the callback permits each call
+--     takes_always         after such calls, it may still always be called
+--     each_by              if an invariant of the callback permits each call
 use Rattle.std.proofs.Common.{◌≡◌, ℕ, suc, ◌+◌, ◌<◌, ◌≤◌, List, [], ◌∷◌, length, Bool, refl, subst, arith}
 use Rattle.std.proofs.lemmas.List.Elements.{All-head, All-tail}
 use Rattle.std.specs.Prelude.{All}
