@@ -37,7 +37,8 @@ module _ {K V : Type 0} (eq : K → K → Bool) (hash_of : K → ℕ) (all : Lis
       pub last : F
       pub accepted : Asks closure between pair true last
 
-    -- f was called with candidates, each once, and returned false for all; they include each pair whose key has this
+    -- f was called with candidates, each once, and returned false for all. Each pair whose key has this hash is a
+    -- candidate.
     -- hash
     pub record GivesNoneByHash (f : F) : Type 0 where
       pub asked : List (K × V)

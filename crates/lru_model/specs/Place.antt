@@ -102,8 +102,7 @@ module _ {K V S H : Type 0} (rules : Rules K V S) where
   IsPlacedIfMemory pair count spare moves old no_memory new = new ≡ unstored pair old
   IsPlacedIfMemory pair count spare moves old refused new = ⊥
 
-  -- Either all entries moved into a table of `count` buckets, and the pair was stored there, or the map ran out of
-  -- memory.
+  -- All entries moved into a table of `count` buckets, and the pair was stored there. Or the map ran out of memory.
   abbrev pub IsPlacedByMove : K × V → ℕ → State K V S H → Outcome → State K V S H → Type 0
   IsPlacedByMove pair count old =
       IsPlacedIfMemory pair count (full_capacity count - length old.pairs - 1) (length old.pairs) old

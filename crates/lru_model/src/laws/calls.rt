@@ -28,8 +28,8 @@ pub fn calls_keep_maps<K: Eq + Hash, V, I: LookupKey<K>, L: Insertion<K, V, I>, 
         IsMap K.eq old → IsSized new → IsMap K.eq new }
 {}
 
-/// Suppose that the running total of the limiter is the sum of the costs of the entries. It is this sum after each call
-/// that writes nothing through a reference, too. Each `Summing` has such a running total (`IsAccount`).
+/// Suppose that the running total of the limiter is the sum of the costs of the entries. After each call that writes
+/// nothing through a reference, it is still this sum. Each `Summing` has such a running total (`IsAccount`).
 pub fn calls_keep_sums<K: Eq + Hash, V, I: LookupKey<K>, L: Insertion<K, V, I>, S: KeyHasher<K>>()
     ensures { (cost : K → V → ℕ) (account : L → ℕ) → IsAccount L.rules L.offers cost account →
         (old new : State K V L S) →
@@ -59,9 +59,9 @@ pub fn calls_keep_the_memory_usage<K: Eq + Hash, V, L: Insertion<K, V, K>, S: Ke
         UsesAtMost (most old.limiter) old → UsesAtMost (most old.limiter) new }
 {}
 
-/// Suppose that the limiter has a budget, as `ByCost` and `ByWeight` have. No call changes the budget (`budget`). If
-/// the running total is at most the budget, and is the sum of the costs of the entries, it is at most the budget after
-/// each call (`total`).
+/// Suppose that the limiter has a budget, as `ByCost` and `ByWeight` have. No call changes the budget (`budget`).
+/// Suppose that the running total is the sum of the costs of the entries, and at most the budget. Then it is at most
+/// the budget after each call (`total`).
 pub fn calls_keep_the_budget<K: Eq + Hash, V, L: Budgeted<K, V>, S: KeyHasher<K>>()
     ensures budget { (old new : State K V L S) →
         Step L.rules (offers_of L.terms) K.eq S.hash_of old new → L.budget_of new.limiter ≡ L.budget_of old.limiter }
