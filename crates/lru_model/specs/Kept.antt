@@ -17,9 +17,8 @@ pub record ChangesNoPair {K V S : Type 0} (rules : Rules K V S) : Type 0 where
   pub value : (s : S) (k : K) (v : V) → (rules.on_removed s k v).value ≡ v
 
 module _ {K V S H I : Type 0} (rules : Rules K V S) (offers : Offers K V S I) (names : I → K → Bool) where
-  -- An insert loses only a value that it replaces or rejects. Each old pair is in the map or was passed to the
-  -- callback, and so is the pair that the limiter returned for a new key. `passed` lists what the callback got, in
-  -- order.
+  -- An insert loses only a value that it replaces or rejects. Each old pair, and the pair that the limiter returned for
+  -- a new key, is in the map or was passed to the callback. `passed` lists what the callback got, in order.
   pub data LosesNothing (i : I) (v : V) (old : State K V S H) (result : Result Bool AllocError)
       (passed : List (K × V)) (new : State K V S H) : Type 0 where
     -- A pair is stored as the newest, before the old pairs of other keys. The callback got the oldest of these pairs.

@@ -27,7 +27,7 @@ abbrev pub empty_table : TableState
 empty_table = record { states = []; places = [] }
 
 pub record Counts : Type 0 where
-  -- how many moved and new entries were inserted into the table
+  -- how many insertions the table has made, of new and of moved entries
   pub insertions : ℕ
   -- how many entries the inserts moved, and how many new entries they stored
   pub moved : ℕ
